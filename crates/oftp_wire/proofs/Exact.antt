@@ -1,0 +1,47 @@
+-- Reading from left to right meets the table.
+use Rattle.std.proofs.Common.{◌≡◌, ℕ, Bool, true, false, cond, eqb, List, length, Option, Some, None, Result, Ok, Err, refl, sym, ap, ◌∙◌, MatchResult}
+use Rattle.oftp_wire.specs.declared.fault.WireFault.{WireFault}
+use Rattle.oftp_wire.specs.declared.fault.WireFault.TheVariants.{WrongLength}
+use Rattle.oftp_wire.specs.Form.{Form, fault_of, end_fault}
+use Rattle.oftp_wire.specs.Reading.{◌>>=◌, unless}
+use Rattle.oftp_wire.specs.Row.{or_else}
+use Rattle.oftp_wire.proofs.Forms.{IsFine}
+use Rattle.std.proofs.lemmas.Bool.{eqb-true}
+
+-- what is read has P, and a fault is the one that the table gives
+pub record Exact {B : Type 0} (r : Result B WireFault) (fault : Option WireFault) (P : B → Type 0) : Type 0 where
+  pub met : MatchResult r P (λ e. fault ≡ Some e)
+
+-- a read that fails fails with the fault of its row; one that goes on has a fine row
+step_by : {A B : Type 0} (c rest : Option WireFault) (v : A) (k : A → Result B WireFault) (P : B → Type 0)
+    → (c ≡ None → Exact (k v) rest P) → Exact (unless c v >>= k) (or_else c rest) P
+step_by None rest v k P h = h refl
+step_by (Some e) rest v k P h = record { met = refl }
+
+-- a field is read before what follows it
+pub step : {A B : Type 0} (form : Form) (at : ℕ) (o : List ℕ) (rest : Option WireFault) (v : A) (k : A → Result B WireFault) (P : B → Type 0)
+    → (IsFine form at o → Exact (k v) rest P) → Exact (unless (fault_of form at o) v >>= k) (or_else (fault_of form at o) rest) P
+step form at o rest v k P h = step_by (fault_of form at o) rest v k P (λ e. h (record { fine = e }))
+
+-- the end is tested before what follows it
+finish_by : {A B : Type 0} (b : Bool) (v : A) (k : A → Result B WireFault) (P : B → Type 0)
+    → (b ≡ true → Exact (k v) None P) → Exact (unless (cond b None (Some WrongLength)) v >>= k) (cond b None (Some WrongLength)) P
+finish_by true v k P h = h refl
+finish_by false v k P h = record { met = refl }
+
+-- the same of the end of a table
+pub finish : {A B : Type 0} (end : ℕ) (o : List ℕ) (v : A) (k : A → Result B WireFault) (P : B → Type 0)
+    → (length o ≡ end → Exact (k v) None P) → Exact (unless (end_fault end o) v >>= k) (end_fault end o) P
+unfolding end_fault
+finish end o v k P h = finish_by (eqb (length o) end) v k P (λ e. h (eqb-true _ _ e))
+
+-- where nothing is at fault and one value at most has P, that value is read
+only_by : {B : Type 0} (r : Result B WireFault) (fault : Option WireFault) (P : B → Type 0) → MatchResult r P (λ e. fault ≡ Some e) → fault ≡ None → ((x y : B) → P x → P y → x ≡ y) → (x : B) → P x → r ≡ Ok x
+only_by (Ok y) fault P h none one x p = ap Ok (one y x h p)
+only_by (Err e) fault P h none one x p = absurd (none_some (sym h ∙ none)) where
+  none_some : Some e ≡ None → ⊥
+  none_some q = cc
+
+-- where nothing is at fault, the one value of which P holds is read
+pub only : {B : Type 0} {r : Result B WireFault} {fault : Option WireFault} {P : B → Type 0} → Exact r fault P → fault ≡ None → ((x y : B) → P x → P y → x ≡ y) → (x : B) → P x → r ≡ Ok x
+only {B} {r} {fault} {P} h none one x p = only_by r fault P h.met none one x p

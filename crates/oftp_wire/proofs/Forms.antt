@@ -1,0 +1,296 @@
+-- What each form allows is what its values are spelled with.
+use Rattle.std.proofs.Common.{◌≡◌, ℕ, zero, suc, ◌+◌, ◌-◌, ◌*◌, ◌/◌, ◌%◌, ◌^◌, ◌<◌, ◌≤◌, Bool, true, false, ◌&&◌, ◌||◌, cond, eqb, ltb, leb, List, [], ◌∷◌, ◌++◌, length, get_or, take, drop, Some, None, refl, sym, ap, subst, ◌∙◌, arith, inl, inr}
+use Rattle.std.specs.Prelude.{◌⊎◌}
+use Rattle.std.specs.List.{list_all, list_any, prefix_len}
+use Rattle.std.specs.Str.{IsUtf8}
+use Rattle.std.proofs.Math.Numerals.{one-add}
+use Rattle.std.proofs.lemmas.Bool.{eqb-true, eq-eqb, ltb-false, le-ltb, and_parts, and_from, or_cases, le-leb}
+use Rattle.std.proofs.lemmas.List.{length-take, length-drop, length-append, length-replicate, take-append-drop, take_at, drop_at, take_more, take_all, nil_from_length}
+use Rattle.std.proofs.lemmas.List.Sums.{fold-append}
+use Rattle.std.proofs.lemmas.List.Folds.{list_all-append}
+use Rattle.std.proofs.lemmas.Str.{IsUtf8-from_is_utf8}
+use Rattle.oftp_wire.specs.declared.fault.WireFault.{WireFault}
+use Rattle.oftp_wire.specs.declared.fault.WireFault.TheVariants.{WrongLength}
+use Rattle.oftp_wire.specs.Octets.{part, is_digit, is_allowed, spaces, padded, front, is_padded, decimal, number, IsName, IsDigits}
+use Rattle.oftp_wire.specs.Form.{Form, Name, Digits, OneOf, DigitsIf, Return, Utf8, size, same_octets, allows, complaint, fault_of}
+use Rattle.oftp_wire.specs.Reading.{layout_from, flag_form, mode_form, format_form, security_form}
+use Rattle.oftp_wire.specs.Tables.{mode_of, security_of, format_of, has_records}
+use Rattle.oftp_wire.specs.Tables.{flag_words, flag_octets, mode_words, mode_octets, format_words, format_octets, longest_of, is_recorded, security_words, security_octets}
+use Rattle.oftp_wire.specs.declared.command.Format.{Format}
+use Rattle.oftp_wire.specs.declared.command.Format.TheVariants.{Fixed, Variable, Unstructured, Text}
+use Rattle.oftp_wire.proofs.Numbers.{digit_at}
+use Rattle.oftp_wire.proofs.Scans.{front_allowed}
+
+-- ---- a field without fault
+
+-- the field at an offset has no fault; a record, so that lemmas find form and offset
+pub record IsFine (form : Form) (at : ℕ) (o : List ℕ) : Type 0 where
+  pub fine : fault_of form at o ≡ None
+
+-- where neither test gives a fault, the one is false and the other true
+none_parts : (b d : Bool) (e f : WireFault) → cond b (Some e) (cond d None (Some f)) ≡ None → (b ≡ false) × (d ≡ true)
+none_parts true d e f h = absurd cc
+none_parts false true e f h = (refl, refl)
+none_parts false false e f h = absurd cc
+
+-- what is known of a field without fault
+pub record Found (form : Form) (at : ℕ) (o : List ℕ) : Type 0 where
+  pub within : at + size form ≤ length o
+  pub allowed : allows form (part at (size form) o) ≡ true
+
+-- a field without fault is within the octets and has an allowed content
+pub found : {form : Form} {at : ℕ} {o : List ℕ} → IsFine form at o → Found form at o
+unfolding fault_of
+found {form} {at} {o} h =
+    let p = none_parts (ltb (length o) (at + size form)) (allows form (part at (size form) o)) WrongLength (complaint form at) h.fine in
+    record { within = ltb-false _ _ p.0; allowed = p.1 }
+
+-- and the other way round
+pub fine_from : (form : Form) (at : ℕ) (o : List ℕ) → at + size form ≤ length o → allows form (part at (size form) o) ≡ true → fault_of form at o ≡ None
+unfolding fault_of
+fine_from form at o within allowed = rw (le-ltb (length o) (at + size form) within, allowed) refl
+
+-- a slice within the octets has its length
+pub length-part : (at n : ℕ) (o : List ℕ) → at + n ≤ length o → length (part at n o) ≡ n
+length-part at n o h = omega (arith, length-take n (drop at o), length-drop at o)
+
+-- ---- names
+
+-- where each octet is a space, the octets are spaces
+all_spaces : (w : List ℕ) → list_all (λ c. eqb c 32) w ≡ true → w ≡ spaces (length w)
+all_spaces [] h = refl
+all_spaces (c ∷ cs) h =
+    let p = and_parts (eqb c 32) (list_all (λ d. eqb d 32) cs) h in
+    let e : c ≡ 32 = eqb-true c 32 p.0 in
+    rw e (ap (λ (x : List ℕ). 32 ∷ x) (all_spaces cs p.1))
+
+-- each of some spaces is a space
+spaces_all : (n : ℕ) → list_all (λ c. eqb c 32) (spaces n) ≡ true
+spaces_all zero = refl
+spaces_all (suc n) = spaces_all n
+
+-- what is padded is its front, padded
+pub padded_is : (w : List ℕ) → is_padded w ≡ true → w ≡ padded (length w) (front w)
+padded_is w h =
+    let k = prefix_len is_allowed w in
+    let rest = all_spaces (drop k w) h in
+    let len : length (drop k w) ≡ length w - length (take k w) = omega (arith, length-drop k w, length-take k w) in
+    sym (take-append-drop k w) ∙ ap (λ (x : List ℕ). take k w ++ x) (rest ∙ ap spaces len)
+
+-- no space is an allowed character
+front_spaces : (m : ℕ) → prefix_len is_allowed (spaces m) ≡ 0
+unfolding is_allowed
+front_spaces zero = refl
+front_spaces (suc m) = refl
+
+-- a padded value's front is as long as the value
+prefix_len-padded : (v : List ℕ) (m : ℕ) → list_all is_allowed v ≡ true → prefix_len is_allowed (v ++ spaces m) ≡ length v
+prefix_len-padded [] m h = front_spaces m
+prefix_len-padded (c ∷ cs) m h =
+    let p = and_parts (is_allowed c) (list_all is_allowed cs) h in
+    rw p.0 (one-add (prefix_len is_allowed (cs ++ spaces m)) ∙ ap suc (prefix_len-padded cs m p.1))
+
+-- the front of a padded value is the value
+pub front-padded : (n : ℕ) (v : List ℕ) → list_all is_allowed v ≡ true → front (padded n v) ≡ v
+front-padded n v h = rw (prefix_len-padded v (n - length v) h) (take_at v (spaces (n - length v)) (length v) refl)
+
+-- a padded value is padded
+pub is_padded-padded : (n : ℕ) (v : List ℕ) → list_all is_allowed v ≡ true → is_padded (padded n v) ≡ true
+is_padded-padded n v h = rw (prefix_len-padded v (n - length v) h, drop_at v (spaces (n - length v)) (length v) refl) (spaces_all (n - length v))
+
+-- a padded value fills its field
+pub length-padded : (n : ℕ) (v : List ℕ) → length v ≤ n → length (padded n v) ≡ n
+length-padded n v h = omega (arith, length-append v (spaces (n - length v)), length-replicate {A = ℕ} (n - length v) 32)
+
+-- ---- numbers
+
+-- a number fills its field
+pub length-decimal : (n v : ℕ) → length (decimal n v) ≡ n
+unfolding decimal
+length-decimal zero v = refl
+length-decimal (suc n) v = omega (arith, length-append (decimal n (v / 10)) ((48 + v % 10) ∷ []), length-decimal n (v / 10))
+
+-- a number below ten gives a digit
+digit_of : (d : ℕ) → d < 10 → is_digit (48 + d) ≡ true
+digit_of d h = and_from (leb 48 (48 + d)) (leb (48 + d) 57) (le-leb 48 (48 + d) (omega arith)) (le-leb (48 + d) 57 (omega arith))
+
+-- a number is spelled in digits
+pub decimal_digits : (n v : ℕ) → list_all is_digit (decimal n v) ≡ true
+unfolding decimal
+decimal_digits zero v = refl
+decimal_digits (suc n) v =
+    list_all-append is_digit (decimal n (v / 10)) ((48 + v % 10) ∷ [])
+    ∙ and_from (list_all is_digit (decimal n (v / 10))) (is_digit (48 + v % 10) && true) (decimal_digits n (v / 10)) (and_from (is_digit (48 + v % 10)) true (digit_of (v % 10) (omega arith)) refl)
+
+-- one digit more
+number_push : (w : List ℕ) (c : ℕ) → number (w ++ c ∷ []) ≡ number w * 10 + (c - 48)
+number_push w c = fold-append (λ n d. n * 10 + (d - 48)) 0 w (c ∷ [])
+
+-- the number that a number's digits stand for
+pub number-decimal : (n v : ℕ) → v < 10 ^ n → number (decimal n v) ≡ v
+unfolding decimal
+number-decimal zero v h = omega arith
+number-decimal (suc n) v h =
+    let small : v / 10 < 10 ^ n = omega arith in
+    let e = number-decimal n (v / 10) small in
+    number_push (decimal n (v / 10)) (48 + v % 10) ∙ omega (arith, e)
+
+-- the last of n + 1 octets
+last_split : (n : ℕ) (w : List ℕ) → length w ≡ suc n → w ≡ take n w ++ get_or w n 0 ∷ []
+last_split n w h = sym (take_all (n + 1) w (omega arith)) ∙ take_more w n 0 (omega arith)
+
+-- n digits are their number in n digits
+pub record NumberIs (n : ℕ) (w : List ℕ) : Type 0 where
+  pub again : decimal n (number w) ≡ w
+  pub small : number w < 10 ^ n
+
+-- n digits are their number in n digits
+pub number_is : (n : ℕ) (w : List ℕ) → length w ≡ n → list_all is_digit w ≡ true → NumberIs n w
+unfolding decimal
+number_is zero w len h = let e = nil_from_length w len in record { again = sym e; small = rw e (omega arith) }
+number_is (suc n) w len h =
+    let c = get_or w n 0 in
+    let e : w ≡ take n w ++ c ∷ [] = last_split n w len in
+    let d = digit_at w n h (omega arith) in
+    let front_digits : list_all is_digit (take n w) ≡ true = (and_parts (list_all is_digit (take n w)) (list_all is_digit (c ∷ [])) (sym (list_all-append is_digit (take n w) (c ∷ [])) ∙ ap (list_all is_digit) (sym e) ∙ h)).0 in
+    let m = number (take n w) in
+    let ih = number_is n (take n w) (omega (arith, length-take n w)) front_digits in
+    let value : number w ≡ m * 10 + (c - 48) = ap number e ∙ number_push (take n w) c in
+    let tens : number w / 10 ≡ m = omega arith in
+    let ones : 48 + number w % 10 ≡ c = omega arith in
+    record {
+      again = rw (tens, ones) (ap (λ (x : List ℕ). x ++ c ∷ []) ih.again ∙ sym e);
+      small = omega (arith, ih.small);
+    }
+
+-- ---- words
+
+-- what is found the same is the same
+pub same_is : (v w : List ℕ) → same_octets v w ≡ true → v ≡ w
+same_is [] [] h = refl
+same_is [] (y ∷ ys) h = absurd cc
+same_is (x ∷ xs) [] h = absurd cc
+same_is (x ∷ xs) (y ∷ ys) h =
+    let p = and_parts (eqb x y) (same_octets xs ys) h in
+    let a : x ≡ y = eqb-true x y p.0 in
+    let b : xs ≡ ys = same_is xs ys p.1 in
+    cc
+
+-- octets are the same as themselves
+pub same_self : (v : List ℕ) → same_octets v v ≡ true
+same_self [] = refl
+same_self (x ∷ xs) = and_from (eqb x x) (same_octets xs xs) (eq-eqb x x refl) (same_self xs)
+
+-- ---- what a fine field says
+
+-- a field X(n) without fault says its front
+pub name_ok : {n at : ℕ} {o : List ℕ} → IsFine (Name n) at o → IsName n (front (part at n o)) × (part at n o ≡ padded n (front (part at n o)))
+name_ok {n} {at} {o} h =
+    let f = found h in
+    let w = part at n o in
+    let len : length w ≡ n = length-part at n o f.within in
+    ((omega (arith, len, length-take (prefix_len is_allowed w) w), front_allowed w), padded_is w f.allowed ∙ ap (λ (k : ℕ). padded k (front w)) len)
+
+-- a field 9(n) without fault says its digits
+pub digits_ok : {n at : ℕ} {o : List ℕ} → IsFine (Digits n) at o → IsDigits n (part at n o) × (part at n o ≡ part at n o)
+digits_ok {n} {at} {o} h = let f = found h in ((length-part at n o f.within, f.allowed), refl)
+
+-- a field 9(n) without fault says its number
+pub count_ok : {n at : ℕ} {o : List ℕ} → IsFine (Digits n) at o → (number (part at n o) < 10 ^ n) × (part at n o ≡ decimal n (number (part at n o)))
+count_ok {n} {at} {o} h =
+    let f = found h in
+    let r = number_is n (part at n o) (length-part at n o f.within) f.allowed in
+    (r.small, sym r.again)
+
+-- a number that another part of the table has
+pub length_ok : {n at : ℕ} {o : List ℕ} (m : ℕ) → IsFine (Digits n) at o → number (part at n o) ≡ m → (m < 10 ^ n) × (part at n o ≡ decimal n m)
+length_ok {n} {at} {o} m h e = subst (λ (x : ℕ). (x < 10 ^ n) × (part at n o ≡ decimal n x)) e (count_ok h)
+
+-- fixed octets without fault are these octets
+pub word_ok : {v : List ℕ} {n at : ℕ} {o : List ℕ} → IsFine (OneOf n (v ∷ [])) at o → Unit {0} × (part at n o ≡ v)
+word_ok {v} {n} {at} {o} h =
+    let f = found h in
+    (tt, elim (or_cases (same_octets (part at n o) v) false f.allowed) [ inl e ↦ same_is (part at n o) v e | inr e ↦ absurd cc ])
+
+-- a carriage return without fault is 0D or 8D
+pub return_ok : {at : ℕ} {o : List ℕ} → IsFine Return at o → Unit {0} × ((part at 1 o ≡ 13 ∷ []) ⊎ (part at 1 o ≡ 141 ∷ []))
+return_ok {at} {o} h =
+    let w = part at 1 o in
+    (tt, elim (or_cases (same_octets w (13 ∷ [])) (same_octets w (141 ∷ [])) (found h).allowed) [ inl e ↦ inl (same_is w (13 ∷ []) e) | inr e ↦ inr (same_is w (141 ∷ []) e) ])
+
+-- a text without fault is in its range
+pub text_ok : {n at : ℕ} {o : List ℕ} → n ≤ 999 → IsFine (Utf8 n) at o → ((length (part at n o) ≡ n) × (n ≤ 999) × IsUtf8 (part at n o)) × (part at n o ≡ part at n o)
+text_ok {n} {at} {o} le h = let f = found h in ((length-part at n o f.within, le, IsUtf8-from_is_utf8 (part at n o) f.allowed), refl)
+
+-- ---- fields with few values
+
+-- one of the words, or another
+among : (w v : List ℕ) (vs : List (List ℕ)) → list_any (same_octets w) (v ∷ vs) ≡ true → (w ≡ v) ⊎ (list_any (same_octets w) vs ≡ true)
+among w v vs h = elim (or_cases (same_octets w v) (list_any (same_octets w) vs) h) [ inl e ↦ inl (same_is w v e) | inr e ↦ inr e ]
+
+-- octets say the value f of one of some words
+abbrev IsChoice : (List ℕ → List ℕ) → List (List ℕ) → ℕ → List ℕ → Type 0
+IsChoice f ws n w = ((length (f w) ≡ n) × (list_any (same_octets (f w)) ws ≡ true)) × (w ≡ f w)
+
+-- P holds of each word
+abbrev OfEach : (List ℕ → Type 0) → List (List ℕ) → Type 0
+OfEach P [] = Unit {0}
+OfEach P (v ∷ vs) = P v × OfEach P vs
+
+-- what holds of each word holds of the one that was found
+chosen : (P : List ℕ → Type 0) (ws : List (List ℕ)) (w : List ℕ) → list_any (same_octets w) ws ≡ true → OfEach P ws → P w
+chosen P [] w h each = absurd cc
+chosen P (v ∷ vs) w h each = elim (among w v vs h) [ inl e ↦ subst P (sym e) each.0 | inr e ↦ chosen P vs w e each.1 ]
+
+-- a flag without fault says Y or N
+pub flag_ok : {at : ℕ} {o : List ℕ} → IsFine flag_form at o → IsChoice (λ w. flag_octets (same_octets w (89 ∷ []))) flag_words 1 (part at 1 o)
+flag_ok {at} {o} h =
+    chosen (IsChoice (λ w. flag_octets (same_octets w (89 ∷ []))) flag_words 1) flag_words (part at 1 o) (found h).allowed
+    (((refl, refl), refl), (((refl, refl), refl), tt))
+
+-- a mode without fault says its letter
+pub mode_ok : {at : ℕ} {o : List ℕ} → IsFine mode_form at o → IsChoice (λ w. mode_octets (mode_of w)) mode_words 1 (part at 1 o)
+mode_ok {at} {o} h =
+    chosen (IsChoice (λ w. mode_octets (mode_of w)) mode_words 1) mode_words (part at 1 o) (found h).allowed
+    (((refl, refl), refl), (((refl, refl), refl), (((refl, refl), refl), tt)))
+
+-- a security level without fault says its digits
+pub security_ok : {at : ℕ} {o : List ℕ} → IsFine security_form at o → IsChoice (λ w. security_octets (security_of w)) security_words 2 (part at 2 o)
+security_ok {at} {o} h =
+    chosen (IsChoice (λ w. security_octets (security_of w)) security_words 2) security_words (part at 2 o) (found h).allowed
+    (((refl, refl), refl), (((refl, refl), refl), (((refl, refl), refl), (((refl, refl), refl), tt))))
+
+-- a format without fault says its letter
+pub format_ok : {at : ℕ} {o : List ℕ} (n : ℕ) → IsFine format_form at o → IsChoice (λ w. format_octets (layout_from (format_of w) n)) format_words 1 (part at 1 o)
+format_ok {at} {o} n h =
+    chosen (IsChoice (λ w. format_octets (layout_from (format_of w) n)) format_words 1) format_words (part at 1 o) (found h).allowed
+    (((refl, refl), refl), (((refl, refl), refl), (((refl, refl), refl), (((refl, refl), refl), tt))))
+
+-- a layout has records where its format has
+pub recorded_is : (f : Format) (n : ℕ) → is_recorded (layout_from f n) ≡ has_records f
+recorded_is Fixed n = refl
+recorded_is Variable n = refl
+recorded_is Unstructured n = refl
+recorded_is Text n = refl
+
+-- octets say the longest record of a format
+pub record IsLongest (f : Format) (w : List ℕ) : Type 0 where
+  pub small : longest_of (layout_from f (number w)) < 10 ^ 5
+  pub zero_unless : has_records f ≡ false → longest_of (layout_from f (number w)) ≡ 0
+  pub says : w ≡ decimal 5 (longest_of (layout_from f (number w)))
+
+-- by the four formats
+longest_by : (f : Format) (w : List ℕ) → number w < 10 ^ 5 → w ≡ decimal 5 (number w) → (has_records f || eqb (number w) 0) ≡ true → IsLongest f w
+longest_by Fixed w lt e h = record { small = lt; zero_unless = λ u. absurd cc; says = e }
+longest_by Variable w lt e h = record { small = lt; zero_unless = λ u. absurd cc; says = e }
+longest_by Unstructured w lt e h = record { small = omega arith; zero_unless = λ u. refl; says = e ∙ ap (decimal 5) (eqb-true (number w) 0 h) }
+longest_by Text w lt e h = record { small = omega arith; zero_unless = λ u. refl; says = e ∙ ap (decimal 5) (eqb-true (number w) 0 h) }
+
+-- a longest record without fault says its number
+pub longest_ok : {at : ℕ} {o : List ℕ} (f : Format) → IsFine (DigitsIf (has_records f) 5) at o → IsLongest f (part at 5 o)
+longest_ok {at} {o} f h =
+    let w = part at 5 o in
+    let g = found h in
+    let p = and_parts (list_all is_digit w) (has_records f || eqb (number w) 0) g.allowed in
+    let r = number_is 5 w (length-part at 5 o g.within) p.0 in
+    longest_by f w r.small (sym r.again) p.1

@@ -1,0 +1,75 @@
+-- What the scans of octets find.
+use Rattle.std.proofs.Common.{◌≡◌, ℕ, zero, suc, ◌<◌, Bool, true, false, ◌&&◌, ◌||◌, eqb, leb, List, [], ◌∷◌, take, refl, inl, inr, arith, Result, Ok, Err, IsOk, MatchResult}
+use Rattle.std.specs.List.{list_all, prefix_len}
+use Rattle.std.specs.Str.{IsUtf8, is_utf8, IsAscii}
+use Rattle.std.proofs.Math.Numerals.{one-add}
+use Rattle.std.proofs.lemmas.Bool.{eqb-true, leb-true, and_parts, or_cases}
+use Rattle.std.proofs.lemmas.Str.{IsUtf8-from_is_utf8, is_utf8-from_IsUtf8, IsUtf8-from_ascii}
+use Rattle.oftp_wire.specs.Octets.{is_allowed, is_digit, IsName, IsDigits}
+
+-- one octet more
+front_step : (p : ℕ → Bool) (c : ℕ) (cs : List ℕ) (b : Bool) → p c ≡ b → list_all p (take (prefix_len p cs) cs) ≡ true → list_all p (take (prefix_len p (c ∷ cs)) (c ∷ cs)) ≡ true
+front_step p c cs true e h = rw (e, one-add, e) h
+front_step p c cs false e h = rw e refl
+
+-- the front passes the test
+front_passes : (p : ℕ → Bool) (w : List ℕ) → list_all p (take (prefix_len p w) w) ≡ true
+front_passes p [] = refl
+front_passes p (c ∷ cs) = front_step p c cs (p c) refl (front_passes p cs)
+
+-- the front has allowed characters alone
+pub front_allowed : (w : List ℕ) → list_all is_allowed (take (prefix_len is_allowed w) w) ≡ true
+front_allowed w = front_passes is_allowed w
+
+-- by what the test says
+not_by : (w : List ℕ) (b : Bool) → is_utf8 w ≡ b → (IsUtf8 w → ⊥) → is_utf8 w ≡ false
+not_by w true e h = absurd (h (IsUtf8-from_is_utf8 w e))
+not_by w false e h = e
+
+-- the test says no where octets aren't UTF-8
+pub not_utf8 : (w : List ℕ) → (IsUtf8 w → ⊥) → is_utf8 w ≡ false
+not_utf8 w h = not_by w (is_utf8 w) refl h
+
+-- the test says yes where they are
+pub passed_utf8 : (w : List ℕ) → IsUtf8 w → is_utf8 w ≡ true
+passed_utf8 w h = is_utf8-from_IsUtf8 w h
+
+-- ---- names and digits are text
+
+-- one of two tests
+or_small : (a b : Bool) (c : ℕ) → (a ≡ true → c < 128) → (b ≡ true → c < 128) → (a || b) ≡ true → c < 128
+or_small a b c p q h = elim (or_cases a b h) [ inl e ↦ p e | inr e ↦ q e ]
+
+-- a range below 128
+range_small : (lo hi c : ℕ) → hi < 128 → (leb lo c && leb c hi) ≡ true → c < 128
+range_small lo hi c le h = let e = leb-true c hi (and_parts (leb lo c) (leb c hi) h).1 in omega arith
+
+-- one character below 128
+one_small : (c d : ℕ) → d < 128 → eqb c d ≡ true → c < 128
+one_small c d le h = let e = eqb-true c d h in omega arith
+
+-- an allowed character is ASCII
+allowed_small : (c : ℕ) → is_allowed c ≡ true → c < 128
+unfolding is_allowed
+allowed_small c h =
+    or_small _ _ c (or_small _ _ c (or_small _ _ c (or_small _ _ c (or_small _ _ c (or_small _ _ c (or_small _ _ c (range_small 48 57 c (omega arith)) (range_small 65 90 c (omega arith))) (one_small c 47 (omega arith))) (one_small c 45 (omega arith))) (one_small c 46 (omega arith))) (one_small c 38 (omega arith))) (one_small c 40 (omega arith))) (one_small c 41 (omega arith)) h
+
+-- octets that pass a test for ASCII are ASCII
+each_small : (p : ℕ → Bool) → ((c : ℕ) → p c ≡ true → c < 128) → (v : List ℕ) → list_all p v ≡ true → IsAscii v
+each_small p small [] h zero = omega arith
+each_small p small [] h (suc i) = omega arith
+each_small p small (c ∷ cs) h zero = small c (and_parts (p c) (list_all p cs) h).0
+each_small p small (c ∷ cs) h (suc i) = each_small p small cs (and_parts (p c) (list_all p cs) h).1 i
+
+-- what is UTF-8 isn't refused as a text
+pub is_text : {T E A : Type 0} (P : T → Type 0) (Q : E → Type 0) (r : Result T E) → MatchResult r P (λ e. (A → ⊥) × Q e) → A → IsOk r
+is_text P Q (Ok x) h a = refl
+is_text P Q (Err e) h a = absurd (h.0 a)
+
+-- a name is a text
+pub name_utf8 : (n : ℕ) (v : List ℕ) → IsName n v → IsUtf8 v
+name_utf8 n v h = IsUtf8-from_ascii v (each_small is_allowed allowed_small v h.1)
+
+-- digits are a text
+pub digits_utf8 : (n : ℕ) (v : List ℕ) → IsDigits n v → IsUtf8 v
+digits_utf8 n v h = IsUtf8-from_ascii v (each_small is_digit (λ c. range_small 48 57 c (omega arith)) v h.1)

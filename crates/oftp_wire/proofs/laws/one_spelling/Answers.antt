@@ -1,0 +1,21 @@
+use Rattle.oftp_wire.proofs.SpellingLaws.{canon_spells, one_command, spells_free}
+use Rattle.oftp_wire.proofs.Room.{canon_short, canon_some, canon-data}
+use Rattle.oftp_wire.proofs.laws.one_spelling.Goals as goal
+
+pub returns-clause-canon : goal.returns-clause-canon
+returns-clause-canon c = canon_spells
+
+pub returns-clause-one : goal.returns-clause-one
+returns-clause-one c = one_command
+
+pub returns-clause-free : goal.returns-clause-free
+returns-clause-free c = spells_free
+
+pub returns-clause-some : goal.returns-clause-some
+returns-clause-some c = canon_some
+
+pub returns-clause-room : goal.returns-clause-room
+returns-clause-room c = canon_short
+
+pub returns-clause-payload : goal.returns-clause-payload
+returns-clause-payload c = canon-data

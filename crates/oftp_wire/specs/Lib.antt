@@ -1,0 +1,13 @@
+pub mod Octets
+pub mod Form
+pub mod Reading
+pub mod Kinds
+pub mod Row
+pub mod Tables
+pub mod Spelling
+pub mod Piece
+pub mod Reasons
+pub mod Messages
+pub mod Header
+pub mod Stream
+pub mod FrameFaults

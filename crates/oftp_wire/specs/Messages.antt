@@ -1,0 +1,91 @@
+-- What an operator reads.
+use Rattle.std.specs.Prelude.{ℕ, ◌/◌, ◌%◌, List, [], ◌∷◌, ◌++◌, length, codes, encode_utf8, if◌then◌else◌}
+use Rattle.std.specs.List.{flat_map}
+use Rattle.std.specs.Char.{is_control}
+use Rattle.std.specs.Str.{chars}
+use Rattle.std.specs.Option.{option_map_or}
+use Rattle.std.specs.Fmt.{decimal}
+use Rattle.oftp_wire.specs.declared.fault.WireFault.{WireFault}
+use Rattle.oftp_wire.specs.declared.fault.WireFault.TheVariants.{UnknownCommand, WrongLength, BadField, BadText, NoRoom}
+use Rattle.oftp_wire.specs.declared.command.Sfid.{Sfid}
+use Rattle.oftp_wire.specs.declared.command.Sfna.{Sfna}
+use Rattle.oftp_wire.specs.declared.command.Eerp.{Eerp}
+use Rattle.oftp_wire.specs.declared.command.Nerp.{Nerp}
+use Rattle.oftp_wire.specs.declared.command.Command.{Command}
+use Rattle.oftp_wire.specs.declared.command.Command.TheVariants as commands
+use Rattle.oftp_wire.specs.Reasons.{start_reason, start_text, end_reason, end_text, session_reason, session_text}
+
+-- what is wrong with octets
+abbrev pub fault_text : WireFault → List ℕ
+fault_text UnknownCommand = codes "no command begins so"
+fault_text WrongLength = codes "the command has the wrong length"
+fault_text (BadField at) = codes "the field at offset " ++ decimal at ++ codes " has a bad content"
+fault_text BadText = codes "a text isn't UTF-8"
+fault_text NoRoom = codes "there is no room for the command"
+
+-- a character, or `?` for a control character
+abbrev pub printable : ℕ → ℕ
+printable c = if is_control c then 63 else c
+
+-- a partner's text, with no control character
+abbrev pub shown_text : List ℕ → List ℕ
+shown_text bs = flat_map (λ c. encode_utf8 (printable c)) (chars bs)
+
+-- a text after a colon, or nothing for the empty text
+abbrev pub text_after_colon : List ℕ → List ℕ
+text_after_colon [] = []
+text_after_colon (b ∷ bs) = codes ": " ++ shown_text (b ∷ bs)
+
+-- a number below 100 in two digits
+abbrev pub two_digits : ℕ → List ℕ
+two_digits n = decimal (n / 10) ++ decimal (n % 10)
+
+-- a number of SFNA, with its words where it is listed
+abbrev pub start_words : ℕ → List ℕ
+start_words n = option_map_or start_text (start_reason n) (two_digits n)
+
+-- a number of EFNA, with its words where it is listed
+abbrev pub end_words : ℕ → List ℕ
+end_words n = option_map_or end_text (end_reason n) (two_digits n)
+
+-- a number of ESID, with its words where it is listed
+abbrev pub session_words : ℕ → List ℕ
+session_words n = option_map_or session_text (session_reason n) (two_digits n)
+
+-- a virtual file by its dataset name, date and time
+abbrev pub file_text : List ℕ → List ℕ → List ℕ → List ℕ
+file_text dataset date time = dataset ++ (codes " " ++ (date ++ (codes " " ++ time)))
+
+-- SFID: the file, and between which stations it goes
+abbrev pub sfid_text : Sfid → List ℕ
+sfid_text s = codes "SFID " ++ (file_text s.dataset s.date s.time ++ (codes " from " ++ (s.originator ++ (codes " to " ++ s.destination))))
+
+-- SFNA: the reason, whether the file may be offered again, and the text
+abbrev pub sfna_text : Sfna → List ℕ
+sfna_text s = codes "SFNA " ++ (start_words s.reason ++ ((if s.retry then codes ", retry" else []) ++ text_after_colon s.text))
+
+-- EERP: the file, and the station that the response is for
+abbrev pub eerp_text : Eerp → List ℕ
+eerp_text s = codes "EERP " ++ (file_text s.dataset s.date s.time ++ (codes " to " ++ s.destination))
+
+-- NERP: the file, the station that the response is for, the reason and the text
+abbrev pub nerp_text : Nerp → List ℕ
+nerp_text s = codes "NERP " ++ (file_text s.dataset s.date s.time ++ (codes " to " ++ (s.destination ++ (codes ", reason " ++ (two_digits s.reason ++ text_after_colon s.text)))))
+
+-- a command: its kind, and what tells it from others of the kind; never the password
+abbrev pub command_text : Command → List ℕ
+command_text commands.Ssrm = codes "SSRM"
+command_text (commands.Ssid s) = codes "SSID from " ++ s.code
+command_text (commands.Sfid s) = sfid_text s
+command_text (commands.Sfpa s) = codes "SFPA from position " ++ decimal s.restart
+command_text (commands.Sfna s) = sfna_text s
+command_text (commands.Data s) = codes "DATA of " ++ (decimal (length s) ++ codes " octets")
+command_text commands.Cdt = codes "CDT"
+command_text (commands.Efid s) = codes "EFID of " ++ (decimal s.records ++ (codes " records and " ++ (decimal s.units ++ codes " octets")))
+command_text (commands.Efpa s) = if s.change_direction then codes "EFPA, change of direction" else codes "EFPA"
+command_text (commands.Efna s) = codes "EFNA " ++ (end_words s.reason ++ text_after_colon s.text)
+command_text (commands.Esid s) = codes "ESID " ++ (session_words s.reason ++ text_after_colon s.text)
+command_text commands.Cd = codes "CD"
+command_text (commands.Eerp s) = eerp_text s
+command_text (commands.Nerp s) = nerp_text s
+command_text commands.Rtr = codes "RTR"

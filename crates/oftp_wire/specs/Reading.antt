@@ -1,0 +1,106 @@
+-- Reading one field after the other: the value, or the fault. No public clause speaks of it.
+use Rattle.std.specs.Prelude.{ℕ, ◌-◌, Bool, List, [], ◌∷◌, length, codes, Option, Some, None, Result, Ok, Err}
+use Rattle.oftp_wire.specs.declared.fault.WireFault.{WireFault}
+use Rattle.oftp_wire.specs.declared.command.Mode.{Mode}
+use Rattle.oftp_wire.specs.declared.command.Format.{Format}
+use Rattle.oftp_wire.specs.declared.command.Format.TheVariants.{Fixed as FixedFormat, Variable as VariableFormat, Unstructured as UnstructuredFormat, Text as TextFormat}
+use Rattle.oftp_wire.specs.declared.command.Security.{Security}
+use Rattle.oftp_wire.specs.declared.command.Layout.{Layout}
+use Rattle.oftp_wire.specs.declared.command.Layout.TheVariants.{Fixed, Variable, Unstructured, Text}
+use Rattle.oftp_wire.specs.Octets.{part, front, number}
+use Rattle.oftp_wire.specs.Tables.{flag_words, mode_words, mode_of, format_words, format_of, has_records, security_words, security_of, zero16}
+use Rattle.oftp_wire.specs.Form.{Form, Name, Digits, OneOf, DigitsIf, Any, Utf8, fault_of, end_fault, same_octets}
+
+-- what follows a value; a fault ends the reading
+infixl 10 ◌>>=◌
+abbrev pub ◌>>=◌ : {A B : Type 0} → Result A WireFault → (A → Result B WireFault) → Result B WireFault
+(Ok x) >>= f = f x
+(Err e) >>= f = Err e
+
+-- a value, unless there is a fault
+abbrev pub unless : {A : Type 0} → Option WireFault → A → Result A WireFault
+unless None x = Ok x
+unless (Some e) x = Err e
+
+-- ---- the forms with few values
+
+-- Y or N
+abbrev pub flag_form : Form
+flag_form = OneOf 1 flag_words
+
+-- S, R or B
+abbrev pub mode_form : Form
+mode_form = OneOf 1 mode_words
+
+-- F, V, U or T
+abbrev pub format_form : Form
+format_form = OneOf 1 format_words
+
+-- 00, 01, 02 or 03
+abbrev pub security_form : Form
+security_form = OneOf 2 security_words
+
+-- a hash length or a signature length, which is 0
+abbrev pub zero16_form : Form
+zero16_form = OneOf 2 (zero16 ∷ [])
+
+-- what SSRM says
+abbrev pub ready_form : Form
+ready_form = OneOf 17 (codes "ODETTE FTP READY " ∷ [])
+
+-- ---- the fields
+
+-- the value of a field X(n)
+unfoldable pub name_at : ℕ → ℕ → List ℕ → Result (List ℕ) WireFault
+name_at n at o = unless (fault_of (Name n) at o) (front (part at n o))
+
+-- the digits of a field 9(n)
+unfoldable pub digits_at : ℕ → ℕ → List ℕ → Result (List ℕ) WireFault
+digits_at n at o = unless (fault_of (Digits n) at o) (part at n o)
+
+-- the number of a field 9(n)
+unfoldable pub count_at : ℕ → ℕ → List ℕ → Result ℕ WireFault
+count_at n at o = unless (fault_of (Digits n) at o) (number (part at n o))
+
+-- a text of n octets
+unfoldable pub text_at : ℕ → ℕ → List ℕ → Result (List ℕ) WireFault
+text_at n at o = unless (fault_of (Utf8 n) at o) (part at n o)
+
+-- a field whose content isn't kept
+unfoldable pub skipped_at : Form → ℕ → List ℕ → Result (Unit {0}) WireFault
+skipped_at form at o = unless (fault_of form at o) tt
+
+-- no octet stands behind the last field
+unfoldable pub ends_at : ℕ → List ℕ → Result (Unit {0}) WireFault
+ends_at at o = unless (end_fault at o) tt
+
+-- whether a letter is Y
+unfoldable pub flag_at : ℕ → List ℕ → Result Bool WireFault
+flag_at at o = unless (fault_of flag_form at o) (same_octets (part at 1 o) (89 ∷ []))
+
+-- the mode that a letter names
+unfoldable pub mode_at : ℕ → List ℕ → Result Mode WireFault
+mode_at at o = unless (fault_of mode_form at o) (mode_of (part at 1 o))
+
+-- the security level that two digits name
+unfoldable pub security_at : ℕ → List ℕ → Result Security WireFault
+security_at at o = unless (fault_of security_form at o) (security_of (part at 2 o))
+
+-- the format that a letter names
+unfoldable pub format_at : ℕ → List ℕ → Result Format WireFault
+format_at at o = unless (fault_of format_form at o) (format_of (part at 1 o))
+
+-- the layout of a format and its longest record
+abbrev pub layout_from : Format → ℕ → Layout
+layout_from FixedFormat n = Fixed n
+layout_from VariableFormat n = Variable n
+layout_from UnstructuredFormat n = Unstructured
+layout_from TextFormat n = Text
+
+-- the longest record of a format; a format without records has none
+unfoldable pub layout_at : Format → ℕ → List ℕ → Result Layout WireFault
+layout_at format at o = unless (fault_of (DigitsIf (has_records format) 5) at o) (layout_from format (number (part at 5 o)))
+
+-- the octets up to the end
+unfoldable pub rest_at : ℕ → List ℕ → Result (List ℕ) WireFault
+rest_at at o = unless (fault_of (Any (length o - at)) at o) (part at (length o - at) o)

@@ -1,0 +1,84 @@
+//! A whole stream, cut into commands.
+
+ghost use Rattle.std.specs.Prelude.{◌≡◌, ◌≤◌, ◌++◌, IfOk, OnOk, None};
+ghost use Rattle.std.specs.List.{flat_map, AllByRecursion};
+ghost use Rattle.oftp_wire.specs.Header.{frame, IsCommand};
+ghost use Rattle.oftp_wire.specs.Stream.{IsRest, copied, joined, Reads};
+
+use crate::deframer::Deframer;
+use crate::frame_fault::FrameFault;
+use std::alloc::{AllocError, Global};
+
+/// What was read of a stream: copies of its commands, and the fault that stands behind them.
+#[derive(Drop)]
+pub struct CutStream {
+    pub commands: Vec<Vec<u8>>,
+    pub fault: Option<FrameFault>,
+}
+
+/// Copies the commands that are whole, and answers the fault that stands behind them.
+fn drain(
+    alloc: Global,
+    deframer: &mut Deframer,
+    commands: &mut Vec<Vec<u8>>,
+) -> Result<Option<FrameFault>, AllocError>
+    requires { deframer.old.told ≡ None }
+    ensures whole { OnOk result (flat_map frame (copied commands.old.items) ++ deframer.old.rest
+        ≡ flat_map frame (copied commands.new.items) ++ deframer.new.rest) }
+    ensures each { AllByRecursion (IsCommand deframer.old.limit) (copied commands.old.items)
+        → OnOk result (AllByRecursion (IsCommand deframer.old.limit) (copied commands.new.items)) }
+    ensures limit { OnOk result (deframer.new.limit ≡ deframer.old.limit) }
+    ensures told { IfOk result (λ fault. deframer.new.told ≡ fault) }
+    ensures rest { IfOk result (λ fault. IsRest deframer.old.limit deframer.new.rest fault) }
+{
+    loop {
+        match deframer.next() {
+            Ok(Some(command)) => commands.push(Vec::from_slice(alloc, command)?)?,
+            Ok(None) => return Ok(None),
+            Err(fault) => return Ok(Some(fault)),
+        }
+    }
+}
+
+/// Cuts the stream that comes in these pieces into its commands, of frames of at most `limit` octets. What is answered hangs on
+/// the stream alone, and not on how it is cut. The only error is that memory ran out. RFC 5024, section 8.
+pub fn cut(alloc: Global, limit: usize, pieces: &[&[u8]]) -> Result<CutStream, AllocError>
+    requires low { 5 ≤ limit }
+    requires high { limit ≤ 100003 }
+    ensures { IfOk result (λ c. Reads limit (joined pieces.now) (copied c.commands.items) c.fault) }
+{
+    let mut deframer = Deframer::new(alloc, limit);
+    let mut commands = Vec::new(alloc);
+    for piece in pieces {
+        if deframer.feed(piece).is_err() {
+            return Err(AllocError);
+        }
+        let fault = drain(alloc, &mut deframer, &mut commands)?;
+        if fault.is_some() {
+            return Ok(CutStream { commands, fault });
+        }
+    }
+    Ok(CutStream {
+        commands,
+        fault: None,
+    })
+}
+
+#[cfg(test)]
+mod tests {
+    use super::*;
+    use std::test::Fail;
+
+    #[test]
+    fn fault_behind_a_command(rt: HostRuntime) -> Result<(), Fail> {
+        let read = cut(
+            rt.alloc(),
+            100_003,
+            &[&[0x10, 0, 0], &[5, 0x50, 0x11], &[0x10]],
+        )?;
+        assert_eq!(rt; read.commands.len(), 1);
+        assert!(rt; read.commands[0].as_slice() == [0x50].as_slice());
+        assert!(rt; read.fault == Some(FrameFault::BadHeader));
+        Ok(())
+    }
+}

@@ -1,0 +1,188 @@
+//! The stream, cut into commands however it comes.
+
+ghost use Rattle.std.specs.Prelude.{◌≡◌, ◌+◌, ◌-◌, ◌*◌, ◌<◌, ◌≤◌, ◌++◌, [], length, drop, Some, None, Ok, Err, OnOk, OnErr, IfOk, IfErr, IfSome, IfNone};
+ghost use Rattle.std.specs.Vec.{vec_len, vec_capacity};
+ghost use Rattle.oftp_wire.specs.Stream.{front, len_of, Finds, BeginsWith, IsRest, next_of, left_of, shown};
+
+use crate::frame_fault::FrameFault;
+use std::alloc::Global;
+use std::marker::Model;
+
+/// The octets of the stream header.
+const HEADER_LEN: usize = 4;
+
+/// Takes a stream in pieces, however these are cut, and hands out its commands. RFC 5024, section 8.
+///
+/// It keeps the octets in one buffer, and a command is a slice of it: octets that were handed out are given up only by a later
+/// `feed`.
+#[derive(Drop)]
+pub struct Deframer {
+    limit: usize,
+    room: usize,
+    buffer: Vec<u8>,
+    begin: usize,
+    told: Option<FrameFault>,
+}
+
+impl Model for Deframer {
+    ghost use Rattle.std.specs.Prelude.{◌≤◌, ◌*◌, length, drop};
+    ghost use Rattle.std.specs.Vec.{vec_capacity};
+    ghost use Rattle.oftp_wire.specs.Stream.{Stream};
+
+    ghost Value = { Stream };
+
+    ghost view = { λ d. record { limit = d.limit; rest = drop d.begin d.buffer.items; told = d.told; room = d.room } };
+
+    // The capacity is twice the room, since `make_room` asks for twice what is needed.
+    ghost invariant = { λ d. (5 ≤ d.limit) × (d.limit ≤ 100003) × (d.begin ≤ length d.buffer.items)
+        × (2 * d.room ≤ vec_capacity d.buffer) };
+}
+
+/// The length of the whole frame at the front, or `None` where more octets are needed.
+#[tactic(auto, unfolding(crate::specs::Stream::front, crate::specs::Stream::sized))]
+fn frame_len(rest: &[u8], limit: usize) -> Result<Option<usize>, FrameFault>
+    ensures value { result ≡ len_of (front limit rest.now) }
+    ensures found { Finds limit rest.now result }
+{
+    match rest {
+        [] => Ok(None),
+        [0x10, high, middle, low, command @ ..] => {
+            let len = usize::from(*high) * 65_536 + usize::from(*middle) * 256 + usize::from(*low);
+            if len < 5 || limit < len {
+                return Err(FrameFault::BadLength);
+            }
+            if command.len() + HEADER_LEN < len {
+                return Ok(None);
+            }
+            Ok(Some(len))
+        }
+        [0x10, ..] => Ok(None),
+        [_, ..] => Err(FrameFault::BadHeader),
+    }
+}
+
+/// Takes octets away from the front. The capacity stays.
+fn drop_front(buffer: &mut Vec<u8>, count: usize)
+    requires { count ≤ length buffer.old.items }
+    ensures items { buffer.new.items ≡ drop count buffer.old.items }
+    ensures capacity { vec_capacity buffer.new ≡ vec_capacity buffer.old }
+{
+    let len = buffer.len() - count;
+    buffer.copy_within(count.., 0);
+    buffer.truncate(len);
+}
+
+/// Makes the capacity at least twice what the buffer holds with `count` octets more, so that each growth, and each move of the
+/// octets to the front, is followed by as many octets that need neither.
+fn make_room(buffer: &mut Vec<u8>, count: usize) -> Result<(), FrameFault>
+    ensures items { buffer.new.items ≡ buffer.old.items }
+    ensures ok { OnOk result (2 * (vec_len buffer.old + count) ≤ vec_capacity buffer.new) }
+    ensures capacity { vec_capacity buffer.old ≤ vec_capacity buffer.new }
+    ensures err { IfErr result (λ fault. (fault ≡ FrameFault.Memory)
+        × (vec_capacity buffer.old < 2 * (vec_len buffer.old + count))) }
+{
+    let needed = buffer.len().checked_add(count).ok_or(FrameFault::Memory)?;
+    let wanted = needed.checked_mul(2).ok_or(FrameFault::Memory)?;
+    buffer.reserve_exact(wanted - buffer.len())?;
+    Ok(())
+}
+
+impl Deframer {
+    ghost use Rattle.std.specs.Borrow.{sem};
+    ghost use Rattle.std.specs.Io.BufRead.{Rests};
+    ghost use Rattle.oftp_wire.specs.contracts.deframer.Deframer.{the_row};
+
+    /// A deframer that was fed nothing. `limit` is the greatest length of a frame in octets, its header counted: by RFC 5024,
+    /// section 8, it is 100003.
+    pub fn new(alloc: Global, limit: usize) -> Deframer
+        requires low { 5 ≤ limit }
+        requires high { limit ≤ 100003 }
+        ensures { result ≡ record { limit = limit; rest = []; told = None; room = 0 } }
+    {
+        Deframer {
+            limit,
+            room: 0,
+            buffer: Vec::new(alloc),
+            begin: 0,
+            told: None,
+        }
+    }
+
+    /// The same with memory taken beforehand, so that `feed` needs none while the octets that are fed and not handed out are at
+    /// most `room`. The only fault is `Memory`.
+    pub fn with_room(alloc: Global, limit: usize, room: usize) -> Result<Deframer, FrameFault>
+        requires low { 5 ≤ limit }
+        requires high { limit ≤ 100003 }
+        ensures ok { IfOk result (λ d. d ≡ record { limit = limit; rest = []; told = None; room = room }) }
+        ensures err { IfErr result (λ fault. fault ≡ FrameFault.Memory) }
+    {
+        let capacity = room.checked_mul(2).ok_or(FrameFault::Memory)?;
+        Ok(Deframer {
+            limit,
+            room,
+            buffer: Vec::with_capacity(alloc, capacity)?,
+            begin: 0,
+            told: None,
+        })
+    }
+
+    /// How many octets, fed and not handed out, it holds with no memory taken by `feed`: the `room` of `with_room`, else 0.
+    pub fn room(&self) -> usize
+        ensures { result ≡ self.now.room }
+    {
+        self.room
+    }
+
+    /// Takes the next piece of the stream. The fault is `Memory`, which leaves the deframer as it was, or the one that `next`
+    /// answered before. Over a whole stream the work is linear in its octets, however they are cut.
+    pub fn feed(&mut self, piece: &[u8]) -> Result<(), FrameFault>
+        ensures ok { OnOk result (self.new ≡ record self.old { rest = self.old.rest ++ piece.now }) }
+        ensures open { OnOk result (self.old.told ≡ None) }
+        ensures err { OnErr result (self.new ≡ self.old) }
+        ensures told { IfErr result (λ fault. IfSome self.old.told (λ before. fault ≡ before)) }
+        ensures memory { IfErr result (λ fault. IfNone self.old.told ((fault ≡ FrameFault.Memory)
+            × (self.old.room < length self.old.rest + length piece.now))) }
+    {
+        if let Some(fault) = self.told {
+            return Err(fault);
+        }
+        if self.buffer.capacity() - self.buffer.len() < piece.len() {
+            drop_front(&mut self.buffer, self.begin);
+            self.begin = 0;
+            make_room(&mut self.buffer, piece.len())?;
+        }
+        self.buffer.extend_from_slice(piece)?;
+        Ok(())
+    }
+
+    /// Hands out the next whole command without its header, or `None` where the next frame isn't whole. It takes no memory. The
+    /// fault is `BadHeader` or `BadLength`, and both calls answer it from then on. RFC 5024, section 8.
+    pub fn next(&mut self) -> Result<Option<&[u8]>, FrameFault>
+        ensures value { shown result ≡ next_of self.old self.old.told }
+        ensures* after { sem 𝓛 (Rests the_row self.entry (λ new. new ≡ left_of self.old self.old.told)) }
+
+        // The same in the words of `Front`.
+        ensures command { IfOk result (λ found. IfSome found (λ m. BeginsWith self.old.limit self.old.rest m.now)) }
+        ensures none { IfOk result (λ found. IfNone found (IsRest self.old.limit self.old.rest None)) }
+        ensures fault { self.old.told ≡ None → IfErr result (λ fault. IsRest self.old.limit self.old.rest (Some fault)) }
+    {
+        if let Some(fault) = self.told {
+            return Err(fault);
+        }
+        match frame_len(&self.buffer[self.begin..], self.limit) {
+            Ok(Some(len)) => {
+                let from = self.begin + HEADER_LEN;
+                self.begin += len;
+                Ok(Some(&self.buffer[from..self.begin]))
+            }
+            Ok(None) => Ok(None),
+            Err(fault) => {
+                self.told = Some(fault);
+                Err(fault)
+            }
+        }
+    }
+}
+
+#[cfg(test)]
+mod tests;

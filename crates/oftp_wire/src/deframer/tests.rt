@@ -1,0 +1,102 @@
+use super::*;
+use std::process::Abort;
+use std::test::Fail;
+
+/// The frames of RTR, CD and CDT.
+const STREAM: [u8; 17] = [
+    0x10, 0, 0, 5, 0x50, 0x10, 0, 0, 5, 0x52, 0x10, 0, 0, 7, 0x43, 0x20, 0x20,
+];
+
+/// Feeds a piece, and compares the commands that are whole then with those of `STREAM`, of which `count` came before. Answers how
+/// many came so far.
+fn take_piece(
+    rt: &impl Abort,
+    deframer: &mut Deframer,
+    piece: &[u8],
+    mut count: usize,
+) -> Result<usize, FrameFault> {
+    let commands: [&[u8]; 3] = [&[0x50], &[0x52], &[0x43, 0x20, 0x20]];
+    deframer.feed(piece)?;
+    for _ in 0..commands.len() {
+        if let Some(command) = deframer.next()? {
+            assert!(rt; count < commands.len());
+            assert!(rt; command == commands[count]);
+            count += 1;
+        }
+    }
+    Ok(count)
+}
+
+/// Feeds `STREAM` in one piece, in pieces of two octets, and as four octets, one and the rest.
+fn take_cuts(rt: &impl Abort, deframer: &mut Deframer) -> Result<(), FrameFault> {
+    assert!(rt; take_piece(rt, deframer, &STREAM, 0)? == 3);
+
+    let mut count = 0;
+    for piece in STREAM.chunks(2) {
+        count = take_piece(rt, deframer, piece, count)?;
+    }
+    assert!(rt; count == 3);
+
+    let mut count = 0;
+    for piece in [&STREAM[..4], &STREAM[4..5], &STREAM[5..]] {
+        count = take_piece(rt, deframer, piece, count)?;
+    }
+    assert!(rt; count == 3);
+    Ok(())
+}
+
+#[test]
+fn one_octet_at_a_time(rt: HostRuntime) -> Result<(), Fail> {
+    let mut deframer = Deframer::new(rt.alloc(), 100_003);
+    for octet in [0x10u8, 0, 0, 5] {
+        deframer.feed(&[octet])?;
+        assert!(rt; matches!(deframer.next(), Ok(None)));
+    }
+    deframer.feed(&[0x50])?;
+    assert!(rt; matches!(deframer.next(), Ok(Some([0x50]))));
+    assert!(rt; matches!(deframer.next(), Ok(None)));
+    Ok(())
+}
+
+#[test]
+fn three_frames_any_cut(rt: HostRuntime) -> Result<(), Fail> {
+    let mut deframer = Deframer::new(rt.alloc(), 100_003);
+    take_cuts(&rt, &mut deframer)?;
+    Ok(())
+}
+
+#[test]
+fn no_memory_within_room(rt: HostRuntime) -> Result<(), Fail> {
+    let mut deframer = Deframer::with_room(rt.alloc(), 100_003, 17)?;
+    assert!(rt; deframer.room() == 17);
+    take_cuts(&rt, &mut deframer)?;
+    Ok(())
+}
+
+#[test]
+fn short_or_long_frame(rt: HostRuntime) -> Result<(), Fail> {
+    for header in [[0x10u8, 0, 0, 4], [0x10, 1, 0x86, 0xA4]] {
+        let mut deframer = Deframer::new(rt.alloc(), 100_003);
+        deframer.feed(&header)?;
+        assert!(rt; matches!(deframer.next(), Err(FrameFault::BadLength)));
+        assert!(rt; matches!(deframer.feed(&[0x10]), Err(FrameFault::BadLength)));
+        assert!(rt; matches!(deframer.next(), Err(FrameFault::BadLength)));
+    }
+    Ok(())
+}
+
+#[test]
+fn million_pieces_of_one_octet(rt: HostRuntime) -> Result<(), Fail> {
+    let mut deframer = Deframer::new(rt.alloc(), 100_003);
+    for _ in 0..10 {
+        for octet in [0x10u8, 1, 0x86, 0xA3] {
+            deframer.feed(&[octet])?;
+        }
+        for _ in 0..99_999 {
+            assert!(rt; matches!(deframer.next(), Ok(None)));
+            deframer.feed(b"D")?;
+        }
+        assert!(rt; matches!(deframer.next(), Ok(Some(command)) if command.len() == 99_999));
+    }
+    Ok(())
+}

@@ -1,0 +1,41 @@
+//! The stream header.
+
+ghost use Rattle.std.specs.Prelude.{◌≡◌, ◌+◌, ◌≤◌, ◌<◌, ◌⊎◌, IfSome, IfNone};
+ghost use Rattle.oftp_wire.specs.Header.{header_of};
+
+/// The stream header before a command of `n` octets, or `None` where `n` isn't 1 to 99999. RFC 5024, section 8.
+pub fn header(n: usize) -> Option<[u8; 4]>
+    ensures some { IfSome result (λ h. (1 ≤ n) × (n ≤ 99999) × (h ≡ header_of (n + 4))) }
+    ensures none { IfNone result ((n ≡ 0) ⊎ (99999 < n)) }
+{
+    if n == 0 || n > 99_999 {
+        return None;
+    }
+    let len = n + 4;
+    Some([
+        0x10,
+        (len / 65_536) as u8,
+        (len / 256 % 256) as u8,
+        (len % 256) as u8,
+    ])
+}
+
+#[cfg(test)]
+mod tests {
+    use super::*;
+    use std::test::Fail;
+
+    #[test]
+    fn header_ends(rt: HostRuntime) -> Result<(), Fail> {
+        assert!(rt; header(1) == Some([0x10, 0, 0, 5]));
+        assert!(rt; header(99_999) == Some([0x10, 1, 0x86, 0xA3]));
+        Ok(())
+    }
+
+    #[test]
+    fn header_outside(rt: HostRuntime) -> Result<(), Fail> {
+        assert!(rt; header(0).is_none());
+        assert!(rt; header(100_000).is_none());
+        Ok(())
+    }
+}

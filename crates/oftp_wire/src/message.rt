@@ -1,0 +1,174 @@
+//! Commands and their values in an operator's words.
+
+ghost use Rattle.std.specs.Prelude.{◌≡◌, Some};
+ghost use Rattle.std.specs.Fmt.{DisplaysOnOk, decimal};
+ghost use Rattle.oftp_wire.specs.Messages.{printable, shown_text, text_after_colon, two_digits, start_words, end_words, session_words, sfid_text, sfna_text, eerp_text, nerp_text, command_text};
+
+use crate::command::{Command, Eerp, Nerp, Sfid, Sfna};
+use crate::field::{Count, Digits, Text, X};
+use crate::reason::{EndReason, SessionReason, StartReason};
+use std::fmt;
+
+impl<const N: usize> fmt::Display for X<'_, N> {
+    ghost output = { λ x. Some x };
+
+    fn fmt<W: fmt::Write>(&self, f: &mut fmt::Formatter<W>) -> fmt::Result {
+        f.write_str(self.text())
+    }
+}
+
+impl<const N: usize> fmt::Display for Digits<'_, N> {
+    ghost output = { λ x. Some x };
+
+    fn fmt<W: fmt::Write>(&self, f: &mut fmt::Formatter<W>) -> fmt::Result {
+        f.write_str(self.text())
+    }
+}
+
+impl<const N: usize> fmt::Display for Count<N> {
+    ghost output = { λ n. Some (decimal n) };
+
+    fn fmt<W: fmt::Write>(&self, f: &mut fmt::Formatter<W>) -> fmt::Result {
+        write!(f, "{}", self.get())
+    }
+}
+
+/// Writes `?` for each control character, so that a partner's text disturbs no terminal and no log.
+impl fmt::Display for Text<'_> {
+    ghost output = { λ t. Some (shown_text t) };
+
+    fn fmt<W: fmt::Write>(&self, f: &mut fmt::Formatter<W>) -> fmt::Result {
+        for c in self.text().chars() {
+            f.write_char(printable(c))?;
+        }
+        Ok(())
+    }
+}
+
+/// The character, or `?` for a control character.
+fn printable(c: char) -> char
+    ensures { result ≡ printable c }
+{
+    if c.is_control() { '?' } else { c }
+}
+
+/// Writes a text after a colon, or nothing for the empty text.
+fn write_text<W: fmt::Write>(f: &mut fmt::Formatter<W>, text: &Text) -> fmt::Result
+    ensures { DisplaysOnOk W.write_str_gives f.old result (Some (text_after_colon text.now)) f.new }
+{
+    if text.text().is_empty() {
+        return Ok(());
+    }
+    write!(f, ": {text}")
+}
+
+/// Writes a number in two digits.
+fn write_two_digits<W: fmt::Write>(f: &mut fmt::Formatter<W>, number: Count<2>) -> fmt::Result
+    ensures { DisplaysOnOk W.write_str_gives f.old result (Some (two_digits number)) f.new }
+{
+    let number = number.get();
+    write!(f, "{}{}", number / 10, number % 10)
+}
+
+/// Writes a reason of SFNA.
+fn write_start_reason<W: fmt::Write>(f: &mut fmt::Formatter<W>, number: Count<2>) -> fmt::Result
+    ensures { DisplaysOnOk W.write_str_gives f.old result (Some (start_words number)) f.new }
+{
+    match StartReason::from_number(number) {
+        Some(reason) => write!(f, "{reason}"),
+        None => write_two_digits(f, number),
+    }
+}
+
+/// Writes a reason of EFNA.
+fn write_end_reason<W: fmt::Write>(f: &mut fmt::Formatter<W>, number: Count<2>) -> fmt::Result
+    ensures { DisplaysOnOk W.write_str_gives f.old result (Some (end_words number)) f.new }
+{
+    match EndReason::from_number(number) {
+        Some(reason) => write!(f, "{reason}"),
+        None => write_two_digits(f, number),
+    }
+}
+
+/// Writes a reason of ESID.
+fn write_session_reason<W: fmt::Write>(f: &mut fmt::Formatter<W>, number: Count<2>) -> fmt::Result
+    ensures { DisplaysOnOk W.write_str_gives f.old result (Some (session_words number)) f.new }
+{
+    match SessionReason::from_number(number) {
+        Some(reason) => write!(f, "{reason}"),
+        None => write_two_digits(f, number),
+    }
+}
+
+/// The kind, and what tells the command from others of its kind; never the password.
+impl fmt::Display for Command<'_> {
+    ghost output = { λ c. Some (command_text c) };
+
+    fn fmt<W: fmt::Write>(&self, f: &mut fmt::Formatter<W>) -> fmt::Result {
+        match self {
+            Command::Ssrm => f.write_str("SSRM"),
+            Command::Ssid(s) => write!(f, "SSID from {}", s.code),
+            Command::Sfid(s) => write_sfid(f, s),
+            Command::Sfpa(s) => write!(f, "SFPA from position {}", s.restart),
+            Command::Sfna(s) => write_sfna(f, s),
+            Command::Data(s) => write!(f, "DATA of {} octets", s.octets().len()),
+            Command::Cdt => f.write_str("CDT"),
+            Command::Efid(s) => write!(f, "EFID of {} records and {} octets", s.records, s.units),
+            Command::Efpa(s) => f.write_str(if s.change_direction {
+                "EFPA, change of direction"
+            } else {
+                "EFPA"
+            }),
+            Command::Efna(s) => {
+                f.write_str("EFNA ")?;
+                write_end_reason(f, s.reason)?;
+                write_text(f, &s.text)
+            }
+            Command::Esid(s) => {
+                f.write_str("ESID ")?;
+                write_session_reason(f, s.reason)?;
+                write_text(f, &s.text)
+            }
+            Command::Cd => f.write_str("CD"),
+            Command::Eerp(s) => write_eerp(f, s),
+            Command::Nerp(s) => write_nerp(f, s),
+            Command::Rtr => f.write_str("RTR"),
+        }
+    }
+}
+
+/// Writes SFID.
+fn write_sfid<W: fmt::Write>(f: &mut fmt::Formatter<W>, s: &Sfid) -> fmt::Result
+    ensures { DisplaysOnOk W.write_str_gives f.old result (Some (sfid_text s.now)) f.new }
+{
+    write!(f, "SFID {} {} {}", s.dataset, s.date, s.time)?;
+    write!(f, " from {} to {}", s.originator, s.destination)
+}
+
+/// Writes SFNA.
+fn write_sfna<W: fmt::Write>(f: &mut fmt::Formatter<W>, s: &Sfna) -> fmt::Result
+    ensures { DisplaysOnOk W.write_str_gives f.old result (Some (sfna_text s.now)) f.new }
+{
+    f.write_str("SFNA ")?;
+    write_start_reason(f, s.reason)?;
+    f.write_str(if s.retry { ", retry" } else { "" })?;
+    write_text(f, &s.text)
+}
+
+/// Writes EERP.
+fn write_eerp<W: fmt::Write>(f: &mut fmt::Formatter<W>, s: &Eerp) -> fmt::Result
+    ensures { DisplaysOnOk W.write_str_gives f.old result (Some (eerp_text s.now)) f.new }
+{
+    write!(f, "EERP {} {} {}", s.dataset, s.date, s.time)?;
+    write!(f, " to {}", s.destination)
+}
+
+/// Writes NERP.
+fn write_nerp<W: fmt::Write>(f: &mut fmt::Formatter<W>, s: &Nerp) -> fmt::Result
+    ensures { DisplaysOnOk W.write_str_gives f.old result (Some (nerp_text s.now)) f.new }
+{
+    write!(f, "NERP {} {} {}", s.dataset, s.date, s.time)?;
+    write!(f, " to {}, reason ", s.destination)?;
+    write_two_digits(f, s.reason)?;
+    write_text(f, &s.text)
+}

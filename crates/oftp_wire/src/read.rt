@@ -1,0 +1,226 @@
+//! The readers of fields: each has a field's offset, and answers its value or the fault.
+
+ghost use Rattle.std.specs.Prelude.{◌≡◌, ℕ, ◌+◌, ◌*◌, ◌^◌, ◌<◌, ◌≤◌, ◌==◌, length, true, false, [], ◌∷◌, Some, None, IfOk, IfErr};
+ghost use Rattle.std.specs.List.{list_all};
+ghost use Rattle.oftp_wire.specs.Octets.{part, is_digit, is_padded, front, number};
+ghost use Rattle.oftp_wire.specs.Form.{fault_of, Digits as digit_field, Return, Reserved};
+ghost use Rattle.oftp_wire.specs.Reading.{name_at, digits_at, count_at, text_at, skipped_at, ends_at, flag_at, mode_at, security_at, format_at, layout_at, rest_at, zero16_form, ready_form};
+
+use crate::command::{Format, Layout, Mode, Security};
+use crate::fault::WireFault;
+use crate::field::{Count, Digits, Octets, Text, X};
+use crate::scan::{all_digits, number_of, part_of, value_of};
+
+/// The value of a field X(N).
+#[tactic(auto, unfolding(crate::specs::Reading::name_at, crate::specs::Form::fault_of))]
+pub(crate) fn name_at<'a, const N: usize>(frame: &'a [u8], at: usize) -> Result<X<'a, N>, WireFault>
+    requires { at + N < 2 ^ 63 }
+    ensures { result ≡ name_at N at frame.now }
+{
+    let field = part_of(frame, at, N)?;
+    match value_of(field) {
+        Some(text) => Ok(X { text }),
+        None => Err(WireFault::BadField(at)),
+    }
+}
+
+/// The octets of a field of digits.
+#[tactic(auto, unfolding(crate::specs::Form::fault_of))]
+fn digits_of(frame: &[u8], at: usize, len: usize) -> Result<&[u8], WireFault>
+    requires { at + len < 2 ^ 63 }
+    ensures value { IfOk result (λ w. w.now ≡ part at len frame.now) }
+    ensures digits { IfOk result (λ w. (list_all is_digit w.now ≡ true) × (length w.now ≡ len)) }
+    ensures fine { IfOk result (λ w. fault_of (digit_field len) at frame.now ≡ None) }
+    ensures fault { IfErr result (λ e. fault_of (digit_field len) at frame.now ≡ Some e) }
+{
+    let field = part_of(frame, at, len)?;
+    if !all_digits(field) {
+        return Err(WireFault::BadField(at));
+    }
+    Ok(field)
+}
+
+/// The digits of a field 9(N).
+#[tactic(auto, unfolding(crate::specs::Reading::digits_at))]
+pub(crate) fn digits_at<'a, const N: usize>(
+    frame: &'a [u8],
+    at: usize,
+) -> Result<Digits<'a, N>, WireFault>
+    requires { at + N < 2 ^ 63 }
+    ensures { result ≡ digits_at N at frame.now }
+{
+    let text = digits_of(frame, at, N)?;
+    Ok(Digits { text })
+}
+
+/// The number of a field 9(N).
+#[tactic(auto, unfolding(crate::specs::Reading::count_at))]
+pub(crate) fn count_at<const N: usize>(frame: &[u8], at: usize) -> Result<Count<N>, WireFault>
+    requires short { N ≤ 19 }
+    requires within { at + N < 2 ^ 63 }
+    ensures { result ≡ count_at N at frame.now }
+{
+    let field = digits_of(frame, at, N)?;
+    Ok(Count {
+        value: number_of(field),
+    })
+}
+
+/// A text of as many octets as the field before it says.
+#[tactic(auto, using(crate::proofs::Scans::passed_utf8, crate::proofs::Scans::not_utf8), unfolding(crate::specs::Reading::text_at, crate::specs::Form::fault_of))]
+pub(crate) fn text_at(frame: &[u8], at: usize, len: Count<3>) -> Result<Text<'_>, WireFault>
+    requires { at < 2 ^ 62 }
+    ensures { result ≡ text_at len at frame.now }
+{
+    let field = part_of(frame, at, len.get() as usize)?;
+    match str::from_utf8(field) {
+        Ok(text) => Ok(Text { text }),
+        Err(_) => Err(WireFault::BadText),
+    }
+}
+
+/// A reserved field, whose octets may be any.
+#[tactic(auto, unfolding(crate::specs::Reading::skipped_at, crate::specs::Form::fault_of))]
+pub(crate) fn reserved_at(frame: &[u8], at: usize, len: usize) -> Result<(), WireFault>
+    requires { at + len < 2 ^ 63 }
+    ensures { result ≡ skipped_at (Reserved len) at frame.now }
+{
+    part_of(frame, at, len)?;
+    Ok(())
+}
+
+/// A carriage return, 0D or 8D.
+#[tactic(auto, unfolding(crate::specs::Reading::skipped_at, crate::specs::Form::fault_of))]
+pub(crate) fn return_at(frame: &[u8], at: usize) -> Result<(), WireFault>
+    requires { at < 2 ^ 62 }
+    ensures { result ≡ skipped_at Return at frame.now }
+{
+    match part_of(frame, at, 1)? {
+        [0x0d] | [0x8d] => Ok(()),
+        _ => Err(WireFault::BadField(at)),
+    }
+}
+
+/// The end of the command: no octet is left over.
+#[tactic(auto, unfolding(crate::specs::Reading::ends_at, crate::specs::Form::end_fault))]
+pub(crate) fn ends_at(frame: &[u8], at: usize) -> Result<(), WireFault>
+    ensures { result ≡ ends_at at frame.now }
+{
+    if frame.len() != at {
+        return Err(WireFault::WrongLength);
+    }
+    Ok(())
+}
+
+/// A length of two octets, that of a hash or a signature, which is to be 0.
+#[tactic(auto, unfolding(crate::specs::Reading::skipped_at, crate::specs::Form::fault_of))]
+pub(crate) fn zero_at(frame: &[u8], at: usize) -> Result<(), WireFault>
+    requires { at < 2 ^ 62 }
+    ensures { result ≡ skipped_at zero16_form at frame.now }
+{
+    match part_of(frame, at, 2)? {
+        [0, 0] => Ok(()),
+        _ => Err(WireFault::BadField(at)),
+    }
+}
+
+/// Y or N.
+#[tactic(auto, unfolding(crate::specs::Reading::flag_at, crate::specs::Form::fault_of))]
+pub(crate) fn flag_at(frame: &[u8], at: usize) -> Result<bool, WireFault>
+    requires { at < 2 ^ 62 }
+    ensures { result ≡ flag_at at frame.now }
+{
+    match part_of(frame, at, 1)? {
+        [b'Y'] => Ok(true),
+        [b'N'] => Ok(false),
+        _ => Err(WireFault::BadField(at)),
+    }
+}
+
+/// S, R or B.
+#[tactic(auto, unfolding(crate::specs::Reading::mode_at, crate::specs::Form::fault_of))]
+pub(crate) fn mode_at(frame: &[u8], at: usize) -> Result<Mode, WireFault>
+    requires { at < 2 ^ 62 }
+    ensures { result ≡ mode_at at frame.now }
+{
+    match part_of(frame, at, 1)? {
+        [b'S'] => Ok(Mode::Send),
+        [b'R'] => Ok(Mode::Receive),
+        [b'B'] => Ok(Mode::Both),
+        _ => Err(WireFault::BadField(at)),
+    }
+}
+
+/// The two digits of a security level.
+#[tactic(auto, unfolding(crate::specs::Reading::security_at, crate::specs::Form::fault_of))]
+pub(crate) fn security_at(frame: &[u8], at: usize) -> Result<Security, WireFault>
+    requires { at < 2 ^ 62 }
+    ensures { result ≡ security_at at frame.now }
+{
+    match part_of(frame, at, 2)? {
+        b"00" => Ok(Security::Plain),
+        b"01" => Ok(Security::Encrypted),
+        b"02" => Ok(Security::Signed),
+        b"03" => Ok(Security::Both),
+        _ => Err(WireFault::BadField(at)),
+    }
+}
+
+/// F, V, U or T.
+#[tactic(auto, unfolding(crate::specs::Reading::format_at, crate::specs::Form::fault_of))]
+pub(crate) fn format_at(frame: &[u8], at: usize) -> Result<Format, WireFault>
+    requires { at < 2 ^ 62 }
+    ensures { result ≡ format_at at frame.now }
+{
+    match part_of(frame, at, 1)? {
+        [b'F'] => Ok(Format::Fixed),
+        [b'V'] => Ok(Format::Variable),
+        [b'U'] => Ok(Format::Unstructured),
+        [b'T'] => Ok(Format::Text),
+        _ => Err(WireFault::BadField(at)),
+    }
+}
+
+/// The longest record of a format, which is 0 in a format without records.
+#[tactic(auto, unfolding(crate::specs::Reading::layout_at, crate::specs::Form::fault_of))]
+pub(crate) fn layout_at(frame: &[u8], at: usize, format: Format) -> Result<Layout, WireFault>
+    requires { at < 2 ^ 62 }
+    ensures { result ≡ layout_at format at frame.now }
+{
+    let field = digits_of(frame, at, 5)?;
+    let longest = Count::<5> {
+        value: number_of(field),
+    };
+    match format {
+        Format::Fixed => Ok(Layout::Fixed(longest)),
+        Format::Variable => Ok(Layout::Variable(longest)),
+        _ if longest.get() != 0 => Err(WireFault::BadField(at)),
+        Format::Unstructured => Ok(Layout::Unstructured),
+        Format::Text => Ok(Layout::Text),
+    }
+}
+
+/// What SSRM says.
+#[tactic(auto, unfolding(crate::specs::Reading::skipped_at, crate::specs::Form::fault_of))]
+pub(crate) fn ready_at(frame: &[u8], at: usize) -> Result<(), WireFault>
+    requires { at < 2 ^ 62 }
+    ensures { result ≡ skipped_at ready_form at frame.now }
+{
+    if part_of(frame, at, 17)? != b"ODETTE FTP READY ".as_slice() {
+        return Err(WireFault::BadField(at));
+    }
+    Ok(())
+}
+
+/// The octets up to the end.
+#[tactic(auto, unfolding(crate::specs::Reading::rest_at, crate::specs::Form::fault_of))]
+pub(crate) fn rest_at(frame: &[u8], at: usize) -> Result<Octets<'_>, WireFault>
+    requires { at < 2 ^ 62 }
+    ensures { result ≡ rest_at at frame.now }
+{
+    if frame.len() < at {
+        return Err(WireFault::WrongLength);
+    }
+    let (_, octets) = frame.split_at(at);
+    Ok(Octets { octets })
+}

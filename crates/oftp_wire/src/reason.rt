@@ -1,0 +1,241 @@
+//! The reasons that stations give for a refusal or an end.
+
+ghost use Rattle.std.specs.Prelude.{◌≡◌, ◌≢◌, IfSome, IfNone};
+ghost use Rattle.oftp_wire.specs.Reasons.{start_number, start_reason, end_number, end_reason, session_number, session_reason, reason_of};
+
+use crate::fault::WireFault;
+use crate::field::Count;
+use std::fmt;
+
+/// Why a station refuses a virtual file: the reasons of SFNA (RFC 5024, section 5.3.5).
+#[derive(Clone, Copy, Debug, PartialEq, Eq)]
+pub enum StartReason {
+    /// 01: the dataset name is none that the station takes.
+    InvalidFilename,
+    /// 02: the station neither is nor reaches the destination.
+    InvalidDestination,
+    /// 03: the station takes no files of the originator.
+    InvalidOrigin,
+    /// 05: the longest record is above the station's limit.
+    MaximumRecordLengthNotSupported,
+    /// 06: the file is larger than the station takes.
+    FileSizeTooBig,
+    /// 13: the station has the file already.
+    DuplicateFile,
+    /// 14: the station takes no files in this direction.
+    FileDirectionRefused,
+    /// 99: none of the others.
+    Unspecified,
+}
+
+/// Why a station refuses the end of a virtual file: the reasons of EFNA (RFC 5024, section 5.3.10).
+#[derive(Clone, Copy, Debug, PartialEq, Eq)]
+pub enum EndReason {
+    /// 10: EFID has another number of records than came.
+    InvalidRecordCount,
+    /// 11: EFID has another number of octets than came.
+    InvalidByteCount,
+}
+
+/// Why a station ends the session: the reasons of ESID (RFC 5024, section 5.3.11).
+#[derive(Clone, Copy, Debug, PartialEq, Eq)]
+pub enum SessionReason {
+    /// 00: there is nothing more to do.
+    Normal,
+    /// 01: no command begins with the octet that came.
+    CommandNotRecognised,
+    /// 02: the command isn't allowed now.
+    ProtocolViolation,
+    /// 03: the station knows no partner of this identification code.
+    UserCodeNotKnown,
+    /// 04: the password isn't the partner's.
+    InvalidPassword,
+    /// 06: a field has a bad content.
+    InvalidData,
+    /// 07: the command has more or fewer octets than its kind.
+    BufferSizeError,
+    /// 08: the station has no memory or no room left.
+    ResourcesNotAvailable,
+    /// 10: the stations agree on no mode, or lack what the other needs.
+    ModeIncompatible,
+    /// 12: one station asks for secure authentication, the other doesn't.
+    AuthenticationIncompatible,
+}
+
+impl StartReason {
+    /// The two digits of SFNA's reason field, as a number.
+    pub fn number(self) -> Count<2>
+        ensures { result ≡ start_number self }
+    {
+        Count::new(match self {
+            StartReason::InvalidFilename => 1,
+            StartReason::InvalidDestination => 2,
+            StartReason::InvalidOrigin => 3,
+            StartReason::MaximumRecordLengthNotSupported => 5,
+            StartReason::FileSizeTooBig => 6,
+            StartReason::DuplicateFile => 13,
+            StartReason::FileDirectionRefused => 14,
+            StartReason::Unspecified => 99,
+        })
+    }
+
+    /// The reason of a number, or `None` where the number is of no listed reason.
+    pub fn from_number(number: Count<2>) -> Option<StartReason>
+        ensures value { result ≡ start_reason number }
+        ensures listed { IfSome result (λ r. start_number r ≡ number) }
+        ensures other { IfNone result ((r : StartReason) → start_number r ≢ number) }
+    {
+        match number.get() {
+            1 => Some(StartReason::InvalidFilename),
+            2 => Some(StartReason::InvalidDestination),
+            3 => Some(StartReason::InvalidOrigin),
+            5 => Some(StartReason::MaximumRecordLengthNotSupported),
+            6 => Some(StartReason::FileSizeTooBig),
+            13 => Some(StartReason::DuplicateFile),
+            14 => Some(StartReason::FileDirectionRefused),
+            99 => Some(StartReason::Unspecified),
+            _ => None,
+        }
+    }
+}
+
+impl EndReason {
+    /// The two digits of EFNA's reason field, as a number.
+    pub fn number(self) -> Count<2>
+        ensures { result ≡ end_number self }
+    {
+        Count::new(match self {
+            EndReason::InvalidRecordCount => 10,
+            EndReason::InvalidByteCount => 11,
+        })
+    }
+
+    /// The reason of a number, or `None` where the number is of no listed reason.
+    pub fn from_number(number: Count<2>) -> Option<EndReason>
+        ensures value { result ≡ end_reason number }
+        ensures listed { IfSome result (λ r. end_number r ≡ number) }
+        ensures other { IfNone result ((r : EndReason) → end_number r ≢ number) }
+    {
+        match number.get() {
+            10 => Some(EndReason::InvalidRecordCount),
+            11 => Some(EndReason::InvalidByteCount),
+            _ => None,
+        }
+    }
+}
+
+impl SessionReason {
+    /// The two digits of ESID's reason field, as a number.
+    pub fn number(self) -> Count<2>
+        ensures { result ≡ session_number self }
+    {
+        Count::new(match self {
+            SessionReason::Normal => 0,
+            SessionReason::CommandNotRecognised => 1,
+            SessionReason::ProtocolViolation => 2,
+            SessionReason::UserCodeNotKnown => 3,
+            SessionReason::InvalidPassword => 4,
+            SessionReason::InvalidData => 6,
+            SessionReason::BufferSizeError => 7,
+            SessionReason::ResourcesNotAvailable => 8,
+            SessionReason::ModeIncompatible => 10,
+            SessionReason::AuthenticationIncompatible => 12,
+        })
+    }
+
+    /// The reason of a number, or `None` where the number is of no listed reason.
+    pub fn from_number(number: Count<2>) -> Option<SessionReason>
+        ensures value { result ≡ session_reason number }
+        ensures listed { IfSome result (λ r. session_number r ≡ number) }
+        ensures other { IfNone result ((r : SessionReason) → session_number r ≢ number) }
+    {
+        match number.get() {
+            0 => Some(SessionReason::Normal),
+            1 => Some(SessionReason::CommandNotRecognised),
+            2 => Some(SessionReason::ProtocolViolation),
+            3 => Some(SessionReason::UserCodeNotKnown),
+            4 => Some(SessionReason::InvalidPassword),
+            6 => Some(SessionReason::InvalidData),
+            7 => Some(SessionReason::BufferSizeError),
+            8 => Some(SessionReason::ResourcesNotAvailable),
+            10 => Some(SessionReason::ModeIncompatible),
+            12 => Some(SessionReason::AuthenticationIncompatible),
+            _ => None,
+        }
+    }
+}
+
+impl WireFault {
+    /// The reason of the ESID that answers octets at fault, or `None` for `NoRoom`, which `parse`
+    /// never gives.
+    pub fn reason(self) -> Option<SessionReason>
+        ensures { result ≡ reason_of self }
+    {
+        match self {
+            WireFault::UnknownCommand => Some(SessionReason::CommandNotRecognised),
+            WireFault::WrongLength => Some(SessionReason::BufferSizeError),
+            WireFault::BadField(_) | WireFault::BadText => Some(SessionReason::InvalidData),
+            WireFault::NoRoom => None,
+        }
+    }
+}
+
+impl fmt::Display for StartReason {
+    ghost use Rattle.std.specs.Prelude.{Some};
+    ghost use Rattle.oftp_wire.specs.Reasons.{start_text};
+
+    ghost output = { λ r. Some (start_text r) };
+
+    fn fmt<W: fmt::Write>(&self, f: &mut fmt::Formatter<W>) -> fmt::Result {
+        f.write_str(match self {
+            StartReason::InvalidFilename => "01 invalid filename",
+            StartReason::InvalidDestination => "02 invalid destination",
+            StartReason::InvalidOrigin => "03 invalid origin",
+            StartReason::MaximumRecordLengthNotSupported => {
+                "05 maximum record length not supported"
+            }
+            StartReason::FileSizeTooBig => "06 file size too big",
+            StartReason::DuplicateFile => "13 duplicate file",
+            StartReason::FileDirectionRefused => "14 file direction refused",
+            StartReason::Unspecified => "99 unspecified",
+        })
+    }
+}
+
+impl fmt::Display for EndReason {
+    ghost use Rattle.std.specs.Prelude.{Some};
+    ghost use Rattle.oftp_wire.specs.Reasons.{end_text};
+
+    ghost output = { λ r. Some (end_text r) };
+
+    fn fmt<W: fmt::Write>(&self, f: &mut fmt::Formatter<W>) -> fmt::Result {
+        f.write_str(match self {
+            EndReason::InvalidRecordCount => "10 invalid record count",
+            EndReason::InvalidByteCount => "11 invalid byte count",
+        })
+    }
+}
+
+impl fmt::Display for SessionReason {
+    ghost use Rattle.std.specs.Prelude.{Some};
+    ghost use Rattle.oftp_wire.specs.Reasons.{session_text};
+
+    ghost output = { λ r. Some (session_text r) };
+
+    fn fmt<W: fmt::Write>(&self, f: &mut fmt::Formatter<W>) -> fmt::Result {
+        f.write_str(match self {
+            SessionReason::Normal => "00 normal",
+            SessionReason::CommandNotRecognised => "01 command not recognised",
+            SessionReason::ProtocolViolation => "02 protocol violation",
+            SessionReason::UserCodeNotKnown => "03 user code not known",
+            SessionReason::InvalidPassword => "04 invalid password",
+            SessionReason::InvalidData => "06 invalid data",
+            SessionReason::BufferSizeError => "07 buffer size error",
+            SessionReason::ResourcesNotAvailable => "08 resources not available",
+            SessionReason::ModeIncompatible => "10 mode or capabilities incompatible",
+            SessionReason::AuthenticationIncompatible => {
+                "12 secure authentication requirements incompatible"
+            }
+        })
+    }
+}

@@ -1,0 +1,500 @@
+//! Commands spelled by hand from the offsets of the standard's tables, a field each, and never by
+//! `encode`.
+
+use super::*;
+use std::alloc::{AllocError, Global};
+use std::test::Fail;
+
+/// What an operator reads, and the fields of the spelling.
+type Spelled = (&'static [u8], &'static [&'static [u8]]);
+
+/// Each kind with short values.
+const SHORT: [Spelled; 15] = [
+    (b"SSRM", &[b"I", b"ODETTE FTP READY ", b"\r"]),
+    (
+        b"SSID from ",
+        &[
+            b"X",
+            b"0",
+            b"                         ",
+            b"        ",
+            b"00000",
+            b"S",
+            b"N",
+            b"Y",
+            b"N",
+            b"000",
+            b"N",
+            b"    ",
+            b"        ",
+            b"\r",
+        ],
+    ),
+    (
+        b"SFID A 20240131 1015300001 from O1 to O2",
+        &[
+            b"H",
+            b"A                         ",
+            b"   ",
+            b"20240131",
+            b"1015300001",
+            b"        ",
+            b"O2                       ",
+            b"O1                       ",
+            b"U",
+            b"00000",
+            b"0000000000000",
+            b"0000000000000",
+            b"00000000000000000",
+            b"00",
+            b"00",
+            b"0",
+            b"0",
+            b"N",
+            b"000",
+            b"",
+        ],
+    ),
+    (b"SFPA from position 0", &[b"2", b"00000000000000000"]),
+    (b"SFNA 99 unspecified", &[b"3", b"99", b"N", b"000", b""]),
+    (b"DATA of 0 octets", &[b"D", b""]),
+    (b"CDT", &[b"C", b"  "]),
+    (
+        b"EFID of 0 records and 0 octets",
+        &[b"T", b"00000000000000000", b"00000000000000000"],
+    ),
+    (b"EFPA", &[b"4", b"N"]),
+    (b"EFNA 12", &[b"5", b"12", b"000", b""]),
+    (b"ESID 00 normal", &[b"F", b"00", b"000", b"", b"\r"]),
+    (b"CD", &[b"R"]),
+    (
+        b"EERP  00000000 0000000000 to ",
+        &[
+            b"E",
+            b"                          ",
+            b"   ",
+            b"00000000",
+            b"0000000000",
+            b"        ",
+            b"                         ",
+            b"                         ",
+            b"\0\0",
+            b"\0\0",
+        ],
+    ),
+    (
+        b"NERP A 20240131 1015300001 to O1, reason 03",
+        &[
+            b"N",
+            b"A                         ",
+            b"      ",
+            b"20240131",
+            b"1015300001",
+            b"O1                       ",
+            b"O2                       ",
+            b"O3                       ",
+            b"03",
+            b"000",
+            b"",
+            b"\0\0",
+            b"\0\0",
+        ],
+    ),
+    (b"RTR", &[b"P"]),
+];
+
+/// A text of the most octets.
+const LONG: [u8; 999] = [b'x'; 999];
+
+/// Each kind with fields at its longest: its octets, and the fields.
+const LONGEST: [(usize, &'static [&'static [u8]]); 9] = [
+    (
+        61,
+        &[
+            b"X",
+            b"5",
+            b"0123456789ABCDEFGHIJKLMNO",
+            b"P/-.&()Z",
+            b"99999",
+            b"B",
+            b"Y",
+            b"Y",
+            b"Y",
+            b"999",
+            b"Y",
+            b"    ",
+            b"ABCDEFGH",
+            b"\r",
+        ],
+    ),
+    (
+        1164,
+        &[
+            b"H",
+            b"ABCDEFGHIJKLMNOPQRSTUVWXYZ",
+            b"   ",
+            b"99999999",
+            b"9999999999",
+            b"ABCDEFGH",
+            b"0123456789ABCDEFGHIJKLMNO",
+            b"0123456789ABCDEFGHIJKLMNO",
+            b"V",
+            b"99999",
+            b"9999999999999",
+            b"9999999999999",
+            b"99999999999999999",
+            b"03",
+            b"99",
+            b"9",
+            b"9",
+            b"Y",
+            b"999",
+            &LONG,
+        ],
+    ),
+    (18, &[b"2", b"99999999999999999"]),
+    (1006, &[b"3", b"13", b"Y", b"999", &LONG]),
+    (35, &[b"T", b"99999999999999999", b"99999999999999999"]),
+    (1005, &[b"5", b"11", b"999", &LONG]),
+    (1006, &[b"F", b"99", b"999", &LONG, b"\r"]),
+    (
+        110,
+        &[
+            b"E",
+            b"ABCDEFGHIJKLMNOPQRSTUVWXYZ",
+            b"   ",
+            b"99999999",
+            b"9999999999",
+            b"ABCDEFGH",
+            b"0123456789ABCDEFGHIJKLMNO",
+            b"0123456789ABCDEFGHIJKLMNO",
+            b"\0\0",
+            b"\0\0",
+        ],
+    ),
+    (
+        1134,
+        &[
+            b"N",
+            b"ABCDEFGHIJKLMNOPQRSTUVWXYZ",
+            b"      ",
+            b"99999999",
+            b"9999999999",
+            b"0123456789ABCDEFGHIJKLMNO",
+            b"0123456789ABCDEFGHIJKLMNO",
+            b"0123456789ABCDEFGHIJKLMNO",
+            b"99",
+            b"999",
+            &LONG,
+            b"\0\0",
+            b"\0\0",
+        ],
+    ),
+];
+
+/// The fields one after the other.
+fn joined(alloc: Global, fields: &[&[u8]]) -> Result<Vec<u8>, AllocError> {
+    let mut octets = Vec::new(alloc);
+    for field in fields {
+        octets.extend_from_slice(field)?;
+    }
+    Ok(octets)
+}
+
+/// The fault of octets.
+fn fault(octets: &[u8]) -> Option<WireFault> {
+    parse(octets).err()
+}
+
+/// The fault of fields one after the other.
+fn fault_of_fields(alloc: Global, fields: &[&[u8]]) -> Result<Option<WireFault>, AllocError> {
+    let octets = joined(alloc, fields)?;
+    Ok(fault(octets.as_slice()))
+}
+
+#[test]
+fn each_kind_short(rt: HostRuntime) -> Result<(), Fail> {
+    for (words, fields) in SHORT {
+        let octets = joined(rt.alloc(), fields)?;
+        let command = parse(octets.as_slice())?;
+        assert_eq!(rt; command.to_string(rt.alloc())?.as_bytes(), words);
+        let mut out = [0xffu8; 1164];
+        assert_eq!(rt; encode(&command, &mut out), Ok(octets.len()), "{command}");
+        assert!(rt; out.starts_with(octets.as_slice()), "{command}");
+    }
+    Ok(())
+}
+
+#[test]
+fn each_kind_longest(rt: HostRuntime) -> Result<(), Fail> {
+    for (len, fields) in LONGEST {
+        let octets = joined(rt.alloc(), fields)?;
+        assert_eq!(rt; octets.len(), len);
+        let command = parse(octets.as_slice())?;
+        let mut out = [0xffu8; 1164];
+        assert_eq!(rt; encode(&command, &mut out), Ok(len));
+        assert!(rt; out.starts_with(octets.as_slice()), "{command}");
+    }
+    Ok(())
+}
+
+#[test]
+fn esid_with_text(rt: HostRuntime) -> Result<(), Fail> {
+    let command = parse(&[0x46, 0x30, 0x30, 0x30, 0x30, 0x32, 0x4f, 0x4b, 0x0d])?;
+    assert_eq!(rt;
+        command.to_string(rt.alloc())?.as_str(),
+        "ESID 00 normal: OK"
+    );
+    let Command::Esid(esid) = command else {
+        return Err("no ESID")?;
+    };
+    assert_eq!(rt;
+        SessionReason::from_number(esid.reason),
+        Some(SessionReason::Normal)
+    );
+    assert_eq!(rt; esid.text.text(), "OK");
+    Ok(())
+}
+
+#[test]
+fn cdt_reserved(rt: HostRuntime) -> Result<(), Fail> {
+    let command = parse(&[0x43, 0x00, 0x00])?;
+    assert!(rt; matches!(command, Command::Cdt));
+    let mut out = [0u8; 4];
+    assert_eq!(rt; encode(&command, &mut out), Ok(3));
+    assert_eq!(rt; out.as_slice(), [0x43, 0x20, 0x20, 0x00].as_slice());
+    Ok(())
+}
+
+#[test]
+fn cdt_length(rt: HostRuntime) {
+    assert_eq!(rt; fault(&[0x43, 0x20]), Some(WireFault::WrongLength));
+    assert_eq!(rt;
+        fault(&[0x43, 0x20, 0x20, 0x20]),
+        Some(WireFault::WrongLength)
+    );
+}
+
+#[test]
+fn efpa_letter(rt: HostRuntime) {
+    assert_eq!(rt; fault(&[0x34, 0x5a]), Some(WireFault::BadField(1)));
+}
+
+#[test]
+fn text_not_utf8(rt: HostRuntime) {
+    assert_eq!(rt; fault(b"399N001\xff"), Some(WireFault::BadText));
+    assert_eq!(rt; fault(b"F00001\xff\r"), Some(WireFault::BadText));
+}
+
+#[test]
+fn ssrm_return(rt: HostRuntime) {
+    assert!(rt; matches!(parse(b"IODETTE FTP READY \x8d"), Ok(Command::Ssrm)));
+    assert_eq!(rt;
+        fault(b"IODETTE FTP READY \x0a"),
+        Some(WireFault::BadField(18))
+    );
+}
+
+#[test]
+fn sfpa_room(rt: HostRuntime) {
+    let command = Command::Sfpa(Sfpa {
+        restart: Count::new(0),
+    });
+    let mut short = [9u8; 17];
+    assert_eq!(rt; encode(&command, &mut short), Err(WireFault::NoRoom));
+    assert_eq!(rt; short.as_slice(), [9u8; 17].as_slice());
+    let mut out = [9u8; 18];
+    assert_eq!(rt; encode(&command, &mut out), Ok(18));
+    assert_eq!(rt; out.as_slice(), b"200000000000000000".as_slice());
+}
+
+/// EERP with this dataset name, hash length and signature length.
+fn eerp_fault(
+    alloc: Global,
+    dataset: &[u8],
+    lengths: &[u8],
+) -> Result<Option<WireFault>, AllocError> {
+    let fields: [&[u8]; 5] = [
+        b"E",
+        dataset,
+        b"   202401311015300001USER    ",
+        b"O0177CARMAKER            O0013SUPPLIER            ",
+        lengths,
+    ];
+    fault_of_fields(alloc, &fields)
+}
+
+#[test]
+fn eerp_name_with_space(rt: HostRuntime) -> Result<(), Fail> {
+    let bad = Some(WireFault::BadField(1));
+    assert_eq!(rt;
+        eerp_fault(rt.alloc(), b"A B                       ", b"\0\0\0\0")?,
+        bad
+    );
+    assert_eq!(rt;
+        eerp_fault(rt.alloc(), b" A                        ", b"\0\0\0\0")?,
+        bad
+    );
+    assert_eq!(rt;
+        eerp_fault(rt.alloc(), b"a                         ", b"\0\0\0\0")?,
+        bad
+    );
+    assert_eq!(rt;
+        eerp_fault(rt.alloc(), b"AB                        ", b"\0\0\0\0")?,
+        None
+    );
+    Ok(())
+}
+
+#[test]
+fn hash_and_signature_lengths(rt: HostRuntime) -> Result<(), Fail> {
+    let name = b"A                         ";
+    assert_eq!(rt;
+        eerp_fault(rt.alloc(), name, b"\0\x01\0\0")?,
+        Some(WireFault::BadField(106))
+    );
+    assert_eq!(rt;
+        eerp_fault(rt.alloc(), name, b"\0\0\x01\0x")?,
+        Some(WireFault::BadField(108))
+    );
+    assert_eq!(rt;
+        eerp_fault(rt.alloc(), name, b"\0\0\0\0x")?,
+        Some(WireFault::WrongLength)
+    );
+    assert_eq!(rt;
+        eerp_fault(rt.alloc(), name, b"\0\0\0")?,
+        Some(WireFault::WrongLength)
+    );
+    Ok(())
+}
+
+#[test]
+fn longest_record_without_records(rt: HostRuntime) -> Result<(), Fail> {
+    let front: &[u8] = b"HA                            202401311015300001        ";
+    let stations: &[u8] = b"O0177CARMAKER            O0013SUPPLIER            ";
+    let sizes: &[u8] = b"00000000000010000000000001";
+    let back: &[u8] = b"00000000000000000000000N000";
+    let bad = Some(WireFault::BadField(107));
+    for (layout, expected) in [
+        (b"U00000", None),
+        (b"T00000", None),
+        (b"F00080", None),
+        (b"U00001", bad),
+        (b"T00080", bad),
+        (b"V0008 ", bad),
+        (b"X00000", Some(WireFault::BadField(106))),
+    ] {
+        let got = fault_of_fields(rt.alloc(), &[front, stations, layout, sizes, back])?;
+        assert_eq!(rt; got, expected, "{layout:?}");
+    }
+    Ok(())
+}
+
+#[test]
+fn first_fault(rt: HostRuntime) {
+    let cases: [(&[u8], WireFault); 9] = [
+        (b"", WireFault::UnknownCommand),
+        (b"Z", WireFault::UnknownCommand),
+        // A text that passes the end, and one that ends before it.
+        (b"399N002x", WireFault::WrongLength),
+        (b"399N000x", WireFault::WrongLength),
+        // The first fault from the left is answered.
+        (b"3x9Z", WireFault::BadField(1)),
+        (b"399Zxx", WireFault::BadField(3)),
+        (b"F0000", WireFault::WrongLength),
+        (b"F00001x\n", WireFault::BadField(7)),
+        (b"Rx", WireFault::WrongLength),
+    ];
+    for (octets, expected) in cases {
+        assert_eq!(rt; fault(octets), Some(expected), "{octets:?}");
+    }
+}
+
+#[test]
+fn reasons(rt: HostRuntime) -> Result<(), Fail> {
+    let cases: [(&[u8], &[u8]); 23] = [
+        (b"301N000", b"SFNA 01 invalid filename"),
+        (b"302N000", b"SFNA 02 invalid destination"),
+        (b"303N000", b"SFNA 03 invalid origin"),
+        (b"304N000", b"SFNA 04"),
+        (b"305N000", b"SFNA 05 maximum record length not supported"),
+        (b"306Y000", b"SFNA 06 file size too big, retry"),
+        (b"313N000", b"SFNA 13 duplicate file"),
+        (b"314N000", b"SFNA 14 file direction refused"),
+        (b"399Y002no", b"SFNA 99 unspecified, retry: no"),
+        (b"510000", b"EFNA 10 invalid record count"),
+        (b"511002no", b"EFNA 11 invalid byte count: no"),
+        (b"512000", b"EFNA 12"),
+        (b"F00000\r", b"ESID 00 normal"),
+        (b"F01000\r", b"ESID 01 command not recognised"),
+        (b"F02000\r", b"ESID 02 protocol violation"),
+        (b"F03000\r", b"ESID 03 user code not known"),
+        (b"F04000\r", b"ESID 04 invalid password"),
+        (b"F05000\r", b"ESID 05"),
+        (b"F06000\r", b"ESID 06 invalid data"),
+        (b"F07000\r", b"ESID 07 buffer size error"),
+        (b"F08000\r", b"ESID 08 resources not available"),
+        (b"F10000\r", b"ESID 10 mode or capabilities incompatible"),
+        (
+            b"F12000\r",
+            b"ESID 12 secure authentication requirements incompatible",
+        ),
+    ];
+    for (octets, words) in cases {
+        let command = parse(octets)?;
+        assert_eq!(rt; command.to_string(rt.alloc())?.as_bytes(), words);
+    }
+    assert_eq!(rt; SessionReason::ModeIncompatible.number().get(), 10);
+    assert_eq!(rt; StartReason::Unspecified.number().get(), 99);
+    assert_eq!(rt; EndReason::InvalidByteCount.number().get(), 11);
+    Ok(())
+}
+
+#[test]
+fn faults_in_words(rt: HostRuntime) -> Result<(), Fail> {
+    let cases: [(WireFault, Option<SessionReason>, &[u8]); 5] = [
+        (
+            WireFault::UnknownCommand,
+            Some(SessionReason::CommandNotRecognised),
+            b"no command begins so",
+        ),
+        (
+            WireFault::WrongLength,
+            Some(SessionReason::BufferSizeError),
+            b"the command has the wrong length",
+        ),
+        (
+            WireFault::BadField(18),
+            Some(SessionReason::InvalidData),
+            b"the field at offset 18 has a bad content",
+        ),
+        (
+            WireFault::BadText,
+            Some(SessionReason::InvalidData),
+            b"a text isn't UTF-8",
+        ),
+        (WireFault::NoRoom, None, b"there is no room for the command"),
+    ];
+    for (fault, reason, words) in cases {
+        assert_eq!(rt; fault.reason(), reason);
+        assert_eq!(rt; fault.to_string(rt.alloc())?.as_bytes(), words);
+    }
+    Ok(())
+}
+
+#[test]
+fn fields(rt: HostRuntime) -> Result<(), Fail> {
+    let code = X::<5>::new(b"A/1.&").ok_or("X")?;
+    assert_eq!(rt; code.again().text(), "A/1.&");
+    assert_eq!(rt; code.octets(), b"A/1.&".as_slice());
+    assert!(rt; X::<5>::new(b"ABCDEF").is_none());
+    assert!(rt; X::<5>::new(b"AB ").is_none());
+    let date = Digits::<8>::new(b"20240131").ok_or("digits")?;
+    assert_eq!(rt; date.again().text(), "20240131");
+    assert!(rt; Digits::<8>::new(b"2024013").is_none());
+    assert!(rt; Digits::<8>::new(b"2024013x").is_none());
+    let text = Text::new("a\x1b[2J\u{9b}b").ok_or("text")?;
+    assert_eq!(rt; text.again().to_string(rt.alloc())?.as_str(), "a?[2J?b");
+    assert_eq!(rt; Octets::new(b"AB").again().octets(), b"AB".as_slice());
+    Ok(())
+}
