@@ -5,7 +5,7 @@ set -euo pipefail
 root=$(cd "$(dirname "$0")/.." && pwd)
 room=$(mktemp -d)
 trap 'rm -rf "$room"' EXIT
-cp "$root/crates.txt" "$room"
+echo 'oftp_wire:' > "$room/crates.txt"
 mkdir "$room/crates"
 cp -r "$root/crates/oftp_wire" "$room/crates"
 cd "$room/crates/oftp_wire"
@@ -20,13 +20,13 @@ if [ "$(grep -cF -- "$old" "$file")" != 1 ]; then
     exit 1
 fi
 printf '%s\n' "${text/"$old"/"$new"}" > "$file"
-if rt check --jobs 1 > "$room/told" 2>&1 || ! grep -q 'error\[borrow-e0499\]' "$room/told"; then
+if rt check --only= > "$room/told" 2>&1 || ! grep -q 'error\[borrow-e0499\]' "$room/told"; then
     echo "NOT REFUSED: a frame may be held over feed"
     exit 1
 fi
 control=${new/deframer.feed(piece).is_err() || held.is_err()/held.is_err() || deframer.feed(piece).is_err()}
 printf '%s\n' "${text/"$old"/"$control"}" > "$file"
-rt check --jobs 1 > "$room/told" 2>&1 || true
+rt check --only= > "$room/told" 2>&1 || true
 if grep -q 'error\[' "$room/told"; then
     echo "BAD EDIT: the control does not compile either"
     exit 1

@@ -1,0 +1,209 @@
+-- What a served session leaves, from how far it came.
+use Rattle.std.proofs.Common.{◌≡◌, ℕ, zero, suc, ◌+◌, ◌-◌, ◌≤◌, ◌<◌, Bool, true, false, List, [], ◌∷◌, ◌++◌, length, take, drop, Option, None, Some, Result, Ok, Err, refl, sym, ap, ◌∙◌, subst, arith, append_assoc, length-append, length-drop, inl, inr, ltb, max}
+use Rattle.std.proofs.Math.Seq.{take-add}
+use Rattle.std.proofs.lemmas.List.{append-nil, take_at, drop_at, take-append-le}
+use Rattle.std.proofs.lemmas.Bool.{le-ltb, lt-ltb}
+use Rattle.oftp_session.specs.Phases.{frame_of}
+use Rattle.oftp_wire.specs.Stream.{front}
+use Rattle.oftp_session.specs.Phases.{esid_of}
+use Rattle.oftp_wire.specs.declared.reason.SessionReason.TheVariants.{ResourcesNotAvailable}
+use Rattle.oftp_wire.specs.Stream.{Waits}
+use Rattle.oftp_register.specs.declared.change.Change.{Change}
+use Rattle.oftp_register.specs.Register.{Register}
+use Rattle.oftp_register.specs.Changes.{apply, or_else, after_all}
+use Rattle.oftp_register.specs.Offices.{Rest, Only, WithOrWithout}
+use Rattle.oftp_session.specs.Phases.{Phase, RespondOpening, InitiateOpening, AwaitSsid, ListenerIdle, SpeakerIdle, EndedHere, EndedThere, Step, register_after}
+use Rattle.oftp_session.specs.Steps.{has_turn, is_over}
+use Rattle.oftp_session.specs.Settings.{Setting}
+use Rattle.oftp_session.specs.declared.session.Ending.{Ending}
+use Rattle.oftp_session.specs.Calls.{Seen, ending_of}
+use Rattle.oftp_register.specs.declared.change.Cause.{Cause}
+use Rattle.oftp_engine.specs.declared.serving.RunFault.{RunFault}
+use Rattle.oftp_engine.specs.declared.serving.RunFault.TheVariants as fault
+use Rattle.oftp_engine.specs.Runs.{Course, Output, run, started, octets_of, answered, advance, is_stopped, with_change}
+use Rattle.oftp_engine.specs.Serving.{Grows, Leads, Reaches, Scene, Took, IsAt, Went, BreaksOff, IsRefused, IsShort, Fails, Comes, IsOver, IsWaiting, Sound, Counted}
+use Rattle.oftp_engine.specs.Served.{whole, broken_off, LeavesPrefix, IsWhole, IsBrokenOff, IsRefusedService, IsOutOfMemory, ServesErr}
+use Rattle.oftp_engine.proofs.Courses.{grows_on, grows_step, run_grows, run_over, run_waits, run_stopped, octets-append}
+use Rattle.oftp_engine.proofs.Progress.{octets_step}
+
+answered_most : (outputs : List Output) (n most : ℕ) → Counted most outputs → answered outputs n ≤ most
+answered_most [] n most h = omega arith
+answered_most (o ∷ outputs) zero most h = omega arith
+answered_most (o ∷ outputs) (suc n) most h = let p = answered_most outputs (suc n - length o.octets) most h.1 in let q = h.0 in omega arith
+
+sound_start : (setting : Setting) (r : Register) → Sound r (started setting r)
+sound_start setting r = record { replay = refl; counted = tt }
+
+over_from : (p : Phase) (e : Ending) → Some e ≡ ending_of p → is_over p ≡ true
+over_from RespondOpening e h = absurd (let no : ⊥ = cc in no)
+over_from (InitiateOpening partner) e h = absurd (let no : ⊥ = cc in no)
+over_from AwaitSsid e h = absurd (let no : ⊥ = cc in no)
+over_from (ListenerIdle partner link) e h = absurd (let no : ⊥ = cc in no)
+over_from (SpeakerIdle partner link done) e h = absurd (let no : ⊥ = cc in no)
+over_from (EndedHere reason) e h = refl
+over_from (EndedThere reason) e h = refl
+
+-- what the run over all the octets comes to
+whole_is : (setting : Setting) (given t : List ℕ) (r : Register) (d : Course) → Leads (started setting r) given d t → run None (t ++ []) d ≡ d → whole setting given r ≡ d
+unfolding is_stopped
+whole_is setting given t r d leads e = ap (λ (x : List ℕ). run None x (started setting r)) (sym (append-nil given)) ∙ leads.same [] None refl ∙ e
+
+pub whole_over : (setting : Setting) (given t : List ℕ) (seen : Seen) (old new : Scene) (lo ln : Rest) (end : Ending) (h : IsOver (started setting old.register) given t seen old new lo ln end) → whole setting given old.register ≡ h.come.at
+whole_over setting given t seen old new lo ln end h = whole_is setting given t old.register h.come.at h.come.went.leads (run_over None (t ++ []) h.come.at (over_from h.come.at.phase end h.ends))
+
+pub whole_waits : (setting : Setting) (given t : List ℕ) (seen : Seen) (old new : Scene) (lo ln : Rest) (h : Comes (started setting old.register) given t seen old new lo ln) → has_turn h.at.phase ≡ false → front 100003 t ≡ Waits → whole setting given old.register ≡ h.at
+whole_waits setting given t seen old new lo ln h turn waits = whole_is setting given t old.register h.at h.went.leads (ap (λ (x : List ℕ). run None x h.at) (append-nil t) ∙ run_waits None t h.at turn waits)
+
+pub is_whole : (setting : Setting) (given t : List ℕ) (seen : Seen) (old new : Scene) (lo ln : Rest) (fine : lo.stands) (alone : ln.stands → Only new.register ln) (h : Comes (started setting old.register) given t seen old new lo ln) → whole setting given old.register ≡ h.at → IsWhole setting given old new ln
+is_whole setting given t seen old new lo ln fine alone h e = record {
+  out = subst (λ (x : List ℕ). Took old new x) (sym h.went.outputs ∙ ap (λ (c : Course). octets_of c.outputs) (sym e)) h.went.took;
+  register = h.now.register ∙ ap (λ (c : Course). c.register) (sym e);
+  stands = h.went.stands fine;
+  left = alone (h.went.stands fine);
+  faults = h.went.faults;
+  told = h.went.told;
+}
+
+-- the writer told a fault
+
+not_stopped : (c : Course) (n : ℕ) → is_stopped (Some (length (octets_of c.outputs) + n)) c ≡ false
+unfolding is_stopped
+not_stopped c n = le-ltb (length (octets_of c.outputs) + n) (length (octets_of c.outputs)) (omega arith)
+
+stopped_now : (c : Course) (s : Step) (n : ℕ) → n < length s.output → is_stopped (Some (length (octets_of c.outputs) + n)) (advance c s) ≡ true
+unfolding is_stopped
+stopped_now c s n lt = lt-ltb (length (octets_of c.outputs) + n) (length (octets_of (advance c s).outputs)) (omega (arith, ap (λ (x : List ℕ). length x) (octets_step c s), length-append (octets_of c.outputs) s.output))
+
+take_past : (xs ys : List ℕ) (n : ℕ) → take (length xs + n) (xs ++ ys) ≡ xs ++ take n ys
+take_past xs ys n = take-add (length xs) n (xs ++ ys) ∙ ap (λ (x : List ℕ). x ++ take n (drop (length xs) (xs ++ ys))) (take_at xs ys (length xs) refl) ∙ ap (λ (x : List ℕ). xs ++ take n x) (drop_at xs ys (length xs) refl)
+
+pub is_broken_off : (setting : Setting) (given : List ℕ) (old new : Scene) (lo ln : Rest) (fine : lo.stands) (alone : ln.stands → Only new.register ln) → BreaksOff (started setting old.register) given old new lo ln → IsBrokenOff setting given old new ln
+is_broken_off setting given old new lo ln fine alone h =
+    let before : List ℕ = octets_of h.at.outputs in
+    let taken : ℕ = length before + h.count in
+    let end : Course = advance h.at h.step in
+    let r = h.reaches.same [] (Some taken) (not_stopped h.at h.count) in
+    let e : broken_off setting taken given old.register ≡ end = ap (λ (x : List ℕ). run (Some taken) x (started setting old.register)) (sym (append-nil given)) ∙ r.1 ∙ run_stopped (Some taken) r.0 end (stopped_now h.at h.step h.count h.short) in
+    let octets : octets_of (broken_off setting taken given old.register).outputs ≡ before ++ h.step.output = ap (λ (c : Course). octets_of c.outputs) e ∙ octets_step h.at h.step in
+    record {
+      taken = taken;
+      short = subst (λ (x : List ℕ). taken < length x) (sym octets) (rw length-append (omega (arith, h.short)));
+      out = subst (λ (x : List ℕ). Took old new x) (ap (λ (x : List ℕ). x ++ take h.count h.step.output) (sym h.outputs) ∙ sym (take_past before h.step.output h.count) ∙ ap (λ (x : List ℕ). take taken x) (sym octets)) h.took;
+      register = h.register ∙ ap (λ (c : Course). c.register) (sym e);
+      stands = h.stands fine;
+      left = alone (h.stands fine);
+      faults = h.faults;
+      told = h.told;
+    }
+
+-- the office told a fault, or memory ran out: the run goes on from there
+
+goes_on : (setting : Setting) (given : List ℕ) (r : Register) (d e : Course) → Reaches (started setting r) given d e → Grows d e → Grows d (whole setting given r)
+unfolding is_stopped
+goes_on setting given r d e reaches grows =
+    let h = reaches.same [] None refl in
+    let same : whole setting given r ≡ run None h.0 e = ap (λ (x : List ℕ). run None x (started setting r)) (sym (append-nil given)) ∙ h.1 in
+    subst (Grows d) (sym same) (grows_on d e (run None h.0 e) grows (run_grows None h.0 e))
+
+goes_past : (setting : Setting) (given : List ℕ) (r : Register) (d e : Course) → Reaches (started setting r) given d e → Grows e (whole setting given r)
+unfolding is_stopped
+goes_past setting given r d e reaches =
+    let h = reaches.same [] None refl in
+    let same : whole setting given r ≡ run None h.0 e = ap (λ (x : List ℕ). run None x (started setting r)) (sym (append-nil given)) ∙ h.1 in
+    subst (Grows e) (sym same) (run_grows None h.0 e)
+
+few : (d w : Course) → Grows d w → length d.changes ≤ length w.changes
+few d w g = omega (arith, ap (λ (x : List Change). length x) g.changes, length-append d.changes g.later_changes)
+
+front_changes : (d w : Course) → Grows d w → take (length d.changes) w.changes ≡ d.changes
+front_changes d w g = ap (take (length d.changes)) g.changes ∙ take_at d.changes g.later_changes (length d.changes) refl
+
+replayed : (r : Register) (d w : Course) → Grows d w → Sound r d → d.register ≡ after_all r (take (length d.changes) w.changes)
+replayed r d w g s = s.replay ∙ ap (after_all r) (sym (front_changes d w g))
+
+accepted : (r : Register) (k : Change) (s : Register) → apply r k ≡ Ok s → s ≡ or_else (apply r k) r
+accepted r k s e = sym (ap (λ (x : Result Register Cause). or_else x r) e)
+
+changes_step : (d : Course) (step : Step) → (advance d step).changes ≡ with_change d.changes step.change
+unfolding advance
+changes_step d step = refl
+
+register_step : (d : Course) (step : Step) → (advance d step).register ≡ register_after d.register step.change
+unfolding advance
+register_step d step = refl
+
+leaves_prefix : (r : Register) (d w : Course) (step : Step) (change : Option Change) (least : ℕ) (rest : Rest) → step.change ≡ change → Grows d w → Grows (advance d step) w → Sound r d → Sound r (advance d step) → least ≤ length d.changes → WithOrWithout change d.register rest → LeavesPrefix w r least (length d.changes) rest
+leaves_prefix r d w step None least rest e g h sd se le only = λ k l. record { count = length d.changes; least = le; most = few d w g; near = inl refl; holds = subst (rest.holds k) (replayed r d w g sd) (only k l) }
+leaves_prefix r d w step (Some change) least rest e g h sd se le only = λ k l.
+    elim (only k l) [
+      inl same ↦ record { count = length d.changes; least = le; most = few d w g; near = inl refl; holds = subst (rest.holds k) (replayed r d w g sd) same }
+    | inr made ↦
+        let long : length (advance d step).changes ≡ length d.changes + 1 = ap (λ (x : List Change). length x) (changes_step d step ∙ ap (with_change d.changes) e) ∙ length-append d.changes (change ∷ []) in
+        record {
+          count = length (advance d step).changes; least = omega arith; most = few (advance d step) w h; near = inr (sym long);
+          holds = subst (rest.holds k) (accepted d.register change made.0 made.1 ∙ sym (register_step d step ∙ ap (register_after d.register) e) ∙ replayed r (advance d step) w h se) made.2;
+        }
+    ]
+
+more_changes : (d : Course) (step : Step) → length d.changes ≤ length (advance d step).changes
+more_changes d step = let g = grows_step d step in few d (advance d step) g
+
+pub is_refused : (setting : Setting) (given : List ℕ) (old new : Scene) (lo ln : Rest) → IsRefused (started setting old.register) given old new lo ln → IsRefusedService setting given old new ln
+is_refused setting given old new lo ln h =
+    let r : Register = old.register in
+    let w : Course = whole setting given r in
+    let sd : Sound r h.at = h.reaches.grows.sound r (sound_start setting r) in
+    let step : Grows h.at (advance h.at h.step) = grows_step h.at h.step in
+    let se : Sound r (advance h.at h.step) = step.sound r sd in
+    let g : Grows h.at w = goes_on setting given r h.at (advance h.at h.step) h.reaches step in
+    let ge : Grows (advance h.at h.step) w = goes_past setting given r h.at (advance h.at h.step) h.reaches in
+    let out : Took old new (octets_of h.at.outputs ++ take h.count (frame_of (esid_of ResourcesNotAvailable))) = subst (λ (x : List ℕ). Took old new (x ++ take h.count (frame_of (esid_of ResourcesNotAvailable)))) (sym h.outputs) h.took in
+    let kept : answered h.at.outputs (length (octets_of h.at.outputs)) ≤ length h.at.changes = answered_most h.at.outputs (length (octets_of h.at.outputs)) (length h.at.changes) sd.counted in
+    let more : length h.at.changes ≤ length (advance h.at h.step).changes = more_changes h.at h.step in
+    elim h.cases [
+      inl x ↦ record {
+        outs = h.at.outputs; later = g.later_outputs; outputs = g.outputs; count = h.count; out = out;
+        made = length h.at.changes; kept = kept; few = few h.at w g;
+        register = λ s. x.same s ∙ replayed r h.at w g sd;
+        left = leaves_prefix r h.at w h.step h.step.change (answered h.at.outputs (length (octets_of h.at.outputs))) ln refl g ge sd se kept x.left;
+        faults = h.faults;
+      }
+    | inr x ↦ record {
+        outs = h.at.outputs; later = g.later_outputs; outputs = g.outputs; count = h.count; out = out;
+        made = length (advance h.at h.step).changes; kept = omega arith; few = few (advance h.at h.step) w ge;
+        register = λ s. x.same s ∙ replayed r (advance h.at h.step) w ge se;
+        left = λ k l. record { count = length (advance h.at h.step).changes; least = omega arith; most = few (advance h.at h.step) w ge; near = inl refl; holds = subst (ln.holds k) (replayed r (advance h.at h.step) w ge se) (x.left k l) };
+        faults = h.faults;
+      }
+    ]
+
+pub is_out_of_memory : (setting : Setting) (given : List ℕ) (old new : Scene) (lo ln : Rest) (fine : lo.stands) (alone : ln.stands → Only new.register ln) → IsShort (started setting old.register) given old new lo ln → IsOutOfMemory setting given old new ln
+is_out_of_memory setting given old new lo ln fine alone h =
+    let r : Register = old.register in
+    let w : Course = whole setting given r in
+    let sd : Sound r h.at = h.reaches.grows.sound r (sound_start setting r) in
+    let se : Sound r h.next = h.later.sound r sd in
+    let g : Grows h.at w = goes_on setting given r h.at h.next h.reaches h.later in
+    let ge : Grows h.next w = goes_past setting given r h.at h.next h.reaches in
+    let out : Took old new (octets_of h.at.outputs) = subst (λ (x : List ℕ). Took old new x) (sym h.outputs) h.took in
+    let kept : answered h.at.outputs (length (octets_of h.at.outputs)) ≤ length h.at.changes = answered_most h.at.outputs (length (octets_of h.at.outputs)) (length h.at.changes) sd.counted in
+    let more : length h.at.changes ≤ length h.next.changes = few h.at h.next h.later in
+    elim h.register [
+      inl same ↦ record {
+        outs = h.at.outputs; later = g.later_outputs; outputs = g.outputs; out = out;
+        made = length h.at.changes; kept = kept; few = few h.at w g; register = same ∙ replayed r h.at w g sd;
+        stands = h.stands fine; left = alone (h.stands fine); faults = h.faults; told = h.told;
+      }
+    | inr same ↦ record {
+        outs = h.at.outputs; later = g.later_outputs; outputs = g.outputs; out = out;
+        made = length h.next.changes; kept = omega arith; few = few h.next w ge; register = same ∙ replayed r h.next w ge se;
+        stands = h.stands fine; left = alone (h.stands fine); faults = h.faults; told = h.told;
+      }
+    ]
+
+-- each fault
+pub serves_from : (setting : Setting) (given : List ℕ) (old new : Scene) (lo ln : Rest) (fine : lo.stands) (alone : ln.stands → Only new.register ln) (f : RunFault) → Fails (started setting old.register) given old new lo ln f → ServesErr setting given old new ln f
+serves_from setting given old new lo ln fine alone fault.Read h = absurd h
+serves_from setting given old new lo ln fine alone fault.Write h = is_broken_off setting given old new lo ln fine alone h
+serves_from setting given old new lo ln fine alone fault.Office h = is_refused setting given old new lo ln h
+serves_from setting given old new lo ln fine alone fault.Memory h = is_out_of_memory setting given old new lo ln fine alone h

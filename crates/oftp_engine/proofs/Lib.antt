@@ -1,0 +1,10 @@
+pub mod Bytes
+pub mod Courses
+pub mod Ending
+pub mod Folding
+pub mod Progress
+pub mod Reading
+pub mod Pumping
+pub mod Sending
+pub mod Stepping
+pub mod Puts

@@ -1,0 +1,187 @@
+-- How far the engine has come, one part after another.
+use Rattle.oftp_wire.specs.declared.reason.SessionReason.TheVariants.{ProtocolViolation}
+use Rattle.std.proofs.Common.{◌≡◌, ℕ, ◌+◌, ◌-◌, ◌≤◌, ◌<◌, ◌%◌, ◌^◌, Bool, true, false, List, [], ◌∷◌, ◌++◌, length, take, drop, Option, None, Some, Result, Ok, Err, refl, sym, ap, ◌∙◌, subst, arith, append_assoc, length-append, length-drop, inl, inr}
+use Rattle.std.proofs.lemmas.List.{append-nil, take-append-le, drop-append-le}
+use Rattle.oftp_wire.specs.Stream.{front, command_in, IsWithin}
+use Rattle.oftp_wire.specs.Stream.{Whole, Bad}
+use Rattle.oftp_wire.specs.declared.frame_fault.FrameFault.{FrameFault}
+use Rattle.oftp_wire.proofs.Streams.{front_within, front_more, IsTold}
+use Rattle.std.specs.Io.KnownBytes.{Appends}
+use Rattle.oftp_register.specs.declared.change.Change.{Change}
+use Rattle.oftp_register.specs.Register.{Register}
+use Rattle.oftp_register.specs.Offices.{Rest, Only, next_count}
+use Rattle.oftp_session.specs.Phases.{Step, fails}
+use Rattle.oftp_session.specs.Steps.{has_turn, is_over, turned}
+use Rattle.oftp_session.specs.Calls.{Seen, Stands}
+use Rattle.oftp_engine.specs.declared.serving.RunFault.{RunFault}
+use Rattle.oftp_engine.specs.declared.serving.RunFault.TheVariants as fault
+use Rattle.oftp_engine.specs.Runs.{Course, Output, advance, run, is_stopped, octets_of, with_output, with_change, turned_in, came_in}
+use Rattle.oftp_engine.specs.Serving.{Grows, Leads, Reaches, Scene, Took, IsAt, Went, BreaksOff, IsRefused, IsShort, Fails, Made, MadePart, NotMade, NoMemory, StepFails, Stepped, Settles, TurnsTaken}
+use Rattle.oftp_engine.proofs.Bytes.{appends_none, appends_on, count_on}
+use Rattle.oftp_engine.proofs.Courses.{grows_none, grows_on, grows_step, octets-append, stopped_before, run_turn, run_frame, run_bad, run_over}
+
+-- what the writer took
+
+pub took_none : (s : Scene) → Took s s []
+took_none s = record { contents = appends_none s.contents; taken = omega arith }
+
+pub took_on : (a b c : Scene) (xs ys : List ℕ) → Took a b xs → Took b c ys → Took a c (xs ++ ys)
+took_on a b c xs ys p q = record {
+  contents = appends_on a.contents b.contents c.contents xs ys p.contents q.contents;
+  taken = count_on a.taken b.taken c.taken (length xs) (length ys) p.taken q.taken ∙ ap (λ (n : ℕ). (a.taken + n) % 2 ^ 64) (sym (length-append xs ys));
+}
+
+output_octets : (outputs : List Output) (o : List ℕ) (n : ℕ) → octets_of (with_output outputs o n) ≡ octets_of outputs ++ o
+output_octets outputs [] n = sym (append-nil (octets_of outputs))
+output_octets outputs (x ∷ xs) n = octets-append outputs (record { octets = x ∷ xs; after = n } ∷ []) ∙ ap (λ (z : List ℕ). octets_of outputs ++ z) (append-nil (x ∷ xs))
+
+pub octets_step : (c : Course) (s : Step) → octets_of (advance c s).outputs ≡ octets_of c.outputs ++ s.output
+unfolding advance
+octets_step c s = output_octets c.outputs s.output (length (with_change c.changes s.change))
+
+-- in a run
+
+pub leads_none : (c : Course) (s : List ℕ) → Leads c s c s
+leads_none c s = record { grows = grows_none c; same = λ more limit h. refl }
+
+pub leads_on : (c d e : Course) (s t u : List ℕ) → Leads c s d t → Leads d t e u → Leads c s e u
+leads_on c d e s t u p q = record {
+  grows = grows_on c d e p.grows q.grows;
+  same = λ more limit h. p.same more limit (stopped_before limit d e q.grows h) ∙ q.same more limit h;
+}
+
+pub reaches_later : (c d e e' : Course) (s t : List ℕ) → Leads c s d t → Reaches d t e e' → Reaches c s e e'
+reaches_later c d e e' s t p q = record {
+  grows = grows_on c d e p.grows q.grows;
+  same = λ more limit h.
+    let r = q.same more limit h in
+    (r.0, p.same more limit (stopped_before limit d e q.grows h) ∙ r.1);
+}
+
+pub reaches_itself : (c : Course) (s : List ℕ) → Reaches c s c c
+reaches_itself c s = record { grows = grows_none c; same = λ more limit h. (s ++ more, refl) }
+
+-- what led to a step leads past it
+pub leads_step : (c : Course) (step : Step) (s t : List ℕ) → ((more : List ℕ) (limit : Option ℕ) → is_stopped limit c ≡ false → run limit (s ++ more) c ≡ run limit (t ++ more) (advance c step)) → Leads c s (advance c step) t
+leads_step c step s t h = record { grows = grows_step c step; same = λ more limit stopped. h more limit (stopped_before limit c (advance c step) (grows_step c step) stopped) }
+
+pub reaches_step : (c : Course) (step : Step) (s t : List ℕ) → ((more : List ℕ) (limit : Option ℕ) → is_stopped limit c ≡ false → run limit (s ++ more) c ≡ run limit (t ++ more) (advance c step)) → Reaches c s c (advance c step)
+reaches_step c step s t h = record { grows = grows_none c; same = λ more limit stopped. (t ++ more, h more limit stopped) }
+
+-- the engine's parts
+
+pub went_none : (c : Course) (s : List ℕ) (old : Scene) (left : Rest) → Went c s c s old old left left
+went_none c s old left = record {
+  leads = leads_none c s; between = []; outputs = sym (append-nil (octets_of c.outputs)); took = took_none old; stands = λ h. h; faults = refl; told = refl;
+}
+
+pub went_on : (c d e : Course) (s t u : List ℕ) (a b z : Scene) (la lb lz : Rest) → Went c s d t a b la lb → Went d t e u b z lb lz → Went c s e u a z la lz
+went_on c d e s t u a b z la lb lz p q = record {
+  leads = leads_on c d e s t u p.leads q.leads;
+  between = p.between ++ q.between;
+  outputs = q.outputs ∙ ap (λ (x : List ℕ). x ++ q.between) p.outputs ∙ append_assoc (octets_of c.outputs) p.between q.between;
+  took = took_on a b z p.between q.between p.took q.took;
+  stands = λ h. q.stands (p.stands h);
+  faults = q.faults ∙ p.faults;
+  told = q.told ∙ p.told;
+}
+
+pub went_step : (c : Course) (step : Step) (s t : List ℕ) (seen : Seen) (a b : Scene) (la lb : Rest) → Leads c s (advance c step) t → Made c step seen a b la lb → Went c s (advance c step) t a b la lb
+went_step c step s t seen a b la lb leads made = record {
+  leads = leads; between = step.output; outputs = octets_step c step; took = made.took; stands = made.stands; faults = made.faults; told = made.told;
+}
+
+pub fails_step : (c : Course) (step : Step) (s : List ℕ) (a b : Scene) (la lb : Rest) (f : RunFault) → Reaches c s c (advance c step) → StepFails c step a b la lb f → Fails c s a b la lb f
+fails_step c step s a b la lb fault.Read r h = absurd h
+fails_step c step s a b la lb fault.Write r h = record {
+  at = c; step = step; count = h.count; reaches = r; short = h.short; between = []; outputs = sym (append-nil (octets_of c.outputs)); took = h.took; register = h.register; stands = h.stands; faults = h.faults; told = h.told;
+}
+fails_step c step s a b la lb fault.Office r h = record {
+  at = c; step = step; count = h.count; reaches = r; between = []; outputs = sym (append-nil (octets_of c.outputs)); took = h.took; cases = h.cases; faults = h.faults;
+}
+fails_step c step s a b la lb fault.Memory r h = record {
+  at = c; next = advance c step; reaches = r; later = grows_step c step; between = []; outputs = sym (append-nil (octets_of c.outputs)); took = h.took; register = h.register; stands = h.stands; faults = h.faults; told = h.told;
+}
+
+outputs_later : (c d : Course) (at xs ys : List ℕ) → octets_of d.outputs ≡ octets_of c.outputs ++ xs → at ≡ octets_of d.outputs ++ ys → at ≡ octets_of c.outputs ++ (xs ++ ys)
+outputs_later c d at xs ys p q = q ∙ ap (λ (x : List ℕ). x ++ ys) p ∙ append_assoc (octets_of c.outputs) xs ys
+
+took_later : (a b z : Scene) (xs ys zs : List ℕ) → Took a b xs → Took b z (ys ++ zs) → Took a z ((xs ++ ys) ++ zs)
+took_later a b z xs ys zs p q = subst (Took a z) (sym (append_assoc xs ys zs)) (took_on a b z xs (ys ++ zs) p q)
+
+pub fails_later : (c d : Course) (s t : List ℕ) (a b z : Scene) (la lb lz : Rest) (f : RunFault) → Went c s d t a b la lb → Fails d t b z lb lz f → Fails c s a z la lz f
+fails_later c d s t a b z la lb lz fault.Read w h = absurd h
+fails_later c d s t a b z la lb lz fault.Write w h = record {
+  at = h.at; step = h.step; count = h.count; reaches = reaches_later c d h.at _ s t w.leads h.reaches; short = h.short;
+  between = w.between ++ h.between; outputs = outputs_later c d _ w.between h.between w.outputs h.outputs;
+  took = took_later a b z w.between h.between (take h.count h.step.output) w.took h.took;
+  register = h.register; stands = λ o. h.stands (w.stands o); faults = h.faults ∙ w.faults; told = h.told ∙ ap next_count w.told;
+}
+fails_later c d s t a b z la lb lz fault.Office w h = record {
+  at = h.at; step = h.step; count = h.count; reaches = reaches_later c d h.at _ s t w.leads h.reaches;
+  between = w.between ++ h.between; outputs = outputs_later c d _ w.between h.between w.outputs h.outputs;
+  took = took_later a b z w.between h.between _ w.took h.took;
+  cases = elim h.cases [ inl x ↦ inl (record { same = x.same; left = x.left }) | inr x ↦ inr (record { same = x.same; left = x.left }) ];
+  faults = h.faults ∙ ap next_count w.faults;
+}
+fails_later c d s t a b z la lb lz fault.Memory w h = record {
+  at = h.at; next = h.next; reaches = reaches_later c d h.at h.next s t w.leads h.reaches; later = h.later;
+  between = w.between ++ h.between; outputs = outputs_later c d _ w.between h.between w.outputs h.outputs;
+  took = took_on a b z w.between h.between w.took h.took;
+  register = h.register; stands = λ o. h.stands (w.stands o); faults = h.faults ∙ w.faults; told = h.told ∙ w.told;
+}
+
+-- a due turn, whatever is there to be read
+
+pub leads_turn : (c : Course) (s : List ℕ) → has_turn c.phase ≡ true → Leads c s (turned_in c) s
+leads_turn c s h = leads_step c (turned c.setting c.phase c.register) s s (λ more limit stopped. run_turn limit (s ++ more) c h stopped)
+
+pub reaches_turn : (c : Course) (s : List ℕ) → has_turn c.phase ≡ true → Reaches c s c (turned_in c)
+reaches_turn c s h = reaches_step c (turned c.setting c.phase c.register) s s (λ more limit stopped. run_turn limit (s ++ more) c h stopped)
+
+-- a whole frame, and octets that begin none
+
+command_more : (n : ℕ) (s more : List ℕ) → 5 ≤ n → n ≤ length s → command_in n (s ++ more) ≡ command_in n s
+command_more n s more five there =
+    ap (λ (x : List ℕ). take (n - 4) x) (drop-append-le 4 s more (omega arith)) ∙ take-append-le (n - 4) (drop 4 s) more (omega (arith, length-drop 4 s))
+
+pub leads_frame : (c : Course) (s : List ℕ) (n : ℕ) → has_turn c.phase ≡ false → is_over c.phase ≡ false → front 100003 s ≡ Whole n → (more : List ℕ) (limit : Option ℕ) → is_stopped limit c ≡ false → run limit (s ++ more) c ≡ run limit (drop n s ++ more) (came_in c (command_in n s))
+leads_frame c s n turn over whole more limit stopped =
+    let within : IsWithin (length s) (Whole n) = subst (IsWithin (length s)) whole (front_within 100003 s) in
+    let told : IsTold (front 100003 s) = subst IsTold (sym whole) tt in
+    run_frame limit (s ++ more) c n turn over stopped (front_more 100003 s more told ∙ whole)
+    ∙ ap (λ (x : List ℕ). run limit x (came_in c (command_in n (s ++ more)))) (drop-append-le n s more within.1)
+    ∙ ap (λ (x : List ℕ). run limit (drop n s ++ more) (came_in c x)) (command_more n s more within.0 within.1)
+
+over_step : (c : Course) (step : Step) → is_over step.phase ≡ true → is_over (advance c step).phase ≡ true
+unfolding advance
+over_step c step h = h
+
+pub leads_bad : (c : Course) (s : List ℕ) (f : FrameFault) → has_turn c.phase ≡ false → is_over c.phase ≡ false → front 100003 s ≡ Bad f → (more : List ℕ) (limit : Option ℕ) → is_stopped limit c ≡ false → run limit (s ++ more) c ≡ run limit (s ++ more) (advance c (fails ProtocolViolation))
+leads_bad c s f turn over bad more limit stopped =
+    let told : IsTold (front 100003 s) = subst IsTold (sym bad) tt in
+    run_bad limit (s ++ more) c f turn over stopped (front_more 100003 s more told ∙ bad)
+    ∙ sym (run_over limit (s ++ more) (advance c (fails ProtocolViolation)) (over_step c (fails ProtocolViolation) refl))
+
+-- the turns are taken whatever is there to be read
+
+pub went_with : (c d : Course) (s : List ℕ) (a b : Scene) (la lb : Rest) → Went c [] d [] a b la lb → Went c s d s a b la lb
+went_with c d s a b la lb w = record {
+  leads = record { grows = w.leads.grows; same = λ more limit h. w.leads.same (s ++ more) limit h };
+  between = w.between; outputs = w.outputs; took = w.took; stands = w.stands; faults = w.faults; told = w.told;
+}
+
+reaches_with : (c d e : Course) (s : List ℕ) → Reaches c [] d e → Reaches c s d e
+reaches_with c d e s r = record { grows = r.grows; same = λ more limit h. r.same (s ++ more) limit h }
+
+pub fails_with : (c : Course) (s : List ℕ) (a b : Scene) (la lb : Rest) (f : RunFault) → Fails c [] a b la lb f → Fails c s a b la lb f
+fails_with c s a b la lb fault.Read h = absurd h
+fails_with c s a b la lb fault.Write h = record {
+  at = h.at; step = h.step; count = h.count; reaches = reaches_with c h.at _ s h.reaches; short = h.short; between = h.between; outputs = h.outputs; took = h.took; register = h.register; stands = h.stands; faults = h.faults; told = h.told;
+}
+fails_with c s a b la lb fault.Office h = record {
+  at = h.at; step = h.step; count = h.count; reaches = reaches_with c h.at _ s h.reaches; between = h.between; outputs = h.outputs; took = h.took; cases = h.cases; faults = h.faults;
+}
+fails_with c s a b la lb fault.Memory h = record {
+  at = h.at; next = h.next; reaches = reaches_with c h.at _ s h.reaches; later = h.later; between = h.between; outputs = h.outputs; took = h.took; register = h.register; stands = h.stands; faults = h.faults; told = h.told;
+}

@@ -1,0 +1,120 @@
+-- The loop over the pieces, one part after another.
+use Rattle.std.proofs.Common.{◌≡◌, ℕ, ◌+◌, ◌≤◌, List, [], ◌++◌, length, take, Option, None, Some, Result, Ok, Err, refl, sym, ap, ◌∙◌, subst, arith, append_assoc, length-append, false, true, is_ok, inl, inr, ◌⊎◌}
+use Rattle.std.proofs.lemmas.List.{append-nil, length-take-le}
+use Rattle.std.proofs.lemmas.Bool.{false≢true}
+use Rattle.std.specs.Option.{unwrap_or}
+use Rattle.std.specs.Result.{OnOk}
+use Rattle.std.specs.Io.KnownBytes.{Consumes}
+use Rattle.oftp_wire.specs.Stream.{Stream, front}
+use Rattle.oftp_register.specs.Register.{Register}
+use Rattle.oftp_session.specs.declared.session.Ending.{Ending}
+use Rattle.oftp_engine.specs.declared.serving.End.{End}
+use Rattle.oftp_engine.specs.declared.serving.End.TheVariants.{Input}
+use Rattle.oftp_session.specs.Phases.{Phase, RespondOpening, InitiateOpening, AwaitSsid, ListenerIdle, SpeakerIdle, EndedHere, EndedThere}
+use Rattle.oftp_session.specs.Steps.{is_over}
+use Rattle.oftp_session.specs.Settings.{Setting}
+use Rattle.oftp_session.specs.Calls.{Seen, Stands, ending_of}
+use Rattle.oftp_engine.specs.declared.port.Port.{Port}
+use Rattle.oftp_engine.specs.Ports.{Gives, GivesNothing}
+use Rattle.oftp_engine.specs.Runs.{Course, started, run, is_stopped, ending}
+use Rattle.oftp_engine.specs.Serving.{Leads, Scene, IsAt, Went, Comes, IsOver, IsWaiting, IsPumping, Reaches, IsShort}
+use Rattle.oftp_engine.specs.Served.{Gave, IsReading, ended_as}
+use Rattle.oftp_engine.proofs.Bytes.{consumes_on, keeps_consumes}
+use Rattle.oftp_register.specs.Offices.{Rest, Only}
+use Rattle.oftp_engine.proofs.Courses.{grows_none}
+use Rattle.oftp_engine.proofs.Progress.{went_on}
+
+pub wait_on : (k : Course) (s : List ℕ) (before stream : Stream) (seen0 seen1 : Seen) (a b z : Scene) (la lb lz : Rest) (p : Comes k s before.rest seen0 a b la lb) → IsWaiting p.at before.rest stream seen1 b z lb lz → IsWaiting k s stream seen1 a z la lz
+wait_on k s before stream seen0 seen1 a b z la lb lz p w = record {
+  come = record { at = w.come.at; went = went_on k p.at w.come.at s before.rest stream.rest a b z la lb lz p.went w.come.went; now = w.come.now };
+  turn = w.turn; over = w.over; waits = w.waits; limit = w.limit; told = w.told;
+}
+
+pub over_on : (k : Course) (s t u : List ℕ) (seen0 seen1 : Seen) (a b z : Scene) (la lb lz : Rest) (end : Ending) (p : Comes k s t seen0 a b la lb) → IsOver p.at t u seen1 b z lb lz end → IsOver k s u seen1 a z la lz end
+over_on k s t u seen0 seen1 a b z la lb lz end p w = record {
+  come = record { at = w.come.at; went = went_on k p.at w.come.at s t u a b z la lb lz p.went w.come.went; now = w.come.now };
+  ends = w.ends;
+}
+
+-- more octets came
+
+leads_more : (c d : Course) (s t x : List ℕ) → Leads c s d t → Leads c (s ++ x) d (t ++ x)
+leads_more c d s t x h = record {
+  grows = h.grows;
+  same = λ more limit stopped. ap (λ (y : List ℕ). run limit y c) (append_assoc s x more) ∙ h.same (x ++ more) limit stopped ∙ ap (λ (y : List ℕ). run limit y d) (sym (append_assoc t x more));
+}
+
+comes_more : (k : Course) (s t x : List ℕ) (seen : Seen) (a z : Scene) (la lz : Rest) → Comes k s t seen a z la lz → Comes k (s ++ x) (t ++ x) seen a z la lz
+comes_more k s t x seen a z la lz h = record {
+  at = h.at;
+  went = record { leads = leads_more k h.at s t x h.went.leads; between = h.went.between; outputs = h.went.outputs; took = h.went.took; stands = h.went.stands; faults = h.went.faults; told = h.went.told };
+  now = h.now;
+}
+
+pub gave_on : {R : Type 0} (remaining : R → Option (List ℕ)) (before now next : Port R) (given piece : List ℕ) (n : ℕ) → Gave remaining before now given → Gives remaining now next piece n → Gave remaining before next (given ++ take n piece)
+gave_on remaining before now next given piece n g h = record {
+  bytes = consumes_on (remaining before.inner) (remaining now.inner) (remaining next.inner) given (take n piece) g.bytes h.bytes;
+  count = omega (arith, g.count, h.moved, length-append given (take n piece), length-take-le n piece h.fits);
+}
+
+pub gave_zero : {R : Type 0} (remaining : R → Option (List ℕ)) (before now next : Port R) (given piece : List ℕ) (n : ℕ) → Gave remaining before now given → Gives remaining now next piece n → n ≡ 0 → Gave remaining before next given
+gave_zero remaining before now next given piece n g h zero = subst (Gave remaining before next) (ap (λ (m : ℕ). given ++ take m piece) zero ∙ append-nil given) (gave_on remaining before now next given piece n g h)
+
+pub gave_kept : {R : Type 0} (remaining : R → Option (List ℕ)) (before now next : Port R) (given : List ℕ) → Gave remaining before now given → GivesNothing remaining now next → Gave remaining before next given
+gave_kept remaining before now next given g h = record {
+  bytes = subst (λ (x : List ℕ). Consumes (remaining before.inner) (remaining next.inner) x) (append-nil given) (consumes_on (remaining before.inner) (remaining now.inner) (remaining next.inner) given [] g.bytes (keeps_consumes (remaining now.inner) (remaining next.inner) h.bytes));
+  count = omega (arith, g.count, h.moved);
+}
+
+pub read_on : {R : Type 0} (remaining : R → Option (List ℕ)) (before now next : Port R) (given piece : List ℕ) (n : ℕ) (Clean Stood : Type 0) (setting : Setting) (stream fed : Stream) (seen : Seen) (a z : Scene) (la lz : Rest) → Gave remaining before now given → now.faults ≡ before.faults → Gives remaining now next piece n → (Clean → Stood → IsWaiting (started setting a.register) given stream seen a z la lz) → fed ≡ record stream { rest = stream.rest ++ take n piece } → IsReading remaining before next Clean Stood setting fed seen a z la lz
+read_on remaining before now next given piece n Clean Stood setting stream fed seen a z la lz g f h w e = record {
+  given = given ++ take n piece;
+  gave = gave_on remaining before now next given piece n g h;
+  faults = h.faults ∙ f;
+  pumping = λ clean stood. subst (λ (x : Stream). IsPumping (started setting a.register) (given ++ take n piece) x seen a z la lz) (sym e) (record {
+    come = comes_more (started setting a.register) given stream.rest (take n piece) seen a z la lz (w clean stood).come;
+    limit = (w clean stood).limit;
+    told = (w clean stood).told;
+  });
+}
+
+-- the piece finds no room
+pub short_on : (k : Course) (s t x : List ℕ) (seen : Seen) (a z : Scene) (la lz : Rest) → Comes k s t seen a z la lz → IsShort k (s ++ x) a z la lz
+short_on k s t x seen a z la lz h = record {
+  at = h.at;
+  next = h.at;
+  later = grows_none h.at;
+  reaches = record { grows = h.went.leads.grows; same = λ more limit stopped. (t ++ x ++ more, leads_at more limit stopped) };
+  between = h.went.between; outputs = h.went.outputs; took = h.went.took; register = inl h.now.register; stands = h.went.stands; faults = h.went.faults; told = h.went.told;
+}
+  where
+    leads_at : (more : List ℕ) (limit : Option ℕ) → is_stopped limit h.at ≡ false → run limit ((s ++ x) ++ more) k ≡ run limit ((t ++ x) ++ more) h.at
+    leads_at more limit stopped = (leads_more k h.at s t x h.went.leads).same more limit stopped
+
+some_same : {A : Type 0} {x y : A} → Some x ≡ Some y → x ≡ y
+some_same e = cc
+
+-- how a session that is over has ended
+pub ending_from : (p : Phase) (e : Ending) → Some e ≡ ending_of p → ended_as e ≡ ending p
+ending_from RespondOpening e h = absurd (let no : ⊥ = cc in no)
+ending_from (InitiateOpening partner) e h = absurd (let no : ⊥ = cc in no)
+ending_from AwaitSsid e h = absurd (let no : ⊥ = cc in no)
+ending_from (ListenerIdle partner link) e h = absurd (let no : ⊥ = cc in no)
+ending_from (SpeakerIdle partner link done) e h = absurd (let no : ⊥ = cc in no)
+ending_from (EndedHere reason) e h = ap ended_as (some_same h)
+ending_from (EndedThere reason) e h = ap ended_as (some_same h)
+
+-- where octets are awaited, the end of the input is how the session ends
+pub input_ending : (p : Phase) → is_over p ≡ false → Input ≡ ending p
+input_ending RespondOpening h = refl
+input_ending (InitiateOpening partner) h = refl
+input_ending AwaitSsid h = refl
+input_ending (ListenerIdle partner link) h = refl
+input_ending (SpeakerIdle partner link done) h = refl
+input_ending (EndedHere reason) h = absurd (false≢true (sym h))
+input_ending (EndedThere reason) h = absurd (false≢true (sym h))
+
+-- what feeding left, where it was no error
+pub fed_from : {T E : Type 0} (r : Result T E) (P : Type 0) → is_ok r ≡ true → OnOk r P → P
+fed_from (Ok x) P e h = h
+fed_from (Err x) P e h = absurd (false≢true e)

@@ -1,0 +1,150 @@
+-- From a session's call and a write to a step.
+use Rattle.std.proofs.Common.{◌≡◌, ℕ, ◌+◌, ◌-◌, ◌≤◌, ◌<◌, ◌%◌, ◌^◌, Bool, true, false, List, [], ◌∷◌, ◌++◌, length, take, drop, Option, None, Some, Result, Ok, Err, refl, sym, ap, ◌∙◌, subst, arith, append_assoc, length-append, length-drop, inl, inr, ◌⊎◌, is_ok}
+use Rattle.std.specs.Result.{IfErr, OnOk}
+use Rattle.std.proofs.lemmas.List.{take_all}
+use Rattle.std.specs.Io.KnownBytes.{Appends}
+use Rattle.oftp_wire.specs.declared.reason.SessionReason.{SessionReason}
+use Rattle.oftp_register.specs.declared.change.Cause.{Cause}
+use Rattle.oftp_session.specs.Phases.{frame_of}
+use Rattle.oftp_session.specs.Phases.{esid_of}
+use Rattle.oftp_wire.specs.declared.reason.SessionReason.TheVariants.{ResourcesNotAvailable}
+use Rattle.oftp_register.specs.declared.change.Change.{Change}
+use Rattle.oftp_register.specs.Register.{Register}
+use Rattle.oftp_register.specs.Changes.{apply, or_else}
+use Rattle.oftp_register.specs.Offices.{Rest, Only, WithOrWithout, next_count}
+use Rattle.oftp_session.specs.declared.session.SessionFault.{SessionFault}
+use Rattle.oftp_session.specs.declared.session.Ending.TheVariants.{Own}
+use Rattle.oftp_session.specs.Phases.{Step, EndedHere, fails, register_after}
+use Rattle.oftp_session.specs.Steps.{Holds}
+use Rattle.oftp_session.specs.Settings.{Setting}
+use Rattle.oftp_session.specs.Calls.{Makes, IsMade, IsBefore, IsAfter, IsBroken, IsUndone, Seen, Stands, Does, Desk}
+use Rattle.oftp_engine.proofs.Bytes.{appends_none}
+use Rattle.oftp_engine.specs.declared.port.Port.{Port}
+use Rattle.oftp_engine.specs.declared.serving.RunFault.{RunFault}
+use Rattle.oftp_engine.specs.declared.serving.RunFault.TheVariants as fault
+use Rattle.oftp_engine.specs.Ports.{Sent, SentAll, SentPart, Wrote}
+use Rattle.oftp_engine.specs.Runs.{Course, Output, advance}
+use Rattle.oftp_engine.specs.Serving.{LastWords, Made, MadePart, NotMade, NoMemory, Stepped, StepFails, Scene, Took, IsAt, StaysBefore, StaysAfter}
+
+pub last_from : {W : Type 0} (contents : W → Option (List ℕ)) (a d : Port W) (said : List ℕ) (b : Bool) → said ≡ frame_of (esid_of ResourcesNotAvailable) → Sent contents a d said b → LastWords contents a d
+last_from contents a d said true e s = record { count = length said; wrote = subst (λ (x : List ℕ). Wrote contents a d (take (length said) x)) e (subst (λ (x : List ℕ). Wrote contents a d x) (sym (take_all (length said) said (omega arith))) s.wrote) }
+last_from contents a d said false e s = record { count = s.count; wrote = subst (λ (x : List ℕ). Wrote contents a d (take s.count x)) e s.wrote }
+
+ok_of : Result (List ℕ) SessionFault → List ℕ
+ok_of (Ok x) = x
+ok_of (Err fault) = []
+
+pub ok_same : (x y : List ℕ) → (let r : Result (List ℕ) SessionFault = Ok x in r) ≡ Ok y → x ≡ y
+unfolding ok_of
+ok_same x y e = ap ok_of e
+
+-- the register and what a stop leaves, after a step that was made
+made_register : (change : Option Change) (r new : Register) → Makes change r new → new ≡ register_after r change
+made_register None r new h = h
+made_register (Some k) r new h = sym (ap (λ (x : Result Register Cause). or_else x r) h)
+
+-- a scene from its parts
+abbrev pub at_desk : Desk → Option (List ℕ) → ℕ → ℕ → Scene
+at_desk d contents taken told = record { register = d.register; faults = d.faults; contents = contents; taken = taken; told = told }
+
+advance_register : (c : Course) (s : Step) → (advance c s).register ≡ register_after c.register s.change
+unfolding advance
+advance_register c s = refl
+
+advance_phase : (c : Course) (s : Step) → (advance c s).phase ≡ s.phase
+unfolding advance
+advance_phase c s = refl
+
+-- a call that did its step, and the write of what it said
+pub stepped_ok : {T W : Type 0} (contents : W → Option (List ℕ)) (a d : Port W) (x y : Desk) (left_old left_new : Rest) (c : Course) (step : Step) (seen : Seen) (said : List ℕ) (result : Result T RunFault) →
+    seen.setting ≡ c.setting → IsMade step.change step.output x y left_new said → x.register ≡ c.register → Holds step.phase (register_after c.register step.change) → Stands step.phase seen → Sent contents a d said (is_ok result) → IfErr result (λ f. f ≡ fault.Write) →
+    Stepped c step seen (at_desk x (contents a.inner) a.moved a.faults) (at_desk y (contents d.inner) d.moved d.faults) left_old left_new result
+unfolding advance
+stepped_ok contents a d x y lo ln c step seen said (Ok t) setting made same holds stands sent err =
+    let makes : Makes step.change c.register y.register = subst (λ (r : Register). Makes step.change r y.register) same made.register in
+    record {
+      now = record { setting = setting; stands = stands; register = made_register step.change c.register y.register makes; holds = holds };
+      took = subst (Took (at_desk x (contents a.inner) a.moved a.faults) (at_desk y (contents d.inner) d.moved d.faults)) made.said (record { contents = sent.wrote.contents; taken = sent.wrote.moved });
+      stands = λ _. made.stands;
+      faults = made.faults;
+      told = sent.faults;
+    }
+stepped_ok contents a d x y lo ln c step seen said (Err f) setting made same holds stands sent err =
+    let makes : Makes step.change c.register y.register = subst (λ (r : Register). Makes step.change r y.register) same made.register in
+    let old = at_desk x (contents a.inner) a.moved a.faults in
+    let new = at_desk y (contents d.inner) d.moved d.faults in
+    subst (StepFails c step old new lo ln) (sym err) (record {
+      count = sent.count;
+      short = subst (λ (z : List ℕ). sent.count < length z) made.said sent.short;
+      took = subst (λ (z : List ℕ). Took old new (take sent.count z)) made.said (record { contents = sent.wrote.contents; taken = sent.wrote.moved });
+      register = made_register step.change c.register y.register makes;
+      stands = λ _. made.stands;
+      faults = made.faults;
+      told = sent.faults;
+    })
+
+-- an ESID of the engine's own, which leaves the office alone
+pub stepped_refuse : {T W : Type 0} (contents : W → Option (List ℕ)) (a d : Port W) (x : Desk) (left : Rest) (c : Course) (reason : SessionReason) (seen : Seen) (result : Result T RunFault) →
+    seen.setting ≡ c.setting → x.register ≡ c.register → OnOk result (Stands (EndedHere reason) seen) → Sent contents a d (frame_of (esid_of reason)) (is_ok result) → IfErr result (λ f. f ≡ fault.Write) →
+    Stepped c (fails reason) seen (at_desk x (contents a.inner) a.moved a.faults) (at_desk x (contents d.inner) d.moved d.faults) left left result
+unfolding advance
+stepped_refuse contents a d x left c reason seen (Ok t) setting same stands sent err = record {
+  now = record { setting = setting; stands = stands; register = same; holds = tt };
+  took = record { contents = sent.wrote.contents; taken = sent.wrote.moved };
+  stands = λ h. h;
+  faults = refl;
+  told = sent.faults;
+}
+stepped_refuse contents a d x left c reason seen (Err f) setting same stands sent err =
+    let old = at_desk x (contents a.inner) a.moved a.faults in
+    let new = at_desk x (contents d.inner) d.moved d.faults in
+    subst (StepFails c (fails reason) old new left left) (sym err) (record {
+      count = sent.count;
+      short = sent.short;
+      took = record { contents = sent.wrote.contents; taken = sent.wrote.moved };
+      register = same;
+      stands = λ h. h;
+      faults = refl;
+      told = sent.faults;
+    })
+
+-- where a session stands at a course, what holds at the session's own book and register holds at the course's
+pub at_course : (P : Setting → Register → Type 0) (c : Course) (seen : Seen) (scene : Scene) → IsAt c seen scene → P seen.setting scene.register → P c.setting c.register
+at_course P c seen scene at h = subst (λ (r : Register). P c.setting r) at.register (subst (λ (setting : Setting). P setting scene.register) at.setting h)
+
+-- a call that the office broke off, and the last words
+broken_cases : (x y : Desk) (lo ln : Rest) (c : Course) (step : Step) → x.register ≡ c.register → IsBefore step.change x y ln ⊎ IsAfter step.change x y ln → StaysBefore c c step y.register lo ln ⊎ StaysAfter c c step y.register lo ln
+unfolding advance
+broken_cases x y lo ln c step same (inl h) = inl (record {
+  same = λ s. h.register s ∙ same;
+  left = subst (λ (r : Register). WithOrWithout step.change r ln) same h.left;
+})
+broken_cases x y lo ln c step same (inr h) =
+    let makes : Makes step.change c.register h.after = subst (λ (r : Register). Makes step.change r h.after) same h.made in
+    let now : h.after ≡ register_after c.register step.change = made_register step.change c.register h.after makes in
+    inr (record { same = λ s. h.register s ∙ now; left = subst (λ (r : Register). Only r ln) now h.left })
+
+pub stepped_office : {W : Type 0} (contents : W → Option (List ℕ)) (a d : Port W) (x y : Desk) (lo ln : Rest) (c : Course) (step : Step) →
+    IsBroken step.change x y ln → x.register ≡ c.register → LastWords contents a d →
+    NotMade c step (at_desk x (contents a.inner) a.moved a.faults) (at_desk y (contents d.inner) d.moved d.faults) lo ln
+stepped_office contents a d x y lo ln c step broken same last = record {
+  count = last.count;
+  took = record { contents = last.wrote.contents; taken = last.wrote.moved };
+  cases = broken_cases x y lo ln c step same broken.cases;
+  faults = broken.faults;
+}
+
+-- a call that ran out of memory
+pub stepped_memory : {W : Type 0} (contents : W → Option (List ℕ)) (a : Port W) (x y : Desk) (lo ln : Rest) (c : Course) (step : Step) →
+    IsUndone step.change x y ln → x.register ≡ c.register →
+    NoMemory c step (at_desk x (contents a.inner) a.moved a.faults) (at_desk y (contents a.inner) a.moved a.faults) lo ln
+unfolding advance
+stepped_memory contents a x y lo ln c step h same = at h.cases
+  where
+    took : Took (at_desk x (contents a.inner) a.moved a.faults) (at_desk y (contents a.inner) a.moved a.faults) []
+    took = record { contents = appends_none (contents a.inner); taken = omega arith }
+    at : (y.register ≡ x.register) ⊎ Makes step.change x.register y.register → NoMemory c step (at_desk x (contents a.inner) a.moved a.faults) (at_desk y (contents a.inner) a.moved a.faults) lo ln
+    at (inl k) = record { took = took; register = inl (k ∙ same); stands = λ _. h.stands; faults = h.faults; told = refl }
+    at (inr k) =
+        let makes : Makes step.change c.register y.register = subst (λ (r : Register). Makes step.change r y.register) same k in
+        record { took = took; register = inr (made_register step.change c.register y.register makes); stands = λ _. h.stands; faults = h.faults; told = refl }

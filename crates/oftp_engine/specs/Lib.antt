@@ -1,0 +1,5 @@
+pub mod Runs
+pub mod Ports
+pub mod Serving
+pub mod Served
+pub mod Frames

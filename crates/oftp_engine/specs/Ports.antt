@@ -1,0 +1,83 @@
+-- What a port knows of the reader or the writer in it.
+use Rattle.std.specs.Prelude.{◌≡◌, ℕ, ◌+◌, ◌-◌, ◌<◌, ◌≤◌, ◌%◌, ◌^◌, Bool, true, false, List, length, take, Option, None, Some, ⊤}
+use Rattle.std.specs.Io.KnownBytes.{Appends, Keeps, Consumes}
+use Rattle.oftp_register.specs.Offices.{next_count}
+use Rattle.oftp_engine.specs.declared.port.Port.{Port}
+
+module _ {X : Type 0} where
+  abbrev pub port_inner : Port X → X
+  port_inner p = p.inner
+
+  -- how many octets were given or taken, modulo 2^64
+  abbrev pub port_moved : Port X → ℕ
+  port_moved p = p.moved
+
+  -- how many faults were told, modulo 2^64
+  abbrev pub port_faults : Port X → ℕ
+  port_faults p = p.faults
+
+  -- whether the end came
+  abbrev pub port_ended : Port X → Bool
+  port_ended p = p.ended
+
+  -- a read that gave n octets at the front of the piece, none only at the end
+  pub record Gives (remaining : X → Option (List ℕ)) (old new : Port X) (piece : List ℕ) (n : ℕ) : Type 0 where
+    pub fits : n ≤ length piece
+    pub bytes : Consumes (remaining old.inner) (remaining new.inner) (take n piece)
+    pub moved : new.moved ≡ old.moved + n
+    pub within : n ≤ old.most - old.moved
+    pub end : n ≡ 0 → new.ended ≡ true
+    pub faults : new.faults ≡ old.faults
+    pub most : new.most ≡ old.most
+
+  -- a read that told a fault
+  pub record GivesNothing (remaining : X → Option (List ℕ)) (old new : Port X) : Type 0 where
+    pub bytes : Keeps (remaining old.inner) (remaining new.inner)
+    pub moved : new.moved ≡ old.moved
+    pub faults : new.faults ≡ next_count old.faults
+
+  abbrev pub Reads : (X → Option (List ℕ)) → Port X → Port X → List ℕ → Option ℕ → Type 0
+  Reads remaining old new piece None = GivesNothing remaining old new
+  Reads remaining old new piece (Some n) = Gives remaining old new piece n
+
+  -- a write that took n octets of the piece
+  pub record Takes (contents : X → Option (List ℕ)) (old new : Port X) (piece : List ℕ) (n : ℕ) : Type 0 where
+    pub some : 0 < n
+    pub fits : n ≤ length piece
+    pub bytes : Appends (contents old.inner) (contents new.inner) (take n piece)
+    pub moved : new.moved ≡ (old.moved + n) % 2 ^ 64
+    pub faults : new.faults ≡ old.faults
+
+  -- a write that told a fault
+  pub record TakesNothing (contents : X → Option (List ℕ)) (old new : Port X) : Type 0 where
+    pub bytes : Keeps (contents old.inner) (contents new.inner)
+    pub moved : new.moved ≡ old.moved
+    pub faults : new.faults ≡ next_count old.faults
+
+  abbrev pub Writes : (X → Option (List ℕ)) → Port X → Port X → List ℕ → Option ℕ → Type 0
+  Writes contents old new piece None = TakesNothing contents old new
+  Writes contents old new piece (Some n) = Takes contents old new piece n
+
+  -- the writer took these octets
+  pub record Wrote (contents' : X → Option (List ℕ)) (old new : Port X) (octets : List ℕ) : Type 0 where
+    pub contents : Appends (contents' old.inner) (contents' new.inner) octets
+    pub moved : new.moved % 2 ^ 64 ≡ (old.moved + length octets) % 2 ^ 64
+
+  pub record SentAll (contents : X → Option (List ℕ)) (old new : Port X) (octets : List ℕ) : Type 0 where
+    pub wrote : Wrote contents old new octets
+    pub faults : new.faults ≡ old.faults
+
+  pub record SentPart (contents : X → Option (List ℕ)) (old new : Port X) (octets : List ℕ) : Type 0 where
+    pub count : ℕ
+    pub short : count < length octets
+    pub wrote : Wrote contents old new (take count octets)
+    pub faults : new.faults ≡ next_count old.faults
+
+  -- all is out, or the writer told a fault
+  abbrev pub Sent : (X → Option (List ℕ)) → Port X → Port X → List ℕ → Bool → Type 0
+  Sent contents old new octets true = SentAll contents old new octets
+  Sent contents old new octets false = SentPart contents old new octets
+
+  -- the writer took some octets
+  abbrev pub Puts : (X → Option (List ℕ)) → Port X → Port X → Type 0
+  Puts contents old new = (octets : List ℕ) × Wrote contents old new octets

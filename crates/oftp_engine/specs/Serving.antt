@@ -1,0 +1,236 @@
+-- How far the engine has come in a run, for its own functions.
+use Rattle.std.specs.Prelude.{◌≡◌, ℕ, ◌+◌, ◌<◌, ◌%◌, ◌^◌, ◌⊎◌, ⊤, Bool, true, false, ◌≤◌, List, [], ◌∷◌, ◌++◌, length, take, Option, None, Some, Result, Ok, Err}
+use Rattle.std.specs.Io.KnownBytes.{Appends}
+use Rattle.oftp_wire.specs.Stream.{Stream, front}
+use Rattle.oftp_wire.specs.Stream.{Waits}
+use Rattle.oftp_wire.specs.declared.reason.SessionReason.TheVariants.{ResourcesNotAvailable}
+use Rattle.oftp_register.specs.declared.change.Change.{Change}
+use Rattle.oftp_register.specs.Register.{Register}
+use Rattle.oftp_register.specs.Changes.{apply, after_all}
+use Rattle.oftp_register.specs.Offices.{Rest, Only, WithOrWithout, next_count}
+use Rattle.oftp_session.specs.Phases.{Step, frame_of, esid_of}
+use Rattle.oftp_session.specs.Steps.{has_turn, is_over, Holds}
+use Rattle.oftp_session.specs.Calls.{Seen, Stands, ending_of}
+use Rattle.oftp_session.specs.declared.session.Ending.{Ending}
+use Rattle.oftp_engine.specs.Runs.{Course, Output, run, is_stopped, advance, octets_of}
+use Rattle.oftp_engine.specs.declared.port.Port.{Port}
+use Rattle.oftp_engine.specs.Ports.{Wrote}
+use Rattle.oftp_engine.specs.declared.serving.RunFault.{RunFault}
+use Rattle.oftp_engine.specs.declared.serving.RunFault.TheVariants as fault
+
+-- each output was made with at most so many changes before it
+abbrev pub Counted : ℕ → List Output → Type 0
+Counted most [] = Unit {0}
+Counted most (o ∷ outputs) = (o.after ≤ most) × Counted most outputs
+
+-- the register is the one after the changes, from r on
+pub record Sound (r : Register) (c : Course) : Type 0 where
+  pub replay : c.register ≡ after_all r c.changes
+  pub counted : Counted (length c.changes) c.outputs
+
+-- d comes later in a run than c
+pub record Grows (c d : Course) : Type 0 where
+  pub later_outputs : List Output
+  pub outputs : d.outputs ≡ c.outputs ++ later_outputs
+  pub later_changes : List Change
+  pub changes : d.changes ≡ c.changes ++ later_changes
+  pub sound : (r : Register) → Sound r c → Sound r d
+
+-- the run that comes from c with the octets s comes to d with t left, whatever follows
+pub record Leads (c : Course) (s : List ℕ) (d : Course) (t : List ℕ) : Type 0 where
+  pub grows : Grows c d
+  pub same : (more : List ℕ) (limit : Option ℕ) → is_stopped limit d ≡ false → run limit (s ++ more) c ≡ run limit (t ++ more) d
+
+-- .. comes to d, which it leaves for e
+pub record Reaches (c : Course) (s : List ℕ) (d e : Course) : Type 0 where
+  pub grows : Grows c d
+  pub same : (more : List ℕ) (limit : Option ℕ) → is_stopped limit d ≡ false → (u : List ℕ) × (run limit (s ++ more) c ≡ run limit u e)
+
+-- what an office and a writer show: the register, the faults that the office told, what the writer holds and how many
+-- octets it took, and the faults that it told. The counts run modulo 2^64
+pub record Scene : Type 0 where
+  pub register : Register
+  pub faults : ℕ
+  pub contents : Option (List ℕ)
+  pub taken : ℕ
+  pub told : ℕ
+
+-- the writer took these octets
+pub record Took (old new : Scene) (octets : List ℕ) : Type 0 where
+  pub contents : Appends old.contents new.contents octets
+  pub taken : new.taken % 2 ^ 64 ≡ (old.taken + length octets) % 2 ^ 64
+
+-- a session stands where a course stands
+pub record IsAt (c : Course) (seen : Seen) (scene : Scene) : Type 0 where
+  pub setting : seen.setting ≡ c.setting
+  pub stands : Stands c.phase seen
+  pub register : scene.register ≡ c.register
+  pub holds : Holds c.phase c.register
+
+-- the engine came from c with the octets s to d with t, and what went out between is out
+pub record Went (c : Course) (s : List ℕ) (d : Course) (t : List ℕ) (old new : Scene) (rest_old rest_new : Rest) : Type 0 where
+  pub leads : Leads c s d t
+  pub between : List ℕ
+  pub outputs : octets_of d.outputs ≡ octets_of c.outputs ++ between
+  pub took : Took old new between
+  pub stands : rest_old.stands → rest_new.stands
+  pub faults : new.faults ≡ old.faults
+  pub told : new.told ≡ old.told
+
+-- the writer told a fault within the output of a step
+pub record BreaksOff (c : Course) (s : List ℕ) (old new : Scene) (rest_old rest_new : Rest) : Type 0 where
+  pub at : Course
+  pub step : Step
+  pub count : ℕ
+  pub reaches : Reaches c s at (advance at step)
+  pub short : count < length step.output
+  pub between : List ℕ
+  pub outputs : octets_of at.outputs ≡ octets_of c.outputs ++ between
+  pub took : Took old new (between ++ take count step.output)
+  pub register : new.register ≡ (advance at step).register
+  pub stands : rest_old.stands → rest_new.stands
+  pub faults : new.faults ≡ old.faults
+  pub told : new.told ≡ next_count old.told
+
+-- the office told a fault within a step: the register is the one before it, and a stop may leave either; or it is the one
+-- after it, and nothing else is left
+pub record StaysBefore (c at : Course) (step : Step) (register : Register) (rest_old rest_new : Rest) : Type 0 where
+  pub same : rest_new.stands → register ≡ at.register
+  pub left : WithOrWithout step.change at.register rest_new
+
+pub record StaysAfter (c at : Course) (step : Step) (register : Register) (rest_old rest_new : Rest) : Type 0 where
+  pub same : rest_new.stands → register ≡ (advance at step).register
+  pub left : Only (advance at step).register rest_new
+
+-- the office told a fault within a step
+pub record IsRefused (c : Course) (s : List ℕ) (old new : Scene) (rest_old rest_new : Rest) : Type 0 where
+  pub at : Course
+  pub step : Step
+  pub count : ℕ
+  pub reaches : Reaches c s at (advance at step)
+  pub between : List ℕ
+  pub outputs : octets_of at.outputs ≡ octets_of c.outputs ++ between
+  pub took : Took old new (between ++ take count (frame_of (esid_of ResourcesNotAvailable)))
+  pub cases : StaysBefore c at step new.register rest_old rest_new ⊎ StaysAfter c at step new.register rest_old rest_new
+  pub faults : new.faults ≡ next_count old.faults
+
+-- memory ran out, where the run had come or after the change of its next step
+pub record IsShort (c : Course) (s : List ℕ) (old new : Scene) (rest_old rest_new : Rest) : Type 0 where
+  pub at : Course
+  pub next : Course
+  pub reaches : Reaches c s at next
+  pub later : Grows at next
+  pub between : List ℕ
+  pub outputs : octets_of at.outputs ≡ octets_of c.outputs ++ between
+  pub took : Took old new between
+  pub register : (new.register ≡ at.register) ⊎ (new.register ≡ next.register)
+  pub stands : rest_old.stands → rest_new.stands
+  pub faults : new.faults ≡ old.faults
+  pub told : new.told ≡ old.told
+
+-- what a fault leaves. A function that doesn't read tells none of the reader
+abbrev pub Fails : Course → List ℕ → Scene → Scene → Rest → Rest → RunFault → Type 0
+Fails c s old new rest_old rest_new fault.Read = ⊥
+Fails c s old new rest_old rest_new fault.Write = BreaksOff c s old new rest_old rest_new
+Fails c s old new rest_old rest_new fault.Office = IsRefused c s old new rest_old rest_new
+Fails c s old new rest_old rest_new fault.Memory = IsShort c s old new rest_old rest_new
+
+-- one step at a course: it is made and its output is out
+pub record Made (c : Course) (step : Step) (seen : Seen) (old new : Scene) (rest_old rest_new : Rest) : Type 0 where
+  pub now : IsAt (advance c step) seen new
+  pub took : Took old new step.output
+  pub stands : rest_old.stands → rest_new.stands
+  pub faults : new.faults ≡ old.faults
+  pub told : new.told ≡ old.told
+
+-- .. it is made, and the writer told a fault within its output
+pub record MadePart (c : Course) (step : Step) (old new : Scene) (rest_old rest_new : Rest) : Type 0 where
+  pub count : ℕ
+  pub short : count < length step.output
+  pub took : Took old new (take count step.output)
+  pub register : new.register ≡ (advance c step).register
+  pub stands : rest_old.stands → rest_new.stands
+  pub faults : new.faults ≡ old.faults
+  pub told : new.told ≡ next_count old.told
+
+-- .. the office told a fault
+pub record NotMade (c : Course) (step : Step) (old new : Scene) (rest_old rest_new : Rest) : Type 0 where
+  pub count : ℕ
+  pub took : Took old new (take count (frame_of (esid_of ResourcesNotAvailable)))
+  pub cases : StaysBefore c c step new.register rest_old rest_new ⊎ StaysAfter c c step new.register rest_old rest_new
+  pub faults : new.faults ≡ next_count old.faults
+
+-- .. memory ran out
+pub record NoMemory (c : Course) (step : Step) (old new : Scene) (rest_old rest_new : Rest) : Type 0 where
+  pub took : Took old new []
+  pub register : (new.register ≡ c.register) ⊎ (new.register ≡ (advance c step).register)
+  pub stands : rest_old.stands → rest_new.stands
+  pub faults : new.faults ≡ old.faults
+  pub told : new.told ≡ old.told
+
+abbrev pub StepFails : Course → Step → Scene → Scene → Rest → Rest → RunFault → Type 0
+StepFails c step old new rest_old rest_new fault.Read = ⊥
+StepFails c step old new rest_old rest_new fault.Write = MadePart c step old new rest_old rest_new
+StepFails c step old new rest_old rest_new fault.Office = NotMade c step old new rest_old rest_new
+StepFails c step old new rest_old rest_new fault.Memory = NoMemory c step old new rest_old rest_new
+
+abbrev pub Stepped : {T : Type 0} → Course → Step → Seen → Scene → Scene → Rest → Rest → Result T RunFault → Type 0
+Stepped c step seen old new rest_old rest_new (Ok x) = Made c step seen old new rest_old rest_new
+Stepped c step seen old new rest_old rest_new (Err fault) = StepFails c step old new rest_old rest_new fault
+
+-- a beginning of ESID 08 is out
+pub record LastWords {W : Type 0} (contents : W → Option (List ℕ)) (old new : Port W) : Type 0 where
+  pub count : ℕ
+  pub wrote : Wrote contents old new (take count (frame_of (esid_of ResourcesNotAvailable)))
+
+abbrev pub scene : {O W : Type 0} → (O → Register) → (O → ℕ) → (W → Option (List ℕ)) → (W → ℕ) → (W → ℕ) → O → W → Scene
+scene register faults contents moved told office writer = record { register = register office; faults = faults office; contents = contents writer; taken = moved writer; told = told writer }
+
+-- the engine came to some course with t left, where the session stands now
+pub record Comes (c : Course) (s t : List ℕ) (seen : Seen) (old new : Scene) (rest_old rest_new : Rest) : Type 0 where
+  pub at : Course
+  pub went : Went c s at t old new rest_old rest_new
+  pub now : IsAt at seen new
+
+-- every due turn is taken
+pub record Settles (c : Course) (seen : Seen) (old new : Scene) (rest_old rest_new : Rest) : Type 0 where
+  pub at : Course
+  pub went : Went c [] at [] old new rest_old rest_new
+  pub now : IsAt at seen new
+  pub done : has_turn at.phase ≡ false
+
+abbrev pub TurnsTaken : {T : Type 0} → Course → Seen → Scene → Scene → Rest → Rest → Result T RunFault → Type 0
+TurnsTaken c seen old new rest_old rest_new (Ok x) = Settles c seen old new rest_old rest_new
+TurnsTaken c seen old new rest_old rest_new (Err fault) = Fails c [] old new rest_old rest_new fault
+
+-- the session is over, and has ended so
+pub record IsOver (c : Course) (s t : List ℕ) (seen : Seen) (old new : Scene) (rest_old rest_new : Rest) (end : Ending) : Type 0 where
+  pub come : Comes c s t seen old new rest_old rest_new
+  pub ends : Some end ≡ ending_of come.at.phase
+
+-- nothing is due and no whole frame is there
+pub record IsWaiting (c : Course) (s : List ℕ) (stream : Stream) (seen : Seen) (old new : Scene) (rest_old rest_new : Rest) : Type 0 where
+  pub come : Comes c s stream.rest seen old new rest_old rest_new
+  pub turn : has_turn come.at.phase ≡ false
+  pub over : is_over come.at.phase ≡ false
+  pub waits : front 100003 stream.rest ≡ Waits
+  pub limit : stream.limit ≡ 100003
+  pub told : stream.told ≡ None
+
+abbrev pub Pumped : Course → List ℕ → Stream → Seen → Scene → Scene → Rest → Rest → Result (Option Ending) RunFault → Type 0
+Pumped c s stream seen old new rest_old rest_new (Ok (Some end)) = IsOver c s stream.rest seen old new rest_old rest_new end
+Pumped c s stream seen old new rest_old rest_new (Ok None) = IsWaiting c s stream seen old new rest_old rest_new
+Pumped c s stream seen old new rest_old rest_new (Err fault) = Fails c s old new rest_old rest_new fault
+
+-- while it pumps
+pub record IsPumping (c : Course) (s : List ℕ) (stream : Stream) (seen : Seen) (old new : Scene) (rest_old rest_new : Rest) : Type 0 where
+  pub come : Comes c s stream.rest seen old new rest_old rest_new
+  pub limit : stream.limit ≡ 100003
+  pub told : stream.told ≡ None
+
+-- a fault that isn't the reader's
+abbrev pub IsOwn : RunFault → Type 0
+IsOwn fault.Read = ⊥
+IsOwn fault.Write = ⊤
+IsOwn fault.Office = ⊤
+IsOwn fault.Memory = ⊤

@@ -1,0 +1,10 @@
+//! Sessions over any office, any reader and any writer. The engine owns no policy: which step follows is the session's.
+#![tactic(auto)]
+
+mod laws;
+mod port;
+mod serving;
+
+pub use laws::folds_over_frames;
+pub use port::Port;
+pub use serving::{End, Role, RunFault, serve};

@@ -1,0 +1,315 @@
+//! A session over any reader and any writer.
+
+ghost use Rattle.std.specs.Prelude.{◌≡◌, ◌<◌, ◌+◌, ℕ, true, false, List, None, OnOk, IfErr, is_ok};
+ghost use Rattle.oftp_wire.specs.Kinds.{command_of};
+ghost use Rattle.oftp_register.specs.Offices.{rest_of};
+ghost use Rattle.oftp_session.specs.Phases.{Phase, frame_of, esid_of};
+ghost use Rattle.oftp_session.specs.Steps.{came, has_turn, is_over, opening, turned};
+ghost use Rattle.oftp_session.specs.Calls.{Stands, is_due, said, turns_left};
+ghost use Rattle.oftp_session.specs.declared.session.State.TheVariants as state;
+ghost use Rattle.oftp_engine.specs.Ports.{Sent, Puts, port_faults, port_moved, port_inner};
+ghost use Rattle.oftp_engine.specs.Runs.{Course, step_on};
+ghost use Rattle.oftp_engine.specs.Served.{Gave, InputEnded, ReaderTold, Serves, ended_as, setting_of};
+ghost use Rattle.oftp_engine.specs.Serving.{IsAt, IsOwn, LastWords, Pumped, Stepped, TurnsTaken, scene};
+
+use crate::port::{Port, read, send};
+use oftp_partners::{Book, Partner};
+use oftp_register::Office;
+use oftp_session::{Ending, Out, Session, SessionFault};
+use oftp_wire::{Command, Count, Deframer, SessionReason, parse};
+use std::alloc::Global;
+use std::io::{Read, Write};
+
+/// The greatest frame, its header counted (RFC 5024, section 8).
+const LONGEST_FRAME: usize = 100_003;
+
+/// How many octets are read at once, at most.
+const PIECE: usize = 4096;
+
+/// How a session ended.
+#[derive(Clone, Copy, Debug, Drop, PartialEq, Eq)]
+pub enum End {
+    /// The station ended it, for this reason.
+    Own(SessionReason),
+    /// The partner ended it, for the reason of this number.
+    Partner(Count<2>),
+    /// The input ended.
+    Input,
+}
+
+impl From<Ending> for End {
+    ghost from_gives = { λ ending end. end ≡ ended_as ending };
+
+    fn from(ending: Ending) -> End {
+        match ending {
+            Ending::Own(reason) => End::Own(reason),
+            Ending::Partner(reason) => End::Partner(reason),
+        }
+    }
+}
+
+/// Who calls whom.
+#[derive(Clone, Copy, Drop)]
+pub enum Role<'b> {
+    /// A partner calls the station.
+    Responder,
+    /// The station calls this partner.
+    Initiator(&'b Partner),
+}
+
+/// Why a session was broken off.
+#[derive(Clone, Copy, Debug, Drop, PartialEq, Eq)]
+pub enum RunFault {
+    /// The reader told a fault.
+    Read,
+    /// The writer told a fault, or took no octet of a piece.
+    Write,
+    /// The office told a fault.
+    Office,
+    /// Memory ran out.
+    Memory,
+}
+
+// Writes what a session said.
+#[tactic(auto, using(crate::proofs::Puts::puts_none, crate::proofs::Puts::puts_on, crate::proofs::Puts::puts_sent))]
+fn write_out<W: Write>(port: &mut Port<W>, out: Out<'_>) -> Result<(), RunFault>
+    ensures sent { Sent W.contents port.old port.new (said out.entry) (is_ok result) }
+    ensures err { IfErr result (λ fault. fault ≡ RunFault.Write) }
+    ensures out { Puts W.contents port.old port.new }
+{
+    match out {
+        Out::Nothing => Ok(()),
+        Out::Send(frame) => {
+            if send(port, frame) {
+                Ok(())
+            } else {
+                Err(RunFault::Write)
+            }
+        }
+    }
+}
+
+// Ends the session by an ESID.
+#[tactic(auto, using(crate::proofs::Puts::puts_none, crate::proofs::Puts::puts_on, crate::proofs::Puts::puts_sent))]
+fn refuse<W: Write>(session: &mut Session<'_>, port: &mut Port<W>, reason: SessionReason) -> Result<(), RunFault>
+    ensures own { IfErr result IsOwn }
+    ensures sent { (p : Phase) → is_over p ≡ false → Stands p session.old → Sent W.contents port.old port.new (frame_of (esid_of reason)) (is_ok result) }
+    ensures err { (p : Phase) → is_over p ≡ false → Stands p session.old → IfErr result (λ fault. fault ≡ RunFault.Write) }
+    ensures over { (p : Phase) → is_over p ≡ false → Stands p session.old → OnOk result (Stands (Phase.EndedHere reason) session.new) }
+    ensures setting { session.new.setting ≡ session.old.setting }
+    ensures out { Puts W.contents port.old port.new }
+{
+    match session.fail(reason) {
+        Ok(out) => write_out(port, out),
+        Err(_) => Err(RunFault::Memory),
+    }
+}
+
+// After a fault of the office, the session's last words. A fault of this write isn't told.
+#[tactic(auto, using(crate::proofs::Puts::puts_none, crate::proofs::Puts::puts_on, crate::proofs::Puts::puts_sent))]
+fn last_words<W: Write>(session: &mut Session<'_>, port: &mut Port<W>)
+    ensures words { session.old.state ≡ state.Broken → LastWords W.contents port.old port.new }
+    ensures out { Puts W.contents port.old port.new }
+{
+    if let Ok(out) = session.fail(SessionReason::ResourcesNotAvailable) {
+        let _ = write_out(port, out);
+    }
+}
+
+// Makes the own turn that is due, and writes it.
+#[tactic(auto, using(crate::proofs::Puts::puts_none, crate::proofs::Puts::puts_on, crate::proofs::Puts::puts_sent))]
+fn take_turn<O: Office, W: Write>(
+    session: &mut Session<'_>,
+    office: &mut O,
+    writer: &mut Port<W>,
+) -> Result<(), RunFault>
+    ensures clean { O.is_clean office.new → O.is_clean office.old }
+    ensures own { IfErr result IsOwn }
+    ensures fewer { is_due session.old.state ≡ true → OnOk result (turns_left session.new.state < turns_left session.old.state) }
+    ensures steps { O.is_clean office.new → O.stands office.old → (c : Course) → has_turn c.phase ≡ true
+        → IsAt c session.old (scene O.register O.told (λ w. W.contents (port_inner w)) port_moved port_faults office.old writer.old)
+        → Stepped c (turned c.setting c.phase c.register) session.new
+            (scene O.register O.told (λ w. W.contents (port_inner w)) port_moved port_faults office.old writer.old)
+            (scene O.register O.told (λ w. W.contents (port_inner w)) port_moved port_faults office.new writer.new)
+            (rest_of O.holds O.may_leave O.stands office.old) (rest_of O.holds O.may_leave O.stands office.new) result }
+    ensures out { Puts W.contents writer.old writer.new }
+{
+    match session.turn(office) {
+        Ok(out) => write_out(writer, out),
+        Err(SessionFault::Office) => {
+            last_words(session, writer);
+            Err(RunFault::Office)
+        }
+        Err(SessionFault::Memory) => Err(RunFault::Memory),
+        Err(SessionFault::Ended) => Err(RunFault::Memory),
+    }
+}
+
+// Takes a command that came, and writes the answer.
+#[tactic(auto, using(crate::proofs::Puts::puts_none, crate::proofs::Puts::puts_on, crate::proofs::Puts::puts_sent))]
+fn obey<O: Office, W: Write>(
+    session: &mut Session<'_>,
+    office: &mut O,
+    writer: &mut Port<W>,
+    command: &Command<'_>,
+) -> Result<(), RunFault>
+    ensures clean { O.is_clean office.new → O.is_clean office.old }
+    ensures own { IfErr result IsOwn }
+    ensures steps { O.is_clean office.new → O.stands office.old → (c : Course) → is_over c.phase ≡ false
+        → IsAt c session.old (scene O.register O.told (λ w. W.contents (port_inner w)) port_moved port_faults office.old writer.old)
+        → Stepped c (came c.setting c.phase c.register command.now) session.new
+            (scene O.register O.told (λ w. W.contents (port_inner w)) port_moved port_faults office.old writer.old)
+            (scene O.register O.told (λ w. W.contents (port_inner w)) port_moved port_faults office.new writer.new)
+            (rest_of O.holds O.may_leave O.stands office.old) (rest_of O.holds O.may_leave O.stands office.new) result }
+    ensures out { Puts W.contents writer.old writer.new }
+{
+    match session.on_command(office, command) {
+        Ok(out) => write_out(writer, out),
+        Err(SessionFault::Office) => {
+            last_words(session, writer);
+            Err(RunFault::Office)
+        }
+        Err(SessionFault::Memory) => Err(RunFault::Memory),
+        Err(SessionFault::Ended) => Err(RunFault::Memory),
+    }
+}
+
+// Takes the octets of a command, and writes the answer.
+#[tactic(auto, using(crate::proofs::Puts::puts_none, crate::proofs::Puts::puts_on, crate::proofs::Puts::puts_sent))]
+fn take_command<O: Office, W: Write>(
+    session: &mut Session<'_>,
+    office: &mut O,
+    writer: &mut Port<W>,
+    octets: &[u8],
+) -> Result<(), RunFault>
+    ensures clean { O.is_clean office.new → O.is_clean office.old }
+    ensures own { IfErr result IsOwn }
+    ensures steps { O.is_clean office.new → O.stands office.old → (c : Course) → is_over c.phase ≡ false
+        → IsAt c session.old (scene O.register O.told (λ w. W.contents (port_inner w)) port_moved port_faults office.old writer.old)
+        → Stepped c (step_on c.setting c.phase c.register (command_of octets.now)) session.new
+            (scene O.register O.told (λ w. W.contents (port_inner w)) port_moved port_faults office.old writer.old)
+            (scene O.register O.told (λ w. W.contents (port_inner w)) port_moved port_faults office.new writer.new)
+            (rest_of O.holds O.may_leave O.stands office.old) (rest_of O.holds O.may_leave O.stands office.new) result }
+    ensures out { Puts W.contents writer.old writer.new }
+{
+    match parse(octets) {
+        Ok(command) => obey(session, office, writer, &command),
+        Err(fault) => match fault.reason() {
+            Some(reason) => refuse(session, writer, reason),
+            None => unreachable!(),
+        },
+    }
+}
+
+// Takes every due turn.
+fn take_turns<O: Office, W: Write>(
+    session: &mut Session<'_>,
+    office: &mut O,
+    writer: &mut Port<W>,
+) -> Result<(), RunFault>
+    ensures clean { O.is_clean office.new → O.is_clean office.old }
+    ensures own { IfErr result IsOwn }
+    ensures steps { O.is_clean office.new → O.stands office.old → (c : Course)
+        → IsAt c session.old (scene O.register O.told (λ w. W.contents (port_inner w)) port_moved port_faults office.old writer.old)
+        → TurnsTaken c session.new
+            (scene O.register O.told (λ w. W.contents (port_inner w)) port_moved port_faults office.old writer.old)
+            (scene O.register O.told (λ w. W.contents (port_inner w)) port_moved port_faults office.new writer.new)
+            (rest_of O.holds O.may_leave O.stands office.old) (rest_of O.holds O.may_leave O.stands office.new) result }
+    ensures out { Puts W.contents writer.old writer.new }
+{
+    'turns: while session.has_turn() {
+        take_turn(session, office, writer)?;
+    }
+    Ok(())
+}
+
+// Takes all that is due and whole. It answers how the session ended, or `None` where it needs more octets.
+fn pump<O: Office, W: Write>(
+    session: &mut Session<'_>,
+    office: &mut O,
+    stream: &mut Deframer,
+    writer: &mut Port<W>,
+) -> Result<Option<Ending>, RunFault>
+    ensures clean { O.is_clean office.new → O.is_clean office.old }
+    ensures own { IfErr result IsOwn }
+    ensures steps { O.is_clean office.new → O.stands office.old → (c : Course) → stream.old.limit ≡ 100003 → stream.old.told ≡ None
+        → IsAt c session.old (scene O.register O.told (λ w. W.contents (port_inner w)) port_moved port_faults office.old writer.old)
+        → Pumped c stream.old.rest stream.new session.new
+            (scene O.register O.told (λ w. W.contents (port_inner w)) port_moved port_faults office.old writer.old)
+            (scene O.register O.told (λ w. W.contents (port_inner w)) port_moved port_faults office.new writer.new)
+            (rest_of O.holds O.may_leave O.stands office.old) (rest_of O.holds O.may_leave O.stands office.new) result }
+    ensures out { Puts W.contents writer.old writer.new }
+{
+    'frames: loop {
+        take_turns(session, office, writer)?;
+        if let Some(ending) = session.ended() {
+            return Ok(Some(ending));
+        }
+        match stream.next() {
+            Ok(Some(octets)) => take_command(session, office, writer, octets)?,
+            Ok(None) => return Ok(None),
+            Err(_) => {
+                refuse(session, writer, SessionReason::ProtocolViolation)?;
+                return Ok(Some(Ending::Own(SessionReason::ProtocolViolation)));
+            }
+        }
+    }
+}
+
+// A session before its first step.
+fn opened<'b>(book: &'b Book, role: Role<'b>) -> Session<'b>
+    ensures setting { result.setting ≡ setting_of book.entry.now role.entry }
+    ensures stands { Stands (opening (setting_of book.entry.now role.entry).called) result }
+{
+    match role {
+        Role::Responder => Session::responder(book),
+        Role::Initiator(partner) => Session::initiator(book, partner),
+    }
+}
+
+/// Serves one session by a book and in a role, over the octets that `reader` gives and up to the partner's end, the station's own or the
+/// end of the input. Octets after the end aren't looked at.
+///
+/// What it has out and what it leaves are the run of the session over the octets that the reader gave.
+///
+/// # Errors
+///
+/// [`RunFault::Read`] and [`RunFault::Write`] only where that port told a fault; the register is then that of all that was
+/// answered. [`RunFault::Office`] where the office told a fault: an ESID 08 was written if the writer took it, and the register
+/// is the one after a prefix of the session's changes, with each that was answered. [`RunFault::Memory`] where a growth was refused.
+pub fn serve<O: Office, R: Read, W: Write>(
+    alloc: Global,
+    office: &mut O,
+    book: &Book,
+    role: Role<'_>,
+    reader: &mut Port<R>,
+    writer: &mut Port<W>,
+) -> Result<End, RunFault>
+    ensures serves { (given : List ℕ) × Gave R.remaining reader.old reader.new given
+        × (O.is_clean office.new → O.stands office.old → Serves (setting_of book.now role.entry) given
+            (scene O.register O.told (λ w. W.contents (port_inner w)) port_moved port_faults office.old writer.old)
+            (scene O.register O.told (λ w. W.contents (port_inner w)) port_moved port_faults office.new writer.new)
+            (rest_of O.holds O.may_leave O.stands office.new) result) }
+    ensures clean { O.is_clean office.new → O.is_clean office.old }
+    ensures told { ReaderTold reader.old reader.new result }
+    ensures ends { InputEnded reader.new result }
+    ensures out { Puts W.contents writer.old writer.new }
+{
+    let mut session = opened(book, role);
+    let mut stream = Deframer::new(alloc, LONGEST_FRAME);
+    let mut piece = [0u8; PIECE];
+    'pieces: loop {
+        if let Some(ending) = pump(&mut session, office, &mut stream, writer)? {
+            return Ok(End::from(ending));
+        }
+        match read(reader, &mut piece) {
+            None => return Err(RunFault::Read),
+            Some(0) => return Ok(End::Input),
+            Some(n) => {
+                if stream.feed(&piece[..n]).is_err() {
+                    return Err(RunFault::Memory);
+                }
+            }
+        }
+    }
+}

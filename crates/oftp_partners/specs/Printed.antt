@@ -1,0 +1,20 @@
+-- What is printed of a book.
+use Rattle.std.specs.Prelude.{List, ℕ, ◌++◌, length, codes}
+use Rattle.std.specs.Fmt.{decimal}
+use Rattle.oftp_wire.specs.declared.command.Mode.{Mode}
+use Rattle.oftp_wire.specs.declared.command.Mode.TheVariants.{Send, Receive, Both}
+use Rattle.oftp_partners.specs.Book.{BookData}
+
+-- a mode in a word
+abbrev pub mode_text : Mode → List ℕ
+mode_text Send = codes "Send"
+mode_text Receive = codes "Receive"
+mode_text Both = codes "Both"
+
+-- a partner by its code, mode and address: no password comes in
+abbrev pub partner_text : List ℕ → Mode → List ℕ → List ℕ
+partner_text code mode address = codes "Partner { code: " ++ (code ++ (codes ", mode: " ++ (mode_text mode ++ (codes ", address: " ++ (address ++ codes ", .. }")))))
+
+-- a book by the station's code and the number of partners
+abbrev pub book_text : BookData → List ℕ
+book_text b = codes "Book { station: " ++ (b.station.code ++ (codes ", partners: " ++ (decimal (length b.partners) ++ codes ", .. }")))

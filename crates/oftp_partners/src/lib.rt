@@ -1,0 +1,20 @@
+//! The partner book: the station, and the partners with which it exchanges files.
+//!
+//! [`read`] makes a [`Book`] of a TOML text, or tells its first [`BookFault`].
+#![tactic(auto)]
+
+mod book;
+mod directory;
+mod fault;
+mod field;
+mod key;
+mod partner;
+mod printing;
+mod reading;
+#[cfg(test)]
+mod tests;
+
+pub use book::{Book, read};
+pub use fault::BookFault;
+pub use field::{Address, BufferSize, Code, Credit, Password};
+pub use partner::{Partner, Station};

@@ -1,0 +1,70 @@
+//! What is printed of a book: its codes, modes and addresses, and no password.
+
+ghost use Rattle.std.specs.Prelude.{◌≡◌, Some, codes};
+ghost use Rattle.oftp_partners.specs.Printed.{mode_text, partner_text, book_text};
+
+use crate::book::Book;
+use crate::field::{Address, Code, Password};
+use crate::partner::Partner;
+use oftp_wire::Mode;
+use std::fmt;
+
+impl fmt::Display for Code {
+    ghost output = { λ c. Some c };
+
+    fn fmt<W: fmt::Write>(&self, f: &mut fmt::Formatter<W>) -> fmt::Result {
+        f.write_str(self.as_str())
+    }
+}
+
+impl fmt::Display for Address {
+    ghost output = { λ a. Some a };
+
+    fn fmt<W: fmt::Write>(&self, f: &mut fmt::Formatter<W>) -> fmt::Result {
+        f.write_str(self.as_str())
+    }
+}
+
+/// Leaves the password out.
+impl fmt::Debug for Password {
+    ghost debug_output = { λ _. Some (codes "Password(..)") };
+
+    fn fmt<W: fmt::Write>(&self, f: &mut fmt::Formatter<W>) -> fmt::Result {
+        f.write_str("Password(..)")
+    }
+}
+
+fn mode_text(mode: Mode) -> &'static str
+    ensures { result.now ≡ mode_text mode }
+{
+    match mode {
+        Mode::Send => "Send",
+        Mode::Receive => "Receive",
+        Mode::Both => "Both",
+    }
+}
+
+/// Leaves the passwords out.
+impl fmt::Debug for Partner {
+    ghost debug_output = { λ p. Some (partner_text p.code p.mode p.address) };
+
+    fn fmt<W: fmt::Write>(&self, f: &mut fmt::Formatter<W>) -> fmt::Result {
+        let mode = mode_text(self.mode);
+        write!(
+            f,
+            "Partner {{ code: {}, mode: {mode}, address: {}, .. }}",
+            self.code, self.address
+        )
+    }
+}
+
+/// Shows the station's code and the number of partners.
+impl fmt::Debug for Book {
+    ghost debug_output = { λ b. Some (book_text b) };
+
+    fn fmt<W: fmt::Write>(&self, f: &mut fmt::Formatter<W>) -> fmt::Result {
+        let station = &self.station().code;
+        let count = self.count();
+        write!(f, "Book {{ station: {station}, partners: {count}, .. }}")
+    }
+}

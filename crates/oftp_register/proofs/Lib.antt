@@ -1,0 +1,15 @@
+pub mod Places
+pub mod RowLemmas
+pub mod NameLemmas
+pub mod NumberLemmas
+pub mod IncomingLemmas
+pub mod OutgoingLemmas
+pub mod KeepLemmas
+pub mod FitLemmas
+pub mod UnitLemmas
+pub mod LookUpLemmas
+pub mod FileRowLemmas
+pub mod PrefixLemmas
+pub mod PlainChanges
+pub mod PlainStarts
+pub mod PlainLists

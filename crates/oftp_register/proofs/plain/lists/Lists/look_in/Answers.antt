@@ -1,0 +1,24 @@
+use Rattle.std.proofs.Common.{refl, sym, ap, ◌∙◌, subst}
+use Rattle.std.specs.List.{position}
+use Rattle.oftp_register.specs.Register.{same_identity}
+use Rattle.oftp_register.specs.LookUps.{incoming_entry}
+use Rattle.oftp_register.specs.declared.entries.IncomingEntry.{IncomingEntry}
+use Rattle.oftp_register.specs.declared.plain.incoming.IncomingFile.{IncomingFile}
+use Rattle.oftp_register.specs.Lists.{incoming_of}
+use Rattle.oftp_register.proofs.LookUpLemmas.{find-numbered, find-numbered-none}
+use Rattle.oftp_register.proofs.PlainStarts.{position-None}
+use Rattle.oftp_register.proofs.plain.lists.Lists.look_in.Goals as goal
+
+pub returns-in-Some-clause-value : goal.returns-in-Some-clause-value
+returns-in-Some-clause-value c =
+    let identity = c.args.identity.now in
+    let named = λ (f : IncomingFile). same_identity f.identity identity in
+    let first = ap (position named) (sym c.deref.ensures.value) ∙ sym c.place_in.ensures ∙ c.in-Some.is in
+    rw (find-numbered incoming_of incoming_entry (λ (e : IncomingEntry). same_identity e.identity identity) named (λ n x. refl) 1 c.args.self.now.incoming.items c.in-Some.place first) c.incoming_at.ensures.value
+
+pub returns-in-None-clause-value : goal.returns-in-None-clause-value
+returns-in-None-clause-value c =
+    let identity = c.args.identity.now in
+    let named = λ (f : IncomingFile). same_identity f.identity identity in
+    let none = ap (position named) (sym c.deref.ensures.value) ∙ sym c.place_in.ensures ∙ c.in-None.is in
+    sym (find-numbered-none incoming_of incoming_entry (λ (e : IncomingEntry). same_identity e.identity identity) named (λ n x. refl) 1 c.args.self.now.incoming.items (position-None named c.args.self.now.incoming.items none))

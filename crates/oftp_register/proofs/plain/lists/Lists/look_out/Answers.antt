@@ -1,0 +1,24 @@
+use Rattle.std.proofs.Common.{refl, sym, ap, ◌∙◌, subst}
+use Rattle.std.specs.List.{position}
+use Rattle.oftp_register.specs.Register.{same_identity}
+use Rattle.oftp_register.specs.LookUps.{outgoing_entry}
+use Rattle.oftp_register.specs.declared.entries.OutgoingEntry.{OutgoingEntry}
+use Rattle.oftp_register.specs.declared.plain.outgoing.OutgoingFile.{OutgoingFile}
+use Rattle.oftp_register.specs.Lists.{outgoing_of}
+use Rattle.oftp_register.proofs.LookUpLemmas.{find-numbered, find-numbered-none}
+use Rattle.oftp_register.proofs.PlainStarts.{position-None}
+use Rattle.oftp_register.proofs.plain.lists.Lists.look_out.Goals as goal
+
+pub returns-in-Some-clause-value : goal.returns-in-Some-clause-value
+returns-in-Some-clause-value c =
+    let identity = c.args.identity.now in
+    let named = λ (f : OutgoingFile). same_identity f.identity identity in
+    let first = ap (position named) (sym c.deref.ensures.value) ∙ sym c.place_out.ensures ∙ c.in-Some.is in
+    rw (find-numbered outgoing_of outgoing_entry (λ (e : OutgoingEntry). same_identity e.identity identity) named (λ n x. refl) 1 c.args.self.now.outgoing.items c.in-Some.place first) c.outgoing_at.ensures.value
+
+pub returns-in-None-clause-value : goal.returns-in-None-clause-value
+returns-in-None-clause-value c =
+    let identity = c.args.identity.now in
+    let named = λ (f : OutgoingFile). same_identity f.identity identity in
+    let none = ap (position named) (sym c.deref.ensures.value) ∙ sym c.place_out.ensures ∙ c.in-None.is in
+    sym (find-numbered-none outgoing_of outgoing_entry (λ (e : OutgoingEntry). same_identity e.identity identity) named (λ n x. refl) 1 c.args.self.now.outgoing.items (position-None named c.args.self.now.outgoing.items none))

@@ -1,0 +1,9 @@
+pub mod Register
+pub mod Changes
+pub mod Offices
+pub mod Soundness
+pub mod SoundProps
+pub mod LookUps
+pub mod Verdicts
+pub mod Lists
+pub mod Plain

@@ -1,0 +1,58 @@
+-- What the calls of an office do, and what a stop leaves.
+use Rattle.std.specs.Prelude.{◌≡◌, ℕ, ◌+◌, ◌%◌, ◌^◌, ◌≤◌, ◌⊎◌, List, length, take, Result, Ok, Err, Option, None, Some, ⊤}
+use Rattle.oftp_register.specs.Register.{Register}
+use Rattle.oftp_register.specs.Changes.{after_all, apply}
+use Rattle.oftp_register.specs.declared.change.Cause.{Cause}
+use Rattle.oftp_register.specs.declared.change.Change.{Change}
+use Rattle.oftp_register.specs.declared.office.OfficeFault.{OfficeFault}
+use Rattle.oftp_register.specs.declared.office.OfficeFault.TheVariants.{Store, Memory, Refused}
+
+-- a count that runs modulo 2^64, one on
+abbrev pub next_count : ℕ → ℕ
+next_count n = (n + 1) % 2 ^ 64
+
+-- how the count of faults told goes on: a refusal is no fault
+abbrev pub CountsFault : ℕ → ℕ → OfficeFault → Type 0
+CountsFault old new Store = new ≡ next_count old
+CountsFault old new Memory = new ≡ next_count old
+CountsFault old new (Refused cause) = new ≡ old
+
+abbrev pub Counts : {T : Type 0} → ℕ → ℕ → Result T OfficeFault → Type 0
+Counts old new (Ok x) = new ≡ old
+Counts old new (Err fault) = CountsFault old new fault
+
+-- a change is refused where the register refuses it, for its cause, and then the office stands
+abbrev pub IsRefused : {T : Type 0} → Result Register Cause → Result T OfficeFault → Type 0 → Type 0
+IsRefused wanted (Ok x) Stands = ⊤
+IsRefused wanted (Err Store) Stands = ⊤
+IsRefused wanted (Err Memory) Stands = ⊤
+IsRefused wanted (Err (Refused cause)) Stands = (wanted ≡ Err cause) × Stands
+
+-- a fault that a look-up may tell
+abbrev pub IsFailure : OfficeFault → Type 0
+IsFailure Store = ⊤
+IsFailure Memory = ⊤
+IsFailure (Refused cause) = ⊥
+
+-- what an office leaves behind: what a stop may leave, the registers that it stands for, and whether the office stands
+pub record Rest : Type 1 where
+  pub Content : Type 0
+  pub holds : Content → Register → Type 0
+  pub may_leave : Content → Type 0
+  pub stands : Type 0
+
+abbrev pub rest_of : {O C : Type 0} → (C → Register → Type 0) → (O → C → Type 0) → (O → Type 0) → O → Rest
+rest_of {C = C} holds may_leave stands office = record { Content = C; holds = holds; may_leave = may_leave office; stands = stands office }
+
+-- a stop leaves this register and nothing else
+abbrev pub Only : Register → Rest → Type 0
+Only r rest = (c : rest.Content) → rest.may_leave c → rest.holds c r
+
+-- a stop leaves the register with a change or without
+abbrev pub WithOrWithout : Option Change → Register → Rest → Type 0
+WithOrWithout None r rest = Only r rest
+WithOrWithout (Some change) r rest = (c : rest.Content) → rest.may_leave c → rest.holds c r ⊎ ((s : Register) × (apply r change ≡ Ok s) × rest.holds c s)
+
+-- the content stands for the register after the first so many of the changes
+abbrev pub IsAfterPrefix : {C : Type 0} → (C → Register → Type 0) → Register → List Change → C → Type 0
+IsAfterPrefix holds r changes c = (n : ℕ) × (n ≤ length changes) × holds c (after_all r (take n changes))

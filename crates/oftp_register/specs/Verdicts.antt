@@ -1,0 +1,105 @@
+-- Whether a listener takes what is offered.
+use Rattle.std.specs.Prelude.{ℕ, ◌+◌, ◌/◌, ◌==◌, ◌&&◌, ◌||◌, not, Bool, true, false, nat_le, nat_lt, min, if◌then◌else◌, List, [], ◌∷◌, length, Option, None, Some}
+use Rattle.std.specs.Str.{bytes_eq}
+use Rattle.oftp_vfile.specs.declared.format.Format.{Format}
+use Rattle.oftp_vfile.specs.declared.format.Format.TheVariants.{Fixed, Variable, Unstructured, Text}
+use Rattle.oftp_wire.specs.declared.command.Efid.{Efid}
+use Rattle.oftp_wire.specs.declared.command.Sfid.{Sfid}
+use Rattle.oftp_wire.specs.declared.command.Layout.{Layout}
+use Rattle.oftp_wire.specs.declared.command.Layout.TheVariants as layout
+use Rattle.oftp_wire.specs.declared.command.Security.{Security}
+use Rattle.oftp_wire.specs.declared.command.Security.TheVariants.{Plain, Encrypted, Signed, Both}
+use Rattle.oftp_wire.specs.declared.reason.StartReason.{StartReason}
+use Rattle.oftp_wire.specs.declared.reason.StartReason.TheVariants.{InvalidFilename, InvalidDestination, InvalidOrigin, MaximumRecordLengthNotSupported, FileSizeTooBig, DuplicateFile, FileDirectionRefused, Unspecified}
+use Rattle.oftp_wire.specs.declared.reason.EndReason.TheVariants.{InvalidRecordCount, InvalidByteCount}
+use Rattle.oftp_register.specs.declared.entry.IncomingState.{IncomingState}
+use Rattle.oftp_register.specs.declared.entry.IncomingState.TheVariants.{Open, Whole}
+use Rattle.oftp_register.specs.declared.entries.IncomingEntry.{IncomingEntry}
+use Rattle.oftp_register.specs.declared.verdicts.Terms.{Terms}
+use Rattle.oftp_register.specs.declared.verdicts.StartVerdict.{StartVerdict}
+use Rattle.oftp_register.specs.declared.verdicts.StartVerdict.TheVariants as start
+use Rattle.oftp_register.specs.declared.verdicts.EndVerdict.{EndVerdict}
+use Rattle.oftp_register.specs.declared.verdicts.EndVerdict.TheVariants as «end»
+
+-- the format of a file that is offered
+abbrev pub format_of : Layout → Format
+format_of (layout.Fixed longest) = Fixed
+format_of (layout.Variable longest) = Variable
+format_of layout.Unstructured = Unstructured
+format_of layout.Text = Text
+
+-- its longest record
+abbrev pub longest_of : Layout → ℕ
+longest_of (layout.Fixed longest) = longest
+longest_of (layout.Variable longest) = longest
+longest_of layout.Unstructured = 0
+longest_of layout.Text = 0
+
+-- both are one format
+abbrev pub same_format : Format → Format → Bool
+same_format Fixed Fixed = true
+same_format Variable Variable = true
+same_format Unstructured Unstructured = true
+same_format Text Text = true
+same_format a b = false
+
+-- its longest record is 1 to 16,384 octets in F and V
+abbrev pub has_length : Layout → Bool
+has_length (layout.Fixed longest) = nat_lt 0 longest && nat_le longest 16384
+has_length (layout.Variable longest) = nat_lt 0 longest && nat_le longest 16384
+has_length layout.Unstructured = true
+has_length layout.Text = true
+
+-- security level 00
+abbrev pub is_unprotected : Security → Bool
+is_unprotected Plain = true
+is_unprotected Encrypted = false
+is_unprotected Signed = false
+is_unprotected Both = false
+
+-- nothing is encrypted, compressed or enveloped, and no signed response is asked for
+abbrev pub is_plain : Sfid → Bool
+is_plain sfid = is_unprotected sfid.security && (sfid.cipher == 0 && (sfid.compression == 0 && (sfid.enveloping == 0 && not sfid.signed_response)))
+
+-- From where a file that is kept in part goes on: at most from where it is offered, and from its first row where restart isn't
+-- agreed or it is kept in another format or with another longest record.
+abbrev pub restart_position : Sfid → IncomingEntry → Bool → ℕ
+restart_position sfid entry restart =
+    if restart && (same_format entry.format (format_of sfid.layout) && entry.longest == longest_of sfid.layout) then min sfid.restart entry.rows else 0
+
+-- a file of this identity is there
+abbrev pub by_state : Sfid → IncomingEntry → Bool → IncomingState → StartVerdict
+by_state sfid entry restart Open = start.Accept (restart_position sfid entry restart)
+by_state sfid entry restart Whole = start.Refuse DuplicateFile false
+
+abbrev pub kept_verdict : Sfid → IncomingEntry → Bool → StartVerdict
+kept_verdict sfid entry restart = by_state sfid entry restart entry.state
+
+-- the file is taken as far as what is kept allows
+abbrev pub found_verdict : Sfid → Option IncomingEntry → Bool → Bool → StartVerdict
+found_verdict sfid (Some entry) is_full restart = kept_verdict sfid entry restart
+found_verdict sfid None is_full restart = if is_full then start.Refuse Unspecified true else start.Accept 0
+
+-- no octet
+abbrev pub is_blank : List ℕ → Bool
+is_blank [] = true
+is_blank (x ∷ xs) = false
+
+-- The answer to SFID (RFC 5024, sections 5.3.3 to 5.3.5). The first row that fits decides.
+abbrev pub start_verdict : Sfid → Option IncomingEntry → Bool → Terms → StartVerdict
+start_verdict sfid found is_full terms =
+    if not terms.receives then start.Refuse FileDirectionRefused false
+    else (if not (is_plain sfid) then start.Refuse Unspecified false
+    else (if is_blank sfid.dataset then start.Refuse InvalidFilename false
+    else (if not (bytes_eq sfid.destination terms.station) then start.Refuse InvalidDestination false
+    else (if not (bytes_eq sfid.originator terms.partner) then start.Refuse InvalidOrigin false
+    else (if not (has_length sfid.layout) then start.Refuse MaximumRecordLengthNotSupported false
+    else (if nat_lt (terms.limits.octets / 1024) sfid.size then start.Refuse FileSizeTooBig false
+    else found_verdict sfid found is_full terms.restart))))))
+
+-- the answer to EFID, by the counts of the whole file (RFC 5024, sections 5.3.8 to 5.3.10)
+abbrev pub end_verdict : Efid → ℕ → ℕ → EndVerdict
+end_verdict efid records units =
+    if not (efid.records == records) then «end».Refuse InvalidRecordCount
+    else (if not (efid.units == units) then «end».Refuse InvalidByteCount
+    else «end».Accept)

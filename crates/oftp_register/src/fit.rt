@@ -1,0 +1,71 @@
+//! The tests of what a file may be.
+
+ghost use Rattle.std.specs.Prelude.{◌≡◌, ◌↔◌, ◌<◌, ◌≤◌, IsTrue, All, length};
+ghost use Rattle.oftp_vfile.specs.VirtualFile.{AreBlocks, AreRows};
+ghost use Rattle.oftp_register.specs.Soundness.{AreFullRows, IsFile, IsLongest};
+
+use oftp_vfile::{Format, Row};
+
+/// How many rows a file has at most.
+pub const MOST_ROWS: usize = 1_000_000;
+
+/// The longest record of F and V at most, in octets.
+pub const LONGEST_RECORD: u32 = 16_384;
+
+const BLOCK: usize = 1024;
+
+/// Whether this may be the longest record of a file of this format: 1 to 16,384 octets in F and V, and 0 in U and T.
+pub fn is_longest(format: Format, longest: u32) -> bool
+    ensures { IsTrue result ↔ IsLongest format longest }
+{
+    match format {
+        Format::Fixed | Format::Variable => 0 < longest && longest <= LONGEST_RECORD,
+        Format::Unstructured | Format::Text => longest == 0,
+    }
+}
+
+/// Whether these rows fit a file to which more rows may come: records of the right length in F and V, and full blocks of 1024
+/// octets in U and T (RFC 5024, section 1.5.4).
+pub fn are_full_rows(format: Format, longest: u32, rows: &[Row]) -> bool
+    ensures { IsTrue result ↔ AreFullRows format longest rows.now }
+{
+    match format {
+        Format::Fixed => rows.iter().all(|row| row.len() == longest as usize),
+        Format::Variable => rows.iter().all(|row| row.len() <= longest as usize),
+        Format::Unstructured | Format::Text => rows.iter().all(|row| row.len() == BLOCK),
+    }
+}
+
+fn is_last_block(row: &Row) -> bool
+    ensures { IsTrue result ↔ (0 < length row.now) × (length row.now ≤ 1024) }
+{
+    !row.is_empty() && row.len() <= BLOCK
+}
+
+fn are_blocks(rows: &[Row]) -> bool
+    ensures { IsTrue result ↔ AreBlocks 1024 rows.now }
+{
+    match rows.split_last() {
+        Some((last, full)) => {
+            is_last_block(last) && are_full_rows(Format::Unstructured, 0, full)
+        }
+        None => true,
+    }
+}
+
+/// Whether these are the rows of a whole file: as full rows, but that in U and T the last may be shorter and isn't empty.
+pub fn are_rows(format: Format, longest: u32, rows: &[Row]) -> bool
+    ensures { IsTrue result ↔ AreRows format longest rows.now }
+{
+    match format {
+        Format::Fixed | Format::Variable => are_full_rows(format, longest, rows),
+        Format::Unstructured | Format::Text => are_blocks(rows),
+    }
+}
+
+/// Whether these make a file that a register may have: its longest record, at most 1,000,000 rows, and the rows themselves.
+pub fn is_file(format: Format, longest: u32, rows: &[Row]) -> bool
+    ensures { IsTrue result ↔ IsFile format longest rows.now }
+{
+    is_longest(format, longest) && rows.len() <= MOST_ROWS && are_rows(format, longest, rows)
+}

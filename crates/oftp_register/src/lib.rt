@@ -1,0 +1,32 @@
+//! The register of a station: the files that came and that go, and the responses to both; what each change makes of it, and the
+//! office that keeps it.
+#![tactic(auto)]
+
+mod change;
+mod entries;
+mod entry;
+mod fit;
+mod laws;
+mod name;
+mod note;
+mod office;
+mod plain;
+mod prefix;
+mod verdicts;
+
+pub use change::{Cause, Change};
+pub use entries::{
+    Cursor, IncomingEntry, IssuedEntry, IssuedResponse, Item, OutgoingEntry, ReceivedEntry,
+    ReceivedResponse, Side,
+};
+pub use entry::{Dispatch, Identity, IncomingState, OutgoingState, ResponseKind};
+pub use fit::{LONGEST_RECORD, MOST_ROWS, are_full_rows, are_rows, is_file, is_longest};
+pub use laws::changes_keep;
+pub use name::{DigitString, Name};
+pub use note::Note;
+pub use office::{Office, OfficeFault};
+pub use plain::PlainOffice;
+pub use prefix::commit_all;
+pub use verdicts::{
+    EndVerdict, StartVerdict, Terms, end_verdict, format_of, longest_of, start_verdict,
+};

@@ -1,0 +1,264 @@
+//! Incoming files, kept in memory.
+
+ghost use Rattle.std.specs.Prelude.{◌≡◌, ◌↔◌, ◌+◌, ◌≤◌, ℕ, [], ◌++◌, length, take, not, None, Ok, IfOk, IsTrue};
+ghost use Rattle.oftp_register.specs.Register.{Issued, Incoming, same_identity};
+ghost use Rattle.oftp_register.specs.Changes.{closed, given_up, gone_on, issued, kept, sent, sent_as};
+ghost use Rattle.oftp_register.specs.Soundness.{AreFullRows, Ends, GoesOn, IsSoundIncoming};
+ghost use Rattle.oftp_register.specs.LookUps.{IsIncomingWithin, incoming_entry, is_due, issued_entry};
+ghost use Rattle.oftp_register.specs.Lists.{Makes, header_of, incoming_of, is_due_to, issued_of, response_of};
+
+use super::units::units_of;
+use crate::change::Cause;
+use crate::entries::{IncomingEntry, IssuedEntry, IssuedResponse};
+use crate::entry::{Dispatch, Identity, IncomingState};
+use crate::fit::{MOST_ROWS, are_full_rows, are_rows};
+use crate::name::Name;
+use crate::note::Note;
+use crate::office::OfficeFault;
+use oftp_vfile::{Format, Row, Rows};
+use oftp_wire::Text;
+use std::alloc::{AllocError, Global};
+
+/// What is known of a file before its rows.
+#[derive(Drop)]
+pub struct Header {
+    pub identity: Identity,
+    pub format: Format,
+    pub longest: u32,
+    pub description: Note,
+}
+
+/// An incoming file.
+#[derive(Drop)]
+pub struct IncomingFile {
+    pub identity: Identity,
+    pub format: Format,
+    pub longest: u32,
+    pub description: Note,
+    pub state: IncomingState,
+    pub rows: Vec<Row>,
+    pub response: Option<IssuedResponse>,
+}
+
+impl Header {
+    // The header of a file with this description.
+    pub(crate) fn new(
+        alloc: Global,
+        identity: Identity,
+        format: Format,
+        longest: u32,
+        description: &Text<'_>,
+    ) -> Result<Header, AllocError>
+        ensures { IfOk result (λ header. header ≡ record { identity = identity; format = format; longest = longest; description = description.now }) }
+    {
+        Ok(Header {
+            identity,
+            format,
+            longest,
+            description: Note::of(alloc, description)?,
+        })
+    }
+}
+
+// The partner is ready to receive after a response.
+fn send(response: &mut IssuedResponse) -> Result<(), OfficeFault>
+    ensures { let was = issued_of response.old in Makes issued_of (sent_as was was.dispatch) response.old response.new result }
+{
+    match response.dispatch {
+        Dispatch::Due => {
+            response.dispatch = Dispatch::Sent;
+            Ok(())
+        }
+        Dispatch::Sent => Err(OfficeFault::Refused(Cause::State)),
+    }
+}
+
+impl IncomingFile {
+    // A file that begins.
+    pub(crate) fn new(alloc: Global, header: Header) -> IncomingFile
+        ensures { incoming_of result ≡ header_of header }
+    {
+        IncomingFile {
+            identity: header.identity,
+            format: header.format,
+            longest: header.longest,
+            description: header.description,
+            state: IncomingState::Open,
+            rows: Vec::new(alloc),
+            response: None,
+        }
+    }
+
+    // Whether it has another identity.
+    pub(crate) fn is_another(&self, identity: &Identity) -> bool
+        ensures { result ≡ not (same_identity self.now.identity identity.now) }
+    {
+        !self.identity.is(identity)
+    }
+
+    // Whether the first so many of its rows fit a format.
+    pub(crate) fn begins_with(&self, format: Format, longest: u32, count: u64) -> bool
+        ensures { IsTrue result ↔ AreFullRows format longest (take count self.now.rows.items) }
+    {
+        let kept = self.rows.len().min(count as usize);
+        are_full_rows(format, longest, &self.rows[..kept])
+    }
+
+    // Whether these rows may follow.
+    pub(crate) fn takes(&self, rows: &Rows) -> bool
+        ensures { IsTrue result ↔ GoesOn rows.now (incoming_of self.now) }
+    {
+        self.has_room(rows) && are_full_rows(self.format, self.longest, rows.as_slice())
+    }
+
+    // Whether these rows may end it.
+    pub(crate) fn ends_by(&self, rows: &Rows) -> bool
+        ensures { IsTrue result ↔ Ends rows.now (incoming_of self.now) }
+    {
+        self.has_room(rows) && are_rows(self.format, self.longest, rows.as_slice())
+    }
+
+    fn has_room(&self, rows: &Rows) -> bool
+        ensures { IsTrue result ↔ (length self.now.rows.items + length rows.now ≤ 1000000) }
+    {
+        self.rows.len() <= MOST_ROWS && rows.len() <= MOST_ROWS - self.rows.len()
+    }
+
+    // An open file goes on after so many of its rows.
+    pub(crate) fn go_on(&mut self, header: Header, count: u64) -> Result<(), OfficeFault>
+        ensures { let file = incoming_of self.old in
+            Makes incoming_of (gone_on (header_of header) count file file.state) self.old self.new result }
+    {
+        match self.state {
+            IncomingState::Open if count <= self.rows.len() as u64 => {
+                self.rows.truncate(count as usize);
+                self.identity = header.identity;
+                self.format = header.format;
+                self.longest = header.longest;
+                self.description = header.description;
+                Ok(())
+            }
+            _ => Err(OfficeFault::Refused(Cause::State)),
+        }
+    }
+
+    fn append(&mut self, rows: Rows) -> Result<(), OfficeFault>
+        ensures { let file = incoming_of self.old in
+            Makes incoming_of (Ok (record file { rows = file.rows ++ rows })) self.old self.new result }
+    {
+        let mut rows = rows.into_vec();
+        self.rows.append(&mut rows)?;
+        Ok(())
+    }
+
+    // Rows are kept.
+    pub(crate) fn keep(&mut self, rows: Rows) -> Result<(), OfficeFault>
+        ensures { Makes incoming_of (kept rows (incoming_of self.old)) self.old self.new result }
+    {
+        match self.state {
+            IncomingState::Open => self.append(rows),
+            IncomingState::Whole => Err(OfficeFault::Refused(Cause::State)),
+        }
+    }
+
+    // The last rows are kept.
+    pub(crate) fn close(&mut self, rows: Rows) -> Result<(), OfficeFault>
+        ensures { Makes incoming_of (closed rows (incoming_of self.old)) self.old self.new result }
+    {
+        self.keep(rows)?;
+        self.state = IncomingState::Whole;
+        Ok(())
+    }
+
+    // The rows are given up.
+    pub(crate) fn give_up(&mut self) -> Result<(), OfficeFault>
+        ensures { Makes incoming_of (given_up (incoming_of self.old)) self.old self.new result }
+    {
+        match self.state {
+            IncomingState::Open => {
+                self.rows.clear();
+                Ok(())
+            }
+            IncomingState::Whole => Err(OfficeFault::Refused(Cause::State)),
+        }
+    }
+
+    // A response is issued.
+    pub(crate) fn issue(&mut self, response: IssuedResponse) -> Result<(), OfficeFault>
+        ensures { Makes incoming_of (issued (issued_of response) (incoming_of self.old)) self.old self.new result }
+    {
+        match self.state {
+            IncomingState::Whole if self.response.is_none() => {
+                self.response = Some(response);
+                Ok(())
+            }
+            _ => Err(OfficeFault::Refused(Cause::State)),
+        }
+    }
+
+    // The response was sent.
+    pub(crate) fn send(&mut self) -> Result<(), OfficeFault>
+        ensures { Makes incoming_of (sent (incoming_of self.old)) self.old self.new result }
+    {
+        match &mut self.response {
+            Some(response) => send(response),
+            None => Err(OfficeFault::Refused(Cause::State)),
+        }
+    }
+
+    // It without its rows.
+    pub(crate) fn entry(&self, alloc: Global, no: u64) -> Result<IncomingEntry, AllocError>
+        requires { IsSoundIncoming (incoming_of self.now) }
+        ensures value { IfOk result (λ entry. entry ≡ incoming_entry no (incoming_of self.now)) }
+        ensures within { IfOk result IsIncomingWithin }
+    {
+        let response = match &self.response {
+            Some(response) => Some(response.again(alloc)?),
+            None => None,
+        };
+        Ok(IncomingEntry {
+            no,
+            identity: self.identity.again(),
+            format: self.format,
+            longest: self.longest,
+            description: self.description.again(alloc)?,
+            state: self.state,
+            rows: self.rows.len() as u64,
+            units: units_of(&self.rows),
+            response,
+        })
+    }
+
+    // Its response with its number, if one was issued.
+    pub(crate) fn issued(&self, alloc: Global, no: u64) -> Result<Option<IssuedEntry>, AllocError>
+        ensures { IfOk result (λ entry. entry ≡ issued_entry no (incoming_of self.now)) }
+    {
+        match &self.response {
+            Some(response) => Ok(Some(IssuedEntry {
+                no,
+                identity: self.identity.again(),
+                response: response.again(alloc)?,
+            })),
+            None => Ok(None),
+        }
+    }
+
+    // Whether its response is to be sent to a partner.
+    pub(crate) fn is_due_to(&self, partner: &Name<25>) -> bool
+        ensures { result ≡ is_due_to partner.now (incoming_of self.now) }
+    {
+        match &self.response {
+            Some(response) => is_unsent(response.dispatch) && self.identity.originator.is(partner),
+            None => false,
+        }
+    }
+}
+
+fn is_unsent(dispatch: Dispatch) -> bool
+    ensures { result ≡ is_due dispatch }
+{
+    match dispatch {
+        Dispatch::Due => true,
+        Dispatch::Sent => false,
+    }
+}

@@ -1,0 +1,205 @@
+//! Whether a listener takes what is offered.
+
+ghost use Rattle.std.specs.Prelude.{◌≡◌, ◌<◌, ◌^◌, false};
+ghost use Rattle.std.specs.Option.{option_copied};
+ghost use Rattle.oftp_register.specs.Verdicts.{end_verdict, format_of, has_length, is_plain, is_unprotected, kept_verdict, longest_of, restart_position, same_format, start_verdict};
+
+use crate::entries::IncomingEntry;
+use crate::entry::IncomingState;
+use crate::fit::LONGEST_RECORD;
+use crate::name::Name;
+use oftp_vfile::{Format, Limits};
+use oftp_wire::{Count, Efid, EndReason, Layout, Security, Sfid, StartReason};
+
+/// What a session agreed, as far as it decides whether a file is taken.
+#[derive(Drop)]
+pub struct Terms {
+    /// The station's code.
+    pub station: Name<25>,
+    /// The partner's code.
+    pub partner: Name<25>,
+    /// Whether the agreed direction lets the station receive files.
+    pub receives: bool,
+    /// Whether restart is agreed.
+    pub restart: bool,
+    /// How much the office may hold.
+    pub limits: Limits,
+}
+
+/// Whether an offered file is taken.
+#[derive(Clone, Copy, Debug, Drop, PartialEq, Eq)]
+pub enum StartVerdict {
+    /// It is taken from this row on: the restart position of SFPA.
+    Accept(Count<17>),
+    /// It isn't taken.
+    Refuse {
+        /// The reason of SFNA.
+        reason: StartReason,
+        /// Whether it may be offered again.
+        retry: bool,
+    },
+}
+
+/// Whether the end of a file is as it was announced.
+#[derive(Clone, Copy, Debug, Drop, PartialEq, Eq)]
+pub enum EndVerdict {
+    /// It is, and the file is whole.
+    Accept,
+    /// It isn't, for this reason of EFNA.
+    Refuse(EndReason),
+}
+
+/// The format of a file that is offered.
+pub fn format_of(layout: Layout) -> Format
+    ensures { result ≡ format_of layout }
+{
+    match layout {
+        Layout::Fixed(_) => Format::Fixed,
+        Layout::Variable(_) => Format::Variable,
+        Layout::Unstructured => Format::Unstructured,
+        Layout::Text => Format::Text,
+    }
+}
+
+/// The longest record of a file that is offered, in octets: 0 in U and T.
+pub fn longest_of(layout: Layout) -> u32
+    ensures value { result ≡ longest_of layout }
+    ensures within { result < 10 ^ 5 }
+{
+    match layout {
+        Layout::Fixed(longest) | Layout::Variable(longest) => longest.get() as u32,
+        Layout::Unstructured | Layout::Text => 0,
+    }
+}
+
+fn is_format(a: Format, b: Format) -> bool
+    ensures { result ≡ same_format a b }
+{
+    match (a, b) {
+        (Format::Fixed, Format::Fixed) => true,
+        (Format::Variable, Format::Variable) => true,
+        (Format::Unstructured, Format::Unstructured) => true,
+        (Format::Text, Format::Text) => true,
+        _ => false,
+    }
+}
+
+// Whether the records aren't too long, nor all empty.
+fn has_length(layout: Layout) -> bool
+    ensures { result ≡ has_length layout }
+{
+    match layout {
+        Layout::Fixed(longest) | Layout::Variable(longest) => {
+            let longest = longest.get();
+            0 < longest && longest <= u64::from(LONGEST_RECORD)
+        }
+        Layout::Unstructured | Layout::Text => true,
+    }
+}
+
+fn is_unprotected(security: Security) -> bool
+    ensures { result ≡ is_unprotected security }
+{
+    match security {
+        Security::Plain => true,
+        Security::Encrypted | Security::Signed | Security::Both => false,
+    }
+}
+
+// Whether the file is sent as it is, and its response is to be as well.
+fn is_plain(sfid: &Sfid<'_>) -> bool
+    ensures { result ≡ is_plain sfid.now }
+{
+    is_unprotected(sfid.security)
+        && sfid.cipher.get() == 0
+        && sfid.compression.get() == 0
+        && sfid.enveloping.get() == 0
+        && !sfid.signed_response
+}
+
+// From where a file that is kept in part goes on.
+fn restart_position(sfid: &Sfid<'_>, entry: &IncomingEntry, restart: bool) -> Count<17>
+    ensures { result ≡ restart_position sfid.now entry.now restart }
+{
+    if restart
+        && is_format(entry.format, format_of(sfid.layout))
+        && entry.longest == longest_of(sfid.layout)
+    {
+        Count::new(sfid.restart.get().min(entry.rows))
+    } else {
+        Count::new(0)
+    }
+}
+
+fn kept_verdict(sfid: &Sfid<'_>, entry: &IncomingEntry, restart: bool) -> StartVerdict
+    ensures { result ≡ kept_verdict sfid.now entry.now restart }
+{
+    match entry.state {
+        IncomingState::Open => StartVerdict::Accept(restart_position(sfid, entry, restart)),
+        IncomingState::Whole => refused(StartReason::DuplicateFile),
+    }
+}
+
+fn refused(reason: StartReason) -> StartVerdict
+    ensures { result ≡ StartVerdict.Refuse reason false }
+{
+    StartVerdict::Refuse {
+        reason,
+        retry: false,
+    }
+}
+
+/// Whether an offered file is taken, and from which row on (RFC 5024, sections 5.3.3 to 5.3.5). `found` is the incoming file of
+/// its identity, and `is_full` tells whether the table of incoming files is full. It takes no memory.
+pub fn start_verdict(
+    sfid: &Sfid<'_>,
+    found: Option<&IncomingEntry>,
+    is_full: bool,
+    terms: &Terms,
+) -> StartVerdict
+    ensures { result ≡ start_verdict sfid.now (option_copied found.entry) is_full terms.now }
+{
+    if !terms.receives {
+        return refused(StartReason::FileDirectionRefused);
+    }
+    if !is_plain(sfid) {
+        return refused(StartReason::Unspecified);
+    }
+    if sfid.dataset.octets().is_empty() {
+        return refused(StartReason::InvalidFilename);
+    }
+    if sfid.destination.octets() != terms.station.octets() {
+        return refused(StartReason::InvalidDestination);
+    }
+    if sfid.originator.octets() != terms.partner.octets() {
+        return refused(StartReason::InvalidOrigin);
+    }
+    if !has_length(sfid.layout) {
+        return refused(StartReason::MaximumRecordLengthNotSupported);
+    }
+    if sfid.size.get() > terms.limits.octets / 1024 {
+        return refused(StartReason::FileSizeTooBig);
+    }
+    match found {
+        Some(entry) => kept_verdict(sfid, entry, terms.restart),
+        None if is_full => StartVerdict::Refuse {
+            reason: StartReason::Unspecified,
+            retry: true,
+        },
+        None => StartVerdict::Accept(Count::new(0)),
+    }
+}
+
+/// Whether the end of a file has its counts (RFC 5024, sections 5.3.8 to 5.3.10): those of the whole file, rows of earlier
+/// sessions included. In U and T the count of records is 0. It takes no memory.
+pub fn end_verdict(efid: &Efid, records: u64, units: u64) -> EndVerdict
+    ensures { result ≡ end_verdict efid.now records units }
+{
+    if efid.records.get() != records {
+        return EndVerdict::Refuse(EndReason::InvalidRecordCount);
+    }
+    if efid.units.get() != units {
+        return EndVerdict::Refuse(EndReason::InvalidByteCount);
+    }
+    EndVerdict::Accept
+}

@@ -1,0 +1,173 @@
+-- What a call of a session does: one step.
+use Rattle.std.specs.Prelude.{◌≡◌, ℕ, ◌⊎◌, ⊤, Bool, true, false, List, [], Option, None, Some, Result, Ok, Err, is_ok}
+use Rattle.oftp_register.specs.declared.change.Change.{Change}
+use Rattle.oftp_register.specs.Register.{Register}
+use Rattle.oftp_register.specs.Changes.{apply}
+use Rattle.oftp_register.specs.Offices.{Rest, Only, WithOrWithout, next_count}
+use Rattle.oftp_session.specs.declared.session.Ending.{Ending}
+use Rattle.oftp_session.specs.declared.session.Ending.TheVariants.{Own, Partner}
+use Rattle.oftp_session.specs.declared.session.State.{State}
+use Rattle.oftp_session.specs.declared.session.State.TheVariants as state
+use Rattle.oftp_session.specs.declared.session.SessionFault.{SessionFault}
+use Rattle.oftp_session.specs.declared.session.SessionFault.TheVariants as fault
+use Rattle.oftp_session.specs.declared.session.Out.{Out}
+use Rattle.oftp_session.specs.declared.session.Out.TheVariants.{Nothing, Send}
+use Rattle.oftp_session.specs.Settings.{Setting}
+use Rattle.oftp_partners.specs.declared.partner.Partner.{Partner as Entry}
+use Rattle.oftp_session.specs.Phases.{Phase, RespondOpening, InitiateOpening, AwaitSsid, ListenerIdle, SpeakerIdle, EndedHere, EndedThere, Step}
+
+-- what a caller sees of a session: its book and whom it calls, the partner once it is known, its state, and the frame that it
+-- said last, [] for none
+pub record Seen : Type 0 where
+  pub setting : Setting
+  pub partner : Option Entry
+  pub state : State
+  pub spoken : List ℕ
+
+-- a session is in this phase
+abbrev pub Stands : Phase → Seen → Type 0
+Stands RespondOpening s = s.state ≡ state.RespondOpening
+Stands (InitiateOpening partner) s = (s.state ≡ state.InitiateOpening) × (s.setting.called ≡ Some partner)
+Stands AwaitSsid s = s.state ≡ state.AwaitSsid
+Stands (ListenerIdle partner link) s = (s.state ≡ state.ListenerIdle link) × (s.partner ≡ Some partner)
+Stands (SpeakerIdle partner link done) s = (s.state ≡ state.SpeakerIdle link done) × (s.partner ≡ Some partner)
+Stands (EndedHere reason) s = s.state ≡ state.Over (Own reason)
+Stands (EndedThere reason) s = s.state ≡ state.Over (Partner reason)
+
+-- how a session ended, if it did
+abbrev pub ending_of : Phase → Option Ending
+ending_of RespondOpening = None
+ending_of (InitiateOpening partner) = None
+ending_of AwaitSsid = None
+ending_of (ListenerIdle partner link) = None
+ending_of (SpeakerIdle partner link done) = None
+ending_of (EndedHere reason) = Some (Own reason)
+ending_of (EndedThere reason) = Some (Partner reason)
+
+-- the frame that is to be sent, [] for none
+abbrev pub said : Out → List ℕ
+said Nothing = []
+said (Send frame) = frame.now
+
+-- the register after a step's change, which is accepted
+abbrev pub Makes : Option Change → Register → Register → Type 0
+Makes None old new = new ≡ old
+Makes (Some change) old new = apply old change ≡ Ok new
+
+-- the office's side of a call: its register and its count of faults
+pub record Desk : Type 0 where
+  pub register : Register
+  pub faults : ℕ
+
+abbrev pub desk : {O : Type 0} → (O → Register) → (O → ℕ) → O → Desk
+desk register faults office = record { register = register office; faults = faults office }
+
+-- the step is made, and its frame is said
+pub record IsMade (change : Option Change) (output : List ℕ) (old new : Desk) (rest : Rest) (heard_now : List ℕ) : Type 0 where
+  pub said : heard_now ≡ output
+  pub register : Makes change old.register new.register
+  pub stands : rest.stands
+  pub faults : new.faults ≡ old.faults
+
+-- the office told a fault: before the change was made, or in a look-up after it. Its register is known where it still stands
+pub record IsBefore (change : Option Change) (old new : Desk) (rest : Rest) : Type 0 where
+  pub register : rest.stands → new.register ≡ old.register
+  pub left : WithOrWithout change old.register rest
+
+pub record IsAfter (change : Option Change) (old new : Desk) (rest : Rest) : Type 0 where
+  pub after : Register
+  pub made : Makes change old.register after
+  pub register : rest.stands → new.register ≡ after
+  pub left : Only after rest
+
+pub record IsBroken (change : Option Change) (old new : Desk) (rest : Rest) : Type 0 where
+  pub cases : IsBefore change old new rest ⊎ IsAfter change old new rest
+  pub faults : new.faults ≡ next_count old.faults
+
+-- memory ran out: before the change was made, or after it
+pub record IsUndone (change : Option Change) (old new : Desk) (rest : Rest) : Type 0 where
+  pub cases : (new.register ≡ old.register) ⊎ Makes change old.register new.register
+  pub stands : rest.stands
+  pub faults : new.faults ≡ old.faults
+
+abbrev pub DoesNot : Option Change → Desk → Desk → Rest → SessionFault → Type 0
+DoesNot change old new rest fault.Ended = ⊥
+DoesNot change old new rest fault.Office = IsBroken change old new rest
+DoesNot change old new rest fault.Memory = IsUndone change old new rest
+
+-- a call that answers this did the step
+abbrev pub Does : Step → Desk → Desk → Rest → Result (List ℕ) SessionFault → Type 0
+Does step old new rest (Ok output) = IsMade step.change step.output old new rest output
+Does step old new rest (Err fault) = DoesNot step.change old new rest fault
+
+-- what a call answered, without where it lies in memory
+abbrev pub heard : Result Out SessionFault → Result (List ℕ) SessionFault
+heard (Ok out) = Ok (said out)
+heard (Err fault) = Err fault
+
+abbrev pub spoken : {T : Type 0} → Result T SessionFault → List ℕ → Result (List ℕ) SessionFault
+spoken (Ok x) frame = Ok frame
+spoken (Err fault) frame = Err fault
+
+-- where a session stands after a call: after a fault of the office or of memory only `fail` is left
+abbrev pub Goes : {T : Type 0} → Phase → Result T SessionFault → Seen → Type 0
+Goes phase (Ok x) s = Stands phase s
+Goes phase (Err fault) s = s.state ≡ state.Broken
+
+-- a session that ended or broke answers no more
+abbrev pub is_closed : State → Bool
+is_closed state.RespondOpening = false
+is_closed state.InitiateOpening = false
+is_closed state.AwaitSsid = false
+is_closed (state.ListenerIdle link) = false
+is_closed (state.SpeakerIdle link done) = false
+is_closed (state.Over ending) = true
+is_closed state.Broken = true
+
+-- whether a turn is due, and how many may follow one another
+abbrev pub is_due : State → Bool
+is_due state.RespondOpening = true
+is_due state.InitiateOpening = false
+is_due state.AwaitSsid = false
+is_due (state.ListenerIdle link) = false
+is_due (state.SpeakerIdle link done) = true
+is_due (state.Over ending) = false
+is_due state.Broken = false
+
+abbrev pub turns_left : State → ℕ
+turns_left state.RespondOpening = 1
+turns_left state.InitiateOpening = 0
+turns_left state.AwaitSsid = 0
+turns_left (state.ListenerIdle link) = 0
+turns_left (state.SpeakerIdle link done) = 1
+turns_left (state.Over ending) = 0
+turns_left state.Broken = 0
+
+-- how a state ended, if it did
+abbrev pub ended_as : State → Option Ending
+ended_as state.RespondOpening = None
+ended_as state.InitiateOpening = None
+ended_as state.AwaitSsid = None
+ended_as (state.ListenerIdle link) = None
+ended_as (state.SpeakerIdle link done) = None
+ended_as (state.Over ending) = Some ending
+ended_as state.Broken = None
+
+-- a change that isn't refused
+abbrev pub IsAccepted : Register → Change → Type 0
+IsAccepted r change = is_ok (apply r change) ≡ true
+
+-- a helper that makes a change, if one is due: it is made, or the office told a fault
+pub record IsFiled (change : Option Change) (old new : Desk) (rest : Rest) : Type 0 where
+  pub register : Makes change old.register new.register
+  pub stands : rest.stands
+  pub faults : new.faults ≡ old.faults
+
+abbrev pub FilesNot : Option Change → Desk → Desk → Rest → SessionFault → Type 0
+FilesNot change old new rest fault.Ended = ⊥
+FilesNot change old new rest fault.Office = IsBroken change old new rest
+FilesNot change old new rest fault.Memory = ⊥
+
+abbrev pub Files : {T : Type 0} → Option Change → Desk → Desk → Rest → Result T SessionFault → Type 0
+Files change old new rest (Ok x) = IsFiled change old new rest
+Files change old new rest (Err fault) = FilesNot change old new rest fault

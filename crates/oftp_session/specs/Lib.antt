@@ -1,0 +1,9 @@
+pub mod Settings
+pub mod Phases
+pub mod Opening
+pub mod Listener
+pub mod Speaker
+pub mod Steps
+pub mod Calls
+pub mod Agreements
+pub mod Responses

@@ -1,0 +1,137 @@
+-- How a session opens (RFC 5024, sections 4.2 and 5.3.2).
+use Rattle.std.specs.Prelude.{ℕ, Bool, true, false, ◌&&◌, ◌||◌, not, ◌==◌, nat_lt, min, if◌then◌else◌, List, [], Option, None, Some, is_some, Result, Ok, Err}
+use Rattle.std.specs.Str.{bytes_eq}
+use Rattle.oftp_wire.specs.declared.command.Ssid.{Ssid}
+use Rattle.oftp_wire.specs.declared.command.Mode.{Mode}
+use Rattle.oftp_wire.specs.declared.command.Mode.TheVariants.{Send, Receive, Both}
+use Rattle.oftp_wire.specs.declared.command.Command.{Command}
+use Rattle.oftp_wire.specs.declared.command.Command.TheVariants as command
+use Rattle.oftp_wire.specs.declared.reason.SessionReason.{SessionReason}
+use Rattle.oftp_wire.specs.declared.reason.SessionReason.TheVariants.{ProtocolViolation, UserCodeNotKnown, InvalidPassword, InvalidData, ModeIncompatible, AuthenticationIncompatible}
+use Rattle.oftp_partners.specs.Book.{BookData, partner_at}
+use Rattle.oftp_partners.specs.declared.partner.Partner.{Partner}
+use Rattle.oftp_session.specs.declared.link.Link.{Link}
+use Rattle.oftp_session.specs.declared.link.WhenDone.TheVariants.{ChangeDirection}
+use Rattle.oftp_session.specs.Settings.{Setting}
+use Rattle.oftp_session.specs.Phases.{Phase, AwaitSsid, ListenerIdle, SpeakerIdle, Step, quiet, says, fails, leaves}
+
+-- whether a station in one mode sends what the other receives
+abbrev pub flows : Mode → Mode → Bool
+flows Send Send = false
+flows Send Receive = true
+flows Send Both = true
+flows Receive letter = false
+flows Both Send = false
+flows Both Receive = true
+flows Both Both = true
+
+-- two stations that both only send, or both only receive
+abbrev pub is_opposed : Mode → Mode → Bool
+is_opposed Send Send = true
+is_opposed Send Receive = false
+is_opposed Send Both = false
+is_opposed Receive Send = false
+is_opposed Receive Receive = true
+is_opposed Receive Both = false
+is_opposed Both letter = false
+
+-- what two stations agree: the smaller buffer and credit, restart where both want it, and who sends files
+abbrev pub agreed : BookData → Partner → Ssid → Link
+agreed book partner ssid = record {
+  buffer = min book.station.buffer ssid.buffer;
+  credit = min book.station.credit ssid.credit;
+  restart = book.station.restart && ssid.restart;
+  sends = flows partner.mode ssid.mode;
+  receives = flows ssid.mode partner.mode;
+}
+
+-- the partner of a code: for an initiator the one that was called, for a responder any of the book
+abbrev pub called_as : List ℕ → List Partner → Option Partner → Option Partner
+called_as code partners None = partner_at code partners
+called_as code partners (Some partner) = if bytes_eq code partner.code then Some partner else None
+
+abbrev pub partner_for : Setting → List ℕ → Option Partner
+partner_for setting code = called_as code setting.book.partners setting.called
+
+-- the partner of a session and what is agreed with it
+pub record Agreement : Type 0 where
+  pub partner : Partner
+  pub link : Link
+
+abbrev pub is_initiator : Setting → Bool
+is_initiator setting = is_some setting.called
+
+-- the rows of the table below the one on the code
+abbrev pub agreement : Setting → Ssid → Option Partner → Result Agreement SessionReason
+agreement setting ssid None = Err UserCodeNotKnown
+agreement setting ssid (Some partner) =
+    if not (bytes_eq ssid.password partner.expects) then Err InvalidPassword else (
+    if is_initiator setting && (ssid.compression || ssid.special_logic) then Err ModeIncompatible else (
+    if is_opposed partner.mode ssid.mode then Err ModeIncompatible else (
+    if ssid.authentication then Err AuthenticationIncompatible else
+    Ok (record { partner = partner; link = agreed setting.book partner ssid }))))
+
+-- what is agreed with a partner who sends this SSID, or why the session ends: the first row that fits
+unfoldable pub ssid_verdict : Setting → Ssid → Result Agreement SessionReason
+ssid_verdict setting ssid =
+    if not (ssid.level == 5) then Err ModeIncompatible else (
+    if nat_lt ssid.buffer 128 || ssid.credit == 0 then Err InvalidData else
+    agreement setting ssid (partner_for setting ssid.code))
+
+-- the mode letter that answers the partner's: where one sends, the other receives
+abbrev pub answered_mode : Mode → Mode → Mode
+answered_mode own Send = Receive
+answered_mode own Receive = Send
+answered_mode own Both = own
+
+-- an SSID of the station's: what it never asks for is N
+abbrev pub ssid_with : BookData → Partner → ℕ → ℕ → Bool → Mode → Ssid
+ssid_with book partner buffer credit restart mode = record {
+  level = 5;
+  code = book.station.code;
+  password = partner.sends;
+  buffer = buffer;
+  mode = mode;
+  compression = false;
+  restart = restart;
+  special_logic = false;
+  credit = credit;
+  authentication = false;
+  user = [];
+}
+
+-- the responder's SSID: what was agreed
+abbrev pub answering_ssid : BookData → Mode → Agreement → Ssid
+answering_ssid book letter a =
+    ssid_with book a.partner a.link.buffer a.link.credit a.link.restart (answered_mode a.partner.mode letter)
+
+-- the initiator's SSID: its own offers
+abbrev pub calling_ssid : BookData → Partner → Ssid
+calling_ssid book partner =
+    ssid_with book partner book.station.buffer book.station.credit book.station.restart partner.mode
+
+-- a responder answers and listens; an initiator speaks
+abbrev pub open_step : Setting → Mode → Agreement → Option Partner → Step
+open_step setting letter a None = says (ListenerIdle a.partner a.link) (command.Ssid (answering_ssid setting.book letter a))
+open_step setting letter a (Some partner) = quiet (SpeakerIdle a.partner a.link ChangeDirection)
+
+abbrev pub opened_step : Setting → Mode → Result Agreement SessionReason → Step
+opened_step setting letter (Ok a) = open_step setting letter a setting.called
+opened_step setting letter (Err reason) = fails reason
+
+-- what comes before the own ready message went out
+unfoldable pub came_respond_opening : Command → Step
+came_respond_opening (command.Esid esid) = leaves esid.reason
+came_respond_opening _ = fails ProtocolViolation
+
+-- what comes where the called partner's ready message is awaited
+unfoldable pub came_initiate_opening : Setting → Partner → Command → Step
+came_initiate_opening setting partner command.Ssrm = says AwaitSsid (command.Ssid (calling_ssid setting.book partner))
+came_initiate_opening setting partner (command.Esid esid) = leaves esid.reason
+came_initiate_opening setting partner _ = fails ProtocolViolation
+
+-- what comes where the partner's SSID is awaited
+unfoldable pub came_await_ssid : Setting → Command → Step
+came_await_ssid setting (command.Ssid ssid) = opened_step setting ssid.mode (ssid_verdict setting ssid)
+came_await_ssid setting (command.Esid esid) = leaves esid.reason
+came_await_ssid setting _ = fails ProtocolViolation

@@ -1,0 +1,107 @@
+//! The commands that a station says.
+
+ghost use Rattle.std.specs.Prelude.{◌≡◌, ◌≤◌, ℕ, take, length, min, [], false};
+ghost use Rattle.oftp_wire.specs.Spelling.{is_data};
+ghost use Rattle.oftp_wire.specs.declared.command.Command.TheVariants.{Ssid as an_ssid};
+ghost use Rattle.oftp_session.specs.Phases.{frame_of, esid_of};
+ghost use Rattle.oftp_session.specs.Opening.{answering_ssid, calling_ssid, ssid_with};
+
+use crate::link::Link;
+use crate::opening::answered_mode;
+use oftp_partners::{Book, Partner};
+use oftp_wire::{Command, Count, Esid, Mode, SessionReason, Ssid, Text, X, encode, header};
+
+/// The end of the session, with no text.
+pub(crate) fn esid(reason: SessionReason) -> Command<'static>
+    ensures { result ≡ esid_of reason }
+{
+    match Text::new("") {
+        Some(text) => Command::Esid(Esid {
+            reason: reason.number(),
+            text,
+        }),
+        None => unreachable!(),
+    }
+}
+
+/// An SSID of the station's: what it never asks for is N.
+fn ssid_with<'b>(
+    book: &'b Book,
+    partner: &'b Partner,
+    buffer: Count<5>,
+    credit: Count<3>,
+    restart: bool,
+    mode: Mode,
+) -> Ssid<'b>
+    ensures { result ≡ ssid_with book.entry.now partner.entry.now buffer credit restart mode }
+{
+    match X::new(b"") {
+        Some(user) => Ssid {
+            level: Count::new(5),
+            code: book.station().code.field(),
+            password: partner.sends.field(),
+            buffer,
+            mode,
+            compression: false,
+            restart,
+            special_logic: false,
+            credit,
+            authentication: false,
+            user,
+        },
+        None => unreachable!(),
+    }
+}
+
+/// The responder's SSID: what was agreed with a partner of this mode letter.
+pub(crate) fn answering_ssid<'b>(
+    book: &'b Book,
+    letter: Mode,
+    partner: &'b Partner,
+    link: &Link,
+) -> Command<'b>
+    ensures { result ≡ an_ssid (answering_ssid book.entry.now letter (record { partner = partner.entry.now; link = link.now })) }
+{
+    Command::Ssid(ssid_with(
+        book,
+        partner,
+        link.buffer,
+        link.credit,
+        link.restart,
+        answered_mode(partner.mode, letter),
+    ))
+}
+
+/// The initiator's SSID: its own offers.
+pub(crate) fn calling_ssid<'b>(book: &'b Book, partner: &'b Partner) -> Command<'b>
+    ensures { result ≡ an_ssid (calling_ssid book.entry.now partner.entry.now) }
+{
+    let station = book.station();
+    Command::Ssid(ssid_with(
+        book,
+        partner,
+        station.buffer.field(),
+        station.credit.field(),
+        station.restart,
+        partner.mode,
+    ))
+}
+
+/// Spells the frame of a command that isn't DATA into the octets, and answers its length.
+pub(crate) fn spell(frame: &mut [u8; 1200], command: &Command<'_>) -> usize
+    requires { is_data command.now ≡ false }
+    ensures frame { take result frame.new ≡ frame_of command.now }
+    ensures within { result ≤ 1200 }
+{
+    let (head, body) = frame.split_at_mut(4);
+    match encode(command, body) {
+        Ok(count) => match header(count) {
+            Some(octets) => {
+                head.copy_from_slice(&octets);
+                count + 4
+            }
+            None => unreachable!(),
+        },
+        Err(_) => unreachable!(),
+    }
+}

@@ -1,0 +1,14 @@
+//! One session with a partner, as a state machine without input or output of its own: each call takes one command that came, or
+//! makes one own command that is due, and lends the frame to be sent.
+//!
+//! A change of the register is committed before the frame that answers it is lent.
+#![tactic(auto)]
+
+mod commands;
+mod link;
+mod opening;
+mod responses;
+mod session;
+
+pub use link::{Link, WhenDone};
+pub use session::{Ending, Out, Session, SessionFault, State};

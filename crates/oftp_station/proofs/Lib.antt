@@ -1,0 +1,5 @@
+pub mod CertainValues
+pub mod CommandLines
+mod LineExamples
+pub mod SimpleCommands
+pub mod TakenWords

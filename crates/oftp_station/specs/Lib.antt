@@ -1,0 +1,5 @@
+pub mod Arguments
+pub mod CheckLine
+pub mod Fault
+pub mod FeedLine
+pub mod Line

@@ -1,0 +1,86 @@
+//! The command line: what the words after the program's name ask for.
+ghost use Rattle.std.specs.Prelude.{◌≡◌, IfErr, IfOk, None, Some, map, true};
+ghost use Rattle.std.specs.String.{string_bytes};
+ghost use Rattle.oftp_station.specs.Fault.{is_bad};
+ghost use Rattle.oftp_station.specs.Line.{line_named, line_of_words, said};
+ghost use Rattle.oftp_station.specs.declared.line.LineFault.TheVariants.{Memory};
+
+mod arguments;
+mod commands;
+
+use commands::USAGES;
+pub use commands::check::Check;
+use commands::check::check_line;
+use commands::feed::feed_line;
+pub use commands::feed::{Feed, Side};
+use std::alloc::{AllocError, Global};
+
+/// A command with its options and words, borrowed from the words of the command line.
+#[derive(Debug, Clone, Copy, PartialEq, Eq)]
+pub enum Line<'a> {
+    /// The book is read, and its partners are counted.
+    Check(Check<'a>),
+    /// One session from the octets of a file to another file.
+    Feed(Feed<'a>),
+}
+
+/// Why the words are read as no command.
+#[derive(Debug, Drop)]
+pub enum LineFault {
+    /// They are no command line. The text says why, for standard error, and ends its last line.
+    Bad(String),
+    /// There was no memory to read them.
+    Memory,
+}
+
+impl From<AllocError> for LineFault {
+    ghost from_gives = { λ _ e. e ≡ Memory };
+
+    fn from(_error: AllocError) -> LineFault {
+        LineFault::Memory
+    }
+}
+
+/// The command that the words after the program's name ask for: the first names the command, and
+/// the rest are its options and words. `--help` is answered as a bad command line, with the help.
+pub fn line_of<'a>(alloc: Global, words: &'a [String]) -> Result<Line<'a>, LineFault>
+    ensures ok { IfOk result (λ l. line_of_words (map string_bytes words.entry.now) ≡ Some (said l)) }
+    ensures bad { IfErr result (λ e. is_bad e ≡ true
+        → line_of_words (map string_bytes words.entry.now) ≡ None) }
+{
+    match words.first() {
+        Some(name) => read_command(alloc, name.as_str(), words),
+        None => Err(LineFault::Bad(usage_after(alloc, "error: a command is missing")?)),
+    }
+}
+
+/// The command of this name that the words ask for. The parser takes the first word for the name.
+fn read_command<'a>(alloc: Global, name: &str, words: &'a [String]) -> Result<Line<'a>, LineFault>
+    ensures ok { IfOk result (λ l. line_named name.now (map string_bytes words.entry.now) ≡ Some (said l)) }
+    ensures bad { IfErr result (λ e. is_bad e ≡ true
+        → line_named name.now (map string_bytes words.entry.now) ≡ None) }
+{
+    match name {
+        "check" => check_line(alloc, words).map(Line::Check),
+        "feed" => feed_line(alloc, words).map(Line::Feed),
+        other => Err(LineFault::Bad(unknown_command(alloc, other)?)),
+    }
+}
+
+/// The text for a name that no command has.
+fn unknown_command(alloc: Global, name: &str) -> Result<String, AllocError> {
+    let error = format!(in alloc; "error: unknown command '{name}'")?;
+    usage_after(alloc, error.as_str())
+}
+
+/// The error, and how each command is called.
+fn usage_after(alloc: Global, error: &str) -> Result<String, AllocError> {
+    let mut text = format!(in alloc; "{error}\n\nUsage:\n")?;
+    for usage in USAGES {
+        write!(text, "  {usage}\n")?;
+    }
+    Ok(text)
+}
+
+#[cfg(test)]
+mod tests;

@@ -1,0 +1,131 @@
+//! The arguments of a command, and what the parser makes of the words.
+ghost use Rattle.std.specs.Prelude.{◌≡◌, IfErr, IfOk, IsSome, None, Some, false, map, option_map, true};
+ghost use Rattle.std.specs.String.{string_bytes};
+ghost use Rattle.clap.specs.Words.{app_of, first_of, found_of, is_simple_and_free, kind_of};
+ghost use Rattle.clap.specs.Words.{new_app, rows_of, rule_of};
+ghost use Rattle.oftp_station.specs.Arguments as spec;
+ghost use Rattle.oftp_station.specs.Arguments.{HasValues, taken};
+ghost use Rattle.oftp_station.specs.Fault.{is_bad};
+
+use super::LineFault;
+use clap::error::ErrorKind;
+use clap::{Arg, ArgAction, ArgMatches, Command, Error};
+use std::alloc::{AllocError, Global};
+
+/// A command with no arguments yet. `usage` is how it is called, and `about` what it does.
+pub(super) fn command<'a>(
+    alloc: Global,
+    name: &'a str,
+    usage: &'a str,
+    about: &'a str,
+) -> Command<'a>
+    ensures { app_of result ≡ new_app name.entry.now }
+{
+    Command::new(alloc, name).override_usage(usage).about(about)
+}
+
+/// A word that must be given. `shown` stands for it in texts.
+pub(super) fn word<'a>(alloc: Global, id: &'a str, shown: &'a str, help: &'a str) -> Arg<'a>
+    ensures rule { rule_of result ≡ spec.word id.entry.now }
+    ensures local { result.global ≡ false }
+{
+    Arg::new(alloc, id)
+        .action(ArgAction::Set)
+        .required(true)
+        .value_name(shown)
+        .help(help)
+}
+
+/// An option that must be given, and takes one value.
+pub(super) fn needed<'a>(alloc: Global, id: &'a str, shown: &'a str, help: &'a str) -> Arg<'a>
+    ensures rule { rule_of result ≡ spec.needed id.entry.now }
+    ensures local { result.global ≡ false }
+{
+    word(alloc, id, shown, help).long(id)
+}
+
+/// An option that may be missing, and takes one value.
+pub(super) fn optional<'a>(alloc: Global, id: &'a str, shown: &'a str, help: &'a str) -> Arg<'a>
+    ensures rule { rule_of result ≡ spec.optional id.entry.now }
+    ensures local { result.global ≡ false }
+{
+    Arg::new(alloc, id)
+        .long(id)
+        .action(ArgAction::Set)
+        .value_name(shown)
+        .help(help)
+}
+
+/// An option that has this value where it is missing.
+pub(super) fn defaulted<'a>(
+    alloc: Global,
+    id: &'a str,
+    value: &'a str,
+    shown: &'a str,
+    help: &'a str,
+) -> Arg<'a>
+    ensures rule { rule_of result ≡ spec.defaulted id.entry.now value.entry.now }
+    ensures local { result.global ≡ false }
+{
+    optional(alloc, id, shown, help).default_value(value)
+}
+
+/// The fault for an error of the parser.
+fn fault_from(alloc: Global, error: &Error) -> LineFault
+    ensures { is_bad result ≡ true → kind_of error.now ≡ ErrorKind.OutOfMemory → ⊥ }
+{
+    if error.kind() == ErrorKind::OutOfMemory {
+        return LineFault::Memory;
+    }
+    match error.to_string(alloc) {
+        Ok(text) => LineFault::Bad(text),
+        Err(_) => LineFault::Memory,
+    }
+}
+
+/// What the parser makes of the words, of which the first is the command's name.
+pub(super) fn matched<'a>(
+    alloc: Global,
+    command: Command<'a>,
+    words: &'a [String],
+) -> Result<ArgMatches<'a>, LineFault>
+    requires { is_simple_and_free (app_of command) ≡ true }
+    ensures ok { IfOk result (λ m. taken (app_of command.entry) (map string_bytes words.entry.now)
+        ≡ Some (rows_of (found_of m))) }
+    ensures bad { IfErr result (λ e. is_bad e ≡ true
+        → taken (app_of command.entry) (map string_bytes words.entry.now) ≡ None) }
+    ensures values { IfOk result (λ m. HasValues (app_of command.entry) (rows_of (found_of m))) }
+{
+    match command.try_get_matches_from(words) {
+        Ok(matches) => Ok(matches),
+        Err(error) => Err(fault_from(alloc, &error)),
+    }
+}
+
+/// The value of an option that may be missing.
+pub(super) fn value_of<'a>(matches: &ArgMatches<'a>, id: &str) -> Option<&'a str>
+    ensures { option_map (λ s. s.now) result ≡ first_of id.now (rows_of (found_of matches.now)) }
+{
+    matches.get_str(id)
+}
+
+/// The value of an argument that must be given or has a default.
+pub(super) fn given<'a>(matches: &ArgMatches<'a>, id: &str) -> &'a str
+    requires { IsSome (first_of id.now (rows_of (found_of matches.now))) }
+    ensures { result.now ≡ spec.given id.now (rows_of (found_of matches.now)) }
+{
+    value_of(matches, id).unwrap()
+}
+
+/// The fault for a value that is none of those that its argument takes.
+pub(super) fn invalid_value(
+    alloc: Global,
+    value: &str,
+    argument: &str,
+    possible: &str,
+) -> Result<LineFault, AllocError> {
+    let text = format!(in alloc;
+        "error: invalid value '{value}' for '{argument}'\n  [possible values: {possible}]\n\nFor more information, try '--help'.\n"
+    )?;
+    Ok(LineFault::Bad(text))
+}

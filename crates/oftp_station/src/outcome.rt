@@ -1,0 +1,67 @@
+//! How a command comes out, as a person reads it.
+
+use oftp_engine::{End, RunFault};
+use oftp_partners::BookFault;
+use std::fmt;
+
+/// Why a command failed: the line on standard error.
+#[derive(Clone, Copy, Debug, Drop, PartialEq, Eq)]
+pub enum Fault {
+    /// A session was broken off.
+    Run(RunFault),
+    /// The book's text is no book.
+    Book(BookFault),
+    /// A file that the line names can't be read or made.
+    File,
+}
+
+impl Fault {
+    /// Memory ran out.
+    pub const MEMORY: Fault = Fault::Run(RunFault::Memory);
+}
+
+impl fmt::Display for Fault {
+    fn fmt<W: fmt::Write>(&self, f: &mut fmt::Formatter<W>) -> fmt::Result {
+        match self {
+            Fault::Run(RunFault::Read) => f.write_str("fault: 1 read"),
+            Fault::Run(RunFault::Write) => f.write_str("fault: 2 write"),
+            Fault::Run(RunFault::Office) => f.write_str("fault: 3 office"),
+            Fault::Run(RunFault::Memory) => f.write_str("fault: 4 memory"),
+            Fault::Book(fault) => write!(f, "fault: 5 book {}", fault.number()),
+            Fault::File => f.write_str("fault: 7 file"),
+        }
+    }
+}
+
+/// What a command did: the line on standard output.
+#[derive(Clone, Copy, Debug, Drop, PartialEq, Eq)]
+pub enum Outcome {
+    /// The book is a book, of so many partners.
+    Checked(usize),
+    /// A session was served, and ended so.
+    Ended(End),
+    /// What the line names isn't there.
+    Unknown,
+}
+
+impl Outcome {
+    /// Whether the command was refused.
+    pub fn is_refusal(&self) -> bool {
+        match self {
+            Outcome::Checked(_) | Outcome::Ended(_) => false,
+            Outcome::Unknown => true,
+        }
+    }
+}
+
+impl fmt::Display for Outcome {
+    fn fmt<W: fmt::Write>(&self, f: &mut fmt::Formatter<W>) -> fmt::Result {
+        match self {
+            Outcome::Checked(count) => write!(f, "ok: {count} partners"),
+            Outcome::Ended(End::Own(reason)) => write!(f, "end: own {:02}", reason.number().get()),
+            Outcome::Ended(End::Partner(reason)) => write!(f, "end: partner {:02}", reason.get()),
+            Outcome::Ended(End::Input) => f.write_str("end: input"),
+            Outcome::Unknown => f.write_str("refused: 2 unknown"),
+        }
+    }
+}

@@ -1,0 +1,13 @@
+pub mod GrowthLemmas
+pub mod TakingLemmas
+pub mod PackingLemmas
+pub mod FillerLemmas
+pub mod CarriesLemmas
+pub mod FillListLemmas
+pub mod FillCarriesLemmas
+pub mod SentLemmas
+pub mod FaultLemmas
+pub mod ClosedLemmas
+pub mod Examples
+pub mod LocalLemmas
+pub mod LendLemmas

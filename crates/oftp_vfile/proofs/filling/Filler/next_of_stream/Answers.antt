@@ -1,0 +1,68 @@
+use Rattle.std.proofs.Common.{ℕ, ◌≡◌, ◌-◌, ◌<◌, [], ◌∷◌, ◌++◌, false, take, drop, length, ap, sym, subst, ◌∙◌, arith}
+use Rattle.std.proofs.lemmas.List.{length-take-le}
+use Rattle.oftp_vfile.specs.Filling.{advanced, Filling, least}
+use Rattle.oftp_vfile.specs.Packing.{rest_at, HasStreamed, IsNext}
+use Rattle.oftp_vfile.proofs.FillerLemmas.{stream_next, stream_more, stream_left, next_enough}
+use Rattle.oftp_vfile.proofs.filling.Filler.next_of_stream.Goals as goal
+
+pub returns-in-Short-clause-more : goal.returns-in-Short-clause-more
+returns-in-Short-clause-more c = λ _.
+    let f = c.args.self.now in
+    let rows = c.args.rows.now in
+    let size = length c.args.out.now in
+    let at = c.pack_stream-at.result.0 in
+    let place = c.pack_stream-at.result.1 in
+    let free = size - at in
+    let was = c.self.view_is in
+    let offset : c.self.inside.offset ≡ f.offset = ap (λ x. x.offset) was in
+    let going : f.done ≡ false = sym (ap (λ x. x.done) was) ∙ c.if-self.false in
+    let octets = take at c.pack_stream-at.new.out in
+    let long : length c.pack_stream-at.new.out ≡ size = omega arith in
+    let told = c.pack_stream-at.ensures.short c.in-Short.is in
+    let p : HasStreamed c.args.last size (rest_at rows 0 f.offset) octets free (rest_at rows place.row place.offset) =
+    subst (λ (x : ℕ). HasStreamed c.args.last size (rest_at rows 0 x) octets free (rest_at rows place.row place.offset)) offset told.2 in
+    (told.0, stream_more size f rows place.row place.offset free octets c.args.last c.requires.stream going c.requires.place told.0 told.1 p)
+
+pub returns-in-Full-clause-buffer : goal.returns-in-Full-clause-buffer
+returns-in-Full-clause-buffer c =
+    let f = c.args.self.now in
+    let rows = c.args.rows.now in
+    let size = length c.args.out.now in
+    let at = c.pack_stream-at.result.0 in
+    let place = c.pack_stream-at.result.1 in
+    let free = size - at in
+    let was = c.self.view_is in
+    let offset : c.self.inside.offset ≡ f.offset = ap (λ x. x.offset) was in
+    let going : f.done ≡ false = sym (ap (λ x. x.done) was) ∙ c.if-self.false in
+    let octets = take at c.pack_stream-at.new.out in
+    let long : length c.pack_stream-at.new.out ≡ size = omega arith in
+    let told = c.pack_stream-at.ensures.full c.in-Full.is in
+    let p : HasStreamed c.args.last size (rest_at rows 0 f.offset) octets free (rest_at rows place.row place.offset) =
+    subst (λ (x : ℕ). HasStreamed c.args.last size (rest_at rows 0 x) octets free (rest_at rows place.row place.offset)) offset told.2 in
+    let written : length octets ≡ at = length-take-le at c.pack_stream-at.new.out (omega arith) in
+    let some : 0 < length octets = omega (arith, written, told.0, c.requires.room) in
+    let next = stream_next size f rows place.row place.offset free octets c.args.last c.requires.stream going c.requires.place c.pack_stream-at.ensures.offset p told.0 told.1 some in
+    let new : Filling = advanced f rows place.row place.offset in
+    (c.pack_stream-at.ensures.room, subst (λ (x : Filling). IsNext size f x rows c.args.last octets) (sym c.advance.ensures) next)
+
+pub returns-in-Full-clause-enough : goal.returns-in-Full-clause-enough
+returns-in-Full-clause-enough c =
+    let f = c.args.self.now in
+    let rows = c.args.rows.now in
+    let size = length c.args.out.now in
+    let at = c.pack_stream-at.result.0 in
+    let place = c.pack_stream-at.result.1 in
+    let free = size - at in
+    let was = c.self.view_is in
+    let offset : c.self.inside.offset ≡ f.offset = ap (λ x. x.offset) was in
+    let going : f.done ≡ false = sym (ap (λ x. x.done) was) ∙ c.if-self.false in
+    let octets = take at c.pack_stream-at.new.out in
+    let long : length c.pack_stream-at.new.out ≡ size = omega arith in
+    let told = c.pack_stream-at.ensures.full c.in-Full.is in
+    let p : HasStreamed c.args.last size (rest_at rows 0 f.offset) octets free (rest_at rows place.row place.offset) =
+    subst (λ (x : ℕ). HasStreamed c.args.last size (rest_at rows 0 x) octets free (rest_at rows place.row place.offset)) offset told.2 in
+    let written : length octets ≡ at = length-take-le at c.pack_stream-at.new.out (omega arith) in
+    let some : 0 < length octets = omega (arith, written, told.0, c.requires.room) in
+    let next = stream_next size f rows place.row place.offset free octets c.args.last c.requires.stream going c.requires.place c.pack_stream-at.ensures.offset p told.0 told.1 some in
+    let new : Filling = advanced f rows place.row place.offset in
+    next_enough size f new rows c.args.last _ next (stream_left new (drop (new.row - f.row) rows ++ least f.format ∷ []) c.requires.stream going)

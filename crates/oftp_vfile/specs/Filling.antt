@@ -1,0 +1,100 @@
+use Rattle.std.specs.Prelude.{◌≡◌, ℕ, Bool, true, false, List, [], ◌∷◌, ◌++◌, ◌+◌, ◌-◌, ◌<◌, ◌≤◌, ◌==◌, ◌&&◌, length, take, drop, slice_index_or, if◌then◌else◌}
+use Rattle.oftp_vfile.specs.declared.format.Format.{Format}
+use Rattle.oftp_vfile.specs.declared.format.Format.TheVariants.{Fixed, Variable, Unstructured, Text}
+use Rattle.oftp_vfile.specs.declared.format.Filled.{Filled}
+use Rattle.oftp_vfile.specs.declared.format.Filled.TheVariants.{Buffer, Done, More}
+use Rattle.oftp_vfile.specs.VirtualFile.{is_stream, octets_in, whole_count}
+use Rattle.oftp_vfile.specs.Subrecord.{Subrecord}
+use Rattle.oftp_vfile.specs.Fill.{Packs, fill, payloads_of}
+
+-- Where a filler is: the row, how many octets of it are sent, whether the end of a stream is sent, and how many rows count as
+-- wholly sent.
+pub record Filling : Type 0 where
+  pub format : Format
+  pub row : ℕ
+  pub offset : ℕ
+  pub done : Bool
+  pub mark : ℕ
+
+-- A filler that begins at a row.
+abbrev pub new_filling : Format → ℕ → Filling
+new_filling format from = record { format = format; row = from; offset = 0; done = false; mark = from }
+
+-- A filler that went on by so many of the lent rows, to an offset of the next.
+abbrev pub advanced : Filling → List (List ℕ) → ℕ → ℕ → Filling
+advanced f rows row offset =
+    record f { row = f.row + row; offset = offset; mark = f.mark + whole_count f.format (take row rows) }
+
+-- The rest of the first row, and the other rows.
+abbrev pub from_offset : ℕ → List (List ℕ) → List (List ℕ)
+from_offset n [] = []
+from_offset n (r ∷ rs) = drop n r ∷ rs
+
+-- What a filler still has to send, as records, where these are the rows from its row on: a stream is one record.
+abbrev pub left_of : Filling → List (List ℕ) → List (List ℕ)
+left_of f rows =
+    if is_stream f.format then (if f.done then [] else drop f.offset (octets_in rows) ∷ []) else from_offset f.offset rows
+
+-- The rows behind those that were lent: none where these were the last, else some, empty ones only in V.
+abbrev pub AreBehind : Format → Bool → List (List ℕ) → Type 0
+AreBehind format true more = more ≡ []
+AreBehind format false [] = ⊥
+AreBehind Fixed false (r ∷ rs) = 0 < length r
+AreBehind Variable false (r ∷ rs) = Unit {0}
+AreBehind Unstructured false (r ∷ rs) = 0 < length r
+AreBehind Text false (r ∷ rs) = 0 < length r
+
+-- These octets come next, before all other payloads, whatever rows stand behind those that were lent.
+abbrev pub IsFirst : ℕ → Filling → Filling → List (List ℕ) → Bool → List ℕ → Type 0
+IsFirst size old new rows last octets =
+    (more : List (List ℕ)) → AreBehind old.format last more →
+    fill size (left_of old (rows ++ more)) ≡ octets ∷ fill size (left_of new (drop (new.row - old.row) rows ++ more))
+
+-- A fact about the length of the payload that was written.
+abbrev pub IfBuffer : Filled → (ℕ → Type 0) → Type 0
+IfBuffer (Buffer n) P = P n
+IfBuffer Done P = Unit {0}
+IfBuffer More P = Unit {0}
+
+-- Whether nothing is left to send.
+abbrev pub nothing_left : Filling → List (List ℕ) → Bool → Bool
+nothing_left f rows last = if is_stream f.format then f.done else (length rows == 0) && last
+
+-- The shortest row that may stand behind others.
+abbrev pub least : Format → List ℕ
+least Fixed = 0 ∷ []
+least Variable = []
+least Unstructured = 0 ∷ []
+least Text = 0 ∷ []
+
+-- The next payload reaches the end of the lent rows and has room for more: the shortest further row would be in it whole.
+abbrev pub Reaches : ℕ → Filling → List (List ℕ) → Type 0
+Reaches size f rows = (ss : List Subrecord) × (0 < length ss) × Packs size (left_of f (rows ++ least f.format ∷ [])) ss []
+
+-- The filler's place is in the first of the rows that it is lent.
+abbrev pub IsInRows : Filling → List (List ℕ) → Type 0
+IsInRows f rows = 0 < f.offset → f.offset < length (slice_index_or rows 0 [])
+
+-- A filler moved on within the rows that it was lent: to the end of a stream only where these are the last.
+pub record Moves (old new : Filling) (rows : List (List ℕ)) (last : Bool) : Type 0 where
+  pub format : new.format ≡ old.format
+  pub ahead : old.row ≤ new.row
+  pub within : new.row ≤ old.row + length rows
+  pub place : IsInRows new (drop (new.row - old.row) rows)
+  pub mark : new.mark ≡ old.mark + whole_count old.format (take (new.row - old.row) rows)
+  pub over : is_stream old.format ≡ true → new.done ≡ true → (last ≡ true) × (new.row ≡ old.row + length rows)
+
+-- A filler that began at row `from`, where these are the rows of the file from there on, made these payloads of at most size
+-- octets: they are the first of all, and those of what is left are the others.
+pub record Sent (f : Filling) (size from : ℕ) (rows payloads : List (List ℕ)) : Type 0 where
+  pub began : from ≤ f.row
+  pub within : f.row ≤ from + length rows
+  pub place : IsInRows f (drop (f.row - from) rows)
+  pub split : payloads ++ fill size (left_of f (drop (f.row - from) rows)) ≡ payloads_of f.format size rows
+  pub mark : f.mark ≡ from + whole_count f.format (take (f.row - from) rows)
+  pub over : is_stream f.format ≡ true → f.done ≡ true → f.row ≡ from + length rows
+
+-- The lent rows, and whether they are the last, are those of the file from the filler's row on.
+abbrev pub AreLent : Filling → ℕ → List (List ℕ) → List (List ℕ) → Bool → Type 0
+AreLent f from rows lent last =
+    (more : List (List ℕ)) × (drop (f.row - from) rows ≡ lent ++ more) × AreBehind f.format last more

@@ -1,0 +1,10 @@
+pub mod VirtualFile
+pub mod Growth
+pub mod Subrecord
+pub mod Carries
+pub mod Taking
+pub mod Fill
+pub mod Filling
+pub mod Packing
+pub mod LocalForm
+pub mod Laws

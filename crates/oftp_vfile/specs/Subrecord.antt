@@ -1,0 +1,40 @@
+use Rattle.std.specs.Prelude.{ℕ, Bool, List, [], ◌∷◌, ◌+◌, ◌%◌, ◌<◌, nat_le, length, if◌then◌else◌}
+use Rattle.std.specs.List.{flat_map}
+
+-- A subrecord: whether it ends a record, and its octets (RFC 5024, 7.2).
+pub record Subrecord : Type 0 where
+  pub ends : Bool
+  pub octets : List ℕ
+
+-- Whether a header has the end flag, its highest bit (RFC 5024, 7.2).
+abbrev pub has_end : ℕ → Bool
+has_end header = nat_le 128 header
+
+-- Whether a header has the compression flag, its next bit (RFC 5024, 7.2).
+abbrev pub has_compression : ℕ → Bool
+has_compression header = nat_le 64 (header % 128)
+
+-- How many octets follow a header: its low six bits (RFC 5024, 7.2).
+abbrev pub count_in : ℕ → ℕ
+count_in header = header % 64
+
+-- The header of a subrecord, without compression.
+abbrev pub header : Subrecord → ℕ
+header s = if s.ends then 128 + length s.octets else length s.octets
+
+-- The octets of a subrecord in a payload.
+abbrev pub spelled : Subrecord → List ℕ
+spelled s = header s ∷ s.octets
+
+-- The payload that has these subrecords.
+abbrev pub payload_of : List Subrecord → List ℕ
+payload_of subs = flat_map spelled subs
+
+-- The octets of all of them, without the headers.
+abbrev pub octets_of : List Subrecord → List ℕ
+octets_of subs = flat_map (λ s. s.octets) subs
+
+-- Each has at most the 63 octets that a count can tell.
+abbrev pub AreShort : List Subrecord → Type 0
+AreShort [] = Unit {0}
+AreShort (s ∷ ss) = (length s.octets < 64) × AreShort ss

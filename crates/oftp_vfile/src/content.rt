@@ -1,0 +1,103 @@
+//! Rows of a virtual file.
+ghost use Rattle.std.specs.Prelude.{◌≡◌, ◌==◌, ℕ, List, length};
+
+use std::marker::Model;
+
+/// A row of a virtual file: a record (F, V), or a block of octets (U, T). Contracts see it as the
+/// list of its octets.
+#[derive(Drop)]
+pub struct Row {
+    octets: Vec<u8>,
+}
+
+impl Model for Row {
+    ghost Value = { List ℕ };
+
+    ghost view = { λ r. r.octets.items };
+}
+
+impl Row {
+    /// A row of these octets. It takes no memory.
+    pub fn new(octets: Vec<u8>) -> Row
+        ensures { result ≡ octets.items }
+    {
+        Row { octets }
+    }
+
+    /// The octets.
+    pub fn octets(&self) -> &[u8]
+        ensures { result.now ≡ self.now }
+    {
+        self.octets.as_slice()
+    }
+
+    /// The octets themselves, without a copy.
+    pub fn into_octets(self) -> Vec<u8>
+        ensures { result.items ≡ self }
+    {
+        self.octets
+    }
+
+    /// How many octets.
+    pub fn len(&self) -> usize
+        ensures { result ≡ length self.now }
+    {
+        self.octets.len()
+    }
+
+    /// Whether it is a record of no octet.
+    pub fn is_empty(&self) -> bool
+        ensures { result ≡ (length self.now == 0) }
+    {
+        self.octets.is_empty()
+    }
+}
+
+/// Rows in order, as a virtual file has them. Contracts see the list of lists of octets.
+#[derive(Drop)]
+pub struct Rows {
+    rows: Vec<Row>,
+}
+
+impl Model for Rows {
+    ghost Value = { List (List ℕ) };
+
+    ghost view = { λ r. r.rows.items };
+}
+
+impl Rows {
+    /// These rows. It takes no memory.
+    pub fn new(rows: Vec<Row>) -> Rows
+        ensures { result ≡ rows.items }
+    {
+        Rows { rows }
+    }
+
+    /// The rows, lent.
+    pub fn as_slice(&self) -> &[Row]
+        ensures { result.now ≡ self.now }
+    {
+        self.rows.as_slice()
+    }
+
+    /// The rows themselves, without a copy.
+    pub fn into_vec(self) -> Vec<Row>
+        ensures { result.items ≡ self }
+    {
+        self.rows
+    }
+
+    /// How many rows.
+    pub fn len(&self) -> usize
+        ensures { result ≡ length self.now }
+    {
+        self.rows.len()
+    }
+
+    /// Whether there is no row.
+    pub fn is_empty(&self) -> bool
+        ensures { result ≡ (length self.now == 0) }
+    {
+        self.rows.is_empty()
+    }
+}

@@ -1,0 +1,219 @@
+//! Rows in, payloads out.
+ghost use Rattle.std.specs.Prelude.{◌≡◌, ◌+◌, ◌<◌, ◌≤◌, ◌++◌, ◌∷◌, [], ℕ, List, length, take, slice_index_or, true, false, All, ◌↔◌};
+ghost use Rattle.oftp_vfile.specs.VirtualFile.{is_stream, whole_count};
+ghost use Rattle.oftp_vfile.specs.Fill.{needs, payloads_of};
+ghost use Rattle.oftp_vfile.specs.Filling.{Filling, AreLent, IfBuffer, IsFirst, IsInRows, Moves, Reaches, Sent, advanced, least, new_filling, nothing_left};
+ghost use Rattle.oftp_vfile.specs.Packing.{IsNext};
+
+use crate::content::Row;
+use crate::format::{BLOCK, Filled, Format};
+use crate::packing::{End, Place, pack_records, pack_stream};
+use std::marker::Model;
+
+/// Makes payloads of rows, by the buffer filling rules (RFC 5024, 7.3). It holds no row and takes
+/// no memory: each call is lent rows and writes from these straight into the buffer.
+#[derive(Drop)]
+pub struct Filler {
+    format: Format,
+    row: usize,
+    /// How many octets of the row are sent.
+    offset: usize,
+    /// Whether the end of a stream is sent.
+    done: bool,
+    mark: usize,
+}
+
+impl Model for Filler {
+    ghost use Rattle.std.specs.Prelude.{◌≤◌};
+    ghost use Rattle.oftp_vfile.specs.Filling.{Filling};
+
+    ghost Value = { Filling };
+
+    ghost view = { λ f. record {
+      format = f.format;
+      row = f.row;
+      offset = f.offset;
+      done = f.done;
+      mark = f.mark;
+    } };
+
+    ghost invariant = { λ f. f.mark ≤ f.row };
+}
+
+/// How many octets the shortest further row needs.
+fn least_need(format: Format) -> usize
+    ensures { result ≡ needs (least format) }
+{
+    match format {
+        Format::Variable => 1,
+        Format::Fixed | Format::Unstructured | Format::Text => 2,
+    }
+}
+
+/// How many of these rows, wholly sent, count where a transfer is taken up: full blocks alone of a
+/// stream.
+fn whole_count(format: Format, rows: &[Row]) -> usize
+    ensures value { result ≡ whole_count format rows.now }
+    ensures most { result ≤ length rows.now }
+{
+    if format.is_stream() {
+        rows.iter().filter(|row| row.len() == BLOCK).count()
+    } else {
+        rows.len()
+    }
+}
+
+impl Filler {
+    /// A filler that begins at a row of its file: 0, or the row where a broken transfer is taken
+    /// up. It takes no memory.
+    pub fn new(format: Format, from: usize) -> Filler
+        ensures value { result ≡ new_filling format from }
+        ensures sent { (size : ℕ) (rows : List (List ℕ)) → Sent result size from rows [] }
+    {
+        Filler {
+            format,
+            row: from,
+            offset: 0,
+            done: false,
+            mark: from,
+        }
+    }
+
+    /// The row from which on rows are to be lent.
+    pub fn row(&self) -> usize
+        ensures { result ≡ self.now.row }
+    {
+        self.row
+    }
+
+    /// How many rows of the file, from its start on, count as wholly sent: full blocks alone of a
+    /// stream, so never a last, shorter one. From there a transfer that breaks can be taken up (RFC
+    /// 5024, 1.5.4).
+    pub fn mark(&self) -> usize
+        ensures { result ≡ self.now.mark }
+    {
+        self.mark
+    }
+
+    /// Writes the next payload into `out`: what is to follow the `D` of a DATA command (RFC 5024,
+    /// 5.3.6 and 7.3).
+    ///
+    /// It is lent the rows from `row()` on, few or many, and told whether they reach the end.
+    /// `More` asks for more rows: the payload isn't full, and rows are to come. `Done` says that
+    /// nothing is left. Both leave the filler as it was; what `out` then holds is left open. It
+    /// takes no memory.
+    pub fn next_buffer(&mut self, rows: &[Row], last: bool, out: &mut [u8]) -> Filled
+        requires room { 2 ≤ length out.old }
+        requires few { self.old.row + length rows.now ≤ 1000000 }
+        requires place { IsInRows self.old rows.now }
+        requires some { is_stream self.old.format ≡ true → All (λ r. 0 < length r) rows.now }
+
+        // A payload is the first of those of what is left, wherever the lent rows end.
+        ensures buffer { IfBuffer result (λ n. (n ≤ length out.old)
+            × IsFirst (length out.old) self.old self.new rows.now last (take n out.new)) }
+        ensures moves { IfBuffer result (λ n. Moves self.old self.new rows.now last) }
+
+        // More comes exactly where a subrecord of a further row could fit, Done exactly where
+        // nothing is left.
+        ensures enough { IfBuffer result (λ n. last ≡ false
+            → Reaches (length out.old) self.old rows.now → ⊥) }
+        ensures more { result ≡ Filled.More
+            → (last ≡ false) × Reaches (length out.old) self.old rows.now }
+        ensures done { result ≡ Filled.Done ↔ (nothing_left self.old rows.now last ≡ true) }
+        ensures same { (result ≡ Filled.Done → self.new ≡ self.old)
+            × (result ≡ Filled.More → self.new ≡ self.old) }
+
+        // What was made so far, and all, where the lent rows are those of a whole file.
+        ensures sent { (from : ℕ) (file payloads : List (List ℕ))
+            → Sent self.old (length out.old) from file payloads
+            → AreLent self.old from file rows.now last
+            → IfBuffer result (λ n.
+            Sent self.new (length out.old) from file (payloads ++ take n out.new ∷ [])) }
+        ensures all { (from : ℕ) (file payloads : List (List ℕ))
+            → Sent self.old (length out.old) from file payloads
+            → AreLent self.old from file rows.now last
+            → result ≡ Filled.Done → payloads ≡ payloads_of self.old.format (length out.old) file }
+    {
+        if self.format.is_stream() {
+            self.next_of_stream(rows, last, out)
+        } else {
+            self.next_of_records(rows, last, out)
+        }
+    }
+
+    /// Goes on to a place in the lent rows.
+    fn advance(&mut self, rows: &[Row], place: Place)
+        requires row { place.row ≤ length rows.now }
+        requires few { self.old.row + length rows.now ≤ 1000000 }
+        ensures { self.new ≡ advanced self.old rows.now place.row place.offset }
+    {
+        let (sent, _) = rows.split_at(place.row);
+        self.mark += whole_count(self.format, sent);
+        self.row += place.row;
+        self.offset = place.offset;
+    }
+
+    /// The next payload of a file of records.
+    fn next_of_records(&mut self, rows: &[Row], last: bool, out: &mut [u8]) -> Filled
+        requires records { is_stream self.old.format ≡ false }
+        requires room { 2 ≤ length out.old }
+        requires few { self.old.row + length rows.now ≤ 1000000 }
+        requires place { IsInRows self.old rows.now }
+        ensures buffer { IfBuffer result (λ n. (n ≤ length out.old)
+            × IsNext (length out.old) self.old self.new rows.now last (take n out.new)) }
+        ensures moves { IfBuffer result (λ n. Moves self.old self.new rows.now last) }
+        ensures enough { IfBuffer result (λ n. last ≡ false
+            → Reaches (length out.old) self.old rows.now → ⊥) }
+        ensures more { result ≡ Filled.More
+            → (last ≡ false) × Reaches (length out.old) self.old rows.now }
+        ensures done { result ≡ Filled.Done ↔ (nothing_left self.old rows.now last ≡ true) }
+        ensures same { (result ≡ Filled.Done → self.new ≡ self.old)
+            × (result ≡ Filled.More → self.new ≡ self.old) }
+    {
+        let (at, place) = pack_records(rows, self.offset, out);
+        if place.row == rows.len() && !last && out.len() - at >= least_need(self.format) {
+            return Filled::More;
+        }
+        if at == 0 {
+            return Filled::Done;
+        }
+        self.advance(rows, place);
+        Filled::Buffer(at)
+    }
+
+    /// The next payload of a stream.
+    fn next_of_stream(&mut self, rows: &[Row], last: bool, out: &mut [u8]) -> Filled
+        requires stream { is_stream self.old.format ≡ true }
+        requires room { 2 ≤ length out.old }
+        requires few { self.old.row + length rows.now ≤ 1000000 }
+        requires place { IsInRows self.old rows.now }
+        requires some { All (λ r. 0 < length r) rows.now }
+        ensures buffer { IfBuffer result (λ n. (n ≤ length out.old)
+            × IsNext (length out.old) self.old self.new rows.now last (take n out.new)) }
+        ensures moves { IfBuffer result (λ n. Moves self.old self.new rows.now last) }
+        ensures enough { IfBuffer result (λ n. last ≡ false
+            → Reaches (length out.old) self.old rows.now → ⊥) }
+        ensures more { result ≡ Filled.More
+            → (last ≡ false) × Reaches (length out.old) self.old rows.now }
+        ensures done { result ≡ Filled.Done ↔ (nothing_left self.old rows.now last ≡ true) }
+        ensures same { (result ≡ Filled.Done → self.new ≡ self.old)
+            × (result ≡ Filled.More → self.new ≡ self.old) }
+    {
+        if self.done {
+            return Filled::Done;
+        }
+        let (at, place, end) = pack_stream(rows, self.offset, last, out);
+        match end {
+            End::Short => Filled::More,
+            End::Full => {
+                self.advance(rows, place);
+                Filled::Buffer(at)
+            }
+            End::Ended => {
+                self.done = true;
+                self.advance(rows, place);
+                Filled::Buffer(at)
+            }
+        }
+    }
+}

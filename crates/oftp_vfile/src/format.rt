@@ -1,0 +1,170 @@
+//! Formats, limits and faults.
+ghost use Rattle.std.specs.Prelude.{◌≡◌, ◌↔◌, IsTrue};
+ghost use Rattle.oftp_vfile.specs.VirtualFile.{is_stream};
+ghost use Rattle.oftp_vfile.specs.LocalForm.{IsLongest};
+ghost use Rattle.oftp_vfile.specs.declared.format.LocalFault.TheVariants.{Memory as NoLocalMemory};
+ghost use Rattle.oftp_vfile.specs.declared.format.TakeFault.TheVariants.{Memory};
+
+use std::alloc::{AllocError, AllocFailed};
+use std::error::Error;
+use std::fmt;
+
+/// How many octets a row of a stream has, the last row aside (RFC 5024, 1.5.4).
+pub const BLOCK: usize = 1024;
+
+/// How many rows a file has at most.
+pub const MOST_ROWS: u64 = 1_000_000;
+
+/// How many octets a record has at most.
+const MOST_LONGEST: usize = 16_384;
+
+/// The format of a virtual file (RFC 5024, 1.5.3).
+#[derive(Clone, Copy, Debug, PartialEq, Eq, Hash)]
+pub enum Format {
+    /// F: records of one length.
+    Fixed,
+    /// V: records of at most one length.
+    Variable,
+    /// U: a stream of octets.
+    Unstructured,
+    /// T: a text, which travels as a stream of octets, as U does.
+    Text,
+}
+
+impl Format {
+    /// Whether a file is one stream of octets (U, T), and no list of records (F, V).
+    pub fn is_stream(self) -> bool
+        ensures { result ≡ is_stream self }
+    {
+        match self {
+            Format::Fixed | Format::Variable => false,
+            Format::Unstructured | Format::Text => true,
+        }
+    }
+
+    /// Whether a file may have this longest record, in octets: 1 to 16,384 in F and V, 0 in U and
+    /// T, which have no records.
+    pub fn allows_longest(self, longest: usize) -> bool
+        ensures { IsTrue result ↔ IsLongest self longest }
+    {
+        match self {
+            Format::Fixed | Format::Variable => 1 <= longest && longest <= MOST_LONGEST,
+            Format::Unstructured | Format::Text => longest == 0,
+        }
+    }
+}
+
+/// How far a record, or a stream, was taken.
+#[derive(Clone, Copy, Debug, PartialEq, Eq, Hash)]
+pub enum Stage {
+    /// No subrecord came.
+    Fresh,
+    /// The last subrecord has no end flag.
+    Open,
+    /// The last subrecord has the end flag.
+    Ended,
+}
+
+/// How much a station keeps.
+#[derive(Clone, Copy, Debug, PartialEq, Eq, Hash)]
+pub struct Limits {
+    /// Files in each of the two file tables.
+    pub files: u64,
+    /// Octets of a file.
+    pub octets: u64,
+}
+
+/// Why a taker refuses a payload.
+#[derive(Clone, Copy, Debug, PartialEq, Eq, Hash)]
+pub enum TakeFault {
+    /// A subrecord passes the end of its payload.
+    Cut,
+    /// A subrecord has the compression flag, which wasn't agreed.
+    Compressed,
+    /// A record passes the longest length, or a record of F ends with another length.
+    RecordSize,
+    /// A subrecord comes after the end flag of a stream.
+    AfterEnd,
+    /// The file passes its limit of octets, or of 1,000,000 rows.
+    TooBig,
+    /// A growth was refused.
+    Memory,
+}
+
+impl fmt::Display for TakeFault {
+    fn fmt<W: fmt::Write>(&self, f: &mut fmt::Formatter<W>) -> fmt::Result {
+        f.write_str(match self {
+            TakeFault::Cut => "a subrecord passes the end of its buffer",
+            TakeFault::Compressed => "a subrecord is compressed",
+            TakeFault::RecordSize => "a record has a wrong length",
+            TakeFault::AfterEnd => "a subrecord comes after the end of the file",
+            TakeFault::TooBig => "the file is too big",
+            TakeFault::Memory => "out of memory",
+        })
+    }
+}
+
+impl Error for TakeFault {}
+
+impl From<AllocError> for TakeFault {
+    ghost from_gives = { λ _ e. e ≡ Memory };
+
+    fn from(_e: AllocError) -> TakeFault {
+        TakeFault::Memory
+    }
+}
+
+impl<T: Drop> From<AllocFailed<T>> for TakeFault {
+    ghost from_gives = { λ _ e. e ≡ Memory };
+
+    fn from(_e: AllocFailed<T>) -> TakeFault {
+        TakeFault::Memory
+    }
+}
+
+/// What became of a buffer that a filler was to fill.
+#[derive(Clone, Copy, Debug, PartialEq, Eq, Hash)]
+pub enum Filled {
+    /// So many octets of it are the next payload.
+    Buffer(usize),
+    /// Nothing is left to send.
+    Done,
+    /// The payload isn't full at the end of the lent rows, and more rows are to come: lend more.
+    More,
+}
+
+/// Why a file isn't read from its local form, or written in it.
+#[derive(Clone, Copy, Debug, PartialEq, Eq, Hash)]
+pub enum LocalFault {
+    /// The content is no local form of the format.
+    NotLocal,
+    /// A growth was refused.
+    Memory,
+}
+
+impl fmt::Display for LocalFault {
+    fn fmt<W: fmt::Write>(&self, f: &mut fmt::Formatter<W>) -> fmt::Result {
+        f.write_str(match self {
+            LocalFault::NotLocal => "the content is no file of this format",
+            LocalFault::Memory => "out of memory",
+        })
+    }
+}
+
+impl Error for LocalFault {}
+
+impl From<AllocError> for LocalFault {
+    ghost from_gives = { λ _ e. e ≡ NoLocalMemory };
+
+    fn from(_e: AllocError) -> LocalFault {
+        LocalFault::Memory
+    }
+}
+
+impl<T: Drop> From<AllocFailed<T>> for LocalFault {
+    ghost from_gives = { λ _ e. e ≡ NoLocalMemory };
+
+    fn from(_e: AllocFailed<T>) -> LocalFault {
+        LocalFault::Memory
+    }
+}

@@ -1,0 +1,44 @@
+//! The header octet of a subrecord (RFC 5024, 7.2).
+ghost use Rattle.std.specs.Prelude.{◌≡◌, ◌<◌, ◌+◌, if◌then◌else◌};
+ghost use Rattle.oftp_vfile.specs.Subrecord.{count_in, has_compression, has_end};
+
+/// The flag of the end of a record, or of a stream.
+const END: u8 = 0x80;
+
+/// The flag of compression.
+const COMPRESSION: u8 = 0x40;
+
+/// The bits of the count.
+const COUNT: u8 = 0x3f;
+
+/// The most octets that a subrecord has.
+pub const MOST_COUNT: usize = 63;
+
+/// The header of a subrecord that isn't compressed.
+pub fn header_of(ends: bool, count: usize) -> u8
+    requires { count < 64 }
+    ensures { result ≡ (if ends then 128 + count else count) }
+{
+    if ends { END + count as u8 } else { count as u8 }
+}
+
+/// Whether the subrecord ends a record, or a stream.
+pub fn has_end(header: u8) -> bool
+    ensures { result ≡ has_end header }
+{
+    header & END != 0
+}
+
+/// Whether the subrecord is compressed.
+pub fn has_compression(header: u8) -> bool
+    ensures { result ≡ has_compression header }
+{
+    header & COMPRESSION != 0
+}
+
+/// How many octets follow the header.
+pub fn count_in(header: u8) -> usize
+    ensures { result ≡ count_in header }
+{
+    usize::from(header & COUNT)
+}

@@ -1,0 +1,72 @@
+//! Laws of the definitions, as contracts of functions that do nothing.
+ghost use Rattle.oftp_vfile.specs.Laws.{ClosedIsFile, CountsAreFile, FillFits, FillIsOne, FillIsTaken, FillIsWhole, LendsRows, MarkIsSent, OneFault, OneFile, OneReading, RowsFrom, TookIsWithin, WhollySent};
+
+/// There is one list of payloads that follows the filling rule.
+pub fn fill_is_one()
+    ensures { FillIsOne }
+{}
+
+/// Its payloads fit.
+pub fn fill_fits()
+    ensures { FillFits }
+{}
+
+/// Its payloads carry exactly the rows, to the end.
+pub fn fill_is_whole()
+    ensures { FillIsWhole }
+{}
+
+/// Payloads carry one thing only.
+pub fn one_reading()
+    ensures { OneReading }
+{}
+
+/// A taker that took the payloads of a file holds exactly its rows, closed.
+pub fn fill_is_taken()
+    ensures { FillIsTaken }
+{}
+
+/// How many rows the first payloads of a file carry.
+pub fn wholly_sent()
+    ensures { WhollySent }
+{}
+
+/// The mark of a filler is how many rows it has wholly sent.
+pub fn mark_is_sent()
+    ensures { MarkIsSent }
+{}
+
+/// The rows of a file from one on are rows of a file.
+pub fn rows_from()
+    ensures { RowsFrom }
+{}
+
+/// Rows from the filler's row on are lent as it asks.
+pub fn lends_rows()
+    ensures { LendsRows }
+{}
+
+/// What a taker took carries its rows within the limits.
+pub fn took_is_within()
+    ensures { TookIsWithin }
+{}
+
+/// The counts of a taker are those of the file so far.
+pub fn counts_are_file()
+    ensures { CountsAreFile }
+{}
+
+/// What closed payloads carry are the rows of a file.
+pub fn closed_is_file()
+    ensures { ClosedIsFile }
+{}
+
+/// A payload has one first fault only.
+pub fn one_fault()
+    ensures { OneFault }
+{}
+
+/// A content is the local form of one file only.
+pub fn one_file()
+    ensures { OneFile }
+{}

@@ -1,0 +1,26 @@
+//! Virtual files and the subrecords that carry them (RFC 5024, 1.5 and 7).
+#![tactic(auto)]
+
+mod content;
+mod filling;
+mod format;
+mod growth;
+mod header;
+mod laws;
+mod local;
+mod packing;
+mod taking;
+
+pub use content::{Row, Rows};
+pub use filling::Filler;
+pub use format::{Filled, Format, Limits, LocalFault, Stage, TakeFault};
+pub use laws::{
+    closed_is_file, counts_are_file, fill_fits, fill_is_one, fill_is_taken, fill_is_whole,
+    lends_rows, mark_is_sent, one_fault, one_file, one_reading, rows_from, took_is_within,
+    wholly_sent,
+};
+pub use local::VFile;
+pub use taking::Taker;
+
+#[cfg(test)]
+mod tests;
