@@ -1,20 +1,19 @@
 -- What a run does, one event at a time.
 use Rattle.oftp_wire.specs.declared.reason.SessionReason.TheVariants.{ProtocolViolation}
-use Rattle.std.proofs.Common.{◌≡◌, ℕ, zero, suc, ◌+◌, ◌-◌, ◌≤◌, ◌<◌, Bool, true, false, cond, not, ◌&&◌, ◌||◌, ltb, nat_lt, List, [], ◌∷◌, ◌++◌, length, take, drop, Option, None, Some, refl, sym, ap, ◌∙◌, subst, arith, append_assoc, length-append, length-drop, add-one}
+use Rattle.std.proofs.Common.{◌≡◌, ℕ, zero, suc, ◌+◌, ◌≤◌, ◌<◌, Bool, true, false, cond, not, ◌&&◌, ◌||◌, List, [], ◌∷◌, ◌++◌, length, drop, Option, None, Some, refl, sym, ap, ◌∙◌, subst, arith, append_assoc, length-append, length-drop}
 use Rattle.std.proofs.lemmas.List.{append-nil}
-use Rattle.std.proofs.lemmas.Bool.{ltb-false, le-ltb, lt-ltb, and_parts, or_parts, false≢true, both_ways, cases_Bool}
-use Rattle.std.specs.List.{flat_map}
+use Rattle.std.proofs.lemmas.Bool.{ltb-false, le-ltb, and_parts}
 use Rattle.oftp_register.specs.Register.{Register}
 use Rattle.oftp_register.specs.Changes.{apply, or_else, after_all}
 use Rattle.oftp_register.specs.declared.change.Change.{Change}
 use Rattle.oftp_wire.specs.Stream.{front, command_in, IsWithin}
 use Rattle.oftp_wire.specs.Stream.{Head, Whole, Waits, Bad}
 use Rattle.oftp_wire.proofs.Streams.{front_within}
-use Rattle.oftp_session.specs.Phases.{Phase, RespondOpening, AwaitSsid, ListenerIdle, EndedHere, EndedThere, Step, register_after, fails}
-use Rattle.oftp_session.specs.Steps.{has_turn, turned, turns_due, came, is_over}
+use Rattle.oftp_session.specs.Phases.{Phase, Step, register_after, fails}
+use Rattle.oftp_session.specs.Steps.{has_turn, turned, turns_due, is_over}
 use Rattle.oftp_session.proofs.Phases.{turn_falls, over_no_turn}
 use Rattle.oftp_engine.specs.Runs.{Course, Output, octets_of, with_change, with_output, advance, came_in, turned_in, is_stopped, turns, settled, on_front, next_in, run_by, run}
-use Rattle.oftp_engine.specs.Serving.{Grows, Leads, Reaches, Sound, Counted}
+use Rattle.oftp_engine.specs.Serving.{Grows, Sound, Counted}
 
 -- a course that grows
 

@@ -1,7 +1,7 @@
 -- What a served session leaves, from how far it came.
-use Rattle.std.proofs.Common.{◌≡◌, ℕ, zero, suc, ◌+◌, ◌-◌, ◌≤◌, ◌<◌, Bool, true, false, List, [], ◌∷◌, ◌++◌, length, take, drop, Option, None, Some, Result, Ok, Err, refl, sym, ap, ◌∙◌, subst, arith, append_assoc, length-append, length-drop, inl, inr, ltb, max}
+use Rattle.std.proofs.Common.{◌≡◌, ℕ, zero, suc, ◌+◌, ◌-◌, ◌≤◌, ◌<◌, true, false, List, [], ◌∷◌, ◌++◌, length, take, drop, Option, None, Some, Result, Ok, refl, sym, ap, ◌∙◌, subst, arith, length-append, inl, inr}
 use Rattle.std.proofs.Math.Seq.{take-add}
-use Rattle.std.proofs.lemmas.List.{append-nil, take_at, drop_at, take-append-le}
+use Rattle.std.proofs.lemmas.List.{append-nil, take_at, drop_at}
 use Rattle.std.proofs.lemmas.Bool.{le-ltb, lt-ltb}
 use Rattle.oftp_session.specs.Phases.{frame_of}
 use Rattle.oftp_wire.specs.Stream.{front}
@@ -21,9 +21,9 @@ use Rattle.oftp_register.specs.declared.change.Cause.{Cause}
 use Rattle.oftp_engine.specs.declared.serving.RunFault.{RunFault}
 use Rattle.oftp_engine.specs.declared.serving.RunFault.TheVariants as fault
 use Rattle.oftp_engine.specs.Runs.{Course, Output, run, started, octets_of, answered, advance, is_stopped, with_change}
-use Rattle.oftp_engine.specs.Serving.{Grows, Leads, Reaches, Scene, Took, IsAt, Went, BreaksOff, IsRefused, IsShort, Fails, Comes, IsOver, IsWaiting, Sound, Counted}
+use Rattle.oftp_engine.specs.Serving.{Grows, Leads, Reaches, Scene, Took, BreaksOff, IsRefused, IsShort, Fails, Comes, IsOver, Sound, Counted}
 use Rattle.oftp_engine.specs.Served.{whole, broken_off, LeavesPrefix, IsWhole, IsBrokenOff, IsRefusedService, IsOutOfMemory, ServesErr}
-use Rattle.oftp_engine.proofs.Courses.{grows_on, grows_step, run_grows, run_over, run_waits, run_stopped, octets-append}
+use Rattle.oftp_engine.proofs.Courses.{grows_on, grows_step, run_grows, run_over, run_waits, run_stopped}
 use Rattle.oftp_engine.proofs.Progress.{octets_step}
 
 answered_most : (outputs : List Output) (n most : ℕ) → Counted most outputs → answered outputs n ≤ most
@@ -136,13 +136,16 @@ leaves_prefix : (r : Register) (d w : Course) (step : Step) (change : Option Cha
 leaves_prefix r d w step None least rest e g h sd se le only = λ k l. record { count = length d.changes; least = le; most = few d w g; near = inl refl; holds = subst (rest.holds k) (replayed r d w g sd) (only k l) }
 leaves_prefix r d w step (Some change) least rest e g h sd se le only = λ k l.
     elim (only k l) [
-      inl same ↦ record { count = length d.changes; least = le; most = few d w g; near = inl refl; holds = subst (rest.holds k) (replayed r d w g sd) same }
-    | inr made ↦
-        let long : length (advance d step).changes ≡ length d.changes + 1 = ap (λ (x : List Change). length x) (changes_step d step ∙ ap (with_change d.changes) e) ∙ length-append d.changes (change ∷ []) in
-        record {
-          count = length (advance d step).changes; least = omega arith; most = few (advance d step) w h; near = inr (sym long);
-          holds = subst (rest.holds k) (accepted d.register change made.0 made.1 ∙ sym (register_step d step ∙ ap (register_after d.register) e) ∙ replayed r (advance d step) w h se) made.2;
-        }
+      | inl same ↦ record { count = length d.changes; least = le; most = few d w g; near = inl refl; holds = subst (rest.holds k) (replayed r d w g sd) same }
+      | inr made ↦
+          let long : length (advance d step).changes ≡ length d.changes + 1 = ap (λ (x : List Change). length x) (changes_step d step ∙ ap (with_change d.changes) e) ∙ length-append d.changes (change ∷ []) in
+          record {
+            count = length (advance d step).changes;
+            least = omega arith;
+            most = few (advance d step) w h;
+            near = inr (sym long);
+            holds = subst (rest.holds k) (accepted d.register change made.0 made.1 ∙ sym (register_step d step ∙ ap (register_after d.register) e) ∙ replayed r (advance d step) w h se) made.2;
+          }
     ]
 
 more_changes : (d : Course) (step : Step) → length d.changes ≤ length (advance d step).changes
@@ -161,16 +164,28 @@ is_refused setting given old new lo ln h =
     let kept : answered h.at.outputs (length (octets_of h.at.outputs)) ≤ length h.at.changes = answered_most h.at.outputs (length (octets_of h.at.outputs)) (length h.at.changes) sd.counted in
     let more : length h.at.changes ≤ length (advance h.at h.step).changes = more_changes h.at h.step in
     elim h.cases [
-      inl x ↦ record {
-        outs = h.at.outputs; later = g.later_outputs; outputs = g.outputs; count = h.count; out = out;
-        made = length h.at.changes; kept = kept; few = few h.at w g;
+      | inl x ↦ record {
+        outs = h.at.outputs;
+        later = g.later_outputs;
+        outputs = g.outputs;
+        count = h.count;
+        out = out;
+        made = length h.at.changes;
+        kept = kept;
+        few = few h.at w g;
         register = λ s. x.same s ∙ replayed r h.at w g sd;
         left = leaves_prefix r h.at w h.step h.step.change (answered h.at.outputs (length (octets_of h.at.outputs))) ln refl g ge sd se kept x.left;
         faults = h.faults;
       }
-    | inr x ↦ record {
-        outs = h.at.outputs; later = g.later_outputs; outputs = g.outputs; count = h.count; out = out;
-        made = length (advance h.at h.step).changes; kept = omega arith; few = few (advance h.at h.step) w ge;
+      | inr x ↦ record {
+        outs = h.at.outputs;
+        later = g.later_outputs;
+        outputs = g.outputs;
+        count = h.count;
+        out = out;
+        made = length (advance h.at h.step).changes;
+        kept = omega arith;
+        few = few (advance h.at h.step) w ge;
         register = λ s. x.same s ∙ replayed r (advance h.at h.step) w ge se;
         left = λ k l. record { count = length (advance h.at h.step).changes; least = omega arith; most = few (advance h.at h.step) w ge; near = inl refl; holds = subst (ln.holds k) (replayed r (advance h.at h.step) w ge se) (x.left k l) };
         faults = h.faults;
@@ -189,15 +204,33 @@ is_out_of_memory setting given old new lo ln fine alone h =
     let kept : answered h.at.outputs (length (octets_of h.at.outputs)) ≤ length h.at.changes = answered_most h.at.outputs (length (octets_of h.at.outputs)) (length h.at.changes) sd.counted in
     let more : length h.at.changes ≤ length h.next.changes = few h.at h.next h.later in
     elim h.register [
-      inl same ↦ record {
-        outs = h.at.outputs; later = g.later_outputs; outputs = g.outputs; out = out;
-        made = length h.at.changes; kept = kept; few = few h.at w g; register = same ∙ replayed r h.at w g sd;
-        stands = h.stands fine; left = alone (h.stands fine); faults = h.faults; told = h.told;
+      | inl same ↦ record {
+        outs = h.at.outputs;
+        later = g.later_outputs;
+        outputs = g.outputs;
+        out = out;
+        made = length h.at.changes;
+        kept = kept;
+        few = few h.at w g;
+        register = same ∙ replayed r h.at w g sd;
+        stands = h.stands fine;
+        left = alone (h.stands fine);
+        faults = h.faults;
+        told = h.told;
       }
-    | inr same ↦ record {
-        outs = h.at.outputs; later = g.later_outputs; outputs = g.outputs; out = out;
-        made = length h.next.changes; kept = omega arith; few = few h.next w ge; register = same ∙ replayed r h.next w ge se;
-        stands = h.stands fine; left = alone (h.stands fine); faults = h.faults; told = h.told;
+      | inr same ↦ record {
+        outs = h.at.outputs;
+        later = g.later_outputs;
+        outputs = g.outputs;
+        out = out;
+        made = length h.next.changes;
+        kept = omega arith;
+        few = few h.next w ge;
+        register = same ∙ replayed r h.next w ge se;
+        stands = h.stands fine;
+        left = alone (h.stands fine);
+        faults = h.faults;
+        told = h.told;
       }
     ]
 

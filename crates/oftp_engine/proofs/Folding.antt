@@ -1,14 +1,12 @@
 -- A run is the fold over the frames.
-use Rattle.oftp_wire.specs.declared.reason.SessionReason.TheVariants.{ProtocolViolation}
-use Rattle.std.proofs.Common.{◌≡◌, ℕ, suc, ◌+◌, ◌-◌, ◌≤◌, ◌<◌, Bool, true, false, cond, ◌||◌, List, [], ◌∷◌, ◌++◌, length, take, drop, Option, refl, sym, ap, ◌∙◌, subst, arith, append_assoc, length-append, length-drop}
-use Rattle.std.proofs.lemmas.List.{take_at, drop_at, drop-append-le, take-append-le, take_all}
+use Rattle.std.proofs.Common.{◌≡◌, ℕ, suc, ◌-◌, ◌≤◌, Bool, cond, ◌||◌, List, [], ◌∷◌, ◌++◌, length, take, drop, Option, refl, sym, ap, ◌∙◌, subst, arith, append_assoc, length-append, length-drop}
+use Rattle.std.proofs.lemmas.List.{drop_at, drop-append-le, take-append-le, take_all}
 use Rattle.std.specs.List.{AllByRecursion, flat_map}
 use Rattle.oftp_wire.specs.Stream.{front, command_in, IsWithin}
 use Rattle.oftp_wire.specs.Stream.{Head, Whole, Waits, Bad}
 use Rattle.oftp_wire.proofs.Streams.{front_within, front_more, IsTold}
 use Rattle.oftp_session.specs.Steps.{is_over}
-use Rattle.oftp_session.specs.Phases.{fails}
-use Rattle.oftp_engine.specs.Runs.{Course, advance, came_in, is_stopped, settled, on_front, next_in, run_by, run}
+use Rattle.oftp_engine.specs.Runs.{Course, came_in, is_stopped, settled, on_front, next_in, run_by, run}
 use Rattle.oftp_engine.specs.Frames.{IsFrame, IsNoFrame, Splits, at_rest, over_frames}
 use Rattle.oftp_engine.proofs.Courses.{run_enough}
 
@@ -41,11 +39,11 @@ folds limit (f ∷ fs) rest c each ends =
     let five : 5 ≤ length f = (subst (IsWithin (length f)) each.0 (front_within 100003 f)).0 in
     let same : (f ++ flat_map (λ (x : List ℕ). x) fs) ++ rest ≡ s = append_assoc f (flat_map (λ (x : List ℕ). x) fs) rest in
     let step : on_front (run_by (length s) limit) s d (front 100003 s) ≡ over_frames limit fs rest (came_in d (drop 4 f)) =
-      ap (on_front (run_by (length s) limit) s d) whole
-      ∙ ap (λ (x : List ℕ). run_by (length s) limit x (came_in d (command_in (length f) s))) (drop_at f more (length f) refl)
-      ∙ ap (λ (x : List ℕ). run_by (length s) limit more (came_in d x)) (command_of f more five)
-      ∙ run_enough (length s) (suc (length more)) limit more (came_in d (drop 4 f)) (omega (arith, length-append f more)) (omega arith)
-      ∙ folds limit fs rest (came_in d (drop 4 f)) each.1 ends in
+    ap (on_front (run_by (length s) limit) s d) whole
+    ∙ ap (λ (x : List ℕ). run_by (length s) limit x (came_in d (command_in (length f) s))) (drop_at f more (length f) refl)
+    ∙ ap (λ (x : List ℕ). run_by (length s) limit more (came_in d x)) (command_of f more five)
+    ∙ run_enough (length s) (suc (length more)) limit more (came_in d (drop 4 f)) (omega (arith, length-append f more)) (omega arith)
+    ∙ folds limit fs rest (came_in d (drop 4 f)) each.1 ends in
     ap (λ (x : List ℕ). run limit x c) same ∙ cond_else (is_over d.phase || is_stopped limit d) d _ _ step
 
 pub folds_all : (limit : Option ℕ) (stream rest : List ℕ) (frames : List (List ℕ)) (c : Course) → Splits stream frames rest → run limit stream c ≡ over_frames limit frames rest c

@@ -1,22 +1,19 @@
 -- How far the engine has come, one part after another.
 use Rattle.oftp_wire.specs.declared.reason.SessionReason.TheVariants.{ProtocolViolation}
-use Rattle.std.proofs.Common.{◌≡◌, ℕ, ◌+◌, ◌-◌, ◌≤◌, ◌<◌, ◌%◌, ◌^◌, Bool, true, false, List, [], ◌∷◌, ◌++◌, length, take, drop, Option, None, Some, Result, Ok, Err, refl, sym, ap, ◌∙◌, subst, arith, append_assoc, length-append, length-drop, inl, inr}
+use Rattle.std.proofs.Common.{◌≡◌, ℕ, ◌+◌, ◌-◌, ◌≤◌, ◌%◌, ◌^◌, true, false, List, [], ◌∷◌, ◌++◌, length, take, drop, Option, refl, sym, ap, ◌∙◌, subst, arith, append_assoc, length-append, length-drop, inl, inr}
 use Rattle.std.proofs.lemmas.List.{append-nil, take-append-le, drop-append-le}
 use Rattle.oftp_wire.specs.Stream.{front, command_in, IsWithin}
 use Rattle.oftp_wire.specs.Stream.{Whole, Bad}
 use Rattle.oftp_wire.specs.declared.frame_fault.FrameFault.{FrameFault}
 use Rattle.oftp_wire.proofs.Streams.{front_within, front_more, IsTold}
-use Rattle.std.specs.Io.KnownBytes.{Appends}
-use Rattle.oftp_register.specs.declared.change.Change.{Change}
-use Rattle.oftp_register.specs.Register.{Register}
-use Rattle.oftp_register.specs.Offices.{Rest, Only, next_count}
+use Rattle.oftp_register.specs.Offices.{Rest, next_count}
 use Rattle.oftp_session.specs.Phases.{Step, fails}
 use Rattle.oftp_session.specs.Steps.{has_turn, is_over, turned}
-use Rattle.oftp_session.specs.Calls.{Seen, Stands}
+use Rattle.oftp_session.specs.Calls.{Seen}
 use Rattle.oftp_engine.specs.declared.serving.RunFault.{RunFault}
 use Rattle.oftp_engine.specs.declared.serving.RunFault.TheVariants as fault
 use Rattle.oftp_engine.specs.Runs.{Course, Output, advance, run, is_stopped, octets_of, with_output, with_change, turned_in, came_in}
-use Rattle.oftp_engine.specs.Serving.{Grows, Leads, Reaches, Scene, Took, IsAt, Went, BreaksOff, IsRefused, IsShort, Fails, Made, MadePart, NotMade, NoMemory, StepFails, Stepped, Settles, TurnsTaken}
+use Rattle.oftp_engine.specs.Serving.{Leads, Reaches, Scene, Took, Went, Fails, Made, StepFails}
 use Rattle.oftp_engine.proofs.Bytes.{appends_none, appends_on, count_on}
 use Rattle.oftp_engine.proofs.Courses.{grows_none, grows_on, grows_step, octets-append, stopped_before, run_turn, run_frame, run_bad, run_over}
 
@@ -54,8 +51,8 @@ pub reaches_later : (c d e e' : Course) (s t : List ℕ) → Leads c s d t → R
 reaches_later c d e e' s t p q = record {
   grows = grows_on c d e p.grows q.grows;
   same = λ more limit h.
-    let r = q.same more limit h in
-    (r.0, p.same more limit (stopped_before limit d e q.grows h) ∙ r.1);
+      let r = q.same more limit h in
+      (r.0, p.same more limit (stopped_before limit d e q.grows h) ∙ r.1);
 }
 
 pub reaches_itself : (c : Course) (s : List ℕ) → Reaches c s c c
@@ -72,7 +69,13 @@ reaches_step c step s t h = record { grows = grows_none c; same = λ more limit 
 
 pub went_none : (c : Course) (s : List ℕ) (old : Scene) (left : Rest) → Went c s c s old old left left
 went_none c s old left = record {
-  leads = leads_none c s; between = []; outputs = sym (append-nil (octets_of c.outputs)); took = took_none old; stands = λ h. h; faults = refl; told = refl;
+  leads = leads_none c s;
+  between = [];
+  outputs = sym (append-nil (octets_of c.outputs));
+  took = took_none old;
+  stands = λ h. h;
+  faults = refl;
+  told = refl;
 }
 
 pub went_on : (c d e : Course) (s t u : List ℕ) (a b z : Scene) (la lb lz : Rest) → Went c s d t a b la lb → Went d t e u b z lb lz → Went c s e u a z la lz
@@ -88,19 +91,54 @@ went_on c d e s t u a b z la lb lz p q = record {
 
 pub went_step : (c : Course) (step : Step) (s t : List ℕ) (seen : Seen) (a b : Scene) (la lb : Rest) → Leads c s (advance c step) t → Made c step seen a b la lb → Went c s (advance c step) t a b la lb
 went_step c step s t seen a b la lb leads made = record {
-  leads = leads; between = step.output; outputs = octets_step c step; took = made.took; stands = made.stands; faults = made.faults; told = made.told;
+  leads = leads;
+  between = step.output;
+  outputs = octets_step c step;
+  took = made.took;
+  stands = made.stands;
+  faults = made.faults;
+  told = made.told;
 }
 
 pub fails_step : (c : Course) (step : Step) (s : List ℕ) (a b : Scene) (la lb : Rest) (f : RunFault) → Reaches c s c (advance c step) → StepFails c step a b la lb f → Fails c s a b la lb f
 fails_step c step s a b la lb fault.Read r h = absurd h
 fails_step c step s a b la lb fault.Write r h = record {
-  at = c; step = step; count = h.count; reaches = r; short = h.short; between = []; outputs = sym (append-nil (octets_of c.outputs)); took = h.took; register = h.register; stands = h.stands; faults = h.faults; told = h.told;
+  at = c;
+  step = step;
+  count = h.count;
+  reaches = r;
+  short = h.short;
+  between = [];
+  outputs = sym (append-nil (octets_of c.outputs));
+  took = h.took;
+  register = h.register;
+  stands = h.stands;
+  faults = h.faults;
+  told = h.told;
 }
 fails_step c step s a b la lb fault.Office r h = record {
-  at = c; step = step; count = h.count; reaches = r; between = []; outputs = sym (append-nil (octets_of c.outputs)); took = h.took; cases = h.cases; faults = h.faults;
+  at = c;
+  step = step;
+  count = h.count;
+  reaches = r;
+  between = [];
+  outputs = sym (append-nil (octets_of c.outputs));
+  took = h.took;
+  cases = h.cases;
+  faults = h.faults;
 }
 fails_step c step s a b la lb fault.Memory r h = record {
-  at = c; next = advance c step; reaches = r; later = grows_step c step; between = []; outputs = sym (append-nil (octets_of c.outputs)); took = h.took; register = h.register; stands = h.stands; faults = h.faults; told = h.told;
+  at = c;
+  next = advance c step;
+  reaches = r;
+  later = grows_step c step;
+  between = [];
+  outputs = sym (append-nil (octets_of c.outputs));
+  took = h.took;
+  register = h.register;
+  stands = h.stands;
+  faults = h.faults;
+  told = h.told;
 }
 
 outputs_later : (c d : Course) (at xs ys : List ℕ) → octets_of d.outputs ≡ octets_of c.outputs ++ xs → at ≡ octets_of d.outputs ++ ys → at ≡ octets_of c.outputs ++ (xs ++ ys)
@@ -112,23 +150,42 @@ took_later a b z xs ys zs p q = subst (Took a z) (sym (append_assoc xs ys zs)) (
 pub fails_later : (c d : Course) (s t : List ℕ) (a b z : Scene) (la lb lz : Rest) (f : RunFault) → Went c s d t a b la lb → Fails d t b z lb lz f → Fails c s a z la lz f
 fails_later c d s t a b z la lb lz fault.Read w h = absurd h
 fails_later c d s t a b z la lb lz fault.Write w h = record {
-  at = h.at; step = h.step; count = h.count; reaches = reaches_later c d h.at _ s t w.leads h.reaches; short = h.short;
-  between = w.between ++ h.between; outputs = outputs_later c d _ w.between h.between w.outputs h.outputs;
+  at = h.at;
+  step = h.step;
+  count = h.count;
+  reaches = reaches_later c d h.at _ s t w.leads h.reaches;
+  short = h.short;
+  between = w.between ++ h.between;
+  outputs = outputs_later c d _ w.between h.between w.outputs h.outputs;
   took = took_later a b z w.between h.between (take h.count h.step.output) w.took h.took;
-  register = h.register; stands = λ o. h.stands (w.stands o); faults = h.faults ∙ w.faults; told = h.told ∙ ap next_count w.told;
+  register = h.register;
+  stands = λ o. h.stands (w.stands o);
+  faults = h.faults ∙ w.faults;
+  told = h.told ∙ ap next_count w.told;
 }
 fails_later c d s t a b z la lb lz fault.Office w h = record {
-  at = h.at; step = h.step; count = h.count; reaches = reaches_later c d h.at _ s t w.leads h.reaches;
-  between = w.between ++ h.between; outputs = outputs_later c d _ w.between h.between w.outputs h.outputs;
+  at = h.at;
+  step = h.step;
+  count = h.count;
+  reaches = reaches_later c d h.at _ s t w.leads h.reaches;
+  between = w.between ++ h.between;
+  outputs = outputs_later c d _ w.between h.between w.outputs h.outputs;
   took = took_later a b z w.between h.between _ w.took h.took;
   cases = elim h.cases [ inl x ↦ inl (record { same = x.same; left = x.left }) | inr x ↦ inr (record { same = x.same; left = x.left }) ];
   faults = h.faults ∙ ap next_count w.faults;
 }
 fails_later c d s t a b z la lb lz fault.Memory w h = record {
-  at = h.at; next = h.next; reaches = reaches_later c d h.at h.next s t w.leads h.reaches; later = h.later;
-  between = w.between ++ h.between; outputs = outputs_later c d _ w.between h.between w.outputs h.outputs;
+  at = h.at;
+  next = h.next;
+  reaches = reaches_later c d h.at h.next s t w.leads h.reaches;
+  later = h.later;
+  between = w.between ++ h.between;
+  outputs = outputs_later c d _ w.between h.between w.outputs h.outputs;
   took = took_on a b z w.between h.between w.took h.took;
-  register = h.register; stands = λ o. h.stands (w.stands o); faults = h.faults ∙ w.faults; told = h.told ∙ w.told;
+  register = h.register;
+  stands = λ o. h.stands (w.stands o);
+  faults = h.faults ∙ w.faults;
+  told = h.told ∙ w.told;
 }
 
 -- a due turn, whatever is there to be read
@@ -168,7 +225,12 @@ leads_bad c s f turn over bad more limit stopped =
 pub went_with : (c d : Course) (s : List ℕ) (a b : Scene) (la lb : Rest) → Went c [] d [] a b la lb → Went c s d s a b la lb
 went_with c d s a b la lb w = record {
   leads = record { grows = w.leads.grows; same = λ more limit h. w.leads.same (s ++ more) limit h };
-  between = w.between; outputs = w.outputs; took = w.took; stands = w.stands; faults = w.faults; told = w.told;
+  between = w.between;
+  outputs = w.outputs;
+  took = w.took;
+  stands = w.stands;
+  faults = w.faults;
+  told = w.told;
 }
 
 reaches_with : (c d e : Course) (s : List ℕ) → Reaches c [] d e → Reaches c s d e
@@ -177,11 +239,40 @@ reaches_with c d e s r = record { grows = r.grows; same = λ more limit h. r.sam
 pub fails_with : (c : Course) (s : List ℕ) (a b : Scene) (la lb : Rest) (f : RunFault) → Fails c [] a b la lb f → Fails c s a b la lb f
 fails_with c s a b la lb fault.Read h = absurd h
 fails_with c s a b la lb fault.Write h = record {
-  at = h.at; step = h.step; count = h.count; reaches = reaches_with c h.at _ s h.reaches; short = h.short; between = h.between; outputs = h.outputs; took = h.took; register = h.register; stands = h.stands; faults = h.faults; told = h.told;
+  at = h.at;
+  step = h.step;
+  count = h.count;
+  reaches = reaches_with c h.at _ s h.reaches;
+  short = h.short;
+  between = h.between;
+  outputs = h.outputs;
+  took = h.took;
+  register = h.register;
+  stands = h.stands;
+  faults = h.faults;
+  told = h.told;
 }
 fails_with c s a b la lb fault.Office h = record {
-  at = h.at; step = h.step; count = h.count; reaches = reaches_with c h.at _ s h.reaches; between = h.between; outputs = h.outputs; took = h.took; cases = h.cases; faults = h.faults;
+  at = h.at;
+  step = h.step;
+  count = h.count;
+  reaches = reaches_with c h.at _ s h.reaches;
+  between = h.between;
+  outputs = h.outputs;
+  took = h.took;
+  cases = h.cases;
+  faults = h.faults;
 }
 fails_with c s a b la lb fault.Memory h = record {
-  at = h.at; next = h.next; reaches = reaches_with c h.at _ s h.reaches; later = h.later; between = h.between; outputs = h.outputs; took = h.took; register = h.register; stands = h.stands; faults = h.faults; told = h.told;
+  at = h.at;
+  next = h.next;
+  reaches = reaches_with c h.at _ s h.reaches;
+  later = h.later;
+  between = h.between;
+  outputs = h.outputs;
+  took = h.took;
+  register = h.register;
+  stands = h.stands;
+  faults = h.faults;
+  told = h.told;
 }

@@ -1,8 +1,8 @@
 -- The loop over the frames, one part after another.
 use Rattle.oftp_wire.specs.declared.reason.SessionReason.{SessionReason}
 use Rattle.oftp_wire.specs.declared.reason.SessionReason.TheVariants.{ProtocolViolation}
-use Rattle.std.proofs.Common.{◌≡◌, ◌++◌, ℕ, Bool, true, false, List, [], length, drop, Option, None, Some, Result, Ok, Err, refl, sym, ap, ◌∙◌, subst}
-use Rattle.std.specs.Option.{is_some, option_copied}
+use Rattle.std.proofs.Common.{◌≡◌, ◌++◌, ℕ, false, List, [], drop, Option, None, Some, Result, Ok, Err, refl, sym, ap, ◌∙◌, subst}
+use Rattle.std.specs.Option.{option_copied}
 use Rattle.std.specs.Borrow.{Bor}
 use Rattle.oftp_wire.proofs.Streams.{next_some, next_none}
 use Rattle.oftp_wire.specs.Stream.{Head}
@@ -11,15 +11,14 @@ use Rattle.oftp_wire.specs.Stream.{Stream, front, command_in, next_of, left_of, 
 use Rattle.oftp_wire.specs.declared.frame_fault.FrameFault.{FrameFault}
 use Rattle.oftp_wire.specs.Stream.{Whole, Waits, Bad}
 use Rattle.oftp_register.specs.Offices.{Rest}
-use Rattle.oftp_register.specs.Register.{Register}
 use Rattle.oftp_session.specs.declared.session.Ending.{Ending}
 use Rattle.oftp_session.specs.declared.session.Ending.TheVariants.{Own}
 use Rattle.oftp_session.specs.Phases.{Phase, RespondOpening, InitiateOpening, AwaitSsid, ListenerIdle, SpeakerIdle, EndedHere, EndedThere, Step, fails}
-use Rattle.oftp_session.specs.Steps.{has_turn, is_over, turned}
-use Rattle.oftp_session.specs.Calls.{Seen, Stands, ending_of}
+use Rattle.oftp_session.specs.Steps.{has_turn, is_over}
+use Rattle.oftp_session.specs.Calls.{Seen, ending_of}
 use Rattle.oftp_engine.specs.declared.serving.RunFault.{RunFault}
-use Rattle.oftp_engine.specs.Runs.{Course, advance, run, is_stopped, step_on, came_in}
-use Rattle.oftp_engine.specs.Serving.{Leads, Reaches, Scene, IsAt, Went, Fails, Made, StepFails, Stepped, Settles, Comes, IsOver}
+use Rattle.oftp_engine.specs.Runs.{Course, advance, run, is_stopped, step_on}
+use Rattle.oftp_engine.specs.Serving.{Scene, Fails, Made, StepFails, Stepped, Settles, Comes, IsOver}
 use Rattle.oftp_engine.proofs.Progress.{went_on, went_with, went_step, fails_step, fails_later, fails_with, leads_step, reaches_step, leads_frame, leads_bad}
 
 -- a session that has not ended goes on

@@ -1,33 +1,34 @@
 -- The loop over the pieces, one part after another.
-use Rattle.std.proofs.Common.{◌≡◌, ℕ, ◌+◌, ◌≤◌, List, [], ◌++◌, length, take, Option, None, Some, Result, Ok, Err, refl, sym, ap, ◌∙◌, subst, arith, append_assoc, length-append, false, true, is_ok, inl, inr, ◌⊎◌}
+use Rattle.std.proofs.Common.{◌≡◌, ℕ, List, [], ◌++◌, take, Option, Some, Result, Ok, Err, refl, sym, ap, ◌∙◌, subst, arith, append_assoc, length-append, false, true, is_ok, inl}
 use Rattle.std.proofs.lemmas.List.{append-nil, length-take-le}
 use Rattle.std.proofs.lemmas.Bool.{false≢true}
-use Rattle.std.specs.Option.{unwrap_or}
 use Rattle.std.specs.Result.{OnOk}
 use Rattle.std.specs.Io.KnownBytes.{Consumes}
-use Rattle.oftp_wire.specs.Stream.{Stream, front}
-use Rattle.oftp_register.specs.Register.{Register}
+use Rattle.oftp_wire.specs.Stream.{Stream}
 use Rattle.oftp_session.specs.declared.session.Ending.{Ending}
-use Rattle.oftp_engine.specs.declared.serving.End.{End}
 use Rattle.oftp_engine.specs.declared.serving.End.TheVariants.{Input}
 use Rattle.oftp_session.specs.Phases.{Phase, RespondOpening, InitiateOpening, AwaitSsid, ListenerIdle, SpeakerIdle, EndedHere, EndedThere}
 use Rattle.oftp_session.specs.Steps.{is_over}
 use Rattle.oftp_session.specs.Settings.{Setting}
-use Rattle.oftp_session.specs.Calls.{Seen, Stands, ending_of}
+use Rattle.oftp_session.specs.Calls.{Seen, ending_of}
 use Rattle.oftp_engine.specs.declared.port.Port.{Port}
 use Rattle.oftp_engine.specs.Ports.{Gives, GivesNothing}
 use Rattle.oftp_engine.specs.Runs.{Course, started, run, is_stopped, ending}
-use Rattle.oftp_engine.specs.Serving.{Leads, Scene, IsAt, Went, Comes, IsOver, IsWaiting, IsPumping, Reaches, IsShort}
+use Rattle.oftp_engine.specs.Serving.{Leads, Scene, Comes, IsOver, IsWaiting, IsPumping, IsShort}
 use Rattle.oftp_engine.specs.Served.{Gave, IsReading, ended_as}
 use Rattle.oftp_engine.proofs.Bytes.{consumes_on, keeps_consumes}
-use Rattle.oftp_register.specs.Offices.{Rest, Only}
+use Rattle.oftp_register.specs.Offices.{Rest}
 use Rattle.oftp_engine.proofs.Courses.{grows_none}
 use Rattle.oftp_engine.proofs.Progress.{went_on}
 
 pub wait_on : (k : Course) (s : List ℕ) (before stream : Stream) (seen0 seen1 : Seen) (a b z : Scene) (la lb lz : Rest) (p : Comes k s before.rest seen0 a b la lb) → IsWaiting p.at before.rest stream seen1 b z lb lz → IsWaiting k s stream seen1 a z la lz
 wait_on k s before stream seen0 seen1 a b z la lb lz p w = record {
   come = record { at = w.come.at; went = went_on k p.at w.come.at s before.rest stream.rest a b z la lb lz p.went w.come.went; now = w.come.now };
-  turn = w.turn; over = w.over; waits = w.waits; limit = w.limit; told = w.told;
+  turn = w.turn;
+  over = w.over;
+  waits = w.waits;
+  limit = w.limit;
+  told = w.told;
 }
 
 pub over_on : (k : Course) (s t u : List ℕ) (seen0 seen1 : Seen) (a b z : Scene) (la lb lz : Rest) (end : Ending) (p : Comes k s t seen0 a b la lb) → IsOver p.at t u seen1 b z lb lz end → IsOver k s u seen1 a z la lz end
@@ -85,7 +86,13 @@ short_on k s t x seen a z la lz h = record {
   next = h.at;
   later = grows_none h.at;
   reaches = record { grows = h.went.leads.grows; same = λ more limit stopped. (t ++ x ++ more, leads_at more limit stopped) };
-  between = h.went.between; outputs = h.went.outputs; took = h.went.took; register = inl h.now.register; stands = h.went.stands; faults = h.went.faults; told = h.went.told;
+  between = h.went.between;
+  outputs = h.went.outputs;
+  took = h.went.took;
+  register = inl h.now.register;
+  stands = h.went.stands;
+  faults = h.went.faults;
+  told = h.went.told;
 }
   where
     leads_at : (more : List ℕ) (limit : Option ℕ) → is_stopped limit h.at ≡ false → run limit ((s ++ x) ++ more) k ≡ run limit ((t ++ x) ++ more) h.at

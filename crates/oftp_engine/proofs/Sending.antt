@@ -1,11 +1,11 @@
 -- One write after another.
-use Rattle.std.proofs.Common.{◌≡◌, ℕ, ◌+◌, ◌-◌, ◌≤◌, ◌<◌, ◌%◌, ◌^◌, List, [], ◌∷◌, ◌++◌, length, take, drop, Option, None, Some, refl, sym, ap, ◌∙◌, subst, arith, append_assoc, length-append, length-drop}
-use Rattle.std.proofs.lemmas.List.{take_rest, length-take-le, drop-take}
+use Rattle.std.proofs.Common.{◌≡◌, ℕ, ◌+◌, ◌-◌, ◌≤◌, ◌%◌, ◌^◌, List, ◌++◌, length, take, drop, Option, sym, ap, ◌∙◌, subst, arith, length-drop}
+use Rattle.std.proofs.lemmas.List.{take_rest, length-take-le}
 use Rattle.std.proofs.Math.Seq.{take-add}
 use Rattle.std.specs.Io.KnownBytes.{Appends}
 use Rattle.oftp_engine.specs.declared.port.Port.{Port}
-use Rattle.oftp_engine.specs.Ports.{SentAll, Takes, Wrote}
-use Rattle.oftp_engine.proofs.Bytes.{appends_on, count_on}
+use Rattle.oftp_engine.specs.Ports.{SentAll, Takes}
+use Rattle.oftp_engine.proofs.Bytes.{appends_on}
 
 moved_on : (a b d m n k : ℕ) → b % 2 ^ 64 ≡ (a + m) % 2 ^ 64 → d ≡ (b + n) % 2 ^ 64 → k ≡ m + n → d % 2 ^ 64 ≡ (a + k) % 2 ^ 64
 moved_on a b d m n k p q r = omega arith

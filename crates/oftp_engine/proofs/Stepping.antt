@@ -1,8 +1,7 @@
 -- From a session's call and a write to a step.
-use Rattle.std.proofs.Common.{◌≡◌, ℕ, ◌+◌, ◌-◌, ◌≤◌, ◌<◌, ◌%◌, ◌^◌, Bool, true, false, List, [], ◌∷◌, ◌++◌, length, take, drop, Option, None, Some, Result, Ok, Err, refl, sym, ap, ◌∙◌, subst, arith, append_assoc, length-append, length-drop, inl, inr, ◌⊎◌, is_ok}
+use Rattle.std.proofs.Common.{◌≡◌, ℕ, ◌<◌, Bool, true, false, List, [], length, take, Option, None, Some, Result, Ok, Err, refl, sym, ap, ◌∙◌, subst, arith, inl, inr, ◌⊎◌, is_ok}
 use Rattle.std.specs.Result.{IfErr, OnOk}
 use Rattle.std.proofs.lemmas.List.{take_all}
-use Rattle.std.specs.Io.KnownBytes.{Appends}
 use Rattle.oftp_wire.specs.declared.reason.SessionReason.{SessionReason}
 use Rattle.oftp_register.specs.declared.change.Cause.{Cause}
 use Rattle.oftp_session.specs.Phases.{frame_of}
@@ -10,21 +9,20 @@ use Rattle.oftp_session.specs.Phases.{esid_of}
 use Rattle.oftp_wire.specs.declared.reason.SessionReason.TheVariants.{ResourcesNotAvailable}
 use Rattle.oftp_register.specs.declared.change.Change.{Change}
 use Rattle.oftp_register.specs.Register.{Register}
-use Rattle.oftp_register.specs.Changes.{apply, or_else}
-use Rattle.oftp_register.specs.Offices.{Rest, Only, WithOrWithout, next_count}
+use Rattle.oftp_register.specs.Changes.{or_else}
+use Rattle.oftp_register.specs.Offices.{Rest, Only, WithOrWithout}
 use Rattle.oftp_session.specs.declared.session.SessionFault.{SessionFault}
-use Rattle.oftp_session.specs.declared.session.Ending.TheVariants.{Own}
 use Rattle.oftp_session.specs.Phases.{Step, EndedHere, fails, register_after}
 use Rattle.oftp_session.specs.Steps.{Holds}
 use Rattle.oftp_session.specs.Settings.{Setting}
-use Rattle.oftp_session.specs.Calls.{Makes, IsMade, IsBefore, IsAfter, IsBroken, IsUndone, Seen, Stands, Does, Desk}
+use Rattle.oftp_session.specs.Calls.{Makes, IsMade, IsBefore, IsAfter, IsBroken, IsUndone, Seen, Stands, Desk}
 use Rattle.oftp_engine.proofs.Bytes.{appends_none}
 use Rattle.oftp_engine.specs.declared.port.Port.{Port}
 use Rattle.oftp_engine.specs.declared.serving.RunFault.{RunFault}
 use Rattle.oftp_engine.specs.declared.serving.RunFault.TheVariants as fault
-use Rattle.oftp_engine.specs.Ports.{Sent, SentAll, SentPart, Wrote}
-use Rattle.oftp_engine.specs.Runs.{Course, Output, advance}
-use Rattle.oftp_engine.specs.Serving.{LastWords, Made, MadePart, NotMade, NoMemory, Stepped, StepFails, Scene, Took, IsAt, StaysBefore, StaysAfter}
+use Rattle.oftp_engine.specs.Ports.{Sent, Wrote}
+use Rattle.oftp_engine.specs.Runs.{Course, advance}
+use Rattle.oftp_engine.specs.Serving.{LastWords, NotMade, NoMemory, Stepped, StepFails, Scene, Took, IsAt, StaysBefore, StaysAfter}
 
 pub last_from : {W : Type 0} (contents : W → Option (List ℕ)) (a d : Port W) (said : List ℕ) (b : Bool) → said ≡ frame_of (esid_of ResourcesNotAvailable) → Sent contents a d said b → LastWords contents a d
 last_from contents a d said true e s = record { count = length said; wrote = subst (λ (x : List ℕ). Wrote contents a d (take (length said) x)) e (subst (λ (x : List ℕ). Wrote contents a d x) (sym (take_all (length said) said (omega arith))) s.wrote) }
@@ -143,6 +141,7 @@ stepped_memory contents a x y lo ln c step h same = at h.cases
   where
     took : Took (at_desk x (contents a.inner) a.moved a.faults) (at_desk y (contents a.inner) a.moved a.faults) []
     took = record { contents = appends_none (contents a.inner); taken = omega arith }
+
     at : (y.register ≡ x.register) ⊎ Makes step.change x.register y.register → NoMemory c step (at_desk x (contents a.inner) a.moved a.faults) (at_desk y (contents a.inner) a.moved a.faults) lo ln
     at (inl k) = record { took = took; register = inl (k ∙ same); stands = λ _. h.stands; faults = h.faults; told = refl }
     at (inr k) =

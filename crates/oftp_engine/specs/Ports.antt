@@ -1,25 +1,10 @@
 -- What a port knows of the reader or the writer in it.
-use Rattle.std.specs.Prelude.{◌≡◌, ℕ, ◌+◌, ◌-◌, ◌<◌, ◌≤◌, ◌%◌, ◌^◌, Bool, true, false, List, length, take, Option, None, Some, ⊤}
+use Rattle.std.specs.Prelude.{◌≡◌, ℕ, ◌+◌, ◌-◌, ◌<◌, ◌≤◌, ◌%◌, ◌^◌, Bool, true, false, List, length, take, Option, None, Some}
 use Rattle.std.specs.Io.KnownBytes.{Appends, Keeps, Consumes}
 use Rattle.oftp_register.specs.Offices.{next_count}
 use Rattle.oftp_engine.specs.declared.port.Port.{Port}
 
 module _ {X : Type 0} where
-  abbrev pub port_inner : Port X → X
-  port_inner p = p.inner
-
-  -- how many octets were given or taken, modulo 2^64
-  abbrev pub port_moved : Port X → ℕ
-  port_moved p = p.moved
-
-  -- how many faults were told, modulo 2^64
-  abbrev pub port_faults : Port X → ℕ
-  port_faults p = p.faults
-
-  -- whether the end came
-  abbrev pub port_ended : Port X → Bool
-  port_ended p = p.ended
-
   -- a read that gave n octets at the front of the piece, none only at the end
   pub record Gives (remaining : X → Option (List ℕ)) (old new : Port X) (piece : List ℕ) (n : ℕ) : Type 0 where
     pub fits : n ≤ length piece

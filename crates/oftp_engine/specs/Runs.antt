@@ -1,5 +1,5 @@
 -- A whole session over the octets that were read: the fold of the steps. It knows no pieces, buffers or transactions.
-use Rattle.std.specs.Prelude.{ℕ, zero, suc, max, ◌-◌, ◌+◌, Bool, true, false, nat_lt, not, ◌&&◌, ◌||◌, if◌then◌else◌, List, [], ◌∷◌, ◌++◌, length, take, drop, Option, None, Some, Result, Ok, Err}
+use Rattle.std.specs.Prelude.{ℕ, zero, suc, max, ◌-◌, Bool, false, nat_lt, not, ◌&&◌, ◌||◌, if◌then◌else◌, List, [], ◌∷◌, ◌++◌, length, drop, Option, None, Some, Result, Ok, Err}
 use Rattle.std.specs.List.{flat_map}
 use Rattle.oftp_wire.specs.Kinds.{command_of}
 use Rattle.oftp_wire.specs.Reasons.{reason_of}

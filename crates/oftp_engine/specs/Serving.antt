@@ -1,12 +1,12 @@
 -- How far the engine has come in a run, for its own functions.
-use Rattle.std.specs.Prelude.{◌≡◌, ℕ, ◌+◌, ◌<◌, ◌%◌, ◌^◌, ◌⊎◌, ⊤, Bool, true, false, ◌≤◌, List, [], ◌∷◌, ◌++◌, length, take, Option, None, Some, Result, Ok, Err}
+use Rattle.std.specs.Prelude.{◌≡◌, ℕ, ◌+◌, ◌<◌, ◌%◌, ◌^◌, ◌⊎◌, ⊤, false, ◌≤◌, List, [], ◌∷◌, ◌++◌, length, take, Option, None, Some, Result, Ok, Err}
 use Rattle.std.specs.Io.KnownBytes.{Appends}
 use Rattle.oftp_wire.specs.Stream.{Stream, front}
 use Rattle.oftp_wire.specs.Stream.{Waits}
 use Rattle.oftp_wire.specs.declared.reason.SessionReason.TheVariants.{ResourcesNotAvailable}
 use Rattle.oftp_register.specs.declared.change.Change.{Change}
 use Rattle.oftp_register.specs.Register.{Register}
-use Rattle.oftp_register.specs.Changes.{apply, after_all}
+use Rattle.oftp_register.specs.Changes.{after_all}
 use Rattle.oftp_register.specs.Offices.{Rest, Only, WithOrWithout, next_count}
 use Rattle.oftp_session.specs.Phases.{Step, frame_of, esid_of}
 use Rattle.oftp_session.specs.Steps.{has_turn, is_over, Holds}
@@ -183,8 +183,9 @@ pub record LastWords {W : Type 0} (contents : W → Option (List ℕ)) (old new 
   pub count : ℕ
   pub wrote : Wrote contents old new (take count (frame_of (esid_of ResourcesNotAvailable)))
 
-abbrev pub scene : {O W : Type 0} → (O → Register) → (O → ℕ) → (W → Option (List ℕ)) → (W → ℕ) → (W → ℕ) → O → W → Scene
-scene register faults contents moved told office writer = record { register = register office; faults = faults office; contents = contents writer; taken = moved writer; told = told writer }
+-- .. of an office and a writer's port, by what they tell
+abbrev pub scene : {O W : Type 0} → (O → Register) → (O → ℕ) → (W → Option (List ℕ)) → O → Port W → Scene
+scene register faults contents office port = record { register = register office; faults = faults office; contents = contents port.inner; taken = port.moved; told = port.faults }
 
 -- the engine came to some course with t left, where the session stands now
 pub record Comes (c : Course) (s t : List ℕ) (seen : Seen) (old new : Scene) (rest_old rest_new : Rest) : Type 0 where

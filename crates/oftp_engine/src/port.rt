@@ -1,7 +1,7 @@
 //! Ports: readers and writers that tell what they gave, took and told.
 
 ghost use Rattle.std.specs.Prelude.{◌≡◌, ◌<◌, ◌+◌, ◌-◌, ℕ, true, false, length};
-ghost use Rattle.oftp_engine.specs.Ports.{Reads, Writes, Sent, port_faults, port_moved, port_inner};
+ghost use Rattle.oftp_engine.specs.Ports.{Reads, Writes, Sent};
 
 use std::io::{Read, Write};
 
@@ -128,4 +128,3 @@ pub(crate) fn send<W: Write>(port: &mut Port<W>, octets: &[u8]) -> bool
     }
     true
 }
-

@@ -7,7 +7,7 @@ ghost use Rattle.oftp_session.specs.Phases.{Phase, frame_of, esid_of};
 ghost use Rattle.oftp_session.specs.Steps.{came, has_turn, is_over, opening, turned};
 ghost use Rattle.oftp_session.specs.Calls.{Stands, is_due, said, turns_left};
 ghost use Rattle.oftp_session.specs.declared.session.State.TheVariants as state;
-ghost use Rattle.oftp_engine.specs.Ports.{Sent, Puts, port_faults, port_moved, port_inner};
+ghost use Rattle.oftp_engine.specs.Ports.{Sent, Puts};
 ghost use Rattle.oftp_engine.specs.Runs.{Course, step_on};
 ghost use Rattle.oftp_engine.specs.Served.{Gave, InputEnded, ReaderTold, Serves, ended_as, setting_of};
 ghost use Rattle.oftp_engine.specs.Serving.{IsAt, IsOwn, LastWords, Pumped, Stepped, TurnsTaken, scene};
@@ -91,7 +91,11 @@ fn write_out<W: Write>(port: &mut Port<W>, out: Out<'_>) -> Result<(), RunFault>
 
 // Ends the session by an ESID.
 #[tactic(auto, using(crate::proofs::Puts::puts_none, crate::proofs::Puts::puts_on, crate::proofs::Puts::puts_sent))]
-fn refuse<W: Write>(session: &mut Session<'_>, port: &mut Port<W>, reason: SessionReason) -> Result<(), RunFault>
+fn refuse<W: Write>(
+    session: &mut Session<'_>,
+    port: &mut Port<W>,
+    reason: SessionReason,
+) -> Result<(), RunFault>
     ensures own { IfErr result IsOwn }
     ensures sent { (p : Phase) → is_over p ≡ false → Stands p session.old → Sent W.contents port.old port.new (frame_of (esid_of reason)) (is_ok result) }
     ensures err { (p : Phase) → is_over p ≡ false → Stands p session.old → IfErr result (λ fault. fault ≡ RunFault.Write) }
@@ -127,11 +131,11 @@ fn take_turn<O: Office, W: Write>(
     ensures own { IfErr result IsOwn }
     ensures fewer { is_due session.old.state ≡ true → OnOk result (turns_left session.new.state < turns_left session.old.state) }
     ensures steps { O.is_clean office.new → O.stands office.old → (c : Course) → has_turn c.phase ≡ true
-        → IsAt c session.old (scene O.register O.told (λ w. W.contents (port_inner w)) port_moved port_faults office.old writer.old)
+        → IsAt c session.old (scene O.register O.told W.contents office.old writer.old)
         → Stepped c (turned c.setting c.phase c.register) session.new
-            (scene O.register O.told (λ w. W.contents (port_inner w)) port_moved port_faults office.old writer.old)
-            (scene O.register O.told (λ w. W.contents (port_inner w)) port_moved port_faults office.new writer.new)
-            (rest_of O.holds O.may_leave O.stands office.old) (rest_of O.holds O.may_leave O.stands office.new) result }
+        (scene O.register O.told W.contents office.old writer.old)
+        (scene O.register O.told W.contents office.new writer.new)
+        (rest_of O.holds O.may_leave O.stands office.old) (rest_of O.holds O.may_leave O.stands office.new) result }
     ensures out { Puts W.contents writer.old writer.new }
 {
     match session.turn(office) {
@@ -156,11 +160,11 @@ fn obey<O: Office, W: Write>(
     ensures clean { O.is_clean office.new → O.is_clean office.old }
     ensures own { IfErr result IsOwn }
     ensures steps { O.is_clean office.new → O.stands office.old → (c : Course) → is_over c.phase ≡ false
-        → IsAt c session.old (scene O.register O.told (λ w. W.contents (port_inner w)) port_moved port_faults office.old writer.old)
+        → IsAt c session.old (scene O.register O.told W.contents office.old writer.old)
         → Stepped c (came c.setting c.phase c.register command.now) session.new
-            (scene O.register O.told (λ w. W.contents (port_inner w)) port_moved port_faults office.old writer.old)
-            (scene O.register O.told (λ w. W.contents (port_inner w)) port_moved port_faults office.new writer.new)
-            (rest_of O.holds O.may_leave O.stands office.old) (rest_of O.holds O.may_leave O.stands office.new) result }
+        (scene O.register O.told W.contents office.old writer.old)
+        (scene O.register O.told W.contents office.new writer.new)
+        (rest_of O.holds O.may_leave O.stands office.old) (rest_of O.holds O.may_leave O.stands office.new) result }
     ensures out { Puts W.contents writer.old writer.new }
 {
     match session.on_command(office, command) {
@@ -185,11 +189,11 @@ fn take_command<O: Office, W: Write>(
     ensures clean { O.is_clean office.new → O.is_clean office.old }
     ensures own { IfErr result IsOwn }
     ensures steps { O.is_clean office.new → O.stands office.old → (c : Course) → is_over c.phase ≡ false
-        → IsAt c session.old (scene O.register O.told (λ w. W.contents (port_inner w)) port_moved port_faults office.old writer.old)
+        → IsAt c session.old (scene O.register O.told W.contents office.old writer.old)
         → Stepped c (step_on c.setting c.phase c.register (command_of octets.now)) session.new
-            (scene O.register O.told (λ w. W.contents (port_inner w)) port_moved port_faults office.old writer.old)
-            (scene O.register O.told (λ w. W.contents (port_inner w)) port_moved port_faults office.new writer.new)
-            (rest_of O.holds O.may_leave O.stands office.old) (rest_of O.holds O.may_leave O.stands office.new) result }
+        (scene O.register O.told W.contents office.old writer.old)
+        (scene O.register O.told W.contents office.new writer.new)
+        (rest_of O.holds O.may_leave O.stands office.old) (rest_of O.holds O.may_leave O.stands office.new) result }
     ensures out { Puts W.contents writer.old writer.new }
 {
     match parse(octets) {
@@ -210,11 +214,11 @@ fn take_turns<O: Office, W: Write>(
     ensures clean { O.is_clean office.new → O.is_clean office.old }
     ensures own { IfErr result IsOwn }
     ensures steps { O.is_clean office.new → O.stands office.old → (c : Course)
-        → IsAt c session.old (scene O.register O.told (λ w. W.contents (port_inner w)) port_moved port_faults office.old writer.old)
+        → IsAt c session.old (scene O.register O.told W.contents office.old writer.old)
         → TurnsTaken c session.new
-            (scene O.register O.told (λ w. W.contents (port_inner w)) port_moved port_faults office.old writer.old)
-            (scene O.register O.told (λ w. W.contents (port_inner w)) port_moved port_faults office.new writer.new)
-            (rest_of O.holds O.may_leave O.stands office.old) (rest_of O.holds O.may_leave O.stands office.new) result }
+        (scene O.register O.told W.contents office.old writer.old)
+        (scene O.register O.told W.contents office.new writer.new)
+        (rest_of O.holds O.may_leave O.stands office.old) (rest_of O.holds O.may_leave O.stands office.new) result }
     ensures out { Puts W.contents writer.old writer.new }
 {
     'turns: while session.has_turn() {
@@ -233,11 +237,11 @@ fn pump<O: Office, W: Write>(
     ensures clean { O.is_clean office.new → O.is_clean office.old }
     ensures own { IfErr result IsOwn }
     ensures steps { O.is_clean office.new → O.stands office.old → (c : Course) → stream.old.limit ≡ 100003 → stream.old.told ≡ None
-        → IsAt c session.old (scene O.register O.told (λ w. W.contents (port_inner w)) port_moved port_faults office.old writer.old)
+        → IsAt c session.old (scene O.register O.told W.contents office.old writer.old)
         → Pumped c stream.old.rest stream.new session.new
-            (scene O.register O.told (λ w. W.contents (port_inner w)) port_moved port_faults office.old writer.old)
-            (scene O.register O.told (λ w. W.contents (port_inner w)) port_moved port_faults office.new writer.new)
-            (rest_of O.holds O.may_leave O.stands office.old) (rest_of O.holds O.may_leave O.stands office.new) result }
+        (scene O.register O.told W.contents office.old writer.old)
+        (scene O.register O.told W.contents office.new writer.new)
+        (rest_of O.holds O.may_leave O.stands office.old) (rest_of O.holds O.may_leave O.stands office.new) result }
     ensures out { Puts W.contents writer.old writer.new }
 {
     'frames: loop {
@@ -287,9 +291,9 @@ pub fn serve<O: Office, R: Read, W: Write>(
 ) -> Result<End, RunFault>
     ensures serves { (given : List ℕ) × Gave R.remaining reader.old reader.new given
         × (O.is_clean office.new → O.stands office.old → Serves (setting_of book.now role.entry) given
-            (scene O.register O.told (λ w. W.contents (port_inner w)) port_moved port_faults office.old writer.old)
-            (scene O.register O.told (λ w. W.contents (port_inner w)) port_moved port_faults office.new writer.new)
-            (rest_of O.holds O.may_leave O.stands office.new) result) }
+        (scene O.register O.told W.contents office.old writer.old)
+        (scene O.register O.told W.contents office.new writer.new)
+        (rest_of O.holds O.may_leave O.stands office.new) result) }
     ensures clean { O.is_clean office.new → O.is_clean office.old }
     ensures told { ReaderTold reader.old reader.new result }
     ensures ends { InputEnded reader.new result }

@@ -39,6 +39,7 @@ pub left_within : {C : Type 0} (holds : C → Register → Type 0) (r before : R
     → before ≡ after_all r gone → holds c before ⊎ ((s : Register) × (apply before k ≡ Ok s) × holds c s) → IsAfterPrefix holds r changes c
 left_within holds r before changes gone rest later k c whole is at left =
     elim left [
-        inl h ↦ left_at holds r before changes gone rest c whole at h
+      | inl h ↦ left_at holds r before changes gone rest c whole at h
       | inr h ↦ left_at holds r h.0 changes (gone ++ k ∷ []) later c (moved_on gone rest later changes k whole is)
-            (sym (after_all-push r h.0 gone k (ap (λ b. apply b k) (sym at) ∙ h.1))) h.2 ]
+          (sym (after_all-push r h.0 gone k (ap (λ b. apply b k) (sym at) ∙ h.1))) h.2
+    ]

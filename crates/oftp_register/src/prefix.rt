@@ -13,10 +13,7 @@ use crate::office::{Office, OfficeFault};
 /// # Errors
 ///
 /// The fault of the change that wasn't made.
-pub fn commit_all<O: Office>(
-    office: &mut O,
-    changes: Vec<Change<'_>>,
-) -> Result<(), OfficeFault>
+pub fn commit_all<O: Office>(office: &mut O, changes: Vec<Change<'_>>) -> Result<(), OfficeFault>
     ensures clean { O.is_clean office.new → O.is_clean office.old }
     ensures done { O.is_clean office.new → O.stands office.old
         → OnOk result ((O.register office.new ≡ after_all (O.register office.old) changes.entry.items) × O.stands office.new) }

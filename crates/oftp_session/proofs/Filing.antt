@@ -1,5 +1,5 @@
 -- A response that isn't there is filed.
-use Rattle.std.proofs.Common.{◌≡◌, ℕ, List, Bool, true, false, cond, Result, Ok, Err, refl, is_ok}
+use Rattle.std.proofs.Common.{◌≡◌, ℕ, List, Bool, true, false, cond, Ok, Err, refl, is_ok}
 use Rattle.oftp_register.specs.declared.change.Cause.{Cause}
 use Rattle.oftp_register.specs.declared.change.Change.TheVariants.{File}
 use Rattle.oftp_register.specs.declared.entry.Identity.{Identity}

@@ -1,5 +1,5 @@
 -- What comes where the station listens (RFC 5024, sections 4.4 and 5.3.13).
-use Rattle.std.specs.Prelude.{ℕ, Bool, ◌&&◌, if◌then◌else◌, List, [], Option, None, Some}
+use Rattle.std.specs.Prelude.{Bool, ◌&&◌, if◌then◌else◌, [], Option, None, Some}
 use Rattle.std.specs.Str.{bytes_eq}
 use Rattle.oftp_wire.specs.declared.command.Eerp.{Eerp}
 use Rattle.oftp_wire.specs.declared.command.Nerp.{Nerp}
@@ -15,7 +15,7 @@ use Rattle.oftp_register.specs.Register.{Register, Received, has_received}
 use Rattle.oftp_session.specs.declared.link.Link.{Link}
 use Rattle.oftp_session.specs.declared.link.WhenDone.TheVariants.{EndSession}
 use Rattle.oftp_session.specs.Settings.{Setting}
-use Rattle.oftp_session.specs.Phases.{Phase, ListenerIdle, SpeakerIdle, Step, quiet, answers, fails, leaves}
+use Rattle.oftp_session.specs.Phases.{ListenerIdle, SpeakerIdle, Step, quiet, answers, fails, leaves}
 
 -- an end response as it is filed. It answers a file that went from the response's destination to its originator
 abbrev pub end_response : Eerp → Received

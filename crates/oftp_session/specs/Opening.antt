@@ -13,7 +13,7 @@ use Rattle.oftp_partners.specs.declared.partner.Partner.{Partner}
 use Rattle.oftp_session.specs.declared.link.Link.{Link}
 use Rattle.oftp_session.specs.declared.link.WhenDone.TheVariants.{ChangeDirection}
 use Rattle.oftp_session.specs.Settings.{Setting}
-use Rattle.oftp_session.specs.Phases.{Phase, AwaitSsid, ListenerIdle, SpeakerIdle, Step, quiet, says, fails, leaves}
+use Rattle.oftp_session.specs.Phases.{AwaitSsid, ListenerIdle, SpeakerIdle, Step, quiet, says, fails, leaves}
 
 -- whether a station in one mode sends what the other receives
 abbrev pub flows : Mode → Mode → Bool

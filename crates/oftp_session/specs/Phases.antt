@@ -1,5 +1,5 @@
 -- Where a session stands, and what one step of it does.
-use Rattle.std.specs.Prelude.{ℕ, Bool, List, [], ◌∷◌, ◌++◌, length, Option, None, Some, codes}
+use Rattle.std.specs.Prelude.{ℕ, List, [], Option, None, Some}
 use Rattle.oftp_wire.specs.Header.{frame}
 use Rattle.oftp_wire.specs.Spelling.{Canon}
 use Rattle.oftp_wire.specs.Reasons.{session_number}

@@ -6,7 +6,7 @@ use Rattle.oftp_partners.specs.declared.partner.Partner.{Partner}
 use Rattle.oftp_session.specs.declared.link.Link.{Link}
 use Rattle.oftp_session.specs.declared.link.WhenDone.{WhenDone}
 use Rattle.oftp_session.specs.declared.link.WhenDone.TheVariants.{ChangeDirection, EndSession}
-use Rattle.oftp_session.specs.Phases.{Phase, ListenerIdle, Step, says, fails, leaves}
+use Rattle.oftp_session.specs.Phases.{ListenerIdle, Step, says, fails, leaves}
 
 -- nothing is next: the partner may speak, or the session ends
 abbrev pub nothing_next : Partner → Link → WhenDone → Step

@@ -66,7 +66,7 @@ fn make<O: Office>(office: &mut O, change: Change<'_>) -> Result<(), SessionFaul
     ensures clean { O.is_clean office.new → O.is_clean office.old }
     ensures does { O.is_clean office.new → O.stands office.old → IsAccepted (O.register office.old) change.entry
         → Files (Some change.entry) (desk O.register O.told office.old) (desk O.register O.told office.new)
-            (rest_of O.holds O.may_leave O.stands office.new) result }
+        (rest_of O.holds O.may_leave O.stands office.new) result }
 {
     if office.commit(change).is_err() {
         return Err(SessionFault::Office);
@@ -83,7 +83,7 @@ pub(crate) fn file_new<O: Office>(
     ensures clean { O.is_clean office.new → O.is_clean office.old }
     ensures does { O.is_clean office.new → O.stands office.old
         → Files (filing (O.register office.old) (as_received response.entry)) (desk O.register O.told office.old)
-            (desk O.register O.told office.new) (rest_of O.holds O.may_leave O.stands office.new) result }
+        (desk O.register O.told office.new) (rest_of O.holds O.may_leave O.stands office.new) result }
 {
     match office.has_received(response.kind, &response.identity) {
         Ok(true) => Ok(()),

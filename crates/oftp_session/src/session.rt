@@ -91,10 +91,10 @@ impl<'b> Model for Session<'b> {
     ghost Value = { Seen };
 
     ghost view = { λ s. record {
-        setting = record { book = s.book.now; called = option_map (λ p. p.now) s.called };
-        partner = option_map (λ p. p.now) s.partner;
-        state = s.state;
-        spoken = take s.len s.frame;
+      setting = record { book = s.book.now; called = option_map (λ p. p.now) s.called };
+      partner = option_map (λ p. p.now) s.partner;
+      state = s.state;
+      spoken = take s.len s.frame;
     } };
 
     ghost invariant = { λ s. s.len ≤ 1200 };
@@ -224,10 +224,7 @@ impl<'b> Session<'b> {
     {
         self.partner = Some(agreement.partner);
         if self.called.is_some() {
-            self.hush(State::SpeakerIdle(
-                agreement.link,
-                WhenDone::ChangeDirection,
-            ));
+            self.hush(State::SpeakerIdle(agreement.link, WhenDone::ChangeDirection));
             return;
         }
         let answer = answering_ssid(self.book, letter, agreement.partner, &agreement.link);
@@ -271,7 +268,7 @@ impl<'b> Session<'b> {
         ensures clean { O.is_clean office.new → O.is_clean office.old }
         ensures does { O.is_clean office.new → O.stands office.old → (partner : Entry) → self.old.partner ≡ Some partner
             → Does (response_step self.old.setting partner link (O.register office.old) (as_received response.entry)) (desk O.register O.told office.old)
-                (desk O.register O.told office.new) (rest_of O.holds O.may_leave O.stands office.new) (spoken result self.new.spoken) }
+            (desk O.register O.told office.new) (rest_of O.holds O.may_leave O.stands office.new) (spoken result self.new.spoken) }
         ensures goes { (partner : Entry) → self.old.partner ≡ Some partner
             → Goes (response_step self.old.setting partner link (O.register office.old) (as_received response.entry)).phase result self.new }
         ensures setting { self.new.setting ≡ self.old.setting }
@@ -305,8 +302,8 @@ impl<'b> Session<'b> {
     // Offers the session to the partner that is called.
     fn call(&mut self, partner: &'b Partner)
         ensures { self.new ≡ record self.old {
-            state = State.AwaitSsid;
-            spoken = frame_of (an_ssid (calling_ssid self.old.setting.book partner.entry.now));
+          state = State.AwaitSsid;
+          spoken = frame_of (an_ssid (calling_ssid self.old.setting.book partner.entry.now));
         } }
     {
         let offer = calling_ssid(self.book, partner);
@@ -356,7 +353,7 @@ impl<'b> Session<'b> {
         ensures clean { O.is_clean office.new → O.is_clean office.old }
         ensures does { O.is_clean office.new → O.stands office.old → (partner : Entry) → self.old.partner ≡ Some partner
             → Does (came_listener_idle self.old.setting partner link (O.register office.old) command.now) (desk O.register O.told office.old)
-                (desk O.register O.told office.new) (rest_of O.holds O.may_leave O.stands office.new) (spoken result self.new.spoken) }
+            (desk O.register O.told office.new) (rest_of O.holds O.may_leave O.stands office.new) (spoken result self.new.spoken) }
         ensures goes { (partner : Entry) → self.old.partner ≡ Some partner
             → Goes (came_listener_idle self.old.setting partner link (O.register office.old) command.now).phase result self.new }
         ensures setting { self.new.setting ≡ self.old.setting }
@@ -402,7 +399,7 @@ impl<'b> Session<'b> {
         ensures clean { O.is_clean office.new → O.is_clean office.old }
         ensures does { O.is_clean office.new → O.stands office.old → (p : Phase) → is_over p ≡ false → Stands p self.old
             → Does (came self.old.setting p (O.register office.old) command.now) (desk O.register O.told office.old)
-                (desk O.register O.told office.new) (rest_of O.holds O.may_leave O.stands office.new) (spoken result self.new.spoken) }
+            (desk O.register O.told office.new) (rest_of O.holds O.may_leave O.stands office.new) (spoken result self.new.spoken) }
         ensures goes { (p : Phase) → is_over p ≡ false → Stands p self.old
             → Goes (came self.old.setting p (O.register office.old) command.now).phase result self.new }
         ensures closed { is_closed self.old.state ≡ true → (result ≡ Err SessionFault.Ended) × (self.new ≡ self.old) × (office.new ≡ office.old) }
@@ -446,11 +443,11 @@ impl<'b> Session<'b> {
         ensures does { O.is_clean office.new → O.stands office.old → (p : Phase) → Holds p (O.register office.old)
             → is_over p ≡ false → Stands p self.old
             → Does (came self.old.setting p (O.register office.old) command.now) (desk O.register O.told office.old)
-                (desk O.register O.told office.new) (rest_of O.holds O.may_leave O.stands office.new) (heard result) }
+            (desk O.register O.told office.new) (rest_of O.holds O.may_leave O.stands office.new) (heard result) }
         ensures closed { is_closed self.old.state ≡ true → (heard result ≡ Err SessionFault.Ended) × (office.new ≡ office.old) }
         ensures* goes { sem 𝓛 (Rests (the_row (record { mir = named 1; lft = [] })) self.entry (λ new. (new.setting ≡ self.old.setting)
             × ((p : Phase) → Holds p (O.register office.old) → is_over p ≡ false → Stands p self.old
-                → Goes (came self.old.setting p (O.register office.old) command.now).phase result new)
+            → Goes (came self.old.setting p (O.register office.old) command.now).phase result new)
             × (is_closed self.old.state ≡ true → new ≡ self.old))) }
     {
         self.respond(office, command)?;
@@ -477,7 +474,7 @@ impl<'b> Session<'b> {
         requires { is_closed self.old.state ≡ false }
         ensures does { (p : Phase) (r : Register) → is_over p ≡ false → Stands p self.old
             → (turned self.old.setting p r).change ≡ None × (self.new.spoken ≡ (turned self.old.setting p r).output)
-                × Stands (turned self.old.setting p r).phase self.new }
+            × Stands (turned self.old.setting p r).phase self.new }
         ensures fewer { is_due self.old.state ≡ true → turns_left self.new.state < turns_left self.old.state }
         ensures setting { self.new.setting ≡ self.old.setting }
     {
@@ -505,11 +502,11 @@ impl<'b> Session<'b> {
         ensures does { O.is_clean office.new → O.stands office.old → (p : Phase) → Holds p (O.register office.old)
             → is_over p ≡ false → Stands p self.old
             → Does (turned self.old.setting p (O.register office.old)) (desk O.register O.told office.old)
-                (desk O.register O.told office.new) (rest_of O.holds O.may_leave O.stands office.new) (heard result) }
+            (desk O.register O.told office.new) (rest_of O.holds O.may_leave O.stands office.new) (heard result) }
         ensures closed { is_closed self.old.state ≡ true → (heard result ≡ Err SessionFault.Ended) × (office.new ≡ office.old) }
         ensures* goes { sem 𝓛 (Rests (the_row (record { mir = named 1; lft = [] })) self.entry (λ new. (new.setting ≡ self.old.setting)
             × (O.is_clean office.new → O.stands office.old → (p : Phase) → Holds p (O.register office.old) → is_over p ≡ false
-                → Stands p self.old → Goes (turned self.old.setting p (O.register office.old)).phase result new)
+            → Stands p self.old → Goes (turned self.old.setting p (O.register office.old)).phase result new)
             × (is_due self.old.state ≡ true → OnOk result (turns_left new.state < turns_left self.old.state))
             × (is_closed self.old.state ≡ true → new ≡ self.old))) }
     {

@@ -153,7 +153,7 @@ fn sessions_that_open(rt: HostRuntime) -> Result<(), Fail> {
                 filed: 0,
             },
             Row {
-                name: "wrong_password",
+                name: "wrong_password_unknown_command: password",
                 book: BOOK,
                 who: Who::Called,
                 input: &["X5O0177CARMAKER            WRONG   00128BNYN002N            \r"],
@@ -162,7 +162,7 @@ fn sessions_that_open(rt: HostRuntime) -> Result<(), Fail> {
                 filed: 0,
             },
             Row {
-                name: "level",
+                name: "level_and_authentication: level",
                 book: BOOK,
                 who: Who::Called,
                 input: &["X4O0177CARMAKER            CARPW   00128BNYN002N            \r"],
@@ -171,7 +171,7 @@ fn sessions_that_open(rt: HostRuntime) -> Result<(), Fail> {
                 filed: 0,
             },
             Row {
-                name: "authentication",
+                name: "level_and_authentication: authentication",
                 book: BOOK,
                 who: Who::Called,
                 input: &["X5O0177CARMAKER            CARPW   00128BNYN002Y            \r"],
@@ -317,7 +317,7 @@ fn sessions_of_a_listener(rt: HostRuntime) -> Result<(), Fail> {
                 filed: 0,
             },
             Row {
-                name: "unknown_command",
+                name: "wrong_password_unknown_command: command",
                 book: BOOK,
                 who: Who::Called,
                 input: &[PARTNER, "Z"],
@@ -666,7 +666,7 @@ fn assert_printed(rt: &impl Abort, done: &Performed, status: u8, out: &str, err:
 }
 
 #[test]
-fn feed(rt: HostRuntime) -> Result<(), Fail> {
+fn one_end_response(rt: HostRuntime) -> Result<(), Fail> {
     fs::write(&rt, "station_test_book", BOOK)?;
     let called = frames(rt.alloc(), &[PARTNER, END_RESPONSE, NORMAL_END])?;
     let calls = frames(rt.alloc(), &[READY, PARTNER, CHANGE])?;
@@ -799,12 +799,18 @@ fn book_faults(rt: HostRuntime) -> Result<(), Fail> {
         let done = command(&rt, &["check", "--book", "station_test_faulty"])?;
         assert_printed(&rt, &done, 1, "", err);
     }
-    fs::write(&rt, "station_test_faulty", BOOK)?;
-    let done = command(&rt, &["check", "--book", "station_test_faulty"])?;
-    assert_printed(&rt, &done, 0, "ok: 1 partners\n", "");
     fs::remove_file(&rt, "station_test_faulty")?;
     let done = command(&rt, &["check", "--book", "station_test_faulty"])?;
     assert_printed(&rt, &done, 1, "", "fault: 7 file\n");
+    Ok(())
+}
+
+#[test]
+fn book_checked(rt: HostRuntime) -> Result<(), Fail> {
+    fs::write(&rt, "station_test_checked", BOOK)?;
+    let done = command(&rt, &["check", "--book", "station_test_checked"])?;
+    fs::remove_file(&rt, "station_test_checked")?;
+    assert_printed(&rt, &done, 0, "ok: 1 partners\n", "");
     Ok(())
 }
 

@@ -8,3 +8,4 @@ pub mod Filling
 pub mod Packing
 pub mod LocalForm
 pub mod Laws
+pub mod FaultTexts

@@ -92,6 +92,11 @@ pub enum TakeFault {
 }
 
 impl fmt::Display for TakeFault {
+    ghost use Rattle.std.specs.Prelude.{Some};
+    ghost use Rattle.oftp_vfile.specs.FaultTexts.{take_text};
+
+    ghost output = { λ e. Some (take_text e) };
+
     fn fmt<W: fmt::Write>(&self, f: &mut fmt::Formatter<W>) -> fmt::Result {
         f.write_str(match self {
             TakeFault::Cut => "a subrecord passes the end of its buffer",
@@ -143,6 +148,11 @@ pub enum LocalFault {
 }
 
 impl fmt::Display for LocalFault {
+    ghost use Rattle.std.specs.Prelude.{Some};
+    ghost use Rattle.oftp_vfile.specs.FaultTexts.{local_text};
+
+    ghost output = { λ e. Some (local_text e) };
+
     fn fmt<W: fmt::Write>(&self, f: &mut fmt::Formatter<W>) -> fmt::Result {
         f.write_str(match self {
             LocalFault::NotLocal => "the content is no file of this format",

@@ -1,4 +1,4 @@
-use Rattle.std.proofs.Common.{rules, ◌≡◌, ℕ, refl, arith}
+use Rattle.std.proofs.Common.{refl, arith}
 use Rattle.oftp_engine.proofs.Bytes.{consumes_none}
 use Rattle.oftp_engine.proofs.port.read.Goals as goal
 

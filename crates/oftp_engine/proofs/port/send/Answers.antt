@@ -1,5 +1,3 @@
-use Rattle.std.proofs.Common.{rules, ◌≡◌, ℕ, refl, arith, ◌+◌, ◌≤◌, length}
-use Rattle.std.proofs.lemmas.List.{take_rest}
 use Rattle.oftp_engine.proofs.Sending.{sent_on, sent_fits}
 use Rattle.oftp_engine.proofs.port.send.Goals as goal
 

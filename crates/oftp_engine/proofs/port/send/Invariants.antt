@@ -1,4 +1,4 @@
-use Rattle.std.proofs.Common.{◌≡◌, ℕ, ◌-◌, ◌≤◌, take, length}
+use Rattle.std.proofs.Common.{◌-◌, ◌≤◌, take, length}
 use Rattle.oftp_engine.specs.Ports.{SentAll}
 use Rattle.oftp_engine.proofs.port.send.Given as goal
 

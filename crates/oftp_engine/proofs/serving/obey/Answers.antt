@@ -7,7 +7,6 @@ use Rattle.oftp_session.specs.Settings.{Setting}
 use Rattle.oftp_session.specs.Steps.{came, Holds}
 use Rattle.oftp_session.proofs.Phases.{holds_came}
 use Rattle.oftp_session.specs.Calls.{said, desk, IsMade, IsBroken, IsUndone, DoesNot, Goes}
-use Rattle.oftp_engine.specs.Ports.{port_faults, port_moved, port_inner}
 use Rattle.oftp_engine.specs.Serving.{scene}
 use Rattle.oftp_engine.proofs.Stepping.{at_course, stepped_ok, stepped_office, stepped_memory}
 use Rattle.oftp_engine.proofs.serving.obey.Goals as goal
@@ -18,7 +17,7 @@ returns-in-Ok-clause-steps g c = λ clean stood k live at.
     let after = desk g.O.Office.register g.O.Office.told c.on_command.new.office in
     let lo = rest_of g.O.Office.holds g.O.Office.may_leave g.O.Office.stands c.args.office.now in
     let ln = rest_of g.O.Office.holds g.O.Office.may_leave g.O.Office.stands c.on_command.new.office in
-    let here = scene g.O.Office.register g.O.Office.told (λ w. g.W.Write.contents (port_inner w)) port_moved port_faults c.args.office.now c.args.writer.now in
+    let here = scene g.O.Office.register g.O.Office.told g.W.Write.contents c.args.office.now c.args.writer.now in
     let seen = c.args.session.now in
     let next = c.on_command.follows.lender-at-none in
     let held = subst (Holds k.phase) (sym at.register) at.holds in
@@ -29,7 +28,7 @@ returns-in-Ok-clause-steps g c = λ clean stood k live at.
     at.register
     (holds_came k.setting k.phase k.register c.args.command.now at.holds)
     (at_course (λ (setting : Setting) (r : Register). Goes (came setting k.phase r c.args.command.now).phase (let x : Result Out SessionFault = Rattle.std.proofs.Common.Ok c.in-Ok.out in x) next) k seen here at
-      (subst (λ (x : Result Out SessionFault). Goes (came c.args.session.now.setting k.phase (g.O.Office.register c.args.office.now) c.args.command.now).phase x next) c.in-Ok.is (done.1 k.phase held live at.stands)))
+    (subst (λ (x : Result Out SessionFault). Goes (came c.args.session.now.setting k.phase (g.O.Office.register c.args.office.now) c.args.command.now).phase x next) c.in-Ok.is (done.1 k.phase held live at.stands)))
     c.write_out.ensures.sent
     c.write_out.ensures.err
 
@@ -39,7 +38,7 @@ returns-in-Err-Office-clause-steps g c = λ clean stood k live at.
     let after = desk g.O.Office.register g.O.Office.told c.on_command.new.office in
     let lo = rest_of g.O.Office.holds g.O.Office.may_leave g.O.Office.stands c.args.office.now in
     let ln = rest_of g.O.Office.holds g.O.Office.may_leave g.O.Office.stands c.on_command.new.office in
-    let here = scene g.O.Office.register g.O.Office.told (λ w. g.W.Write.contents (port_inner w)) port_moved port_faults c.args.office.now c.args.writer.now in
+    let here = scene g.O.Office.register g.O.Office.told g.W.Write.contents c.args.office.now c.args.writer.now in
     let seen = c.args.session.now in
     let next = c.on_command.follows.lender-at-none in
     let held = subst (Holds k.phase) (sym at.register) at.holds in
@@ -57,7 +56,7 @@ returns-in-Err-Memory-clause-steps g c = λ clean stood k live at.
     let after = desk g.O.Office.register g.O.Office.told c.on_command.new.office in
     let lo = rest_of g.O.Office.holds g.O.Office.may_leave g.O.Office.stands c.args.office.now in
     let ln = rest_of g.O.Office.holds g.O.Office.may_leave g.O.Office.stands c.on_command.new.office in
-    let here = scene g.O.Office.register g.O.Office.told (λ w. g.W.Write.contents (port_inner w)) port_moved port_faults c.args.office.now c.args.writer.now in
+    let here = scene g.O.Office.register g.O.Office.told g.W.Write.contents c.args.office.now c.args.writer.now in
     let seen = c.args.session.now in
     let next = c.on_command.follows.lender-at-none in
     let held = subst (Holds k.phase) (sym at.register) at.holds in
@@ -72,7 +71,7 @@ returns-in-Err-Ended-clause-steps g c = λ clean stood k live at.
     let after = desk g.O.Office.register g.O.Office.told c.on_command.new.office in
     let lo = rest_of g.O.Office.holds g.O.Office.may_leave g.O.Office.stands c.args.office.now in
     let ln = rest_of g.O.Office.holds g.O.Office.may_leave g.O.Office.stands c.on_command.new.office in
-    let here = scene g.O.Office.register g.O.Office.told (λ w. g.W.Write.contents (port_inner w)) port_moved port_faults c.args.office.now c.args.writer.now in
+    let here = scene g.O.Office.register g.O.Office.told g.W.Write.contents c.args.office.now c.args.writer.now in
     let seen = c.args.session.now in
     let next = c.on_command.follows.lender-at-none in
     let held = subst (Holds k.phase) (sym at.register) at.holds in

@@ -1,30 +1,33 @@
 use Rattle.oftp_session.specs.declared.session.Ending.TheVariants.{Own}
 use Rattle.oftp_wire.specs.declared.reason.SessionReason.TheVariants.{ProtocolViolation}
-use Rattle.std.proofs.Common.{◌≡◌, ℕ, [], refl, sym, ap, ◌∙◌, subst, Result, Ok, Err, true, false, length, ◌<◌}
+use Rattle.std.proofs.Common.{sym, ap, ◌∙◌, subst, Err, length, ◌<◌}
 use Rattle.oftp_engine.proofs.Puts.{puts_none, puts_on}
 use Rattle.oftp_register.specs.Offices.{rest_of}
 use Rattle.std.proofs.lemmas.Result.{err_from_is_err_and}
-use Rattle.oftp_wire.specs.Stream.{Stream, past}
+use Rattle.oftp_wire.specs.Stream.{Stream}
 use Rattle.oftp_wire.specs.Stream.{Whole, Waits, Bad}
 use Rattle.oftp_wire.proofs.Streams.{next_err, past_shorter}
 use Rattle.oftp_session.specs.Calls.{desk}
 use Rattle.oftp_session.specs.Phases.{fails}
 use Rattle.oftp_engine.specs.declared.serving.RunFault.{RunFault}
-use Rattle.oftp_engine.specs.Ports.{port_faults, port_moved, port_inner}
-use Rattle.oftp_engine.specs.Serving.{scene, Pumped, Comes, IsPumping, IsWaiting, IsOver}
+use Rattle.oftp_engine.specs.Serving.{scene, Pumped, IsPumping, IsWaiting, IsOver}
 use Rattle.oftp_engine.proofs.Progress.{went_none}
 use Rattle.oftp_engine.proofs.Stepping.{stepped_refuse}
 use Rattle.oftp_engine.proofs.Pumping.{settle_on, settle_fails, live_from, seen_some, seen_none, limit_front, frame_on, frame_fails, bad_on, bad_fails, ok_at, err_at}
 use Rattle.oftp_engine.proofs.serving.pump.Goals as goal
 
 pub frames-init : goal.frames-init
-frames-init g c = record { out = puts_none g.W.Write.contents c.args.writer.now; clean = λ h. h; pumps = λ clean stood k lim told at.
-    let scene_of = scene g.O.Office.register g.O.Office.told (λ w. g.W.Write.contents (port_inner w)) port_moved port_faults in
-    record {
-      come = record { at = k; went = went_none k c.args.stream.now.rest (scene_of c.args.office.now c.args.writer.now) (rest_of g.O.Office.holds g.O.Office.may_leave g.O.Office.stands c.args.office.now); now = at };
-      limit = lim;
-      told = told;
-    } }
+frames-init g c = record {
+  out = puts_none g.W.Write.contents c.args.writer.now;
+  clean = λ h. h;
+  pumps = λ clean stood k lim told at.
+      let scene_of = scene g.O.Office.register g.O.Office.told g.W.Write.contents in
+      record {
+        come = record { at = k; went = went_none k c.args.stream.now.rest (scene_of c.args.office.now c.args.writer.now) (rest_of g.O.Office.holds g.O.Office.may_leave g.O.Office.stands c.args.office.now); now = at };
+        limit = lim;
+        told = told;
+      };
+}
 
 pub frames-smaller : goal.frames-smaller
 frames-smaller g c =
@@ -33,7 +36,7 @@ frames-smaller g c =
 
 pub returns-in_err-take_turns-clause-steps : goal.returns-in_err-take_turns-clause-steps
 returns-in_err-take_turns-clause-steps g c = λ clean stood k lim told at.
-    let scene_of = scene g.O.Office.register g.O.Office.told (λ w. g.W.Write.contents (port_inner w)) port_moved port_faults in
+    let scene_of = scene g.O.Office.register g.O.Office.told g.W.Write.contents in
     let s = c.args.stream.now.rest in
     let t = c.frames.stream.rest in
     let first = scene_of c.args.office.now c.args.writer.now in
@@ -50,7 +53,7 @@ returns-in_err-take_turns-clause-steps g c = λ clean stood k lim told at.
 
 pub returns-in-Some-clause-steps : goal.returns-in-Some-clause-steps
 returns-in-Some-clause-steps g c = λ clean stood k lim told at.
-    let scene_of = scene g.O.Office.register g.O.Office.told (λ w. g.W.Write.contents (port_inner w)) port_moved port_faults in
+    let scene_of = scene g.O.Office.register g.O.Office.told g.W.Write.contents in
     let s = c.args.stream.now.rest in
     let t = c.frames.stream.rest in
     let first = scene_of c.args.office.now c.args.writer.now in
@@ -65,34 +68,38 @@ returns-in-Some-clause-steps g c = λ clean stood k lim told at.
     record { come = q; ends = sym c.in-Some.is ∙ c.ended.ensures.phase q.at.phase q.now.stands }
 
 pub frames-preserved : goal.frames-preserved
-frames-preserved g c = record { out = puts_on g.W.Write.contents c.args.writer.now c.take_turns.new.writer c.take_command.new.writer (puts_on g.W.Write.contents c.args.writer.now c.frames.writer c.take_turns.new.writer c.frames.invariant.out c.take_turns.ensures.out) c.take_command.ensures.out; clean = λ h. c.frames.invariant.clean (c.take_turns.ensures.clean (c.take_command.ensures.clean h)); pumps = λ clean stood k lim told at.
-    let scene_of = scene g.O.Office.register g.O.Office.told (λ w. g.W.Write.contents (port_inner w)) port_moved port_faults in
-    let s = c.args.stream.now.rest in
-    let t = c.frames.stream.rest in
-    let first = scene_of c.args.office.now c.args.writer.now in
-    let old = scene_of c.frames.office c.frames.writer in
-    let mid = scene_of c.take_turns.new.office c.take_turns.new.writer in
-    let lf = rest_of g.O.Office.holds g.O.Office.may_leave g.O.Office.stands c.args.office.now in
-    let lo = rest_of g.O.Office.holds g.O.Office.may_leave g.O.Office.stands c.frames.office in
-    let lm = rest_of g.O.Office.holds g.O.Office.may_leave g.O.Office.stands c.take_turns.new.office in
-    let p = c.frames.invariant.pumps (c.take_turns.ensures.clean (c.take_command.ensures.clean clean)) stood k lim told at in
-    let r = settle_on k s t c.frames.session c.take_turns.new.session first old mid lf lo lm p.come (c.in_ok-take_turns.ensures.steps (c.take_command.ensures.clean clean) (p.come.went.stands stood) p.come.at p.come.now) in
-    let q = r.come in
-    let over = live_from q.at.phase c.ended.result (c.ended.ensures.phase q.at.phase q.now.stands) c.in_default.is in
-    let h = seen_some c.frames.stream c.in-Ok-Some.field-0 c.in-Ok-Some.octets c.in-Ok-Some.ensures.value c.in-Ok-Some.field-0-is in
-    let whole = limit_front c.frames.stream (Whole h.0) p.limit h.1 in
-    let new = scene_of c.take_command.new.office c.take_command.new.writer in
-    let ln = rest_of g.O.Office.holds g.O.Office.may_leave g.O.Office.stands c.take_command.new.office in
-    let made = c.in_ok-take_command-in-Ok-Some.ensures.steps clean (q.went.stands stood) q.at over q.now in
-    subst (λ (x : Stream). IsPumping k s x c.take_command.new.session first new lf ln) (sym (c.next.follows.holds-at-none ∙ h.3)) (record {
-      come = frame_on k s t c.in-Ok-Some.octets.now h.0 c.take_turns.new.session c.take_command.new.session first mid new lf lm ln q r.done over whole h.2 made;
-      limit = p.limit;
-      told = p.told;
-    }) }
+frames-preserved g c = record {
+  out = puts_on g.W.Write.contents c.args.writer.now c.take_turns.new.writer c.take_command.new.writer (puts_on g.W.Write.contents c.args.writer.now c.frames.writer c.take_turns.new.writer c.frames.invariant.out c.take_turns.ensures.out) c.take_command.ensures.out;
+  clean = λ h. c.frames.invariant.clean (c.take_turns.ensures.clean (c.take_command.ensures.clean h));
+  pumps = λ clean stood k lim told at.
+      let scene_of = scene g.O.Office.register g.O.Office.told g.W.Write.contents in
+      let s = c.args.stream.now.rest in
+      let t = c.frames.stream.rest in
+      let first = scene_of c.args.office.now c.args.writer.now in
+      let old = scene_of c.frames.office c.frames.writer in
+      let mid = scene_of c.take_turns.new.office c.take_turns.new.writer in
+      let lf = rest_of g.O.Office.holds g.O.Office.may_leave g.O.Office.stands c.args.office.now in
+      let lo = rest_of g.O.Office.holds g.O.Office.may_leave g.O.Office.stands c.frames.office in
+      let lm = rest_of g.O.Office.holds g.O.Office.may_leave g.O.Office.stands c.take_turns.new.office in
+      let p = c.frames.invariant.pumps (c.take_turns.ensures.clean (c.take_command.ensures.clean clean)) stood k lim told at in
+      let r = settle_on k s t c.frames.session c.take_turns.new.session first old mid lf lo lm p.come (c.in_ok-take_turns.ensures.steps (c.take_command.ensures.clean clean) (p.come.went.stands stood) p.come.at p.come.now) in
+      let q = r.come in
+      let over = live_from q.at.phase c.ended.result (c.ended.ensures.phase q.at.phase q.now.stands) c.in_default.is in
+      let h = seen_some c.frames.stream c.in-Ok-Some.field-0 c.in-Ok-Some.octets c.in-Ok-Some.ensures.value c.in-Ok-Some.field-0-is in
+      let whole = limit_front c.frames.stream (Whole h.0) p.limit h.1 in
+      let new = scene_of c.take_command.new.office c.take_command.new.writer in
+      let ln = rest_of g.O.Office.holds g.O.Office.may_leave g.O.Office.stands c.take_command.new.office in
+      let made = c.in_ok-take_command-in-Ok-Some.ensures.steps clean (q.went.stands stood) q.at over q.now in
+      subst (λ (x : Stream). IsPumping k s x c.take_command.new.session first new lf ln) (sym (c.next.follows.holds-at-none ∙ h.3)) (record {
+        come = frame_on k s t c.in-Ok-Some.octets.now h.0 c.take_turns.new.session c.take_command.new.session first mid new lf lm ln q r.done over whole h.2 made;
+        limit = p.limit;
+        told = p.told;
+      });
+}
 
 pub returns-in_err-take_command-in-Ok-Some-clause-steps : goal.returns-in_err-take_command-in-Ok-Some-clause-steps
 returns-in_err-take_command-in-Ok-Some-clause-steps g c = λ clean stood k lim told at.
-    let scene_of = scene g.O.Office.register g.O.Office.told (λ w. g.W.Write.contents (port_inner w)) port_moved port_faults in
+    let scene_of = scene g.O.Office.register g.O.Office.told g.W.Write.contents in
     let s = c.args.stream.now.rest in
     let t = c.frames.stream.rest in
     let first = scene_of c.args.office.now c.args.writer.now in
@@ -116,7 +123,7 @@ returns-in_err-take_command-in-Ok-Some-clause-steps g c = λ clean stood k lim t
 
 pub returns-in-Ok-None-clause-steps : goal.returns-in-Ok-None-clause-steps
 returns-in-Ok-None-clause-steps g c = λ clean stood k lim told at.
-    let scene_of = scene g.O.Office.register g.O.Office.told (λ w. g.W.Write.contents (port_inner w)) port_moved port_faults in
+    let scene_of = scene g.O.Office.register g.O.Office.told g.W.Write.contents in
     let s = c.args.stream.now.rest in
     let t = c.frames.stream.rest in
     let first = scene_of c.args.office.now c.args.writer.now in
@@ -131,12 +138,17 @@ returns-in-Ok-None-clause-steps g c = λ clean stood k lim told at.
     let over = live_from q.at.phase c.ended.result (c.ended.ensures.phase q.at.phase q.now.stands) c.in_default.is in
     let h = seen_none c.frames.stream c.in-Ok-None.field-0 c.in-Ok-None.ensures.value c.in-Ok-None.field-0-is in
     subst (λ (x : Stream). IsWaiting k s x c.take_turns.new.session first mid lf lm) (sym (c.next.follows.holds-at-none ∙ h.1)) (record {
-      come = q; turn = r.done; over = over; waits = limit_front c.frames.stream Waits p.limit h.0; limit = p.limit; told = p.told;
+      come = q;
+      turn = r.done;
+      over = over;
+      waits = limit_front c.frames.stream Waits p.limit h.0;
+      limit = p.limit;
+      told = p.told;
     })
 
 pub returns-in-Err-clause-steps : goal.returns-in-Err-clause-steps
 returns-in-Err-clause-steps g c = λ clean stood k lim told at.
-    let scene_of = scene g.O.Office.register g.O.Office.told (λ w. g.W.Write.contents (port_inner w)) port_moved port_faults in
+    let scene_of = scene g.O.Office.register g.O.Office.told g.W.Write.contents in
     let s = c.args.stream.now.rest in
     let t = c.frames.stream.rest in
     let first = scene_of c.args.office.now c.args.writer.now in
@@ -158,7 +170,7 @@ returns-in-Err-clause-steps g c = λ clean stood k lim told at.
 
 pub returns-in_err-refuse-in-Err-clause-steps : goal.returns-in_err-refuse-in-Err-clause-steps
 returns-in_err-refuse-in-Err-clause-steps g c = λ clean stood k lim told at.
-    let scene_of = scene g.O.Office.register g.O.Office.told (λ w. g.W.Write.contents (port_inner w)) port_moved port_faults in
+    let scene_of = scene g.O.Office.register g.O.Office.told g.W.Write.contents in
     let s = c.args.stream.now.rest in
     let t = c.frames.stream.rest in
     let first = scene_of c.args.office.now c.args.writer.now in

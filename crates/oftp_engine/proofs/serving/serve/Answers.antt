@@ -1,15 +1,13 @@
-use Rattle.std.proofs.Common.{rules, ◌≡◌, ℕ, [], ◌++◌, take, length, Bool, true, false, Option, None, refl, sym, ap, ◌∙◌, subst, Result, Ok, Err, arith}
+use Rattle.std.proofs.Common.{rules, [], ◌++◌, take, Option, refl, sym, ap, ◌∙◌, subst, Result, Ok, Err, arith}
 use Rattle.oftp_engine.proofs.Puts.{puts_none, puts_on}
 use Rattle.oftp_register.specs.Offices.{rest_of}
 use Rattle.std.proofs.lemmas.Result.{err_from_is_err_and}
 use Rattle.oftp_wire.specs.Stream.{Stream}
 use Rattle.oftp_session.specs.declared.session.Ending.{Ending}
 use Rattle.oftp_engine.specs.declared.serving.RunFault.{RunFault}
-use Rattle.oftp_engine.specs.declared.serving.RunFault.TheVariants as fault
-use Rattle.oftp_engine.specs.Ports.{Reads, port_faults, port_moved, port_inner}
 use Rattle.oftp_engine.specs.Runs.{Course, started, ending}
-use Rattle.oftp_engine.specs.Serving.{scene, Pumped, IsPumping, Fails}
-use Rattle.oftp_engine.specs.Served.{setting_of, Gave, Serves, ServesErr, whole, IsWhole}
+use Rattle.oftp_engine.specs.Serving.{scene, Pumped, IsPumping}
+use Rattle.oftp_engine.specs.Served.{setting_of, Serves}
 use Rattle.oftp_engine.proofs.Bytes.{consumes_none}
 use Rattle.oftp_engine.proofs.Progress.{went_none, fails_later}
 use Rattle.oftp_engine.proofs.Ending.{whole_over, whole_waits, is_whole, is_out_of_memory, serves_from}
@@ -21,25 +19,29 @@ use Rattle.oftp_engine.proofs.serving.serve.Goals as goal
 pub pieces-init : goal.pieces-init
 pieces-init g c =
     let setting = setting_of c.args.book.now c.args.role in
-    let scene_of = scene g.O.Office.register g.O.Office.told (λ w. g.W.Write.contents (port_inner w)) port_moved port_faults in
+    let scene_of = scene g.O.Office.register g.O.Office.told g.W.Write.contents in
     let first = scene_of c.args.office.now c.args.writer.now in
     let k = started setting (g.O.Office.register c.args.office.now) in
     let lf = rest_of g.O.Office.holds g.O.Office.may_leave g.O.Office.stands c.args.office.now in
-    record { out = puts_none g.W.Write.contents c.args.writer.now; clean = λ h. h; reads = record {
-      given = [];
-      gave = record { bytes = consumes_none (g.R.Read.remaining c.args.reader.now.inner) []; count = omega arith };
-      faults = refl;
-      pumping = λ clean stood. subst (λ (x : Stream). IsPumping k [] x c.opened-session.result first first lf lf) (sym c.new-stream.ensures) (record {
-        come = record { at = k; went = went_none k [] first lf; now = record { setting = c.opened-session.ensures.setting; stands = c.opened-session.ensures.stands; register = refl; holds = holds_all (opening setting.called) (g.O.Office.register c.args.office.now) } };
-        limit = refl;
-        told = refl;
-      });
-    } }
+    record {
+      out = puts_none g.W.Write.contents c.args.writer.now;
+      clean = λ h. h;
+      reads = record {
+        given = [];
+        gave = record { bytes = consumes_none (g.R.Read.remaining c.args.reader.now.inner) []; count = omega arith };
+        faults = refl;
+        pumping = λ clean stood. subst (λ (x : Stream). IsPumping k [] x c.opened-session.result first first lf lf) (sym c.new-stream.ensures) (record {
+          come = record { at = k; went = went_none k [] first lf; now = record { setting = c.opened-session.ensures.setting; stands = c.opened-session.ensures.stands; register = refl; holds = holds_all (opening setting.called) (g.O.Office.register c.args.office.now) } };
+          limit = refl;
+          told = refl;
+        });
+      };
+    }
 
 pub returns-in_err-ending-clause-serves : goal.returns-in_err-ending-clause-serves
 returns-in_err-ending-clause-serves g c =
     let setting = setting_of c.args.book.now c.args.role in
-    let scene_of = scene g.O.Office.register g.O.Office.told (λ w. g.W.Write.contents (port_inner w)) port_moved port_faults in
+    let scene_of = scene g.O.Office.register g.O.Office.told g.W.Write.contents in
     let first = scene_of c.args.office.now c.args.writer.now in
     let k = started setting (g.O.Office.register c.args.office.now) in
     let old = scene_of c.pieces.office c.pieces.writer in
@@ -49,14 +51,17 @@ returns-in_err-ending-clause-serves g c =
     let ln = rest_of g.O.Office.holds g.O.Office.may_leave g.O.Office.stands c.pump.new.office in
     let h = c.pieces.invariant.reads in
     let f = c.in_err-ending.field-0.0 in
-    let e = err_from_is_err_and c.from_residual.result c.from_residual.ensures.1 in
-    (h.given, h.gave, λ clean stood. let p = h.pumping (c.pump.ensures.clean clean) stood in subst (Serves setting h.given first new ln) (sym (e.1 ∙ ap (λ (x : RunFault). Err x) e.2))
-    (serves_from setting h.given first new lf ln stood (λ fine k l. g.met.O.Office.alone c.pump.new.office k clean fine l) f (fails_later k p.come.at h.given c.pieces.stream.rest first old new lf lo ln f p.come.went (c.in_err-ending.ensures.steps clean (p.come.went.stands stood) p.come.at p.limit p.told p.come.now))))
+    let e = err_from_is_err_and c.from_residual.result c.from_residual.ensures.1 in (
+      h.given,
+      h.gave,
+      λ clean stood. let p = h.pumping (c.pump.ensures.clean clean) stood in subst (Serves setting h.given first new ln) (sym (e.1 ∙ ap (λ (x : RunFault). Err x) e.2))
+          (serves_from setting h.given first new lf ln stood (λ fine k l. g.met.O.Office.alone c.pump.new.office k clean fine l) f (fails_later k p.come.at h.given c.pieces.stream.rest first old new lf lo ln f p.come.went (c.in_err-ending.ensures.steps clean (p.come.went.stands stood) p.come.at p.limit p.told p.come.now))),
+    )
 
 pub returns-in-Some-clause-serves : goal.returns-in-Some-clause-serves
 returns-in-Some-clause-serves g c =
     let setting = setting_of c.args.book.now c.args.role in
-    let scene_of = scene g.O.Office.register g.O.Office.told (λ w. g.W.Write.contents (port_inner w)) port_moved port_faults in
+    let scene_of = scene g.O.Office.register g.O.Office.told g.W.Write.contents in
     let first = scene_of c.args.office.now c.args.writer.now in
     let k = started setting (g.O.Office.register c.args.office.now) in
     let old = scene_of c.pieces.office c.pieces.writer in
@@ -64,14 +69,19 @@ returns-in-Some-clause-serves g c =
     let lf = rest_of g.O.Office.holds g.O.Office.may_leave g.O.Office.stands c.args.office.now in
     let lo = rest_of g.O.Office.holds g.O.Office.may_leave g.O.Office.stands c.pieces.office in
     let ln = rest_of g.O.Office.holds g.O.Office.may_leave g.O.Office.stands c.pump.new.office in
-    let h = c.pieces.invariant.reads in
-    (h.given, h.gave, λ clean stood. let p = h.pumping (c.pump.ensures.clean clean) stood in let pumped = c.in_ok-ending.ensures.steps clean (p.come.went.stands stood) p.come.at p.limit p.told p.come.now in let decided = subst (λ (b : Option Ending). Pumped p.come.at c.pieces.stream.rest c.pump.new.stream c.pump.new.session old new lo ln (let r : Result (Option Ending) RunFault = Ok b in r)) c.in-Some.is pumped in let w = over_on k h.given c.pieces.stream.rest c.pump.new.stream.rest c.pieces.session c.pump.new.session first old new lf lo ln c.in-Some.ending p.come decided in let e = whole_over setting h.given c.pump.new.stream.rest c.pump.new.session first new lf ln c.in-Some.ending w in (is_whole setting h.given c.pump.new.stream.rest c.pump.new.session first new lf ln stood (λ fine k l. g.met.O.Office.alone c.pump.new.office k clean fine l) w.come e,
-    c.from.ensures ∙ ending_from w.come.at.phase c.in-Some.ending w.ends ∙ ap (λ (x : Course). ending x.phase) (sym e)))
+    let h = c.pieces.invariant.reads in (
+      h.given,
+      h.gave,
+      λ clean stood. let p = h.pumping (c.pump.ensures.clean clean) stood in let pumped = c.in_ok-ending.ensures.steps clean (p.come.went.stands stood) p.come.at p.limit p.told p.come.now in let decided = subst (λ (b : Option Ending). Pumped p.come.at c.pieces.stream.rest c.pump.new.stream c.pump.new.session old new lo ln (let r : Result (Option Ending) RunFault = Ok b in r)) c.in-Some.is pumped in let w = over_on k h.given c.pieces.stream.rest c.pump.new.stream.rest c.pieces.session c.pump.new.session first old new lf lo ln c.in-Some.ending p.come decided in let e = whole_over setting h.given c.pump.new.stream.rest c.pump.new.session first new lf ln c.in-Some.ending w in (
+        is_whole setting h.given c.pump.new.stream.rest c.pump.new.session first new lf ln stood (λ fine k l. g.met.O.Office.alone c.pump.new.office k clean fine l) w.come e,
+        c.from.ensures ∙ ending_from w.come.at.phase c.in-Some.ending w.ends ∙ ap (λ (x : Course). ending x.phase) (sym e),
+      ),
+    )
 
 pub returns-in-None-clause-serves : goal.returns-in-None-clause-serves
 returns-in-None-clause-serves g c =
     let setting = setting_of c.args.book.now c.args.role in
-    let scene_of = scene g.O.Office.register g.O.Office.told (λ w. g.W.Write.contents (port_inner w)) port_moved port_faults in
+    let scene_of = scene g.O.Office.register g.O.Office.told g.W.Write.contents in
     let first = scene_of c.args.office.now c.args.writer.now in
     let k = started setting (g.O.Office.register c.args.office.now) in
     let old = scene_of c.pieces.office c.pieces.writer in
@@ -85,7 +95,7 @@ returns-in-None-clause-serves g c =
 pub returns-in-Some-eq0-clause-serves : goal.returns-in-Some-eq0-clause-serves
 returns-in-Some-eq0-clause-serves g c =
     let setting = setting_of c.args.book.now c.args.role in
-    let scene_of = scene g.O.Office.register g.O.Office.told (λ w. g.W.Write.contents (port_inner w)) port_moved port_faults in
+    let scene_of = scene g.O.Office.register g.O.Office.told g.W.Write.contents in
     let first = scene_of c.args.office.now c.args.writer.now in
     let k = started setting (g.O.Office.register c.args.office.now) in
     let old = scene_of c.pieces.office c.pieces.writer in
@@ -93,14 +103,19 @@ returns-in-Some-eq0-clause-serves g c =
     let lf = rest_of g.O.Office.holds g.O.Office.may_leave g.O.Office.stands c.args.office.now in
     let lo = rest_of g.O.Office.holds g.O.Office.may_leave g.O.Office.stands c.pieces.office in
     let ln = rest_of g.O.Office.holds g.O.Office.may_leave g.O.Office.stands c.pump.new.office in
-    let h = c.pieces.invariant.reads in
-    (h.given, gave_zero g.R.Read.remaining c.args.reader.now c.pieces.reader c.read.new.port h.given c.read.new.piece c.in-Some-eq0.field-0 h.gave c.in-Some-eq0.ensures (search rules), λ clean stood. let p = h.pumping (c.pump.ensures.clean clean) stood in let pumped = c.in_ok-ending.ensures.steps clean (p.come.went.stands stood) p.come.at p.limit p.told p.come.now in let decided = subst (λ (b : Option Ending). Pumped p.come.at c.pieces.stream.rest c.pump.new.stream c.pump.new.session old new lo ln (let r : Result (Option Ending) RunFault = Ok b in r)) c.in_default.is pumped in let w = wait_on k h.given c.pieces.stream c.pump.new.stream c.pieces.session c.pump.new.session first old new lf lo ln p.come decided in let e = whole_waits setting h.given c.pump.new.stream.rest c.pump.new.session first new lf ln w.come w.turn w.waits in (is_whole setting h.given c.pump.new.stream.rest c.pump.new.session first new lf ln stood (λ fine k l. g.met.O.Office.alone c.pump.new.office k clean fine l) w.come e,
-    input_ending w.come.at.phase w.over ∙ ap (λ (x : Course). ending x.phase) (sym e)))
+    let h = c.pieces.invariant.reads in (
+      h.given,
+      gave_zero g.R.Read.remaining c.args.reader.now c.pieces.reader c.read.new.port h.given c.read.new.piece c.in-Some-eq0.field-0 h.gave c.in-Some-eq0.ensures (search rules),
+      λ clean stood. let p = h.pumping (c.pump.ensures.clean clean) stood in let pumped = c.in_ok-ending.ensures.steps clean (p.come.went.stands stood) p.come.at p.limit p.told p.come.now in let decided = subst (λ (b : Option Ending). Pumped p.come.at c.pieces.stream.rest c.pump.new.stream c.pump.new.session old new lo ln (let r : Result (Option Ending) RunFault = Ok b in r)) c.in_default.is pumped in let w = wait_on k h.given c.pieces.stream c.pump.new.stream c.pieces.session c.pump.new.session first old new lf lo ln p.come decided in let e = whole_waits setting h.given c.pump.new.stream.rest c.pump.new.session first new lf ln w.come w.turn w.waits in (
+        is_whole setting h.given c.pump.new.stream.rest c.pump.new.session first new lf ln stood (λ fine k l. g.met.O.Office.alone c.pump.new.office k clean fine l) w.come e,
+        input_ending w.come.at.phase w.over ∙ ap (λ (x : Course). ending x.phase) (sym e),
+      ),
+    )
 
 pub returns-then-is_err-clause-serves : goal.returns-then-is_err-clause-serves
 returns-then-is_err-clause-serves g c =
     let setting = setting_of c.args.book.now c.args.role in
-    let scene_of = scene g.O.Office.register g.O.Office.told (λ w. g.W.Write.contents (port_inner w)) port_moved port_faults in
+    let scene_of = scene g.O.Office.register g.O.Office.told g.W.Write.contents in
     let first = scene_of c.args.office.now c.args.writer.now in
     let k = started setting (g.O.Office.register c.args.office.now) in
     let old = scene_of c.pieces.office c.pieces.writer in
@@ -109,14 +124,16 @@ returns-then-is_err-clause-serves g c =
     let lo = rest_of g.O.Office.holds g.O.Office.may_leave g.O.Office.stands c.pieces.office in
     let ln = rest_of g.O.Office.holds g.O.Office.may_leave g.O.Office.stands c.pump.new.office in
     let h = c.pieces.invariant.reads in
-    let given = h.given ++ take c.in-Some-read.n c.read.new.piece in
-    (given, gave_on g.R.Read.remaining c.args.reader.now c.pieces.reader c.read.new.port h.given c.read.new.piece c.in-Some-read.n h.gave c.in-Some-read.ensures,
-    λ clean stood. let p = h.pumping (c.pump.ensures.clean clean) stood in let pumped = c.in_ok-ending.ensures.steps clean (p.come.went.stands stood) p.come.at p.limit p.told p.come.now in let decided = subst (λ (b : Option Ending). Pumped p.come.at c.pieces.stream.rest c.pump.new.stream c.pump.new.session old new lo ln (let r : Result (Option Ending) RunFault = Ok b in r)) c.in_default.is pumped in let w = wait_on k h.given c.pieces.stream c.pump.new.stream c.pieces.session c.pump.new.session first old new lf lo ln p.come decided in is_out_of_memory setting given first new lf ln stood (λ fine k l. g.met.O.Office.alone c.pump.new.office k clean fine l) (short_on k h.given c.pump.new.stream.rest (take c.in-Some-read.n c.read.new.piece) c.pump.new.session first new lf ln w.come))
+    let given = h.given ++ take c.in-Some-read.n c.read.new.piece in (
+      given,
+      gave_on g.R.Read.remaining c.args.reader.now c.pieces.reader c.read.new.port h.given c.read.new.piece c.in-Some-read.n h.gave c.in-Some-read.ensures,
+      λ clean stood. let p = h.pumping (c.pump.ensures.clean clean) stood in let pumped = c.in_ok-ending.ensures.steps clean (p.come.went.stands stood) p.come.at p.limit p.told p.come.now in let decided = subst (λ (b : Option Ending). Pumped p.come.at c.pieces.stream.rest c.pump.new.stream c.pump.new.session old new lo ln (let r : Result (Option Ending) RunFault = Ok b in r)) c.in_default.is pumped in let w = wait_on k h.given c.pieces.stream c.pump.new.stream c.pieces.session c.pump.new.session first old new lf lo ln p.come decided in is_out_of_memory setting given first new lf ln stood (λ fine k l. g.met.O.Office.alone c.pump.new.office k clean fine l) (short_on k h.given c.pump.new.stream.rest (take c.in-Some-read.n c.read.new.piece) c.pump.new.session first new lf ln w.come),
+    )
 
 pub pieces-preserved : goal.pieces-preserved
 pieces-preserved g c =
     let setting = setting_of c.args.book.now c.args.role in
-    let scene_of = scene g.O.Office.register g.O.Office.told (λ w. g.W.Write.contents (port_inner w)) port_moved port_faults in
+    let scene_of = scene g.O.Office.register g.O.Office.told g.W.Write.contents in
     let first = scene_of c.args.office.now c.args.writer.now in
     let k = started setting (g.O.Office.register c.args.office.now) in
     let old = scene_of c.pieces.office c.pieces.writer in

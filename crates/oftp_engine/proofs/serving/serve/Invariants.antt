@@ -1,15 +1,14 @@
 use Rattle.oftp_engine.specs.Served.{setting_of}
-use Rattle.std.proofs.Common.{◌≡◌, ℕ, ◌-◌, [], List, None, length}
+use Rattle.std.proofs.Common.{◌-◌}
 use Rattle.oftp_register.specs.Offices.{rest_of}
-use Rattle.oftp_engine.specs.Ports.{Puts, port_faults, port_moved, port_inner}
-use Rattle.oftp_engine.specs.Runs.{started}
-use Rattle.oftp_engine.specs.Serving.{scene, IsPumping}
+use Rattle.oftp_engine.specs.Ports.{Puts}
+use Rattle.oftp_engine.specs.Serving.{scene}
 use Rattle.oftp_engine.specs.Served.{IsReading}
 use Rattle.oftp_engine.proofs.serving.serve.Given as goal
 
 abbrev pub invariant-pieces : goal.invariant-pieces
 invariant-pieces g l =
-    let scene_of = scene g.O.Office.register g.O.Office.told (λ w. g.W.Write.contents (port_inner w)) port_moved port_faults in
+    let scene_of = scene g.O.Office.register g.O.Office.told g.W.Write.contents in
     record {
       out : Puts g.W.Write.contents l.fn.writer l.writer;
       clean : g.O.Office.is_clean l.office → g.O.Office.is_clean l.fn.office;

@@ -7,7 +7,6 @@ use Rattle.oftp_session.specs.Settings.{Setting}
 use Rattle.oftp_session.specs.Steps.{turned, Holds}
 use Rattle.oftp_session.proofs.Phases.{holds_turned, turn_live}
 use Rattle.oftp_session.specs.Calls.{said, desk, IsMade, IsBroken, IsUndone, DoesNot, Goes}
-use Rattle.oftp_engine.specs.Ports.{port_faults, port_moved, port_inner}
 use Rattle.oftp_engine.specs.Serving.{scene}
 use Rattle.oftp_engine.proofs.Stepping.{at_course, stepped_ok, stepped_office, stepped_memory}
 use Rattle.oftp_engine.proofs.serving.take_turn.Goals as goal
@@ -18,7 +17,7 @@ returns-in-Ok-clause-steps g c = λ clean stood k turn at.
     let after = desk g.O.Office.register g.O.Office.told c.turn.new.office in
     let lo = rest_of g.O.Office.holds g.O.Office.may_leave g.O.Office.stands c.args.office.now in
     let ln = rest_of g.O.Office.holds g.O.Office.may_leave g.O.Office.stands c.turn.new.office in
-    let here = scene g.O.Office.register g.O.Office.told (λ w. g.W.Write.contents (port_inner w)) port_moved port_faults c.args.office.now c.args.writer.now in
+    let here = scene g.O.Office.register g.O.Office.told g.W.Write.contents c.args.office.now c.args.writer.now in
     let seen = c.args.session.now in
     let next = c.turn.follows.lender-at-none in
     let held = subst (Holds k.phase) (sym at.register) at.holds in
@@ -30,7 +29,7 @@ returns-in-Ok-clause-steps g c = λ clean stood k turn at.
     at.register
     (holds_turned k.setting k.phase k.register at.holds)
     (at_course (λ (setting : Setting) (r : Register). Goes (turned setting k.phase r).phase (let x : Result Out SessionFault = Rattle.std.proofs.Common.Ok c.in-Ok.out in x) next) k seen here at
-      (subst (λ (x : Result Out SessionFault). Goes (turned c.args.session.now.setting k.phase (g.O.Office.register c.args.office.now)).phase x next) c.in-Ok.is (done.1 clean stood k.phase held live at.stands)))
+    (subst (λ (x : Result Out SessionFault). Goes (turned c.args.session.now.setting k.phase (g.O.Office.register c.args.office.now)).phase x next) c.in-Ok.is (done.1 clean stood k.phase held live at.stands)))
     c.write_out.ensures.sent
     c.write_out.ensures.err
 
@@ -40,7 +39,7 @@ returns-in-Err-Office-clause-steps g c = λ clean stood k turn at.
     let after = desk g.O.Office.register g.O.Office.told c.turn.new.office in
     let lo = rest_of g.O.Office.holds g.O.Office.may_leave g.O.Office.stands c.args.office.now in
     let ln = rest_of g.O.Office.holds g.O.Office.may_leave g.O.Office.stands c.turn.new.office in
-    let here = scene g.O.Office.register g.O.Office.told (λ w. g.W.Write.contents (port_inner w)) port_moved port_faults c.args.office.now c.args.writer.now in
+    let here = scene g.O.Office.register g.O.Office.told g.W.Write.contents c.args.office.now c.args.writer.now in
     let seen = c.args.session.now in
     let next = c.turn.follows.lender-at-none in
     let held = subst (Holds k.phase) (sym at.register) at.holds in
@@ -59,7 +58,7 @@ returns-in-Err-Memory-clause-steps g c = λ clean stood k turn at.
     let after = desk g.O.Office.register g.O.Office.told c.turn.new.office in
     let lo = rest_of g.O.Office.holds g.O.Office.may_leave g.O.Office.stands c.args.office.now in
     let ln = rest_of g.O.Office.holds g.O.Office.may_leave g.O.Office.stands c.turn.new.office in
-    let here = scene g.O.Office.register g.O.Office.told (λ w. g.W.Write.contents (port_inner w)) port_moved port_faults c.args.office.now c.args.writer.now in
+    let here = scene g.O.Office.register g.O.Office.told g.W.Write.contents c.args.office.now c.args.writer.now in
     let seen = c.args.session.now in
     let next = c.turn.follows.lender-at-none in
     let held = subst (Holds k.phase) (sym at.register) at.holds in
@@ -75,7 +74,7 @@ returns-in-Err-Ended-clause-steps g c = λ clean stood k turn at.
     let after = desk g.O.Office.register g.O.Office.told c.turn.new.office in
     let lo = rest_of g.O.Office.holds g.O.Office.may_leave g.O.Office.stands c.args.office.now in
     let ln = rest_of g.O.Office.holds g.O.Office.may_leave g.O.Office.stands c.turn.new.office in
-    let here = scene g.O.Office.register g.O.Office.told (λ w. g.W.Write.contents (port_inner w)) port_moved port_faults c.args.office.now c.args.writer.now in
+    let here = scene g.O.Office.register g.O.Office.told g.W.Write.contents c.args.office.now c.args.writer.now in
     let seen = c.args.session.now in
     let next = c.turn.follows.lender-at-none in
     let held = subst (Holds k.phase) (sym at.register) at.holds in

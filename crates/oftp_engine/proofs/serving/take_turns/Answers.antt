@@ -1,41 +1,48 @@
-use Rattle.std.proofs.Common.{◌≡◌, ℕ, [], refl, sym, ap, ◌∙◌, subst, Result, Err}
+use Rattle.std.proofs.Common.{[], sym, ap, ◌∙◌, subst, Err}
 use Rattle.oftp_engine.proofs.Puts.{puts_none, puts_on}
 use Rattle.oftp_register.specs.Offices.{rest_of}
 use Rattle.std.proofs.lemmas.Result.{err_from_is_err_and}
 use Rattle.oftp_session.specs.Steps.{turned}
 use Rattle.oftp_engine.specs.declared.serving.RunFault.{RunFault}
-use Rattle.oftp_engine.specs.Ports.{port_faults, port_moved, port_inner}
 use Rattle.oftp_engine.specs.Runs.{turned_in}
-use Rattle.oftp_engine.specs.Serving.{scene, IsAt, Comes, Fails, TurnsTaken}
+use Rattle.oftp_engine.specs.Serving.{scene, TurnsTaken}
 use Rattle.oftp_engine.proofs.Progress.{went_none, went_on, went_step, fails_step, fails_later, leads_turn, reaches_turn}
 use Rattle.oftp_engine.proofs.serving.take_turns.Goals as goal
 
 pub turns-init : goal.turns-init
-turns-init g c = record { out = puts_none g.W.Write.contents c.args.writer.now; clean = λ h. h; comes = λ clean stood k at.
-    let scene_of = scene g.O.Office.register g.O.Office.told (λ w. g.W.Write.contents (port_inner w)) port_moved port_faults in
-    record { at = k; went = went_none k [] (scene_of c.args.office.now c.args.writer.now) (rest_of g.O.Office.holds g.O.Office.may_leave g.O.Office.stands c.args.office.now); now = at } }
+turns-init g c = record {
+  out = puts_none g.W.Write.contents c.args.writer.now;
+  clean = λ h. h;
+  comes = λ clean stood k at.
+      let scene_of = scene g.O.Office.register g.O.Office.told g.W.Write.contents in
+      record { at = k; went = went_none k [] (scene_of c.args.office.now c.args.writer.now) (rest_of g.O.Office.holds g.O.Office.may_leave g.O.Office.stands c.args.office.now); now = at };
+}
 
 pub turns-preserved : goal.turns-preserved
-turns-preserved g c = record { out = puts_on g.W.Write.contents c.args.writer.now c.turns.writer c.take_turn.new.writer c.turns.invariant.out c.take_turn.ensures.out; clean = λ h. c.turns.invariant.clean (c.take_turn.ensures.clean h); comes = λ clean stood k at.
-    let scene_of = scene g.O.Office.register g.O.Office.told (λ w. g.W.Write.contents (port_inner w)) port_moved port_faults in
-    let first = scene_of c.args.office.now c.args.writer.now in
-    let old = scene_of c.turns.office c.turns.writer in
-    let new = scene_of c.take_turn.new.office c.take_turn.new.writer in
-    let lf = rest_of g.O.Office.holds g.O.Office.may_leave g.O.Office.stands c.args.office.now in
-    let lo = rest_of g.O.Office.holds g.O.Office.may_leave g.O.Office.stands c.turns.office in
-    let ln = rest_of g.O.Office.holds g.O.Office.may_leave g.O.Office.stands c.take_turn.new.office in
-    let t = c.turns.invariant.comes (c.take_turn.ensures.clean clean) stood k at in
-    let due = sym (c.turns-test.ensures.phase t.at.phase t.now.stands) in
-    let made = c.in_ok-take_turn.ensures.steps clean (t.went.stands stood) t.at due t.now in
-    record {
-      at = turned_in t.at;
-      went = went_on k t.at (turned_in t.at) [] [] [] first old new lf lo ln t.went (went_step t.at (turned t.at.setting t.at.phase t.at.register) [] [] c.take_turn.new.session old new lo ln (leads_turn t.at [] due) made);
-      now = made.now;
-    } }
+turns-preserved g c = record {
+  out = puts_on g.W.Write.contents c.args.writer.now c.turns.writer c.take_turn.new.writer c.turns.invariant.out c.take_turn.ensures.out;
+  clean = λ h. c.turns.invariant.clean (c.take_turn.ensures.clean h);
+  comes = λ clean stood k at.
+      let scene_of = scene g.O.Office.register g.O.Office.told g.W.Write.contents in
+      let first = scene_of c.args.office.now c.args.writer.now in
+      let old = scene_of c.turns.office c.turns.writer in
+      let new = scene_of c.take_turn.new.office c.take_turn.new.writer in
+      let lf = rest_of g.O.Office.holds g.O.Office.may_leave g.O.Office.stands c.args.office.now in
+      let lo = rest_of g.O.Office.holds g.O.Office.may_leave g.O.Office.stands c.turns.office in
+      let ln = rest_of g.O.Office.holds g.O.Office.may_leave g.O.Office.stands c.take_turn.new.office in
+      let t = c.turns.invariant.comes (c.take_turn.ensures.clean clean) stood k at in
+      let due = sym (c.turns-test.ensures.phase t.at.phase t.now.stands) in
+      let made = c.in_ok-take_turn.ensures.steps clean (t.went.stands stood) t.at due t.now in
+      record {
+        at = turned_in t.at;
+        went = went_on k t.at (turned_in t.at) [] [] [] first old new lf lo ln t.went (went_step t.at (turned t.at.setting t.at.phase t.at.register) [] [] c.take_turn.new.session old new lo ln (leads_turn t.at [] due) made);
+        now = made.now;
+      };
+}
 
 pub returns-in_err-take_turn-clause-steps : goal.returns-in_err-take_turn-clause-steps
 returns-in_err-take_turn-clause-steps g c = λ clean stood k at.
-    let scene_of = scene g.O.Office.register g.O.Office.told (λ w. g.W.Write.contents (port_inner w)) port_moved port_faults in
+    let scene_of = scene g.O.Office.register g.O.Office.told g.W.Write.contents in
     let first = scene_of c.args.office.now c.args.writer.now in
     let old = scene_of c.turns.office c.turns.writer in
     let new = scene_of c.take_turn.new.office c.take_turn.new.writer in

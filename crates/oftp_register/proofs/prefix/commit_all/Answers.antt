@@ -12,7 +12,7 @@ loop-change-preserved g c =
       stood = λ k s. (c.in_ok-commit.ensures.done k (going.stood (c.commit.ensures.clean k) s)).1;
       made = λ k s.
           sym (after_all-push (g.O.Office.register c.args.office.now) _ c.loop-change.yielded c.in-Some.change
-              (ap (λ b. apply b c.in-Some.change) (sym (going.made (c.commit.ensures.clean k) s)) ∙ (c.in_ok-commit.ensures.done k (going.stood (c.commit.ensures.clean k) s)).0));
+          (ap (λ b. apply b c.in-Some.change) (sym (going.made (c.commit.ensures.clean k) s)) ∙ (c.in_ok-commit.ensures.done k (going.stood (c.commit.ensures.clean k) s)).0));
     }
 
 pub returns-in_err-commit-clause-left : goal.returns-in_err-commit-clause-left
@@ -21,5 +21,5 @@ returns-in_err-commit-clause-left g c = λ k s content may.
     let before = c.commit.ensures.clean k in
     let stood = going.stood before s in
     left_within g.O.Office.holds (g.O.Office.register c.args.office.now) (g.O.Office.register c.loop-change.office) c.args.changes.items c.loop-change.yielded _ _ c.in-Some.change content
-        going.whole c.in-Some.ensures.steps.0 (going.made before s)
-        (elim (c.commit.ensures.left k stood content may) [ inl was ↦ inl (g.met.O.Office.alone c.loop-change.office content before stood was) | inr next ↦ inr next ])
+    going.whole c.in-Some.ensures.steps.0 (going.made before s)
+    (elim (c.commit.ensures.left k stood content may) [ inl was ↦ inl (g.met.O.Office.alone c.loop-change.office content before stood was) | inr next ↦ inr next ])

@@ -1,5 +1,4 @@
-use Rattle.std.proofs.Common.{rules, ◌≡◌, ℕ, ◌+◌, ◌++◌, length, take, arith, ap, ◌∙◌}
-use Rattle.oftp_session.specs.Phases.{frame_of}
+use Rattle.std.proofs.Common.{rules, length, arith}
 use Rattle.oftp_session.proofs.Framing.{framed, has_room}
 use Rattle.oftp_session.proofs.commands.spell.Goals as goal
 

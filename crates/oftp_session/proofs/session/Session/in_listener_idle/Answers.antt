@@ -1,4 +1,4 @@
-use Rattle.std.proofs.Common.{◌≡◌, sym, subst}
+use Rattle.std.proofs.Common.{sym, subst}
 use Rattle.oftp_wire.specs.declared.command.Command.{Command}
 use Rattle.oftp_register.specs.Register.{Received}
 use Rattle.oftp_session.specs.Listener.{came_listener_idle, response_step}

@@ -1,4 +1,4 @@
-use Rattle.std.proofs.Common.{◌≡◌, ap, sym, ◌∙◌, subst}
+use Rattle.std.proofs.Common.{ap, sym, ◌∙◌, subst}
 use Rattle.oftp_session.specs.Phases.{Phase}
 use Rattle.oftp_session.specs.Steps.{came}
 use Rattle.oftp_session.specs.Calls.{Goes, Seen}
