@@ -1,8 +1,9 @@
 //! The arguments of a command, and what the parser makes of the words.
-ghost use Rattle.std.specs.Prelude.{◌≡◌, IfErr, IfOk, IsSome, None, Some, false, map, option_map, true};
+ghost use Rattle.std.specs.Prelude.{◌≡◌, ◌∷◌, [], IfErr, IfOk, IsSome, None, Some, false, map, option_map, true};
 ghost use Rattle.std.specs.String.{string_bytes};
-ghost use Rattle.clap.specs.Words.{app_of, first_of, found_of, is_simple_and_free, kind_of};
+ghost use Rattle.clap.specs.Words.{app_of, first_of, found_of, is_simple_and_free, items_of, kind_of};
 ghost use Rattle.clap.specs.Words.{new_app, rows_of, rule_of};
+ghost use Rattle.clap.specs.declared.builder.command.Command.TheViews.{out-Command as fields_of};
 ghost use Rattle.oftp_station.specs.Arguments as spec;
 ghost use Rattle.oftp_station.specs.Arguments.{HasValues, taken};
 ghost use Rattle.oftp_station.specs.Fault.{is_bad};
@@ -19,7 +20,9 @@ pub(super) fn command<'a>(
     usage: &'a str,
     about: &'a str,
 ) -> Command<'a>
-    ensures { app_of result ≡ new_app name.entry.now }
+    ensures app { app_of result ≡ new_app name.entry.now }
+    ensures texts { ((fields_of result).usage_str ≡ Some usage.entry)
+        × ((fields_of result).about ≡ Some about.entry) }
 {
     Command::new(alloc, name).override_usage(usage).about(about)
 }
@@ -28,6 +31,7 @@ pub(super) fn command<'a>(
 pub(super) fn word<'a>(alloc: Global, id: &'a str, shown: &'a str, help: &'a str) -> Arg<'a>
     ensures rule { rule_of result ≡ spec.word id.entry.now }
     ensures local { result.global ≡ false }
+    ensures texts { (items_of result.val_names ≡ shown.entry ∷ []) × (result.help ≡ Some help.entry) }
 {
     Arg::new(alloc, id)
         .action(ArgAction::Set)
@@ -40,6 +44,7 @@ pub(super) fn word<'a>(alloc: Global, id: &'a str, shown: &'a str, help: &'a str
 pub(super) fn needed<'a>(alloc: Global, id: &'a str, shown: &'a str, help: &'a str) -> Arg<'a>
     ensures rule { rule_of result ≡ spec.needed id.entry.now }
     ensures local { result.global ≡ false }
+    ensures texts { (items_of result.val_names ≡ shown.entry ∷ []) × (result.help ≡ Some help.entry) }
 {
     word(alloc, id, shown, help).long(id)
 }
@@ -48,6 +53,7 @@ pub(super) fn needed<'a>(alloc: Global, id: &'a str, shown: &'a str, help: &'a s
 pub(super) fn optional<'a>(alloc: Global, id: &'a str, shown: &'a str, help: &'a str) -> Arg<'a>
     ensures rule { rule_of result ≡ spec.optional id.entry.now }
     ensures local { result.global ≡ false }
+    ensures texts { (items_of result.val_names ≡ shown.entry ∷ []) × (result.help ≡ Some help.entry) }
 {
     Arg::new(alloc, id)
         .long(id)
@@ -66,6 +72,7 @@ pub(super) fn defaulted<'a>(
 ) -> Arg<'a>
     ensures rule { rule_of result ≡ spec.defaulted id.entry.now value.entry.now }
     ensures local { result.global ≡ false }
+    ensures texts { (items_of result.val_names ≡ shown.entry ∷ []) × (result.help ≡ Some help.entry) }
 {
     optional(alloc, id, shown, help).default_value(value)
 }
@@ -117,15 +124,15 @@ pub(super) fn given<'a>(matches: &ArgMatches<'a>, id: &str) -> &'a str
     value_of(matches, id).unwrap()
 }
 
-/// The fault for a value that is none of those that its argument takes.
+/// The text for a value that is none of those that its argument takes.
 pub(super) fn invalid_value(
     alloc: Global,
     value: &str,
     argument: &str,
     possible: &str,
-) -> Result<LineFault, AllocError> {
-    let text = format!(in alloc;
-        "error: invalid value '{value}' for '{argument}'\n  [possible values: {possible}]\n\nFor more information, try '--help'.\n"
-    )?;
-    Ok(LineFault::Bad(text))
+) -> Result<String, AllocError> {
+    let mut text = format!(in alloc; "error: invalid value '{value}' for '{argument}'\n")?;
+    write!(text, "  [possible values: {possible}]\n\n")?;
+    text.push_str("For more information, try '--help'.\n")?;
+    Ok(text)
 }

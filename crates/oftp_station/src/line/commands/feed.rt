@@ -102,6 +102,9 @@ pub(in crate::line) fn feed_line<'a>(
     let name = given(&matches, "role");
     match side_named(name) {
         Some(role) => Ok(feed_read(&matches, role)),
-        None => Err(invalid_value(alloc, name, "--role <ROLE>", "responder, initiator")?),
+        None => {
+            let text = invalid_value(alloc, name, "--role <ROLE>", "responder, initiator")?;
+            Err(LineFault::Bad(text))
+        }
     }
 }

@@ -6,4 +6,4 @@ use Rattle.oftp_station.proofs.line.commands.check.check_command.Goals as goal
 
 pub returns : goal.returns
 unfolding check_app
-returns c = IfOk-weaker c.arg.result _ _ (λ d h. h.shape c.needed.ensures.local ∙ ap₂ with_rule c.command.ensures c.needed.ensures.rule) c.arg.ensures
+returns c = IfOk-weaker c.arg.result _ _ (λ d h. h.shape c.needed.ensures.local ∙ ap₂ with_rule c.command.ensures.app c.needed.ensures.rule) c.arg.ensures

@@ -7,7 +7,7 @@ use Rattle.oftp_station.proofs.line.commands.feed.feed_command.Goals as goal
 pub returns : goal.returns
 unfolding feed_app
 returns c =
-    let book = c.in_ok-arg.ensures.shape c.needed.ensures.local ∙ ap₂ with_rule c.command.ensures c.needed.ensures.rule in
+    let book = c.in_ok-arg.ensures.shape c.needed.ensures.local ∙ ap₂ with_rule c.command.ensures.app c.needed.ensures.rule in
     let role = c.in_ok-arg-2.ensures.shape c.defaulted.ensures.local ∙ ap₂ with_rule book c.defaulted.ensures.rule in
     let partner = c.in_ok-arg-3.ensures.shape c.optional.ensures.local ∙ ap₂ with_rule role c.optional.ensures.rule in
     let input = c.in_ok-arg-4.ensures.shape c.word.ensures.local ∙ ap₂ with_rule partner c.word.ensures.rule in
