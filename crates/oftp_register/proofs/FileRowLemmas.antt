@@ -1,5 +1,5 @@
 -- The rows of a file that is kept.
-use Rattle.std.proofs.Common.{◌≡◌, ℕ, zero, suc, ◌+◌, ◌-◌, ◌<◌, ◌≤◌, ◌&&◌, nat_lt, nat_le, min, List, [], ◌∷◌, length, map, get_or, take, drop, All, Option, Some, None, slice_get, refl, ap, sym, ◌∙◌, arith, add-one, length-take, length-drop}
+use Rattle.std.proofs.Common.{◌≡◌, ℕ, zero, suc, ◌<◌, ◌≤◌, ◌&&◌, nat_lt, nat_le, List, [], ◌∷◌, length, map, get_or, take, drop, All, Some, None, slice_get, ap, sym, ◌∙◌, arith, add-one, length-take, length-drop}
 use Rattle.std.specs.Option.{unwrap_or}
 use Rattle.std.specs.Vec.{vec_len}
 use Rattle.std.proofs.lemmas.List.{length-map}
@@ -11,7 +11,7 @@ use Rattle.oftp_register.specs.declared.plain.outgoing.OutgoingFile.{OutgoingFil
 use Rattle.oftp_register.specs.declared.plain.lists.Lists.{Lists}
 use Rattle.oftp_register.specs.Register.{Register, Incoming, Outgoing}
 use Rattle.oftp_register.specs.Soundness.{IsSound, IsSoundIncoming, IsSoundOutgoing}
-use Rattle.oftp_register.specs.LookUps.{AreRowsWithin, entry_at, file_rows}
+use Rattle.oftp_register.specs.LookUps.{AreRowsWithin, file_rows}
 use Rattle.oftp_register.specs.Lists.{IsPlace, incoming_of, outgoing_of, register_in}
 use Rattle.oftp_register.proofs.LookUpLemmas.{entry_at-nowhere, entry_at-place}
 

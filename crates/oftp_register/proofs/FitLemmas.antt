@@ -1,10 +1,9 @@
 -- Which changes are fit for a register in memory, and that it stays sound.
-use Rattle.std.proofs.Common.{◌≡◌, ℕ, zero, suc, ◌+◌, ◌<◌, ◌&&◌, true, false, nat_lt, nat_le, List, [], ◌∷◌, length, take, map, get_or, All, Option, Some, None, Result, Ok, Err, refl, ap, sym, ◌∙◌, subst, arith, add-one}
+use Rattle.std.proofs.Common.{◌≡◌, ℕ, zero, suc, ◌&&◌, true, false, nat_lt, nat_le, List, [], ◌∷◌, length, take, map, get_or, All, Some, None, Result, Ok, Err, ap, sym, ◌∙◌, subst, arith, add-one}
 use Rattle.std.specs.Vec.{vec_len}
 use Rattle.std.proofs.lemmas.List.{length-map}
 use Rattle.std.proofs.lemmas.List.Elements.{All-map}
 use Rattle.oftp_vfile.specs.declared.format.Format.{Format}
-use Rattle.oftp_register.specs.declared.change.Cause.{Cause}
 use Rattle.oftp_register.specs.declared.change.Change.{Change}
 use Rattle.oftp_register.specs.declared.change.Change.TheVariants as change
 use Rattle.oftp_register.specs.declared.entry.Identity.{Identity}

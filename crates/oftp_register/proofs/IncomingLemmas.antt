@@ -1,24 +1,19 @@
 -- What the changes of incoming files keep.
-use Rattle.std.proofs.Common.{◌≡◌, ◌⊎◌, ℕ, ◌+◌, ◌<◌, ◌≤◌, Bool, true, false, cond, nat_lt, nat_le, List, [], ◌∷◌, ◌++◌, length, take, map, All, Option, None, Some, is_some, Result, Ok, Err, refl, ap, sym, ◌∙◌, subst, inl, inr, arith, length-append, length-take}
+use Rattle.std.proofs.Common.{◌≡◌, ◌⊎◌, ℕ, true, false, cond, nat_lt, nat_le, List, [], ◌∷◌, ◌++◌, length, take, map, All, Option, None, Some, is_some, Result, Ok, Err, refl, ap, sym, ◌∙◌, subst, inl, inr, arith, length-append, length-take}
 use Rattle.std.proofs.lemmas.Bool.{cases_Bool, cond-true, cond-false}
-use Rattle.std.proofs.lemmas.List.{map-append}
 use Rattle.std.proofs.lemmas.List.Elements.{All-cons, All-head, All-tail, All-nil}
 use Rattle.std.specs.List.{list_any}
 use Rattle.std.proofs.lemmas.Bool.{or_from}
-use Rattle.oftp_vfile.specs.declared.format.Format.{Format}
 use Rattle.oftp_register.specs.declared.change.Cause.{Cause}
 use Rattle.oftp_register.specs.declared.change.Cause.TheVariants.{State, Full}
-use Rattle.oftp_register.specs.declared.entry.Identity.{Identity}
 use Rattle.oftp_register.specs.declared.entry.IncomingState.{IncomingState}
 use Rattle.oftp_register.specs.declared.entry.IncomingState.TheVariants.{Open, Whole}
-use Rattle.oftp_register.specs.declared.entry.Dispatch.{Dispatch}
-use Rattle.oftp_register.specs.declared.entry.Dispatch.TheVariants.{Due, Sent}
 use Rattle.oftp_register.specs.Register.{Register, Incoming, Issued, same_identity}
 use Rattle.oftp_register.specs.Changes.{begun, closed, given_up, gone_on, if_open, if_unanswered, issued, issued_on, kept, mapped, sent, sent_as, sent_of, started_in}
 use Rattle.oftp_register.specs.Soundness.{AreFullRows, AreNamedOnce, Ends, FitsState, GoesOn, IsAnsweredWhole, IsLongest, IsSoundIncoming}
 use Rattle.oftp_register.proofs.NameLemmas.{once-append, same_identity-true}
 use Rattle.oftp_register.proofs.NumberLemmas.{mapped_ok, not_both, one_result}
-use Rattle.oftp_register.proofs.RowLemmas.{full-nil, full-append, full-take, rows-append}
+use Rattle.oftp_register.proofs.RowLemmas.{full-nil, full-append, rows-append}
 
 -- an open file, and what is known of it
 open_rows : (file : Incoming) → IsSoundIncoming file → file.state ≡ Open → AreFullRows file.format file.longest file.rows

@@ -1,21 +1,18 @@
 -- Each change keeps a register sound.
-use Rattle.std.proofs.Common.{◌≡◌, ℕ, zero, suc, ◌≤◌, Bool, true, false, cond, nat_le, List, [], ◌∷◌, ◌++◌, length, map, take, All, None, Result, Ok, Err, refl, ap, sym, ◌∙◌, subst, inl, inr, arith}
-use Rattle.std.specs.List.{list_any}
+use Rattle.std.proofs.Common.{◌≡◌, ℕ, zero, suc, true, cond, nat_le, List, [], ◌∷◌, ◌++◌, length, map, take, All, None, Result, Ok, Err, refl, sym, ◌∙◌, subst, inl, inr, arith}
 use Rattle.std.proofs.lemmas.Bool.{cases_Bool, cond-true, cond-false}
 use Rattle.std.proofs.lemmas.List.{map-append}
 use Rattle.std.proofs.lemmas.List.Elements.{All-push}
-use Rattle.oftp_vfile.specs.declared.format.Format.{Format}
 use Rattle.oftp_register.specs.declared.change.Cause.{Cause}
 use Rattle.oftp_register.specs.declared.change.Cause.TheVariants.{Duplicate, Full}
 use Rattle.oftp_register.specs.declared.change.Change.{Change}
 use Rattle.oftp_register.specs.declared.change.Change.TheVariants as change
-use Rattle.oftp_register.specs.declared.entry.Identity.{Identity}
 use Rattle.oftp_register.specs.declared.entry.IncomingState.TheVariants.{Open}
 use Rattle.oftp_register.specs.declared.entry.OutgoingState.TheVariants.{Waiting}
 use Rattle.oftp_register.specs.declared.entry.Dispatch.TheVariants.{Due}
-use Rattle.oftp_register.specs.Register.{Register, Incoming, Outgoing, Received, Issued, answers, has_received, same_identity}
-use Rattle.oftp_register.specs.Changes.{apply, at_number, closed, closing, filed, given_up, handed, is_outgoing, issued, kept, mapped, marked, on_incoming, on_outgoing, refused, reopened, sent, settled, started, started_in, submitted}
-use Rattle.oftp_register.specs.Soundness.{AreFullRows, AreNamedOnce, AtNumber, Ends, GoesOn, IsFile, IsFit, IsLongest, IsSound, IsSoundIncoming, IsSoundOutgoing}
+use Rattle.oftp_register.specs.Register.{Register, Incoming, Outgoing, Received, Issued, has_received, same_identity}
+use Rattle.oftp_register.specs.Changes.{apply, at_number, closed, closing, filed, given_up, handed, is_outgoing, issued, kept, marked, on_incoming, on_outgoing, refused, reopened, sent, settled, started, started_in, submitted}
+use Rattle.oftp_register.specs.Soundness.{AreFullRows, AreNamedOnce, AtNumber, Ends, GoesOn, IsFit, IsSound, IsSoundIncoming, IsSoundOutgoing}
 use Rattle.oftp_register.proofs.NameLemmas.{filed-append, list_any-map, once-append}
 use Rattle.oftp_register.proofs.NumberLemmas.{at_number_keeps, at_number_same, mapped_ok, not_both, one_result}
 use Rattle.oftp_register.proofs.IncomingLemmas.{Begins, closed_same, closed_sound, given_up_same, given_up_sound, issued_same, issued_sound, kept_same, kept_sound, sent_same, sent_sound, started_once, started_sound}

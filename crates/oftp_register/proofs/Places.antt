@@ -1,7 +1,7 @@
 -- A change of the entry with a number, as a write at its place.
-use Rattle.std.proofs.Common.{◌≡◌, ℕ, zero, suc, ◌+◌, ◌<◌, ◌&&◌, true, false, List, [], ◌∷◌, length, map, set, get_or, Result, Ok, Err, refl, ap, sym, ◌∙◌, arith, add-one, nat_lt, nat_le, rules, tests, inl, inr}
+use Rattle.std.proofs.Common.{◌≡◌, ℕ, zero, suc, ◌+◌, ◌<◌, ◌&&◌, false, List, [], ◌∷◌, length, map, set, get_or, Result, Ok, Err, refl, ap, sym, ◌∙◌, arith, add-one, nat_lt, nat_le, inl, inr}
 use Rattle.std.proofs.lemmas.Bool.{ltb-false, lt-leb, leb-false, and_cases, and_right}
-use Rattle.std.proofs.lemmas.List.{map-set, set-get_or, length-map}
+use Rattle.std.proofs.lemmas.List.{map-set, set-get_or}
 use Rattle.oftp_register.specs.declared.change.Cause.{Cause}
 use Rattle.oftp_register.specs.declared.change.Cause.TheVariants.{Unknown}
 use Rattle.oftp_register.specs.declared.office.OfficeFault.{OfficeFault}

@@ -1,5 +1,5 @@
 -- What a change of one file makes of a register in memory.
-use Rattle.std.proofs.Common.{◌≡◌, ℕ, ◌+◌, ◌<◌, ◌&&◌, false, length, map, set, get_or, Option, Some, None, Result, Err, refl, ap, ◌∙◌, nat_lt, nat_le, sym, arith}
+use Rattle.std.proofs.Common.{◌≡◌, ℕ, ◌<◌, ◌&&◌, length, map, set, get_or, Some, None, Result, Err, refl, ap, ◌∙◌, nat_lt, nat_le, sym, arith}
 use Rattle.std.proofs.lemmas.List.{length-map}
 use Rattle.std.specs.Vec.{with_item, vec_len}
 use Rattle.oftp_register.specs.declared.change.Cause.{Cause}
@@ -8,7 +8,7 @@ use Rattle.oftp_register.specs.declared.office.OfficeFault.{OfficeFault}
 use Rattle.oftp_register.specs.declared.plain.incoming.IncomingFile.{IncomingFile}
 use Rattle.oftp_register.specs.declared.plain.outgoing.OutgoingFile.{OutgoingFile}
 use Rattle.oftp_register.specs.declared.plain.lists.Lists.{Lists}
-use Rattle.oftp_register.specs.Register.{Register, Incoming, Outgoing}
+use Rattle.oftp_register.specs.Register.{Incoming, Outgoing}
 use Rattle.oftp_register.specs.Changes.{mapped, at_number, on_incoming, on_outgoing}
 use Rattle.oftp_register.specs.Lists.{IsPlace, Makes, incoming_of, outgoing_of, register_in}
 use Rattle.oftp_register.proofs.Places.{at_number-outside, makes_at_number, makes_part}

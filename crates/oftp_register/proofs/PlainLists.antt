@@ -1,17 +1,12 @@
 -- What a change that looks for an identity makes of a register in memory.
-use Rattle.std.proofs.Common.{◌≡◌, ℕ, ◌<◌, ◌≤◌, ◌+◌, zero, suc, Bool, true, false, cond, ◌||◌, nat_le, List, [], ◌∷◌, ◌++◌, length, map, set, get_or, take, drop, Result, Ok, Err, refl, ap, sym, ◌∙◌, arith, add-one, append_assoc}
+use Rattle.std.proofs.Common.{◌≡◌, ℕ, ◌<◌, ◌≤◌, ◌+◌, zero, suc, Bool, true, false, cond, nat_le, List, [], ◌∷◌, ◌++◌, length, map, set, get_or, take, drop, Ok, Err, ap, sym, ◌∙◌, arith, add-one}
 use Rattle.std.specs.List.{list_any}
-use Rattle.std.specs.Vec.{vec_len}
 use Rattle.std.proofs.lemmas.Bool.{cond-true, cond-false, le-leb, lt-leb}
 use Rattle.std.proofs.lemmas.List.{append-nil, drop_all, length-map, map-append, take_all}
-use Rattle.oftp_register.specs.declared.change.Cause.{Cause}
 use Rattle.oftp_register.specs.declared.change.Cause.TheVariants.{Duplicate, Full}
-use Rattle.oftp_register.specs.declared.entry.Identity.{Identity}
-use Rattle.oftp_register.specs.declared.entry.ResponseKind.{ResponseKind}
 use Rattle.oftp_register.specs.declared.plain.outgoing.OutgoingFile.{OutgoingFile}
-use Rattle.oftp_register.specs.declared.entries.ReceivedResponse.{ReceivedResponse}
 use Rattle.oftp_register.specs.declared.plain.lists.Lists.{Lists}
-use Rattle.oftp_register.specs.Register.{Register, Outgoing, Received, answers, has_received, same_identity}
+use Rattle.oftp_register.specs.Register.{Outgoing, Received, has_received, same_identity}
 use Rattle.oftp_register.specs.Changes.{filed, is_outgoing, submitted, settled}
 use Rattle.oftp_register.specs.Lists.{outgoing_of, received_of, register_in}
 use Rattle.oftp_register.proofs.NameLemmas.{list_any-map}

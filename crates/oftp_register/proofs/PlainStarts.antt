@@ -4,7 +4,6 @@ use Rattle.std.proofs.lemmas.Bool.{cond-true, cond-false, cases_Bool, ltb-false,
 use Rattle.std.proofs.lemmas.List.Quantifiers.{position-Some}
 use Rattle.std.specs.List.{list_any, position, position_or_len}
 use Rattle.std.specs.Vec.{with_item}
-use Rattle.oftp_register.specs.declared.change.Cause.{Cause}
 use Rattle.oftp_register.specs.declared.plain.incoming.IncomingFile.{IncomingFile}
 use Rattle.oftp_register.specs.declared.plain.lists.Lists.{Lists}
 use Rattle.oftp_register.specs.declared.office.OfficeFault.{OfficeFault}

@@ -1,11 +1,10 @@
 -- Rows that fit a format.
-use Rattle.std.proofs.Common.{◌≡◌, ℕ, ◌+◌, ◌<◌, ◌≤◌, ◌*◌, List, [], ◌∷◌, ◌++◌, length, take, map, All, refl, ap, sym, ◌∙◌, arith, length-append}
-use Rattle.std.specs.List.{flat_map}
-use Rattle.std.proofs.lemmas.List.Elements.{All-nil, All-cons, All-append, All-take, All-head, All-tail, All-weaker}
+use Rattle.std.proofs.Common.{◌≡◌, ℕ, ◌<◌, ◌≤◌, List, [], ◌∷◌, ◌++◌, length, take, All, arith}
+use Rattle.std.proofs.lemmas.List.Elements.{All-nil, All-cons, All-append, All-take, All-head, All-tail}
 use Rattle.oftp_vfile.specs.declared.format.Format.{Format}
 use Rattle.oftp_vfile.specs.declared.format.Format.TheVariants.{Fixed, Variable, Unstructured, Text}
-use Rattle.oftp_vfile.specs.VirtualFile.{AreBlocks, AreRows, units_in}
-use Rattle.oftp_register.specs.Soundness.{AreFullRows, IsLongest}
+use Rattle.oftp_vfile.specs.VirtualFile.{AreBlocks, AreRows}
+use Rattle.oftp_register.specs.Soundness.{AreFullRows}
 
 -- no row
 pub full-nil : (format : Format) (longest : ℕ) → AreFullRows format longest []

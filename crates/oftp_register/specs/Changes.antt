@@ -1,7 +1,6 @@
 -- What each change makes of a register, or why it is refused. What isn't named stays.
-use Rattle.std.specs.Prelude.{ℕ, zero, suc, ◌+◌, ◌&&◌, ◌||◌, Bool, true, false, nat_le, nat_lt, if◌then◌else◌, List, [], ◌∷◌, ◌++◌, length, take, map, Option, None, Some, Result, Ok, Err}
+use Rattle.std.specs.Prelude.{ℕ, zero, suc, ◌&&◌, ◌||◌, Bool, true, false, nat_le, nat_lt, if◌then◌else◌, List, [], ◌∷◌, ◌++◌, length, take, map, Option, None, Some, Result, Ok, Err}
 use Rattle.std.specs.List.{list_any}
-use Rattle.oftp_vfile.specs.declared.format.Format.{Format}
 use Rattle.oftp_register.specs.declared.entry.Identity.{Identity}
 use Rattle.oftp_register.specs.declared.entry.ResponseKind.{ResponseKind}
 use Rattle.oftp_register.specs.declared.entry.ResponseKind.TheVariants.{EndResponse, NegativeEndResponse}
@@ -29,17 +28,21 @@ at_number f (suc n) [] = Err Unknown
 at_number f (suc zero) (x ∷ entries) = mapped (λ y. y ∷ entries) (f x)
 at_number f (suc (suc n)) (x ∷ entries) = mapped (λ ys. x ∷ ys) (at_number f (suc n) entries)
 
+-- the register with the incoming file of a number changed
 abbrev pub on_incoming : (Incoming → Result Incoming Cause) → ℕ → Register → Result Register Cause
 on_incoming f n r = mapped (λ files. record r { incoming = files }) (at_number f n r.incoming)
 
+-- the register with the outgoing file of a number changed
 abbrev pub on_outgoing : (Outgoing → Result Outgoing Cause) → ℕ → Register → Result Register Cause
 on_outgoing f n r = mapped (λ files. record r { outgoing = files }) (at_number f n r.outgoing)
 
 -- a file to be sent
 
+-- a file of this identity is to be sent, or was
 abbrev pub is_outgoing : Register → Identity → Bool
 is_outgoing r identity = list_any (λ (f : Outgoing). same_identity f.identity identity) r.outgoing
 
+-- a new file is to be sent
 abbrev pub submitted : Register → Outgoing → Result Register Cause
 submitted r file = if is_outgoing r file.identity then Err Duplicate
     else (if nat_le r.limits.files (length r.outgoing) then Err Full
@@ -65,6 +68,7 @@ started_in r header count (file ∷ files) = if same_identity file.identity head
     then mapped (λ f. f ∷ files) (gone_on header count file file.state)
     else mapped (λ fs. file ∷ fs) (started_in r header count files)
 
+-- so does the register
 abbrev pub started : Register → Incoming → ℕ → Result Register Cause
 started r header count = mapped (λ files. record r { incoming = files }) (started_in r header count r.incoming)
 
@@ -73,12 +77,15 @@ abbrev pub if_open : Incoming → List (List ℕ) → IncomingState → Incoming
 if_open file rows state Whole = Err State
 if_open file rows state Open = Ok (record file { rows = rows; state = state })
 
+-- more rows are here
 abbrev pub kept : List (List ℕ) → Incoming → Result Incoming Cause
 kept rows file = if_open file (file.rows ++ rows) Open file.state
 
+-- the last rows are here (RFC 5024, section 5.3.8)
 abbrev pub closed : List (List ℕ) → Incoming → Result Incoming Cause
 closed rows file = if_open file (file.rows ++ rows) Whole file.state
 
+-- its rows are given up
 abbrev pub given_up : Incoming → Result Incoming Cause
 given_up file = if_open file [] Open file.state
 
@@ -89,6 +96,7 @@ abbrev pub answered_as : ResponseKind → OutgoingState
 answered_as EndResponse = Delivered
 answered_as NegativeEndResponse = Returned
 
+-- a file whose end was sent, or that was handed over, is answered; another stays as it is
 abbrev pub answered : ResponseKind → OutgoingState → OutgoingState
 answered kind Waiting = Waiting
 answered kind Closing = answered_as kind
@@ -97,6 +105,7 @@ answered kind (Refused reason) = Refused reason
 answered kind Delivered = Delivered
 answered kind Returned = Returned
 
+-- the file that the response answers
 abbrev pub settled : ResponseKind → Identity → Outgoing → Outgoing
 settled kind identity file = if same_identity file.identity identity
     then record file { state = answered kind file.state }
@@ -112,10 +121,12 @@ abbrev pub if_unanswered : Issued → Incoming → Option Issued → Result Inco
 if_unanswered response file None = Ok (record file { response = Some response })
 if_unanswered response file (Some other) = Err State
 
+-- a file that isn't whole isn't answered
 abbrev pub issued_on : Issued → Incoming → IncomingState → Result Incoming Cause
 issued_on response file Open = Err State
 issued_on response file Whole = if_unanswered response file file.response
 
+-- a response is issued
 abbrev pub issued : Issued → Incoming → Result Incoming Cause
 issued response file = issued_on response file file.state
 
@@ -124,16 +135,18 @@ abbrev pub sent_as : Issued → Dispatch → Result Issued Cause
 sent_as response Due = Ok (record response { dispatch = Sent })
 sent_as response Sent = Err State
 
+-- a response that wasn't issued can't have been sent
 abbrev pub sent_of : Incoming → Option Issued → Result Incoming Cause
 sent_of file None = Err State
 sent_of file (Some response) = mapped (λ answer. record file { response = Some answer }) (sent_as response response.dispatch)
 
+-- the response to a file was sent
 abbrev pub sent : Incoming → Result Incoming Cause
 sent file = sent_of file file.response
 
 -- a file that goes
 
--- whether a file is to be sent, and whether its end was sent
+-- the file is to be sent
 abbrev pub is_waiting : OutgoingState → Bool
 is_waiting Waiting = true
 is_waiting Closing = false
@@ -142,6 +155,7 @@ is_waiting (Refused reason) = false
 is_waiting Delivered = false
 is_waiting Returned = false
 
+-- its end was sent, and the answer is awaited
 abbrev pub is_closing : OutgoingState → Bool
 is_closing Waiting = false
 is_closing Closing = true
@@ -150,21 +164,27 @@ is_closing (Refused reason) = false
 is_closing Delivered = false
 is_closing Returned = false
 
+-- a change that the state allows or not
 abbrev pub if_allowed : Bool → Outgoing → Result Outgoing Cause
 if_allowed allowed file = if allowed then Ok file else Err State
 
+-- so many rows are covered by credit (RFC 5024, section 5.3.7)
 abbrev pub marked : ℕ → Outgoing → Result Outgoing Cause
 marked rows file = if_allowed (is_waiting file.state && nat_le rows (length file.rows)) (record file { mark = rows })
 
+-- the end is about to be sent (RFC 5024, section 5.3.8)
 abbrev pub closing : Outgoing → Result Outgoing Cause
 closing file = if_allowed (is_waiting file.state) (record file { state = Closing })
 
+-- the partner has the file (RFC 5024, section 5.3.9)
 abbrev pub handed : Outgoing → Result Outgoing Cause
 handed file = if_allowed (is_closing file.state) (record file { state = Handed })
 
+-- the partner doesn't take it (RFC 5024, section 5.3.5)
 abbrev pub refused : ℕ → Outgoing → Result Outgoing Cause
 refused reason file = if_allowed (is_waiting file.state || is_closing file.state) (record file { state = Refused reason })
 
+-- it is to be sent again from its first row on (RFC 5024, section 5.3.10)
 abbrev pub reopened : Outgoing → Result Outgoing Cause
 reopened file = if_allowed (is_closing file.state) (record file { state = Waiting; mark = 0 })
 

@@ -1,11 +1,10 @@
 -- What the look-ups of a register find.
-use Rattle.std.specs.Prelude.{◌≡◌, ℕ, zero, suc, ◌+◌, ◌≤◌, ◌<◌, ◌==◌, ◌&&◌, Bool, true, false, nat_le, nat_lt, if◌then◌else◌, List, [], ◌∷◌, length, take, drop, map, find, Option, None, Some, slice_get}
+use Rattle.std.specs.Prelude.{ℕ, zero, suc, ◌+◌, ◌≤◌, ◌<◌, ◌==◌, ◌&&◌, Bool, true, false, nat_le, nat_lt, if◌then◌else◌, List, [], ◌∷◌, length, take, drop, map, find, Option, None, Some, slice_get}
 use Rattle.std.specs.List.{filter_map}
 use Rattle.std.specs.Option.{option_map, unwrap_or}
 use Rattle.std.specs.Str.{bytes_eq}
 use Rattle.oftp_vfile.specs.VirtualFile.{units_in}
 use Rattle.oftp_register.specs.declared.entry.Identity.{Identity}
-use Rattle.oftp_register.specs.declared.entry.ResponseKind.{ResponseKind}
 use Rattle.oftp_register.specs.declared.entry.OutgoingState.{OutgoingState}
 use Rattle.oftp_register.specs.declared.entry.OutgoingState.TheVariants.{Waiting, Closing, Handed, Refused, Delivered, Returned}
 use Rattle.oftp_register.specs.declared.entry.Dispatch.{Dispatch}
@@ -16,7 +15,6 @@ use Rattle.oftp_register.specs.declared.entries.IssuedResponse.{IssuedResponse}
 use Rattle.oftp_register.specs.declared.entries.IncomingEntry.{IncomingEntry}
 use Rattle.oftp_register.specs.declared.entries.OutgoingEntry.{OutgoingEntry}
 use Rattle.oftp_register.specs.declared.entries.IssuedEntry.{IssuedEntry}
-use Rattle.oftp_register.specs.declared.entries.ReceivedResponse.{ReceivedResponse}
 use Rattle.oftp_register.specs.declared.entries.ReceivedEntry.{ReceivedEntry}
 use Rattle.oftp_register.specs.declared.entries.Cursor.{Cursor}
 use Rattle.oftp_register.specs.declared.entries.Item.{Item}

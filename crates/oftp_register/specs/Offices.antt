@@ -17,6 +17,7 @@ CountsFault old new Store = new ≡ next_count old
 CountsFault old new Memory = new ≡ next_count old
 CountsFault old new (Refused cause) = new ≡ old
 
+-- how it goes on over a call
 abbrev pub Counts : {T : Type 0} → ℕ → ℕ → Result T OfficeFault → Type 0
 Counts old new (Ok x) = new ≡ old
 Counts old new (Err fault) = CountsFault old new fault
@@ -41,6 +42,7 @@ pub record Rest : Type 1 where
   pub may_leave : Content → Type 0
   pub stands : Type 0
 
+-- what an office leaves behind now
 abbrev pub rest_of : {O C : Type 0} → (C → Register → Type 0) → (O → C → Type 0) → (O → Type 0) → O → Rest
 rest_of {C = C} holds may_leave stands office = record { Content = C; holds = holds; may_leave = may_leave office; stands = stands office }
 

@@ -61,6 +61,7 @@ empty limits = record { limits = limits; incoming = []; outgoing = []; received 
 abbrev pub same_identity : Identity → Identity → Bool
 same_identity a b = bytes_eq a.dataset b.dataset && (bytes_eq a.date b.date && (bytes_eq a.time b.time && (bytes_eq a.originator b.originator && bytes_eq a.destination b.destination)))
 
+-- both are one kind of response
 abbrev pub same_kind : ResponseKind → ResponseKind → Bool
 same_kind EndResponse EndResponse = true
 same_kind EndResponse NegativeEndResponse = false

@@ -1,5 +1,5 @@
 -- That a register is sound has one proof at most, so a value may keep it.
-use Rattle.std.specs.Prelude.{◌≡◌, ℕ, ◌<◌, ◌≤◌, false, List, [], ◌∷◌, length, map, Option, is_some, All}
+use Rattle.std.specs.Prelude.{◌≡◌, ℕ, false, List, [], ◌∷◌, length, map, Option, All}
 use Rattle.std.specs.List.{list_any}
 use Rattle.std.specs.Coded.{×_prop, Unit-prop, le_prop}
 use Rattle.std.proofs.Props.{props}
@@ -12,6 +12,7 @@ use Rattle.oftp_register.specs.declared.entry.IncomingState.TheVariants.{Open, W
 use Rattle.oftp_register.specs.Register.{Register, Incoming, Outgoing, Received, answers, same_identity}
 use Rattle.oftp_register.specs.Soundness.{AreFiledOnce, AreFullRows, AreNamedOnce, FitsState, IsAnsweredWhole, IsLongest, IsSound, IsSoundIncoming, IsSoundOutgoing}
 
+-- each part has one proof at most, and so the whole has
 longest-prop : (format : Format) (longest : ℕ) → IsProp (IsLongest format longest)
 longest-prop Fixed longest = Prim.hlevel props
 longest-prop Variable longest = Prim.hlevel props

@@ -1,5 +1,5 @@
 -- Whether a listener takes what is offered.
-use Rattle.std.specs.Prelude.{ℕ, ◌+◌, ◌/◌, ◌==◌, ◌&&◌, ◌||◌, not, Bool, true, false, nat_le, nat_lt, min, if◌then◌else◌, List, [], ◌∷◌, length, Option, None, Some}
+use Rattle.std.specs.Prelude.{ℕ, ◌/◌, ◌==◌, ◌&&◌, not, Bool, true, false, nat_le, nat_lt, min, if◌then◌else◌, List, [], ◌∷◌, Option, None, Some}
 use Rattle.std.specs.Str.{bytes_eq}
 use Rattle.oftp_vfile.specs.declared.format.Format.{Format}
 use Rattle.oftp_vfile.specs.declared.format.Format.TheVariants.{Fixed, Variable, Unstructured, Text}
@@ -9,7 +9,6 @@ use Rattle.oftp_wire.specs.declared.command.Layout.{Layout}
 use Rattle.oftp_wire.specs.declared.command.Layout.TheVariants as layout
 use Rattle.oftp_wire.specs.declared.command.Security.{Security}
 use Rattle.oftp_wire.specs.declared.command.Security.TheVariants.{Plain, Encrypted, Signed, Both}
-use Rattle.oftp_wire.specs.declared.reason.StartReason.{StartReason}
 use Rattle.oftp_wire.specs.declared.reason.StartReason.TheVariants.{InvalidFilename, InvalidDestination, InvalidOrigin, MaximumRecordLengthNotSupported, FileSizeTooBig, DuplicateFile, FileDirectionRefused, Unspecified}
 use Rattle.oftp_wire.specs.declared.reason.EndReason.TheVariants.{InvalidRecordCount, InvalidByteCount}
 use Rattle.oftp_register.specs.declared.entry.IncomingState.{IncomingState}
@@ -67,11 +66,12 @@ abbrev pub restart_position : Sfid → IncomingEntry → Bool → ℕ
 restart_position sfid entry restart =
     if restart && (same_format entry.format (format_of sfid.layout) && entry.longest == longest_of sfid.layout) then min sfid.restart entry.rows else 0
 
--- a file of this identity is there
+-- what is answered where a file of this identity is there, by its state
 abbrev pub by_state : Sfid → IncomingEntry → Bool → IncomingState → StartVerdict
 by_state sfid entry restart Open = start.Accept (restart_position sfid entry restart)
 by_state sfid entry restart Whole = start.Refuse DuplicateFile false
 
+-- the same of the entry
 abbrev pub kept_verdict : Sfid → IncomingEntry → Bool → StartVerdict
 kept_verdict sfid entry restart = by_state sfid entry restart entry.state
 

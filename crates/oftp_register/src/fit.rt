@@ -1,10 +1,10 @@
-//! The tests of what a file may be.
+//! The tests of what an office and a file may be.
 
 ghost use Rattle.std.specs.Prelude.{◌≡◌, ◌↔◌, ◌<◌, ◌≤◌, IsTrue, All, length};
 ghost use Rattle.oftp_vfile.specs.VirtualFile.{AreBlocks, AreRows};
 ghost use Rattle.oftp_register.specs.Soundness.{AreFullRows, IsFile, IsLongest};
 
-use oftp_vfile::{Format, Row};
+use oftp_vfile::{Format, Limits, Row};
 
 /// How many rows a file has at most.
 pub const MOST_ROWS: usize = 1_000_000;
@@ -12,7 +12,21 @@ pub const MOST_ROWS: usize = 1_000_000;
 /// The longest record of F and V at most, in octets.
 pub const LONGEST_RECORD: u32 = 16_384;
 
+/// How many files an office may hold on each side at most.
+pub const MOST_FILES: u64 = 1_000_000;
+
+/// How many octets of a file an office may hold at most.
+pub const MOST_OCTETS: u64 = 1_024_000_000;
+
+// The octets of a block (RFC 5024, section 1.5.4).
 const BLOCK: usize = 1024;
+
+/// Whether an office may be made with these limits: 1,000,000 files and 1,024,000,000 octets of a file at most.
+pub fn are_limits(limits: Limits) -> bool
+    ensures { IsTrue result ↔ (limits.files ≤ 1000000) × (limits.octets ≤ 1024000000) }
+{
+    limits.files <= MOST_FILES && limits.octets <= MOST_OCTETS
+}
 
 /// Whether this may be the longest record of a file of this format: 1 to 16,384 octets in F and V, and 0 in U and T.
 pub fn is_longest(format: Format, longest: u32) -> bool

@@ -20,7 +20,10 @@ pub use entries::{
     ReceivedResponse, Side,
 };
 pub use entry::{Dispatch, Identity, IncomingState, OutgoingState, ResponseKind};
-pub use fit::{LONGEST_RECORD, MOST_ROWS, are_full_rows, are_rows, is_file, is_longest};
+pub use fit::{
+    LONGEST_RECORD, MOST_FILES, MOST_OCTETS, MOST_ROWS, are_full_rows, are_limits, are_rows,
+    is_file, is_longest,
+};
 pub use laws::changes_keep;
 pub use name::{DigitString, Name};
 pub use note::Note;
@@ -30,3 +33,6 @@ pub use prefix::commit_all;
 pub use verdicts::{
     EndVerdict, StartVerdict, Terms, end_verdict, format_of, longest_of, start_verdict,
 };
+
+#[cfg(test)]
+mod tests;

@@ -21,7 +21,7 @@ use std::alloc::{AllocError, AllocFailed};
 pub enum OfficeFault {
     /// The store failed in this call.
     Store,
-    /// A growth was refused.
+    /// A growth was refused, of memory or of a file beyond its limits.
     Memory,
     /// The register doesn't allow the change, and nothing was changed.
     Refused(Cause),
@@ -300,6 +300,15 @@ pub trait Office {
         ensures counts { Counts (told self.old) (told self.new) result };
 
     /// Makes a change. When it returns `Ok`, a stop leaves the change made.
+    ///
+    /// A change after which a file had more than 1,000,000 rows, or rows that don't fit its format and longest record, isn't
+    /// made: it is told as [`OfficeFault::Memory`]. [`is_file`], [`is_longest`], [`are_full_rows`] and [`are_rows`] are the
+    /// tests that a caller can make before.
+    ///
+    /// [`is_file`]: crate::is_file
+    /// [`is_longest`]: crate::is_longest
+    /// [`are_full_rows`]: crate::are_full_rows
+    /// [`are_rows`]: crate::are_rows
     ///
     /// # Errors
     ///

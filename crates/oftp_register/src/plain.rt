@@ -37,7 +37,7 @@ pub struct PlainOffice {
 impl PlainOffice {
     ghost use Rattle.oftp_register.specs.Plain.{register_of};
 
-    /// An office with an empty register.
+    /// An office with an empty register. [`are_limits`](crate::are_limits) tests the limits. It takes no memory.
     pub fn new(alloc: Global, limits: Limits) -> PlainOffice
         requires files { limits.files ≤ 1000000 }
         requires octets { limits.octets ≤ 1024000000 }
@@ -218,7 +218,7 @@ impl Office for PlainOffice {
         self.counted(found)
     }
 
-    // It never tells a fault of a store.
+    // It never tells a fault of a store, nor does a look-up.
     fn commit(&mut self, change: Change<'_>) -> Result<(), OfficeFault>
         ensures made { Makes register_of (apply (register_of self.old) change.entry) self.old self.new result }
         ensures counts { Counts self.old.faults self.new.faults result }

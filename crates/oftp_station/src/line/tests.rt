@@ -176,8 +176,8 @@ fn refuses_what_is_no_command_line(rt: HostRuntime) -> Result<(), Fail> {
     ];
     for line in lines {
         let words = words_of(rt.alloc(), line)?;
-        let read = line_of(rt.alloc(), words.as_slice());
-        assert!(rt; matches!(read, Err(LineFault::Bad(_))), "{line}");
+        let text = refusal(rt.alloc(), words.as_slice())?;
+        assert!(rt; text.starts_with("error: "), "{line}");
     }
     Ok(())
 }

@@ -1,6 +1,5 @@
-use Rattle.std.proofs.Common.{◌+◌, ◌≤◌, List, ℕ, length, take, ap, arith}
+use Rattle.std.proofs.Common.{List, ℕ, length, ap, arith}
 use Rattle.std.proofs.lemmas.List.Folds.{length-flat_map-take}
-use Rattle.oftp_vfile.specs.VirtualFile.{units_in}
 use Rattle.oftp_register.proofs.plain.units.units_of.Goals as goal
 
 pub overflow_add-units : goal.overflow_add-units

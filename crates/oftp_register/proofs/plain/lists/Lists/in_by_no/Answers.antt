@@ -1,4 +1,4 @@
-use Rattle.std.proofs.Common.{refl, sym, ap, ◌∙◌, map}
+use Rattle.std.proofs.Common.{refl, sym}
 use Rattle.oftp_register.specs.LookUps.{incoming_entry}
 use Rattle.oftp_register.specs.declared.entries.IncomingEntry.{IncomingEntry}
 use Rattle.oftp_register.specs.Lists.{incoming_of}

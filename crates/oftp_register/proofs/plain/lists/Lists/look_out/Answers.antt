@@ -1,4 +1,4 @@
-use Rattle.std.proofs.Common.{refl, sym, ap, ◌∙◌, subst}
+use Rattle.std.proofs.Common.{refl, sym, ap, ◌∙◌}
 use Rattle.std.specs.List.{position}
 use Rattle.oftp_register.specs.Register.{same_identity}
 use Rattle.oftp_register.specs.LookUps.{outgoing_entry}

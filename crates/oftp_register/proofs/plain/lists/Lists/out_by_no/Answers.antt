@@ -1,4 +1,4 @@
-use Rattle.std.proofs.Common.{refl, sym, ap, ◌∙◌, map}
+use Rattle.std.proofs.Common.{refl, sym}
 use Rattle.oftp_register.specs.LookUps.{outgoing_entry}
 use Rattle.oftp_register.specs.declared.entries.OutgoingEntry.{OutgoingEntry}
 use Rattle.oftp_register.specs.Lists.{outgoing_of}

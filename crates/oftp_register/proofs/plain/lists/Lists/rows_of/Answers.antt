@@ -1,6 +1,6 @@
-use Rattle.std.proofs.Common.{◌≡◌, List, ℕ, take, drop, subst, sym, ap, ◌∙◌}
+use Rattle.std.proofs.Common.{◌≡◌, take, drop, subst, sym, ap, ◌∙◌}
 use Rattle.std.proofs.lemmas.Result.{IfOk-weaker}
-use Rattle.oftp_register.specs.LookUps.{AreRowsWithin, file_rows, rows_of}
+use Rattle.oftp_register.specs.LookUps.{AreRowsWithin, file_rows}
 use Rattle.oftp_register.specs.Lists.{register_in}
 use Rattle.oftp_register.proofs.FileRowLemmas.{few_rows, part_within}
 use Rattle.oftp_register.proofs.plain.lists.Lists.rows_of.Goals as goal

@@ -1,0 +1,219 @@
+//! Registers written by hand from the table of changes.
+
+use super::*;
+use oftp_vfile::{Format, Limits, Row, Rows};
+use oftp_wire::{Count, Digits, Text, X};
+use std::alloc::{AllocError, Global};
+use std::test::Fail;
+
+mod changes;
+mod lookups;
+mod memory;
+mod verdicts;
+
+const LIMITS: Limits = Limits {
+    files: 2,
+    octets: 67_108_864,
+};
+
+/// A change in short. Files go by a letter, all from O1 to O2, in V with a longest record of 3.
+#[derive(Clone, Copy, Debug)]
+enum Act {
+    Submit(&'static [u8], &'static [&'static [u8]]),
+    Start(&'static [u8], u64),
+    Keep(u64, &'static [&'static [u8]]),
+    Close(u64, &'static [&'static [u8]]),
+    GiveUp(u64),
+    File(&'static [u8], ResponseKind),
+    Issue(u64, ResponseKind),
+    Mark(u64, u64),
+    Closing(u64),
+    HandOver(u64),
+    Refuse(u64),
+    Reopen(u64),
+    Sent(u64),
+}
+
+// What is wrong with a fixture, unless memory ran out.
+const BAD: OfficeFault = OfficeFault::Store;
+
+fn text(words: &'static str) -> Result<Text<'static>, OfficeFault> {
+    Text::new(words).ok_or(BAD)
+}
+
+fn code(letters: &'static [u8]) -> Result<Name<25>, OfficeFault> {
+    Ok(Name::of(&X::new(letters).ok_or(BAD)?))
+}
+
+fn file(dataset: &'static [u8]) -> Result<Identity, OfficeFault> {
+    Ok(Identity {
+        dataset: Name::of(&X::new(dataset).ok_or(BAD)?),
+        date: DigitString::of(&Digits::new(b"20240131").ok_or(BAD)?),
+        time: DigitString::of(&Digits::new(b"1015300001").ok_or(BAD)?),
+        originator: code(b"O1")?,
+        destination: code(b"O2")?,
+    })
+}
+
+fn rows(alloc: Global, records: &[&[u8]]) -> Result<Rows, AllocError> {
+    let mut rows = Vec::new(alloc);
+    for record in records {
+        rows.push(Row::new(Vec::from_slice(alloc, record)?))?;
+    }
+    Ok(Rows::new(rows))
+}
+
+fn submit(dataset: &'static [u8], rows: Rows) -> Result<Change<'static>, OfficeFault> {
+    Ok(Change::Submit {
+        identity: file(dataset)?,
+        format: Format::Variable,
+        longest: 3,
+        description: text("")?,
+        rows,
+    })
+}
+
+fn start(dataset: &'static [u8], count: u64) -> Result<Change<'static>, OfficeFault> {
+    Ok(Change::Start {
+        identity: file(dataset)?,
+        format: Format::Variable,
+        longest: 3,
+        description: text("")?,
+        count,
+    })
+}
+
+fn file_response(
+    dataset: &'static [u8],
+    kind: ResponseKind,
+) -> Result<Change<'static>, OfficeFault> {
+    Ok(Change::File {
+        kind,
+        identity: file(dataset)?,
+        reason: Count::new(9),
+        creator: code(b"O2")?,
+        text: text("NO PLANT")?,
+    })
+}
+
+fn issue(no: u64, kind: ResponseKind) -> Result<Change<'static>, OfficeFault> {
+    Ok(Change::Issue {
+        no,
+        kind,
+        reason: Count::new(0),
+        text: text("")?,
+    })
+}
+
+fn change(alloc: Global, act: Act) -> Result<Change<'static>, OfficeFault> {
+    match act {
+        Act::Submit(dataset, records) => submit(dataset, rows(alloc, records)?),
+        Act::Start(dataset, count) => start(dataset, count),
+        Act::Keep(no, records) => Ok(Change::Keep {
+            no,
+            rows: rows(alloc, records)?,
+        }),
+        Act::Close(no, records) => Ok(Change::Close {
+            no,
+            rows: rows(alloc, records)?,
+        }),
+        Act::GiveUp(no) => Ok(Change::GiveUp { no }),
+        Act::File(dataset, kind) => file_response(dataset, kind),
+        Act::Issue(no, kind) => issue(no, kind),
+        Act::Mark(no, rows) => Ok(Change::Mark { no, rows }),
+        Act::Closing(no) => Ok(Change::Closing { no }),
+        Act::HandOver(no) => Ok(Change::HandOver { no }),
+        Act::Refuse(no) => Ok(Change::Refuse {
+            no,
+            reason: Count::new(13),
+        }),
+        Act::Reopen(no) => Ok(Change::Reopen { no }),
+        Act::Sent(no) => Ok(Change::Sent { no }),
+    }
+}
+
+// An office after these changes.
+fn office_after(alloc: Global, acts: &[Act]) -> Result<PlainOffice, OfficeFault> {
+    let mut office = PlainOffice::new(alloc, LIMITS);
+    for act in acts {
+        office.commit(change(alloc, *act)?)?;
+    }
+    Ok(office)
+}
+
+fn letter(identity: &Identity) -> char {
+    char::from(identity.dataset.octets().first().copied().unwrap_or(b'-'))
+}
+
+fn way(state: OutgoingState) -> &'static str {
+    match state {
+        OutgoingState::Waiting => "waiting",
+        OutgoingState::Closing => "closing",
+        OutgoingState::Handed => "handed",
+        OutgoingState::Refused(_) => "refused",
+        OutgoingState::Delivered => "delivered",
+        OutgoingState::Returned => "returned",
+    }
+}
+
+fn sign(kind: ResponseKind) -> &'static str {
+    match kind {
+        ResponseKind::EndResponse => "EERP",
+        ResponseKind::NegativeEndResponse => "NERP",
+    }
+}
+
+fn add_incoming(all: &mut String, office: &mut PlainOffice) -> Result<(), OfficeFault> {
+    for entry in office.list_in()? {
+        let letter = letter(&entry.identity);
+        let IncomingEntry {
+            rows,
+            units,
+            state,
+            ..
+        } = &entry;
+        write!(all, "in {letter} {state:?} {rows}/{units}")?;
+        match &entry.response {
+            Some(response) => {
+                let dispatch = response.dispatch;
+                let kind = sign(response.kind);
+                write!(all, " {kind} {dispatch:?}; ")?;
+            }
+            None => write!(all, "; ")?,
+        }
+    }
+    Ok(())
+}
+
+fn add_outgoing(all: &mut String, office: &mut PlainOffice) -> Result<(), OfficeFault> {
+    for entry in office.list_out()? {
+        let letter = letter(&entry.identity);
+        let state = way(entry.state);
+        let OutgoingEntry {
+            rows,
+            units,
+            mark,
+            ..
+        } = &entry;
+        write!(all, "out {letter} {state} {rows}/{units} mark {mark}; ")?;
+    }
+    Ok(())
+}
+
+fn add_received(all: &mut String, office: &mut PlainOffice) -> Result<(), OfficeFault> {
+    for entry in office.list_received()? {
+        let letter = letter(&entry.response.identity);
+        let kind = sign(entry.response.kind);
+        write!(all, "got {letter} {kind}; ")?;
+    }
+    Ok(())
+}
+
+// All that an office keeps.
+fn shown(alloc: Global, office: &mut PlainOffice) -> Result<String, OfficeFault> {
+    let mut all = String::new(alloc);
+    add_incoming(&mut all, office)?;
+    add_outgoing(&mut all, office)?;
+    add_received(&mut all, office)?;
+    Ok(all)
+}

@@ -1,0 +1,54 @@
+//! Refused growths: with each allocation refused in turn, `rt try --test --fail-alloc N` passes too.
+
+use super::*;
+
+// Changes of every kind.
+const ACTS: [Act; 15] = [
+    Act::Submit(b"A", &[b"abc", b""]),
+    Act::Submit(b"B", &[b"x"]),
+    Act::Mark(1, 1),
+    Act::Closing(1),
+    Act::Reopen(1),
+    Act::Closing(1),
+    Act::HandOver(1),
+    Act::Refuse(2),
+    Act::File(b"A", ResponseKind::NegativeEndResponse),
+    Act::Start(b"D", 0),
+    Act::Keep(1, &[b"abc", b"de"]),
+    Act::GiveUp(1),
+    Act::Close(1, &[b"f"]),
+    Act::Issue(1, ResponseKind::EndResponse),
+    Act::Sent(1),
+];
+
+// A second try, since one allocation alone is refused.
+fn change_again(alloc: Global, act: Act) -> Result<Change<'static>, OfficeFault> {
+    match change(alloc, act) {
+        Ok(change) => Ok(change),
+        Err(_) => change(alloc, act),
+    }
+}
+
+fn shown_again(alloc: Global, office: &mut PlainOffice) -> Result<String, OfficeFault> {
+    match shown(alloc, office) {
+        Ok(all) => Ok(all),
+        Err(_) => shown(alloc, office),
+    }
+}
+
+#[test]
+fn each_allocation_refused(rt: HostRuntime) -> Result<(), Fail> {
+    let alloc = rt.alloc();
+    let mut office = PlainOffice::new(alloc, LIMITS);
+    for (at, act) in ACTS.iter().enumerate() {
+        if office.commit(change_again(alloc, *act)?).is_err() {
+            let before = shown(alloc, &mut office_after(alloc, &ACTS[..at])?)?;
+            assert_eq!(rt; shown(alloc, &mut office)?.as_str(), before.as_str());
+            office.commit(change(alloc, *act)?)?;
+        }
+    }
+    let all =
+        "in D Whole 1/1 EERP Sent; out A returned 2/3 mark 0; out B refused 1/1 mark 0; got A NERP; ";
+    assert_eq!(rt; shown_again(alloc, &mut office)?.as_str(), all);
+    Ok(())
+}
