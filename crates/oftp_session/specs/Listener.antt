@@ -1,4 +1,4 @@
--- What comes where the station listens (RFC 5024, sections 4.4 and 5.3.13).
+-- What comes where the station listens (RFC 5024, sections 5.3.12 to 5.3.14).
 use Rattle.std.specs.Prelude.{Bool, ◌&&◌, if◌then◌else◌, [], Option, None, Some}
 use Rattle.std.specs.Str.{bytes_eq}
 use Rattle.oftp_wire.specs.declared.command.Eerp.{Eerp}

@@ -1,4 +1,4 @@
--- How a session opens (RFC 5024, sections 4.2 and 5.3.2).
+-- How a session opens (RFC 5024, sections 4.2, 5.3.1 and 5.3.2).
 use Rattle.std.specs.Prelude.{ℕ, Bool, true, false, ◌&&◌, ◌||◌, not, ◌==◌, nat_lt, min, if◌then◌else◌, List, [], Option, None, Some, is_some, Result, Ok, Err}
 use Rattle.std.specs.Str.{bytes_eq}
 use Rattle.oftp_wire.specs.declared.command.Ssid.{Ssid}

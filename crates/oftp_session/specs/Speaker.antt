@@ -1,4 +1,4 @@
--- What the station says where it speaks (RFC 5024, sections 4.4 and 5.3.12).
+-- What the station says where it speaks (RFC 5024, sections 5.3.11 and 5.3.12).
 use Rattle.oftp_wire.specs.declared.command.Command.{Command}
 use Rattle.oftp_wire.specs.declared.command.Command.TheVariants as command
 use Rattle.oftp_wire.specs.declared.reason.SessionReason.TheVariants.{Normal, ProtocolViolation}
