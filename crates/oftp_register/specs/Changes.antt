@@ -1,5 +1,5 @@
 -- What each change makes of a register, or why it is refused. What isn't named stays.
-use Rattle.std.specs.Prelude.{ℕ, zero, suc, ◌&&◌, ◌||◌, Bool, true, false, nat_le, nat_lt, if◌then◌else◌, List, [], ◌∷◌, ◌++◌, length, take, map, Option, None, Some, Result, Ok, Err}
+use Rattle.std.specs.Prelude.{ℕ, zero, suc, ◌&&◌, ◌||◌, Bool, true, false, nat_le, nat_lt, if◌then◌else◌, List, [], ◌∷◌, ◌++◌, fold, length, take, map, Option, None, Some, Result, Ok, Err}
 use Rattle.std.specs.List.{list_any}
 use Rattle.oftp_register.specs.declared.entry.Identity.{Identity}
 use Rattle.oftp_register.specs.declared.entry.ResponseKind.{ResponseKind}
@@ -206,6 +206,15 @@ apply r (change.HandOver n) = on_outgoing handed n r
 apply r (change.Refuse n reason) = on_outgoing (refused reason) n r
 apply r (change.Reopen n) = on_outgoing reopened n r
 apply r (change.Sent n) = on_incoming sent n r
+
+-- one change more, unless one was refused before
+abbrev pub go_on_by : Result Register Cause → Change → Result Register Cause
+go_on_by (Ok r) change = apply r change
+go_on_by (Err cause) change = Err cause
+
+-- the register after changes in turn; the first refusal ends them
+abbrev pub apply_all : Register → List Change → Result Register Cause
+apply_all r changes = fold go_on_by (Ok r) changes
 
 -- the register after a change that may be refused
 abbrev pub or_else : Result Register Cause → Register → Register

@@ -1,7 +1,7 @@
 -- What the calls of an office do, and what a stop leaves.
 use Rattle.std.specs.Prelude.{◌≡◌, ℕ, ◌+◌, ◌%◌, ◌^◌, ◌≤◌, ◌⊎◌, List, length, take, Result, Ok, Err, Option, None, Some, ⊤}
 use Rattle.oftp_register.specs.Register.{Register}
-use Rattle.oftp_register.specs.Changes.{after_all, apply}
+use Rattle.oftp_register.specs.Changes.{apply, apply_all}
 use Rattle.oftp_register.specs.declared.change.Cause.{Cause}
 use Rattle.oftp_register.specs.declared.change.Change.{Change}
 use Rattle.oftp_register.specs.declared.office.OfficeFault.{OfficeFault}
@@ -55,6 +55,6 @@ abbrev pub WithOrWithout : Option Change → Register → Rest → Type 0
 WithOrWithout None r rest = Only r rest
 WithOrWithout (Some change) r rest = (c : rest.Content) → rest.may_leave c → rest.holds c r ⊎ ((s : Register) × (apply r change ≡ Ok s) × rest.holds c s)
 
--- the content stands for the register after the first so many of the changes
+-- what is left stands for the register after the first so many of the changes, all of them made
 abbrev pub IsAfterPrefix : {C : Type 0} → (C → Register → Type 0) → Register → List Change → C → Type 0
-IsAfterPrefix holds r changes c = (n : ℕ) × (n ≤ length changes) × holds c (after_all r (take n changes))
+IsAfterPrefix holds r changes c = (n : ℕ) × (n ≤ length changes) × ((s : Register) × (apply_all r (take n changes) ≡ Ok s) × holds c s)

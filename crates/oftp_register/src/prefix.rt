@@ -1,24 +1,30 @@
 //! Many changes in turn, over any office.
 
-ghost use Rattle.std.specs.Prelude.{◌≡◌, Ok, OnOk, OnErr};
-ghost use Rattle.oftp_register.specs.Changes.{after_all};
-ghost use Rattle.oftp_register.specs.Offices.{IsAfterPrefix};
+ghost use Rattle.std.specs.Prelude.{◌≡◌, Ok, OnErr, OnOk};
+ghost use Rattle.oftp_register.specs.Changes.{apply_all};
+ghost use Rattle.oftp_register.specs.Offices.{Counts, IsAfterPrefix, IsRefused};
 
 use crate::change::Change;
 use crate::office::{Office, OfficeFault};
 
-/// Makes changes in turn, as far as the first that isn't made. At every exit a stop leaves the register after the first so many
-/// of them.
+/// Makes changes in turn, up to the first that isn't made. Wherever it ends, a stop leaves the register after the first so many
+/// of them, each one made.
 ///
 /// # Errors
 ///
-/// The fault of the change that wasn't made.
+/// The fault of the change that wasn't made: [`OfficeFault::Refused`] exactly where the register refuses one of the changes,
+/// with the cause of the first. An office that is still open then keeps the register after the changes before.
 pub fn commit_all<O: Office>(office: &mut O, changes: Vec<Change<'_>>) -> Result<(), OfficeFault>
     ensures clean { O.is_clean office.new → O.is_clean office.old }
     ensures done { O.is_clean office.new → O.stands office.old
-        → OnOk result ((O.register office.new ≡ after_all (O.register office.old) changes.entry.items) × O.stands office.new) }
+        → OnOk result ((apply_all (O.register office.old) changes.entry.items ≡ Ok (O.register office.new)) × O.stands office.new) }
+    ensures refused { O.is_clean office.new → O.stands office.old
+        → IsRefused (apply_all (O.register office.old) changes.entry.items) result (O.stands office.new) }
+    ensures kept { O.is_clean office.new → O.stands office.old → OnErr result (O.stands office.new
+        → IsAfterPrefix (λ now r. now ≡ r) (O.register office.old) changes.entry.items (O.register office.new)) }
     ensures left { O.is_clean office.new → O.stands office.old → (c : O.Content) → O.may_leave office.new c
         → IsAfterPrefix O.holds (O.register office.old) changes.entry.items c }
+    ensures counts { Counts (O.told office.old) (O.told office.new) result }
 {
     for change in changes {
         office.commit(change)?;

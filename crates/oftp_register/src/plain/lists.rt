@@ -4,6 +4,7 @@ ghost use Rattle.std.specs.Prelude.{◌≡◌, ◌≤◌, ◌<◌, ◌^◌, ℕ,
 ghost use Rattle.std.specs.List.{list_any};
 ghost use Rattle.oftp_register.specs.Register.{Register, answers, empty, has_received, same_identity, same_kind};
 ghost use Rattle.oftp_register.specs.Changes.{apply, closed, closing, filed, given_up, handed, issued, kept, marked, on_incoming, on_outgoing, refused, reopened, sent, settled, started, submitted};
+ghost use Rattle.oftp_register.specs.declared.change.Change.TheVariants as change;
 ghost use Rattle.oftp_register.specs.Soundness.{AreFullRows, IsFit, IsSound};
 ghost use Rattle.oftp_register.specs.LookUps.{AreRowsWithin, IsIncomingWithin, IsItemWithin, IsOutgoingWithin, file_rows, files_full, in_by_no, list_in, list_issued, list_out, list_received, look_in, look_out, next_file, next_item, next_response, out_by_no, rows_of};
 ghost use Rattle.oftp_register.specs.Lists.{IsPlace, Makes, header_of, issued_of, newly_started, outgoing_of, received_of, register_in, to_send};
@@ -20,7 +21,7 @@ use crate::fit::{is_file, is_longest};
 use crate::name::Name;
 use crate::office::OfficeFault;
 use oftp_vfile::{Format, Limits, Row, Rows};
-use oftp_wire::Count;
+use oftp_wire::{Count, Text};
 use std::alloc::{AllocError, Global};
 
 /// Lists that keep a register.
@@ -140,8 +141,8 @@ impl Lists {
         is_answered(&self.received, kind, identity)
     }
 
-    // A file is to be sent.
-    fn submit(&mut self, header: Header, rows: Rows) -> Result<(), OfficeFault>
+    // A file with this header is to be sent.
+    fn add_outgoing(&mut self, header: Header, rows: Rows) -> Result<(), OfficeFault>
         ensures { Makes register_in (submitted (register_in self.old) (to_send header rows)) self.old self.new result }
     {
         if is_among(&self.outgoing, &header.identity) {
@@ -154,8 +155,8 @@ impl Lists {
         Ok(())
     }
 
-    // A file begins to come, or goes on.
-    fn start(&mut self, header: Header, count: u64) -> Result<(), OfficeFault>
+    // A file with this header begins to come, or goes on.
+    fn take_up(&mut self, header: Header, count: u64) -> Result<(), OfficeFault>
         ensures { Makes register_in (started (register_in self.old) (header_of header) count) self.old self.new result }
     {
         match place_in(&self.incoming, &header.identity) {
@@ -207,8 +208,8 @@ impl Lists {
         }
     }
 
-    // A response comes.
-    fn file(&mut self, response: ReceivedResponse) -> Result<(), OfficeFault>
+    // This response comes.
+    fn add_received(&mut self, response: ReceivedResponse) -> Result<(), OfficeFault>
         ensures { Makes register_in (filed (register_in self.old) (received_of response)) self.old self.new result }
     {
         if self.is_received(response.kind, &response.identity) {
@@ -220,8 +221,8 @@ impl Lists {
         Ok(())
     }
 
-    // A response is issued.
-    fn issue(&mut self, no: u64, response: IssuedResponse) -> Result<(), OfficeFault>
+    // This response is issued.
+    fn answer(&mut self, no: u64, response: IssuedResponse) -> Result<(), OfficeFault>
         ensures { Makes register_in (on_incoming (issued (issued_of response)) no (register_in self.old)) self.old self.new result }
     {
         match place_of(no, self.incoming.len()) {
@@ -324,6 +325,69 @@ impl Lists {
         }
     }
 
+    // A file is to be sent.
+    #[tactic(auto, unfolding(crate::specs::Changes::apply))]
+    fn submit(
+        &mut self,
+        identity: Identity,
+        format: Format,
+        longest: u32,
+        description: &Text<'_>,
+        rows: Rows,
+    ) -> Result<(), OfficeFault>
+        ensures { Makes register_in (apply (register_in self.old) (change.Submit identity format longest description.now rows)) self.old self.new result }
+    {
+        let header = Header::new(self.alloc, identity, format, longest, description)?;
+        self.add_outgoing(header, rows)
+    }
+
+    // A file begins to come, or goes on.
+    #[tactic(auto, unfolding(crate::specs::Changes::apply))]
+    fn start(
+        &mut self,
+        identity: Identity,
+        format: Format,
+        longest: u32,
+        description: &Text<'_>,
+        count: u64,
+    ) -> Result<(), OfficeFault>
+        ensures { Makes register_in (apply (register_in self.old) (change.Start identity format longest description.now count)) self.old self.new result }
+    {
+        let header = Header::new(self.alloc, identity, format, longest, description)?;
+        self.take_up(header, count)
+    }
+
+    // A response comes.
+    #[tactic(auto, unfolding(crate::specs::Changes::apply))]
+    fn file(
+        &mut self,
+        kind: ResponseKind,
+        identity: Identity,
+        reason: Count<2>,
+        creator: Name<25>,
+        text: &Text<'_>,
+    ) -> Result<(), OfficeFault>
+        ensures { Makes register_in (apply (register_in self.old) (change.File kind identity reason creator text.now)) self.old self.new result }
+    {
+        let response = ReceivedResponse::new(self.alloc, kind, identity, reason, creator, text)?;
+        self.add_received(response)
+    }
+
+    // A response is issued.
+    #[tactic(auto, unfolding(crate::specs::Changes::apply))]
+    fn issue(
+        &mut self,
+        no: u64,
+        kind: ResponseKind,
+        reason: Count<2>,
+        text: &Text<'_>,
+    ) -> Result<(), OfficeFault>
+        ensures { Makes register_in (apply (register_in self.old) (change.Issue no kind reason text.now)) self.old self.new result }
+    {
+        let response = IssuedResponse::new(self.alloc, kind, reason, text)?;
+        self.answer(no, response)
+    }
+
     // Makes a change.
     #[tactic(auto, unfolding(crate::specs::Changes::apply))]
     fn make(&mut self, change: Change<'_>) -> Result<(), OfficeFault>
@@ -336,20 +400,14 @@ impl Lists {
                 longest,
                 description,
                 rows,
-            } => {
-                let header = Header::new(self.alloc, identity, format, longest, &description)?;
-                self.submit(header, rows)
-            }
+            } => self.submit(identity, format, longest, &description, rows),
             Change::Start {
                 identity,
                 format,
                 longest,
                 description,
                 count,
-            } => {
-                let header = Header::new(self.alloc, identity, format, longest, &description)?;
-                self.start(header, count)
-            }
+            } => self.start(identity, format, longest, &description, count),
             Change::Keep { no, rows } => self.keep(no, rows),
             Change::Close { no, rows } => self.close(no, rows),
             Change::GiveUp { no } => self.give_up(no),
@@ -359,21 +417,13 @@ impl Lists {
                 reason,
                 creator,
                 text,
-            } => {
-                let response = ReceivedResponse::new(
-                    self.alloc, kind, identity, reason, creator, &text,
-                )?;
-                self.file(response)
-            }
+            } => self.file(kind, identity, reason, creator, &text),
             Change::Issue {
                 no,
                 kind,
                 reason,
                 text,
-            } => {
-                let response = IssuedResponse::new(self.alloc, kind, reason, &text)?;
-                self.issue(no, response)
-            }
+            } => self.issue(no, kind, reason, &text),
             Change::Mark { no, rows } => self.mark(no, rows),
             Change::Closing { no } => self.begin_closing(no),
             Change::HandOver { no } => self.hand_over(no),

@@ -1,25 +1,45 @@
-use Rattle.std.proofs.Common.{sym, ap, ◌∙◌, inl, inr}
-use Rattle.oftp_register.specs.Changes.{apply}
-use Rattle.oftp_register.proofs.PrefixLemmas.{after_all-push, left_within, moved_on}
+use Rattle.std.proofs.Common.{Err, sym, ap, ◌∙◌, subst, inl, inr}
+use Rattle.std.proofs.lemmas.Result.{err_from_is_err_and}
+use Rattle.oftp_register.specs.Changes.{apply_all}
+use Rattle.oftp_register.specs.Offices.{IsRefused}
+use Rattle.oftp_register.specs.declared.office.OfficeFault.{OfficeFault}
+use Rattle.oftp_register.proofs.PrefixLemmas.{made_on, left_within, moved_on, refused_by}
 use Rattle.oftp_register.proofs.prefix.commit_all.Goals as goal
 
 pub loop-change-preserved : goal.loop-change-preserved
 loop-change-preserved g c =
     let going = c.loop-change.invariant in
+    let office = g.O.Office in
     record {
       clean = λ k. going.clean (c.commit.ensures.clean k);
       whole = moved_on c.loop-change.yielded _ _ c.args.changes.items c.in-Some.change going.whole c.in-Some.ensures.steps.0;
       stood = λ k s. (c.in_ok-commit.ensures.done k (going.stood (c.commit.ensures.clean k) s)).1;
       made = λ k s.
-          sym (after_all-push (g.O.Office.register c.args.office.now) _ c.loop-change.yielded c.in-Some.change
-          (ap (λ b. apply b c.in-Some.change) (sym (going.made (c.commit.ensures.clean k) s)) ∙ (c.in_ok-commit.ensures.done k (going.stood (c.commit.ensures.clean k) s)).0));
+          let before = c.commit.ensures.clean k in
+          made_on (office.register c.args.office.now) (office.register c.loop-change.office) _ c.loop-change.yielded c.in-Some.change (going.made before s)
+          (c.in_ok-commit.ensures.done k (going.stood before s)).0;
+      untold = c.in_ok-commit.ensures.counts ∙ going.untold;
     }
+
+pub returns-in_err-commit-clause-refused : goal.returns-in_err-commit-clause-refused
+returns-in_err-commit-clause-refused g c = λ k s.
+    let going = c.loop-change.invariant in
+    let office = g.O.Office in
+    let first = office.register c.args.office.now in
+    let Stands = office.stands c.commit.new.self in
+    let before = c.commit.ensures.clean k in
+    let fault = c.in_err-commit.field-0.0 in
+    let told = err_from_is_err_and c.from_residual.result c.from_residual.ensures.1 in
+    subst (λ answer. IsRefused (apply_all first c.args.changes.items) answer Stands) (sym (told.1 ∙ ap (λ (x : OfficeFault). Err x) told.2))
+    (refused_by Stands first (office.register c.loop-change.office) c.args.changes.items c.loop-change.yielded _ _ c.in-Some.change fault going.whole c.in-Some.ensures.steps.0 (going.made before s)
+    (c.in_err-commit.ensures.refused k (going.stood before s)))
 
 pub returns-in_err-commit-clause-left : goal.returns-in_err-commit-clause-left
 returns-in_err-commit-clause-left g c = λ k s content may.
     let going = c.loop-change.invariant in
+    let office = g.O.Office in
     let before = c.commit.ensures.clean k in
     let stood = going.stood before s in
-    left_within g.O.Office.holds (g.O.Office.register c.args.office.now) (g.O.Office.register c.loop-change.office) c.args.changes.items c.loop-change.yielded _ _ c.in-Some.change content
+    left_within office.holds (office.register c.args.office.now) (office.register c.loop-change.office) c.args.changes.items c.loop-change.yielded _ _ c.in-Some.change content
     going.whole c.in-Some.ensures.steps.0 (going.made before s)
     (elim (c.commit.ensures.left k stood content may) [ inl was ↦ inl (g.met.O.Office.alone c.loop-change.office content before stood was) | inr next ↦ inr next ])

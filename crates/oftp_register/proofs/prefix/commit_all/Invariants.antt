@@ -6,4 +6,4 @@ use Rattle.oftp_register.proofs.prefix.commit_all.Given as goal
 abbrev pub invariant-loop-change : goal.invariant-loop-change
 invariant-loop-change g l =
     let office = g.O.Office in
-    IsGoing office.is_clean office.stands office.register l.fn.changes.items l.fn.office l.office l.yielded (into_iter_items l.change-iterator)
+    IsGoing office.is_clean office.stands office.register office.told l.fn.changes.items l.fn.office l.office l.yielded (into_iter_items l.change-iterator)

@@ -2,7 +2,7 @@ use Rattle.std.proofs.Common.{Ok, refl, ap, ◌∙◌}
 use Rattle.std.proofs.lemmas.Bool.{cond-true, cond-false}
 use Rattle.oftp_register.specs.Lists.{outgoing_of, register_in, to_send}
 use Rattle.oftp_register.proofs.PlainLists.{map_pushed, submit_duplicate, submit_new, is_full, is_not_full}
-use Rattle.oftp_register.proofs.plain.lists.Lists.submit.Goals as goal
+use Rattle.oftp_register.proofs.plain.lists.Lists.add_outgoing.Goals as goal
 
 pub returns-then-is_among : goal.returns-then-is_among
 returns-then-is_among c =

@@ -2,7 +2,7 @@ use Rattle.std.proofs.Common.{refl}
 use Rattle.oftp_register.specs.Changes.{issued}
 use Rattle.oftp_register.specs.Lists.{issued_of}
 use Rattle.oftp_register.proofs.PlainChanges.{incoming_changed, incoming_unknown}
-use Rattle.oftp_register.proofs.plain.lists.Lists.issue.Goals as goal
+use Rattle.oftp_register.proofs.plain.lists.Lists.answer.Goals as goal
 
 pub returns-in-Some : goal.returns-in-Some
 returns-in-Some c =

@@ -1,6 +1,6 @@
 use Rattle.oftp_register.specs.Lists.{header_of}
 use Rattle.oftp_register.proofs.PlainStarts.{start_found, start_new}
-use Rattle.oftp_register.proofs.plain.lists.Lists.start.Goals as goal
+use Rattle.oftp_register.proofs.plain.lists.Lists.take_up.Goals as goal
 
 pub returns-in-Some : goal.returns-in-Some
 returns-in-Some c =
