@@ -1,6 +1,6 @@
 -- What the changes of incoming files keep.
-use Rattle.std.proofs.Common.{◌≡◌, ◌⊎◌, ℕ, true, false, cond, nat_lt, nat_le, List, [], ◌∷◌, ◌++◌, length, take, map, All, Option, None, Some, is_some, Result, Ok, Err, refl, ap, sym, ◌∙◌, subst, inl, inr, arith, length-append, length-take}
-use Rattle.std.proofs.lemmas.Bool.{cases_Bool, cond-true, cond-false}
+use Rattle.std.proofs.Common.{◌≡◌, ◌⊎◌, ℕ, true, false, cond, nat_lt, nat_le, ◌≤◌, List, [], ◌∷◌, ◌++◌, length, take, map, All, Option, None, Some, is_some, Result, Ok, Err, refl, ap, sym, ◌∙◌, subst, inl, inr, arith, length-append, length-take}
+use Rattle.std.proofs.lemmas.Bool.{cases_Bool, cond-true, cond-false, ltb-false}
 use Rattle.std.proofs.lemmas.List.Elements.{All-cons, All-head, All-tail, All-nil}
 use Rattle.std.specs.List.{list_any}
 use Rattle.std.proofs.lemmas.Bool.{or_from}
@@ -8,9 +8,11 @@ use Rattle.oftp_register.specs.declared.change.Cause.{Cause}
 use Rattle.oftp_register.specs.declared.change.Cause.TheVariants.{State, Full}
 use Rattle.oftp_register.specs.declared.entry.IncomingState.{IncomingState}
 use Rattle.oftp_register.specs.declared.entry.IncomingState.TheVariants.{Open, Whole}
+use Rattle.oftp_register.specs.declared.entry.Dispatch.{Dispatch}
+use Rattle.oftp_register.specs.declared.entry.Dispatch.TheVariants.{Due, Sent}
 use Rattle.oftp_register.specs.Register.{Register, Incoming, Issued, same_identity}
 use Rattle.oftp_register.specs.Changes.{begun, closed, given_up, gone_on, if_open, if_unanswered, issued, issued_on, kept, mapped, sent, sent_as, sent_of, started_in}
-use Rattle.oftp_register.specs.Soundness.{AreFullRows, AreNamedOnce, Ends, FitsState, GoesOn, IsAnsweredWhole, IsLongest, IsSoundIncoming}
+use Rattle.oftp_register.specs.Soundness.{AreFullRows, AreNamedOnce, Ends, FitsState, GoesOn, IfOpen, IsAnsweredWhole, IsLongest, IsResponse, IsSoundAnswer, IsSoundIncoming, MayGoOn, MayStart}
 use Rattle.oftp_register.proofs.NameLemmas.{once-append, same_identity-true}
 use Rattle.oftp_register.proofs.NumberLemmas.{mapped_ok, not_both, one_result}
 use Rattle.oftp_register.proofs.RowLemmas.{full-nil, full-append, rows-append}
@@ -28,24 +30,28 @@ if_open_ok : (file : Incoming) (rows : List (List ℕ)) (next state : IncomingSt
 if_open_ok file rows next Open after h = (refl, cc)
 if_open_ok file rows next Whole after h = absurd (cc)
 
-pub kept_sound : (rows : List (List ℕ)) (file after : Incoming) → IsSoundIncoming file → GoesOn rows file → kept rows file ≡ Ok after → IsSoundIncoming after
-kept_sound rows file after sound fit h =
+pub kept_sound : (rows : List (List ℕ)) (file after : Incoming) → IsSoundIncoming file → IfOpen file.state (GoesOn rows file) → kept rows file ≡ Ok after → IsSoundIncoming after
+kept_sound rows file after sound asked h =
     let made = if_open_ok file (file.rows ++ rows) Open file.state after h in
+    let fit : GoesOn rows file = subst (λ state. IfOpen state (GoesOn rows file)) made.0 asked in
     subst IsSoundIncoming made.1 (record {
       longest = sound.longest;
       few = omega (arith, fit.few, length-append file.rows rows);
       fits = full-append file.format file.longest file.rows rows (open_rows file sound made.0) fit.fits;
       answered = open_unanswered file sound made.0;
+      answer = sound.answer;
     })
 
-pub closed_sound : (rows : List (List ℕ)) (file after : Incoming) → IsSoundIncoming file → Ends rows file → closed rows file ≡ Ok after → IsSoundIncoming after
-closed_sound rows file after sound fit h =
+pub closed_sound : (rows : List (List ℕ)) (file after : Incoming) → IsSoundIncoming file → IfOpen file.state (Ends rows file) → closed rows file ≡ Ok after → IsSoundIncoming after
+closed_sound rows file after sound asked h =
     let made = if_open_ok file (file.rows ++ rows) Whole file.state after h in
+    let fit : Ends rows file = subst (λ state. IfOpen state (Ends rows file)) made.0 asked in
     subst IsSoundIncoming made.1 (record {
       longest = sound.longest;
       few = omega (arith, fit.few, length-append file.rows rows);
       fits = rows-append file.format file.longest file.rows rows (open_rows file sound made.0) fit.fits;
       answered = tt;
+      answer = sound.answer;
     })
 
 pub given_up_sound : (file after : Incoming) → IsSoundIncoming file → given_up file ≡ Ok after → IsSoundIncoming after
@@ -56,6 +62,7 @@ given_up_sound file after sound h =
       few = omega arith;
       fits = full-nil file.format file.longest;
       answered = open_unanswered file sound made.0;
+      answer = sound.answer;
     })
 
 -- a response is issued to a whole file alone
@@ -68,23 +75,29 @@ issued_on_ok response file Whole after h = (refl, unanswered_ok file.response h)
     unanswered_ok None g = cc
     unanswered_ok (Some other) g = absurd (cc)
 
-pub issued_sound : (response : Issued) (file after : Incoming) → IsSoundIncoming file → issued response file ≡ Ok after → IsSoundIncoming after
-issued_sound response file after sound h =
+pub issued_sound : (response : Issued) (file after : Incoming) → IsSoundIncoming file → IsResponse response.kind response.reason [] response.text → issued response file ≡ Ok after → IsSoundIncoming after
+issued_sound response file after sound fit h =
     let made = issued_on_ok response file file.state after h in
     subst IsSoundIncoming made.1 (record {
       longest = sound.longest;
       few = sound.few;
       fits = sound.fits;
       answered = subst (λ state. IsAnsweredWhole state (Some response)) (sym made.0) tt;
+      answer = fit;
     })
 
 -- a response that was sent was issued
 sent_of_ok : (file : Incoming) (response : Option Issued) (after : Incoming) → sent_of file response ≡ Ok after
-    → (was : Issued) × (answer : Issued) × (response ≡ Some was) × (record file { response = Some answer } ≡ after)
+    → (was : Issued) × (answer : Issued) × (response ≡ Some was) × (record file { response = Some answer } ≡ after) × (sent_as was was.dispatch ≡ Ok answer)
 sent_of_ok file None after h = absurd (cc)
 sent_of_ok file (Some response) after h =
     let part = mapped_ok (λ answer. record file { response = Some answer }) (sent_as response response.dispatch) after h in
-    (response, part.0, refl, part.2)
+    (response, part.0, refl, part.2, part.1)
+
+-- a response says the same after it was sent
+sent_as_says : (was answer : Issued) (dispatch : Dispatch) → sent_as was dispatch ≡ Ok answer → IsSoundAnswer (Some was) → IsSoundAnswer (Some answer)
+sent_as_says was answer Due h says = subst (λ response. IsSoundAnswer (Some response)) (one_result (sent_as was Due) (record was { dispatch = Sent }) answer refl h) says
+sent_as_says was answer Sent h says = absurd (cc)
 
 answered_still : {A : Type 0} (state : IncomingState) (was is : A) (response : Option A) → response ≡ Some was → IsAnsweredWhole state response → IsAnsweredWhole state (Some is)
 answered_still Open was is response some none = let e : true ≡ false = subst (λ r. is_some r ≡ false) some none in absurd (cc)
@@ -98,6 +111,7 @@ sent_sound file after sound h =
       few = sound.few;
       fits = sound.fits;
       answered = answered_still file.state made.0 made.1 file.response made.2 sound.answered;
+      answer = sent_as_says made.0 made.1 made.0.dispatch made.4 (subst IsSoundAnswer made.2 sound.answer);
     })
 
 -- none of these changes the identity
@@ -118,14 +132,14 @@ sent_same file after h = ap (λ (f : Incoming). f.identity) (sym (sent_of_ok fil
 
 -- a file goes on where it is open and has these rows
 gone_on_ok : (header : Incoming) (count : ℕ) (file : Incoming) (state : IncomingState) (after : Incoming) → gone_on header count file state ≡ Ok after
-    → (state ≡ Open) × (record header { rows = take count file.rows; response = file.response } ≡ after)
+    → (state ≡ Open) × (record header { rows = take count file.rows; response = file.response } ≡ after) × (nat_lt (length file.rows) count ≡ false)
 gone_on_ok header count file Open after h =
     let past = nat_lt (length file.rows) count in
     let going : Incoming = record header { rows = take count file.rows; response = file.response } in
     let answer : Result Incoming Cause = cond past (Err State) (Ok going) in
     elim (cases_Bool past) [
       | inl e ↦ absurd (not_both answer State after (cond-true past (Err State) (Ok going) e) h)
-      | inr e ↦ (refl, one_result answer going after (cond-false past (Err State) (Ok going) e) h)
+      | inr e ↦ (refl, one_result answer going after (cond-false past (Err State) (Ok going) e) h, e)
     ]
 gone_on_ok header count file Whole after h = absurd (cc)
 
@@ -142,6 +156,7 @@ begins_sound header begins = record {
   few = omega (arith, ap length begins.rows);
   fits = subst (λ state. FitsState state header.format header.longest header.rows) (sym begins.state) (subst (AreFullRows header.format header.longest) (sym begins.rows) (full-nil header.format header.longest));
   answered = subst (λ state. IsAnsweredWhole state header.response) (sym begins.state) (ap is_some begins.response);
+  answer = subst IsSoundAnswer (sym begins.response) tt;
 }
 
 begun_ok : (r : Register) (header : Incoming) (count : ℕ) (after : Incoming) → begun r header count ≡ Ok after → header ≡ after
@@ -159,21 +174,24 @@ begun_ok r header count after h =
     ]
 
 -- a file that goes on stays sound
-gone_on_sound : (header : Incoming) (count : ℕ) (file after : Incoming) → Begins header → IsSoundIncoming file → AreFullRows header.format header.longest (take count file.rows)
+gone_on_sound : (header : Incoming) (count : ℕ) (file after : Incoming) → Begins header → IsSoundIncoming file → MayGoOn header.format header.longest count file
     → gone_on header count file file.state ≡ Ok after → IsSoundIncoming after
-gone_on_sound header count file after begins sound fit h =
+gone_on_sound header count file after begins sound asked h =
     let made = gone_on_ok header count file file.state after h in
+    let fit = subst (λ state. IfOpen state (count ≤ length file.rows → AreFullRows header.format header.longest (take count file.rows))) made.0 asked (ltb-false (length file.rows) count made.2) in
     subst IsSoundIncoming made.1 (record {
       longest = begins.longest;
       few = omega (arith, length-take count file.rows, sound.few);
       fits = subst (λ state. FitsState state header.format header.longest (take count file.rows)) (sym begins.state) fit;
       answered = subst (λ state. IsAnsweredWhole state file.response) (sym begins.state) (open_unanswered file sound made.0);
+      answer = sound.answer;
     })
 
 -- the start of a file keeps the files sound
 pub started_sound : (r : Register) (header : Incoming) (count : ℕ) (files after : List Incoming) → Begins header → All IsSoundIncoming files
-    → All (λ (f : Incoming). same_identity f.identity header.identity ≡ true → AreFullRows header.format header.longest (take count f.rows)) files
+    → All (MayStart header.identity header.format header.longest count) files
     → started_in r header count files ≡ Ok after → All IsSoundIncoming after
+unfolding MayStart
 started_sound r header count [] after begins all fit h =
     let part = mapped_ok (λ f. f ∷ []) (begun r header count) after h in
     subst (All IsSoundIncoming) part.2 (All-cons IsSoundIncoming part.0 [] (subst IsSoundIncoming (begun_ok r header count part.0 part.1) (begins_sound header begins)) (All-nil IsSoundIncoming))
@@ -181,7 +199,7 @@ started_sound r header count (file ∷ files) after begins all fit h =
     let named = same_identity file.identity header.identity in
     let going = mapped (λ f. f ∷ files) (gone_on header count file file.state) in
     let later = mapped (λ fs. file ∷ fs) (started_in r header count files) in
-    let Fit = λ (f : Incoming). same_identity f.identity header.identity ≡ true → AreFullRows header.format header.longest (take count f.rows) in
+    let Fit = MayStart header.identity header.format header.longest count in
     elim (cases_Bool named) [
       | inl e ↦ (let part = mapped_ok (λ f. f ∷ files) (gone_on header count file file.state) after (sym (cond-true named going later e) ∙ h) in
           subst (All IsSoundIncoming) part.2 (All-cons IsSoundIncoming part.0 files (gone_on_sound header count file part.0 begins (All-head IsSoundIncoming file files all) (All-head Fit file files fit e) part.1) (All-tail IsSoundIncoming file files all)))

@@ -12,7 +12,7 @@ use Rattle.oftp_register.specs.declared.entry.OutgoingState.TheVariants.{Waiting
 use Rattle.oftp_register.specs.declared.entry.Dispatch.TheVariants.{Due}
 use Rattle.oftp_register.specs.Register.{Register, Incoming, Outgoing, Received, Issued, has_received, same_identity}
 use Rattle.oftp_register.specs.Changes.{apply, at_number, closed, closing, filed, given_up, handed, is_outgoing, issued, kept, marked, on_incoming, on_outgoing, refused, reopened, sent, settled, started, started_in, submitted}
-use Rattle.oftp_register.specs.Soundness.{AreFullRows, AreNamedOnce, AtNumber, Ends, GoesOn, IsFit, IsSound, IsSoundIncoming, IsSoundOutgoing}
+use Rattle.oftp_register.specs.Soundness.{AreNamedOnce, AtNumber, Ends, GoesOn, IfOpen, IsFit, IsResponse, IsSound, IsSoundIncoming, IsSoundOutgoing, IsSoundReceived, MayStart}
 use Rattle.oftp_register.proofs.NameLemmas.{filed-append, list_any-map, once-append}
 use Rattle.oftp_register.proofs.NumberLemmas.{at_number_keeps, at_number_same, mapped_ok, not_both, one_result}
 use Rattle.oftp_register.proofs.IncomingLemmas.{Begins, closed_same, closed_sound, given_up_same, given_up_sound, issued_same, issued_sound, kept_same, kept_sound, sent_same, sent_sound, started_once, started_sound}
@@ -28,12 +28,12 @@ at_number_any (suc (suc n)) (x ∷ xs) = at_number_any (suc n) xs
 -- other incoming files
 with_incoming : (r : Register) (files : List Incoming) → IsSound r → All IsSoundIncoming files → AreNamedOnce (map (λ (f : Incoming). f.identity) files) → IsSound (record r { incoming = files })
 with_incoming r files sound all once =
-    record { few = sound.few; small = sound.small; incoming = all; outgoing = sound.outgoing; incoming_once = once; outgoing_once = sound.outgoing_once; received_once = sound.received_once }
+    record { few = sound.few; small = sound.small; incoming = all; outgoing = sound.outgoing; received = sound.received; incoming_once = once; outgoing_once = sound.outgoing_once; received_once = sound.received_once }
 
 -- other outgoing files
 with_outgoing : (r : Register) (files : List Outgoing) → IsSound r → All IsSoundOutgoing files → AreNamedOnce (map (λ (f : Outgoing). f.identity) files) → IsSound (record r { outgoing = files })
 with_outgoing r files sound all once =
-    record { few = sound.few; small = sound.small; incoming = sound.incoming; outgoing = all; incoming_once = sound.incoming_once; outgoing_once = once; received_once = sound.received_once }
+    record { few = sound.few; small = sound.small; incoming = sound.incoming; outgoing = all; received = sound.received; incoming_once = sound.incoming_once; outgoing_once = once; received_once = sound.received_once }
 
 -- a change of one incoming file
 on_incoming_keeps : (Q : Incoming → Type 0) (f : Incoming → Result Incoming Cause) → ((x y : Incoming) → IsSoundIncoming x → Q x → f x ≡ Ok y → IsSoundIncoming y)
@@ -74,14 +74,14 @@ submitted_sound r s file sound fit h =
 
 -- a file that comes
 start_keeps : (r s : Register) (header : Incoming) (count : ℕ) → IsSound r → Begins header
-    → All (λ (f : Incoming). same_identity f.identity header.identity ≡ true → AreFullRows header.format header.longest (take count f.rows)) r.incoming → started r header count ≡ Ok s → IsSound s
+    → All (MayStart header.identity header.format header.longest count) r.incoming → started r header count ≡ Ok s → IsSound s
 start_keeps r s header count sound begins fit h =
     let part = mapped_ok (λ files. record r { incoming = files }) (started_in r header count r.incoming) s h in
     subst IsSound part.2 (with_incoming r part.0 sound (started_sound r header count r.incoming part.0 begins sound.incoming fit part.1) (started_once r header count r.incoming part.0 sound.incoming_once part.1))
 
 -- a response that comes
-filed_sound : (r s : Register) (response : Received) → IsSound r → filed r response ≡ Ok s → IsSound s
-filed_sound r s response sound h =
+filed_sound : (r s : Register) (response : Received) → IsSound r → IsSoundReceived response → filed r response ≡ Ok s → IsSound s
+filed_sound r s response sound fit h =
     let there = has_received r response.kind response.identity in
     let files = map (settled response.kind response.identity) r.outgoing in
     let more : Register = record r { outgoing = files; received = r.received ++ response ∷ [] } in
@@ -93,6 +93,7 @@ filed_sound r s response sound h =
         small = sound.small;
         incoming = sound.incoming;
         outgoing = all_settled_sound response.kind response.identity r.outgoing sound.outgoing;
+        received = All-push IsSoundReceived r.received response sound.received fit;
         incoming_once = sound.incoming_once;
         outgoing_once = subst AreNamedOnce (sym (all_settled_same response.kind response.identity r.outgoing)) sound.outgoing_once;
         received_once = filed-append r.received response sound.received_once e;
@@ -108,17 +109,17 @@ apply_keeps r (change.Submit identity format longest description rows) s sound f
 apply_keeps r (change.Start identity format longest description count) s sound fit h =
     start_keeps r s (record { identity = identity; format = format; longest = longest; description = description; state = Open; rows = []; response = None }) count sound
     (record { longest = fit.0; state = refl; rows = refl; response = refl }) fit.1 h
-apply_keeps r (change.Keep n rows) s sound fit h = on_incoming_keeps (GoesOn rows) (kept rows) (kept_sound rows) (kept_same rows) n r s sound fit h
-apply_keeps r (change.Close n rows) s sound fit h = on_incoming_keeps (Ends rows) (closed rows) (closed_sound rows) (closed_same rows) n r s sound fit h
+apply_keeps r (change.Keep n rows) s sound fit h = on_incoming_keeps (λ (f : Incoming). IfOpen f.state (GoesOn rows f)) (kept rows) (kept_sound rows) (kept_same rows) n r s sound fit h
+apply_keeps r (change.Close n rows) s sound fit h = on_incoming_keeps (λ (f : Incoming). IfOpen f.state (Ends rows f)) (closed rows) (closed_sound rows) (closed_same rows) n r s sound fit h
 apply_keeps r (change.GiveUp n) s sound fit h = on_incoming_keeps (λ _. Unit {0}) given_up (λ x y p _. given_up_sound x y p) given_up_same n r s sound (at_number_any n r.incoming) h
 apply_keeps r (change.File kind identity reason creator text) s sound fit h =
-    filed_sound r s (record { kind = kind; identity = identity; reason = reason; creator = creator; text = text }) sound h
+    filed_sound r s (record { kind = kind; identity = identity; reason = reason; creator = creator; text = text }) sound fit h
 apply_keeps r (change.Issue n kind reason text) s sound fit h =
     let response : Issued = record { kind = kind; reason = reason; text = text; dispatch = Due } in
-    on_incoming_keeps (λ _. Unit {0}) (issued response) (λ x y p _. issued_sound response x y p) (issued_same response) n r s sound (at_number_any n r.incoming) h
+    on_incoming_keeps (λ _. Unit {0}) (issued response) (λ x y p _. issued_sound response x y p fit) (issued_same response) n r s sound (at_number_any n r.incoming) h
 apply_keeps r (change.Mark n rows) s sound fit h = on_outgoing_keeps (marked rows) (marked_sound rows) (marked_same rows) n r s sound h
-apply_keeps r (change.Closing n) s sound fit h = on_outgoing_keeps closing closing_sound closing_same n r s sound h
+apply_keeps r (change.BeginClosing n) s sound fit h = on_outgoing_keeps closing closing_sound closing_same n r s sound h
 apply_keeps r (change.HandOver n) s sound fit h = on_outgoing_keeps handed handed_sound handed_same n r s sound h
 apply_keeps r (change.Refuse n reason) s sound fit h = on_outgoing_keeps (refused reason) (refused_sound reason) (refused_same reason) n r s sound h
 apply_keeps r (change.Reopen n) s sound fit h = on_outgoing_keeps reopened reopened_sound reopened_same n r s sound h
-apply_keeps r (change.Sent n) s sound fit h = on_incoming_keeps (λ _. Unit {0}) sent (λ x y p _. sent_sound x y p) sent_same n r s sound (at_number_any n r.incoming) h
+apply_keeps r (change.Send n) s sound fit h = on_incoming_keeps (λ _. Unit {0}) sent (λ x y p _. sent_sound x y p) sent_same n r s sound (at_number_any n r.incoming) h

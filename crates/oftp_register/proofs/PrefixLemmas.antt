@@ -1,5 +1,5 @@
 -- Changes in turn.
-use Rattle.std.proofs.Common.{◌≡◌, ◌⊎◌, ◌≤◌, ℕ, List, [], ◌∷◌, ◌++◌, fold, length, take, Ok, Err, refl, ap, sym, ◌∙◌, inl, inr, arith, length-append, append_assoc}
+use Rattle.std.proofs.Common.{◌≡◌, ◌⊎◌, ◌≤◌, ℕ, List, [], ◌∷◌, ◌++◌, fold, length, take, Ok, Err, refl, ap, sym, ◌∙◌, subst, inl, inr, arith, length-append, append_assoc}
 use Rattle.std.specs.Bool.{⊤}
 use Rattle.std.proofs.lemmas.Grind.{fold-append}
 use Rattle.std.proofs.lemmas.List.{take_at}
@@ -9,15 +9,27 @@ use Rattle.oftp_register.specs.declared.office.OfficeFault.{OfficeFault}
 use Rattle.oftp_register.specs.declared.office.OfficeFault.TheVariants.{Store, Memory, Refused}
 use Rattle.oftp_register.specs.Register.{Register}
 use Rattle.oftp_register.specs.Changes.{apply, apply_all, go_on_by}
+use Rattle.oftp_register.specs.Soundness.{AreFit, IsFit}
 use Rattle.oftp_register.specs.Offices.{IsAfterPrefix, IsRefused}
 
 -- how far the changes are made
 pub record IsGoing {O : Type 0} (is_clean stands : O → Type 0) (register : O → Register) (told : O → ℕ) (changes : List Change) (old now : O) (gone rest : List Change) : Type 0 where
+  pub fit : is_clean now → stands now → AreFit (register now) rest
   pub clean : is_clean now → is_clean old
   pub whole : gone ++ rest ≡ changes
   pub stood : is_clean now → stands old → stands now
+  pub was : is_clean now → stands now → stands old
   pub made : is_clean now → stands old → apply_all (register old) gone ≡ Ok (register now)
   pub untold : told now ≡ told old
+
+-- the first change is fit, and so are the others when it is made
+pub fit_first : (r : Register) (k : Change) (rest later : List Change) → rest ≡ k ∷ later → AreFit r rest → IsFit r k
+unfolding AreFit
+fit_first r k rest later is fit = (subst (AreFit r) is fit).0
+
+pub fit_later : (r s : Register) (k : Change) (rest later : List Change) → rest ≡ k ∷ later → AreFit r rest → apply r k ≡ Ok s → AreFit s later
+unfolding AreFit
+fit_later r s k rest later is fit made = (subst (AreFit r) is fit).1 s made
 
 -- one more change
 apply_all-push : (r before : Register) (gone : List Change) (k : Change) → apply_all r gone ≡ Ok before → apply_all r (gone ++ k ∷ []) ≡ apply before k

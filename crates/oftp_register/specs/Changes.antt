@@ -201,11 +201,11 @@ apply r (change.File kind identity reason creator text) =
     filed r (record { kind = kind; identity = identity; reason = reason; creator = creator; text = text })
 apply r (change.Issue n kind reason text) = on_incoming (issued (record { kind = kind; reason = reason; text = text; dispatch = Due })) n r
 apply r (change.Mark n rows) = on_outgoing (marked rows) n r
-apply r (change.Closing n) = on_outgoing closing n r
+apply r (change.BeginClosing n) = on_outgoing closing n r
 apply r (change.HandOver n) = on_outgoing handed n r
 apply r (change.Refuse n reason) = on_outgoing (refused reason) n r
 apply r (change.Reopen n) = on_outgoing reopened n r
-apply r (change.Sent n) = on_incoming sent n r
+apply r (change.Send n) = on_incoming sent n r
 
 -- one change more, unless one was refused before
 abbrev pub go_on_by : Result Register Cause → Change → Result Register Cause

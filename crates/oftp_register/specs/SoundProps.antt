@@ -1,5 +1,5 @@
 -- That a register is sound has one proof at most, so a value may keep it.
-use Rattle.std.specs.Prelude.{◌≡◌, ℕ, false, List, [], ◌∷◌, length, map, Option, All}
+use Rattle.std.specs.Prelude.{◌≡◌, ℕ, false, List, [], ◌∷◌, length, map, Option, None, Some, All}
 use Rattle.std.specs.List.{list_any}
 use Rattle.std.specs.Coded.{×_prop, Unit-prop, le_prop}
 use Rattle.std.proofs.Props.{props}
@@ -7,10 +7,12 @@ use Rattle.oftp_vfile.specs.declared.format.Format.{Format}
 use Rattle.oftp_vfile.specs.declared.format.Format.TheVariants.{Fixed, Variable, Unstructured, Text}
 use Rattle.oftp_vfile.specs.VirtualFile.{AreBlocks, AreRows}
 use Rattle.oftp_register.specs.declared.entry.Identity.{Identity}
+use Rattle.oftp_register.specs.declared.entry.ResponseKind.{ResponseKind}
+use Rattle.oftp_register.specs.declared.entry.ResponseKind.TheVariants.{EndResponse, NegativeEndResponse}
 use Rattle.oftp_register.specs.declared.entry.IncomingState.{IncomingState}
 use Rattle.oftp_register.specs.declared.entry.IncomingState.TheVariants.{Open, Whole}
-use Rattle.oftp_register.specs.Register.{Register, Incoming, Outgoing, Received, answers, same_identity}
-use Rattle.oftp_register.specs.Soundness.{AreFiledOnce, AreFullRows, AreNamedOnce, FitsState, IsAnsweredWhole, IsLongest, IsSound, IsSoundIncoming, IsSoundOutgoing}
+use Rattle.oftp_register.specs.Register.{Register, Incoming, Issued, Outgoing, Received, answers, same_identity}
+use Rattle.oftp_register.specs.Soundness.{AreFiledOnce, AreFullRows, AreNamedOnce, FitsState, IsAnsweredWhole, IsLongest, IsResponse, IsSound, IsSoundAnswer, IsSoundIncoming, IsSoundOutgoing, IsSoundReceived}
 
 -- each part has one proof at most, and so the whole has
 longest-prop : (format : Format) (longest : ℕ) → IsProp (IsLongest format longest)
@@ -44,12 +46,24 @@ answered-prop : {A : Type 0} (state : IncomingState) (response : Option A) → I
 answered-prop Open response = Prim.hlevel props
 answered-prop Whole response = Unit-prop
 
+response-prop : (kind : ResponseKind) (reason : ℕ) (creator text : List ℕ) → IsProp (IsResponse kind reason creator text)
+response-prop EndResponse reason creator text = Prim.hlevel props
+response-prop NegativeEndResponse reason creator text = Unit-prop
+
+answer-prop : (response : Option Issued) → IsProp (IsSoundAnswer response)
+answer-prop None = Unit-prop
+answer-prop (Some response) = response-prop response.kind response.reason [] response.text
+
+received-prop : (response : Received) → IsProp (IsSoundReceived response)
+received-prop response = response-prop response.kind response.reason response.creator response.text
+
 incoming-prop : (f : Incoming) → IsProp (IsSoundIncoming f)
 incoming-prop f x y = λ i. record {
   longest = longest-prop f.format f.longest x.longest y.longest i;
   few = le_prop x.few y.few i;
   fits = fits-prop f.state f.format f.longest f.rows x.fits y.fits i;
   answered = answered-prop f.state f.response x.answered y.answered i;
+  answer = answer-prop f.response x.answer y.answer i;
 }
 
 outgoing-prop : (f : Outgoing) → IsProp (IsSoundOutgoing f)
@@ -72,11 +86,13 @@ pub sound-prop : (r : Register) → IsProp (IsSound r)
 sound-prop r x y =
     let all_incoming : IsProp (All IsSoundIncoming r.incoming) = Prim.hlevel (props, incoming-prop) in
     let all_outgoing : IsProp (All IsSoundOutgoing r.outgoing) = Prim.hlevel (props, outgoing-prop) in
+    let all_received : IsProp (All IsSoundReceived r.received) = Prim.hlevel (props, received-prop) in
     λ i. record {
       few = le_prop x.few y.few i;
       small = le_prop x.small y.small i;
       incoming = all_incoming x.incoming y.incoming i;
       outgoing = all_outgoing x.outgoing y.outgoing i;
+      received = all_received x.received y.received i;
       incoming_once = named-prop (map (λ (f : Incoming). f.identity) r.incoming) x.incoming_once y.incoming_once i;
       outgoing_once = named-prop (map (λ (f : Outgoing). f.identity) r.outgoing) x.outgoing_once y.outgoing_once i;
       received_once = filed-prop r.received x.received_once y.received_once i;

@@ -1,15 +1,18 @@
 -- What holds of each register, and which changes keep it.
-use Rattle.std.specs.Prelude.{◌≡◌, ℕ, zero, suc, ◌+◌, ◌<◌, ◌≤◌, true, false, List, [], ◌∷◌, length, take, map, Option, is_some, ⊤, All}
+use Rattle.std.specs.Prelude.{◌≡◌, ℕ, zero, suc, ◌+◌, ◌<◌, ◌≤◌, true, false, List, [], ◌∷◌, length, take, map, Option, None, Some, is_some, Ok, ⊤, All}
 use Rattle.std.specs.List.{list_any}
 use Rattle.oftp_vfile.specs.declared.format.Format.{Format}
 use Rattle.oftp_vfile.specs.declared.format.Format.TheVariants.{Fixed, Variable, Unstructured, Text}
 use Rattle.oftp_vfile.specs.VirtualFile.{AreRows}
 use Rattle.oftp_register.specs.declared.entry.Identity.{Identity}
+use Rattle.oftp_register.specs.declared.entry.ResponseKind.{ResponseKind}
+use Rattle.oftp_register.specs.declared.entry.ResponseKind.TheVariants.{EndResponse, NegativeEndResponse}
 use Rattle.oftp_register.specs.declared.entry.IncomingState.{IncomingState}
 use Rattle.oftp_register.specs.declared.entry.IncomingState.TheVariants.{Open, Whole}
 use Rattle.oftp_register.specs.declared.change.Change.{Change}
 use Rattle.oftp_register.specs.declared.change.Change.TheVariants as change
-use Rattle.oftp_register.specs.Register.{Register, Incoming, Outgoing, Received, answers, same_identity}
+use Rattle.oftp_register.specs.Register.{Register, Incoming, Outgoing, Issued, Received, answers, same_identity}
+use Rattle.oftp_register.specs.Changes.{apply}
 
 -- the longest record of a format: 1 to 16,384 octets in F and V, and none in U and T
 abbrev pub IsLongest : Format → ℕ → Type 0
@@ -35,12 +38,27 @@ abbrev pub IsAnsweredWhole : {A : Type 0} → IncomingState → Option A → Typ
 IsAnsweredWhole Open response = is_some response ≡ false
 IsAnsweredWhole Whole response = ⊤
 
+-- An end response gives no reason, no creator and no text; a negative one may give each (RFC 5024, sections 5.3.13 and 5.3.14).
+abbrev pub IsResponse : ResponseKind → ℕ → List ℕ → List ℕ → Type 0
+IsResponse EndResponse reason creator text = (reason ≡ 0) × (creator ≡ []) × (text ≡ [])
+IsResponse NegativeEndResponse reason creator text = ⊤
+
+-- the response to an incoming file, if one was issued. The station itself is its creator
+abbrev pub IsSoundAnswer : Option Issued → Type 0
+IsSoundAnswer None = ⊤
+IsSoundAnswer (Some response) = IsResponse response.kind response.reason [] response.text
+
+-- what holds of each response that came
+abbrev pub IsSoundReceived : Received → Type 0
+IsSoundReceived response = IsResponse response.kind response.reason response.creator response.text
+
 -- what holds of each incoming file
 pub record IsSoundIncoming (f : Incoming) : Type 0 where
   pub longest : IsLongest f.format f.longest
   pub few : length f.rows ≤ 1000000
   pub fits : FitsState f.state f.format f.longest f.rows
   pub answered : IsAnsweredWhole f.state f.response
+  pub answer : IsSoundAnswer f.response
 
 -- what holds of each outgoing file
 pub record IsSoundOutgoing (f : Outgoing) : Type 0 where
@@ -65,6 +83,7 @@ pub record IsSound (r : Register) : Type 0 where
   pub small : r.limits.octets ≤ 1024000000
   pub incoming : All IsSoundIncoming r.incoming
   pub outgoing : All IsSoundOutgoing r.outgoing
+  pub received : All IsSoundReceived r.received
   pub incoming_once : AreNamedOnce (map (λ (f : Incoming). f.identity) r.incoming)
   pub outgoing_once : AreNamedOnce (map (λ (f : Outgoing). f.identity) r.outgoing)
   pub received_once : AreFiledOnce r.received
@@ -82,6 +101,19 @@ pub record IsFile (format : Format) (size : ℕ) (rows : List (List ℕ)) : Type
   pub few : length rows ≤ 1000000
   pub fits : AreRows format size rows
 
+-- what is asked of a file while it is open
+abbrev pub IfOpen : IncomingState → Type 0 → Type 0
+IfOpen Open Asked = Asked
+IfOpen Whole Asked = ⊤
+
+-- the rows of a file with which it may go on in a format
+abbrev pub MayGoOn : Format → ℕ → ℕ → Incoming → Type 0
+MayGoOn format size count file = IfOpen file.state (count ≤ length file.rows → AreFullRows format size (take count file.rows))
+
+-- a file that is another one, or may go on so
+unfoldable pub MayStart : Identity → Format → ℕ → ℕ → Incoming → Type 0
+MayStart identity format size count file = same_identity file.identity identity ≡ true → MayGoOn format size count file
+
 -- rows that may follow those of an open file
 pub record GoesOn (rows : List (List ℕ)) (file : Incoming) : Type 0 where
   pub few : length file.rows + length rows ≤ 1000000
@@ -92,19 +124,25 @@ pub record Ends (rows : List (List ℕ)) (file : Incoming) : Type 0 where
   pub few : length file.rows + length rows ≤ 1000000
   pub fits : AreRows file.format file.longest rows
 
--- The condition of a change: the file that it leaves has at most 1,000,000 rows, which fit its format and longest record.
+-- The condition of a change: its longest record and its response are ones that there are, and the file that it leaves has at most
+-- 1,000,000 rows, which fit its format and longest record.
 unfoldable pub IsFit : Register → Change → Type 0
 IsFit r (change.Submit identity format longest description rows) = IsFile format longest rows
 IsFit r (change.Start identity format longest description count) =
-    IsLongest format longest × All (λ (f : Incoming). same_identity f.identity identity ≡ true → AreFullRows format longest (take count f.rows)) r.incoming
-IsFit r (change.Keep n rows) = AtNumber (GoesOn rows) n r.incoming
-IsFit r (change.Close n rows) = AtNumber (Ends rows) n r.incoming
+    IsLongest format longest × All (MayStart identity format longest count) r.incoming
+IsFit r (change.Keep n rows) = AtNumber (λ (f : Incoming). IfOpen f.state (GoesOn rows f)) n r.incoming
+IsFit r (change.Close n rows) = AtNumber (λ (f : Incoming). IfOpen f.state (Ends rows f)) n r.incoming
 IsFit r (change.GiveUp n) = ⊤
-IsFit r (change.File kind identity reason creator text) = ⊤
-IsFit r (change.Issue n kind reason text) = ⊤
+IsFit r (change.File kind identity reason creator text) = IsResponse kind reason creator text
+IsFit r (change.Issue n kind reason text) = IsResponse kind reason [] text
 IsFit r (change.Mark n rows) = ⊤
-IsFit r (change.Closing n) = ⊤
+IsFit r (change.BeginClosing n) = ⊤
 IsFit r (change.HandOver n) = ⊤
 IsFit r (change.Refuse n reason) = ⊤
 IsFit r (change.Reopen n) = ⊤
-IsFit r (change.Sent n) = ⊤
+IsFit r (change.Send n) = ⊤
+
+-- each change is fit when its turn comes
+unfoldable pub AreFit : Register → List Change → Type 0
+AreFit r [] = ⊤
+AreFit r (k ∷ ks) = IsFit r k × ((s : Register) → apply r k ≡ Ok s → AreFit s ks)

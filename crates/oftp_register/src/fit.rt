@@ -2,9 +2,11 @@
 
 ghost use Rattle.std.specs.Prelude.{◌≡◌, ◌↔◌, ◌<◌, ◌≤◌, IsTrue, All, length};
 ghost use Rattle.oftp_vfile.specs.VirtualFile.{AreBlocks, AreRows};
-ghost use Rattle.oftp_register.specs.Soundness.{AreFullRows, IsFile, IsLongest};
+ghost use Rattle.oftp_register.specs.Soundness.{AreFullRows, IsFile, IsLongest, IsResponse};
 
+use crate::entry::ResponseKind;
 use oftp_vfile::{Format, Limits, Row};
+use oftp_wire::{Count, Text};
 
 /// How many rows a file has at most.
 pub const MOST_ROWS: usize = 1_000_000;
@@ -82,4 +84,17 @@ pub fn is_file(format: Format, longest: u32, rows: &[Row]) -> bool
     ensures { IsTrue result ↔ IsFile format longest rows.now }
 {
     is_longest(format, longest) && rows.len() <= MOST_ROWS && are_rows(format, longest, rows)
+}
+
+/// Whether a response may give this reason, this creator and this text: an end response gives none of them (RFC 5024, sections
+/// 5.3.13 and 5.3.14).
+pub fn is_response(kind: ResponseKind, reason: Count<2>, creator: &[u8], text: &Text<'_>) -> bool
+    ensures { IsTrue result ↔ IsResponse kind reason creator.now text.now }
+{
+    match kind {
+        ResponseKind::EndResponse => {
+            reason.get() == 0 && creator.is_empty() && text.text().is_empty()
+        }
+        ResponseKind::NegativeEndResponse => true,
+    }
 }

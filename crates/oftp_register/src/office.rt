@@ -3,7 +3,7 @@
 ghost use Rattle.std.specs.Prelude.{◌≡◌, ◌≤◌, ◌⊎◌, ℕ, Ok, IfSome, IfOk, IfErr, OnOk, OnErr};
 ghost use Rattle.oftp_register.specs.Register.{Register, has_received};
 ghost use Rattle.oftp_register.specs.Changes.{apply};
-ghost use Rattle.oftp_register.specs.Soundness.{IsSound};
+ghost use Rattle.oftp_register.specs.Soundness.{IsFit, IsSound};
 ghost use Rattle.oftp_register.specs.LookUps.{AreRowsWithin, IsIncomingWithin, IsItemWithin, IsOutgoingWithin, files_full, in_by_no, list_in, list_issued, list_out, list_received, look_in, look_out, next_item, out_by_no, rows_of};
 ghost use Rattle.oftp_register.specs.Offices.{Counts, IsFailure, IsRefused};
 
@@ -21,7 +21,7 @@ use std::alloc::{AllocError, AllocFailed};
 pub enum OfficeFault {
     /// The store failed in this call.
     Store,
-    /// A growth was refused, of memory or of a file beyond its limits.
+    /// A growth was refused.
     Memory,
     /// The register doesn't allow the change, and nothing was changed.
     Refused(Cause),
@@ -301,22 +301,26 @@ pub trait Office {
 
     /// Makes a change. When it returns `Ok`, a stop leaves the change made.
     ///
-    /// A change after which a file had more than 1,000,000 rows, or rows that don't fit its format and longest record, isn't
-    /// made: it is told as [`OfficeFault::Memory`]. [`is_file`], [`is_longest`], [`are_full_rows`] and [`are_rows`] are the
-    /// tests that a caller can make before.
+    /// The change has to be fit: the file that it leaves has at most 1,000,000 rows, which fit its format and longest record, and
+    /// an end response gives no reason, no creator and no text. [`is_file`], [`is_longest`], [`are_full_rows`], [`are_rows`] and
+    /// [`is_response`] are the tests that a caller can make before.
     ///
     /// [`is_file`]: crate::is_file
     /// [`is_longest`]: crate::is_longest
     /// [`are_full_rows`]: crate::are_full_rows
     /// [`are_rows`]: crate::are_rows
+    /// [`is_response`]: crate::is_response
     ///
     /// # Errors
     ///
-    /// [`OfficeFault::Refused`] exactly where the register refuses the change, and then nothing is changed. After
+    /// [`OfficeFault::Refused`] where the register refuses the change, for its cause, and then nothing is changed. After
     /// [`OfficeFault::Store`] and [`OfficeFault::Memory`] the office, where it is still open, keeps its register, and a stop
     /// leaves the change made or not made.
     fn commit(&mut self, change: Change<'_>) -> Result<(), OfficeFault>
+        requires fit { is_clean self.old → stands self.old → IsFit (register self.old) change }
         ensures clean { is_clean self.new → is_clean self.old }
+        // An office that was shut stays shut.
+        ensures stood { is_clean self.new → stands self.new → stands self.old }
         ensures done { is_clean self.new → stands self.old
             → OnOk result ((apply (register self.old) change.entry ≡ Ok (register self.new)) × stands self.new) }
         ensures refused { is_clean self.new → stands self.old

@@ -1,10 +1,10 @@
 //! A register in memory.
 
-ghost use Rattle.std.specs.Prelude.{◌≡◌, ◌≤◌, ⊤, ℕ, Ok, Err, IfSome, IfOk, IfErr, MatchResult, map};
+ghost use Rattle.std.specs.Prelude.{◌≡◌, ◌↔◌, ◌≤◌, ⊤, ℕ, Ok, Err, IfSome, IfOk, IfErr, IsTrue, MatchResult, map};
 ghost use Rattle.oftp_register.specs.Register.{Register, empty, has_received};
 ghost use Rattle.oftp_register.specs.Changes.{apply};
 ghost use Rattle.oftp_register.specs.Offices.{Counts};
-ghost use Rattle.oftp_register.specs.Soundness.{IsSound};
+ghost use Rattle.oftp_register.specs.Soundness.{IsFit, IsSound};
 ghost use Rattle.oftp_register.specs.SoundProps.{sound-prop};
 ghost use Rattle.oftp_register.specs.LookUps.{AreRowsWithin, IsIncomingWithin, IsItemWithin, IsOutgoingWithin, files_full, in_by_no, list_in, list_issued, list_out, list_received, look_in, look_out, next_item, out_by_no, rows_of};
 ghost use Rattle.oftp_register.specs.Lists.{Makes, received_of, register_in};
@@ -69,6 +69,13 @@ impl PlainOffice {
         ensures { map received_of result.now ≡ (register_of self.now).received }
     {
         &self.lists.received
+    }
+
+    /// Whether a change is fit for the register: what [`Office::commit`] asks of it. It takes no memory.
+    pub fn is_fit(&self, change: &Change<'_>) -> bool
+        ensures { IsTrue result ↔ IsFit (register_of self.now) change.now }
+    {
+        self.lists.allows(change)
     }
 }
 
@@ -220,6 +227,7 @@ impl Office for PlainOffice {
 
     // It never tells a fault of a store, nor does a look-up.
     fn commit(&mut self, change: Change<'_>) -> Result<(), OfficeFault>
+        requires { IsFit (register_of self.old) change }
         ensures made { Makes register_of (apply (register_of self.old) change.entry) self.old self.new result }
         ensures counts { Counts self.old.faults self.new.faults result }
     {

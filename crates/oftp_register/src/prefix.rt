@@ -2,19 +2,21 @@
 
 ghost use Rattle.std.specs.Prelude.{◌≡◌, Ok, OnErr, OnOk};
 ghost use Rattle.oftp_register.specs.Changes.{apply_all};
+ghost use Rattle.oftp_register.specs.Soundness.{AreFit};
 ghost use Rattle.oftp_register.specs.Offices.{Counts, IsAfterPrefix, IsRefused};
 
 use crate::change::Change;
 use crate::office::{Office, OfficeFault};
 
 /// Makes changes in turn, up to the first that isn't made. Wherever it ends, a stop leaves the register after the first so many
-/// of them, each one made.
+/// of them, each one made. Each has to be fit when its turn comes.
 ///
 /// # Errors
 ///
 /// The fault of the change that wasn't made: [`OfficeFault::Refused`] exactly where the register refuses one of the changes,
 /// with the cause of the first. An office that is still open then keeps the register after the changes before.
 pub fn commit_all<O: Office>(office: &mut O, changes: Vec<Change<'_>>) -> Result<(), OfficeFault>
+    requires fit { O.is_clean office.old → O.stands office.old → AreFit (O.register office.old) changes.items }
     ensures clean { O.is_clean office.new → O.is_clean office.old }
     ensures done { O.is_clean office.new → O.stands office.old
         → OnOk result ((apply_all (O.register office.old) changes.entry.items ≡ Ok (O.register office.new)) × O.stands office.new) }

@@ -16,7 +16,7 @@ const LIMITS: Limits = Limits {
     octets: 67_108_864,
 };
 
-/// A change in short. Files go by a letter, all from O1 to O2, in V with a longest record of 3.
+/// A change in short. Files go by a letter, in V with a longest record of 3: A to M from O1 to O2, N to Z back.
 #[derive(Clone, Copy, Debug)]
 enum Act {
     Submit(&'static [u8], &'static [&'static [u8]]),
@@ -27,11 +27,11 @@ enum Act {
     File(&'static [u8], ResponseKind),
     Issue(u64, ResponseKind),
     Mark(u64, u64),
-    Closing(u64),
+    BeginClosing(u64),
     HandOver(u64),
     Refuse(u64),
     Reopen(u64),
-    Sent(u64),
+    Send(u64),
 }
 
 // What is wrong with a fixture, unless memory ran out.
@@ -45,13 +45,21 @@ fn code(letters: &'static [u8]) -> Result<Name<25>, OfficeFault> {
     Ok(Name::of(&X::new(letters).ok_or(BAD)?))
 }
 
+fn way_of(dataset: &[u8]) -> (&'static [u8], &'static [u8]) {
+    match dataset.first() {
+        Some(b'N'..=b'Z') => (b"O2", b"O1"),
+        _ => (b"O1", b"O2"),
+    }
+}
+
 fn file(dataset: &'static [u8]) -> Result<Identity, OfficeFault> {
+    let (originator, destination) = way_of(dataset);
     Ok(Identity {
         dataset: Name::of(&X::new(dataset).ok_or(BAD)?),
         date: DigitString::of(&Digits::new(b"20240131").ok_or(BAD)?),
         time: DigitString::of(&Digits::new(b"1015300001").ok_or(BAD)?),
-        originator: code(b"O1")?,
-        destination: code(b"O2")?,
+        originator: code(originator)?,
+        destination: code(destination)?,
     })
 }
 
@@ -83,25 +91,35 @@ fn start(dataset: &'static [u8], count: u64) -> Result<Change<'static>, OfficeFa
     })
 }
 
+// The reason of a response, who gave it, and in which words: a negative one has each.
+fn words(kind: ResponseKind) -> (u64, &'static [u8], &'static str) {
+    match kind {
+        ResponseKind::EndResponse => (0, b"", ""),
+        ResponseKind::NegativeEndResponse => (9, b"O2", "NO PLANT"),
+    }
+}
+
 fn file_response(
     dataset: &'static [u8],
     kind: ResponseKind,
 ) -> Result<Change<'static>, OfficeFault> {
+    let (reason, creator, note) = words(kind);
     Ok(Change::File {
         kind,
         identity: file(dataset)?,
-        reason: Count::new(9),
-        creator: code(b"O2")?,
-        text: text("NO PLANT")?,
+        reason: Count::new(reason),
+        creator: code(creator)?,
+        text: text(note)?,
     })
 }
 
 fn issue(no: u64, kind: ResponseKind) -> Result<Change<'static>, OfficeFault> {
+    let (reason, _, note) = words(kind);
     Ok(Change::Issue {
         no,
         kind,
-        reason: Count::new(0),
-        text: text("")?,
+        reason: Count::new(reason),
+        text: text(note)?,
     })
 }
 
@@ -121,22 +139,30 @@ fn change(alloc: Global, act: Act) -> Result<Change<'static>, OfficeFault> {
         Act::File(dataset, kind) => file_response(dataset, kind),
         Act::Issue(no, kind) => issue(no, kind),
         Act::Mark(no, rows) => Ok(Change::Mark { no, rows }),
-        Act::Closing(no) => Ok(Change::Closing { no }),
+        Act::BeginClosing(no) => Ok(Change::BeginClosing { no }),
         Act::HandOver(no) => Ok(Change::HandOver { no }),
         Act::Refuse(no) => Ok(Change::Refuse {
             no,
             reason: Count::new(13),
         }),
         Act::Reopen(no) => Ok(Change::Reopen { no }),
-        Act::Sent(no) => Ok(Change::Sent { no }),
+        Act::Send(no) => Ok(Change::Send { no }),
     }
+}
+
+// Makes a change that has to be fit: another is a fault of the fixture.
+fn commit(office: &mut PlainOffice, change: Change<'_>) -> Result<(), OfficeFault> {
+    if !office.is_fit(&change) {
+        return Err(BAD);
+    }
+    office.commit(change)
 }
 
 // An office after these changes.
 fn office_after(alloc: Global, acts: &[Act]) -> Result<PlainOffice, OfficeFault> {
     let mut office = PlainOffice::new(alloc, LIMITS);
     for act in acts {
-        office.commit(change(alloc, *act)?)?;
+        commit(&mut office, change(alloc, *act)?)?;
     }
     Ok(office)
 }
@@ -145,7 +171,7 @@ fn letter(identity: &Identity) -> char {
     char::from(identity.dataset.octets().first().copied().unwrap_or(b'-'))
 }
 
-fn way(state: OutgoingState) -> &'static str {
+fn state_name(state: OutgoingState) -> &'static str {
     match state {
         OutgoingState::Waiting => "waiting",
         OutgoingState::Closing => "closing",
@@ -156,7 +182,7 @@ fn way(state: OutgoingState) -> &'static str {
     }
 }
 
-fn sign(kind: ResponseKind) -> &'static str {
+fn kind_name(kind: ResponseKind) -> &'static str {
     match kind {
         ResponseKind::EndResponse => "EERP",
         ResponseKind::NegativeEndResponse => "NERP",
@@ -176,7 +202,7 @@ fn add_incoming(all: &mut String, office: &mut PlainOffice) -> Result<(), Office
         match &entry.response {
             Some(response) => {
                 let dispatch = response.dispatch;
-                let kind = sign(response.kind);
+                let kind = kind_name(response.kind);
                 write!(all, " {kind} {dispatch:?}; ")?;
             }
             None => write!(all, "; ")?,
@@ -188,7 +214,7 @@ fn add_incoming(all: &mut String, office: &mut PlainOffice) -> Result<(), Office
 fn add_outgoing(all: &mut String, office: &mut PlainOffice) -> Result<(), OfficeFault> {
     for entry in office.list_out()? {
         let letter = letter(&entry.identity);
-        let state = way(entry.state);
+        let state = state_name(entry.state);
         let OutgoingEntry {
             rows,
             units,
@@ -203,7 +229,7 @@ fn add_outgoing(all: &mut String, office: &mut PlainOffice) -> Result<(), Office
 fn add_received(all: &mut String, office: &mut PlainOffice) -> Result<(), OfficeFault> {
     for entry in office.list_received()? {
         let letter = letter(&entry.response.identity);
-        let kind = sign(entry.response.kind);
+        let kind = kind_name(entry.response.kind);
         write!(all, "got {letter} {kind}; ")?;
     }
     Ok(())
@@ -215,5 +241,22 @@ fn shown(alloc: Global, office: &mut PlainOffice) -> Result<String, OfficeFault>
     add_incoming(&mut all, office)?;
     add_outgoing(&mut all, office)?;
     add_received(&mut all, office)?;
+    Ok(all)
+}
+
+// The octets of some rows of the first incoming file, each row ended by a bar.
+fn rows_from(
+    office: &mut PlainOffice,
+    from: u64,
+    most: u64,
+    alloc: Global,
+) -> Result<String, OfficeFault> {
+    let mut all = String::new(alloc);
+    for row in office.rows_of(Side::Incoming, 1, from, most)?.as_slice() {
+        for octet in row.octets() {
+            all.push(char::from(*octet))?;
+        }
+        all.push('|')?;
+    }
     Ok(all)
 }

@@ -6,6 +6,7 @@ use Rattle.oftp_register.specs.declared.entry.Identity.{Identity}
 use Rattle.oftp_register.specs.declared.entry.ResponseKind.{ResponseKind}
 use Rattle.oftp_register.specs.Register.{Register, has_received}
 use Rattle.oftp_register.specs.Changes.{apply}
+use Rattle.oftp_register.specs.Soundness.{IsFit, IsResponse}
 use Rattle.oftp_session.specs.Calls.{IsAccepted}
 
 accepted : (b : Bool) (after : Register) (cause : Cause) → b ≡ false → is_ok (cond b (Err cause) (Ok after)) ≡ true
@@ -15,3 +16,7 @@ accepted false after cause h = refl
 pub files_new : (r : Register) (kind : ResponseKind) (identity : Identity) (reason : ℕ) (creator text : List ℕ) → has_received r kind identity ≡ false → IsAccepted r (File kind identity reason creator text)
 unfolding apply
 files_new r kind identity reason creator text new = accepted (has_received r kind identity) _ _ new
+
+pub files_fit : (r : Register) (kind : ResponseKind) (identity : Identity) (reason : ℕ) (creator text : List ℕ) → IsResponse kind reason creator text → IsFit r (File kind identity reason creator text)
+unfolding IsFit
+files_fit r kind identity reason creator text fit = fit

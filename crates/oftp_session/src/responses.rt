@@ -2,6 +2,7 @@
 
 ghost use Rattle.std.specs.Prelude.{◌≡◌, Some};
 ghost use Rattle.oftp_register.specs.Offices.{rest_of};
+ghost use Rattle.oftp_register.specs.Soundness.{IsFit, IsSoundReceived};
 ghost use Rattle.oftp_session.specs.Calls.{Files, IsAccepted, desk};
 ghost use Rattle.oftp_session.specs.Listener.{end_response, file_of, filing, negative_end_response};
 ghost use Rattle.oftp_session.specs.Responses.{as_received};
@@ -63,6 +64,7 @@ pub(crate) fn negative_end_response<'a>(nerp: &Nerp<'a>) -> Response<'a>
 
 // Makes a change that the register accepts.
 fn make<O: Office>(office: &mut O, change: Change<'_>) -> Result<(), SessionFault>
+    requires fit { O.is_clean office.old → O.stands office.old → IsFit (O.register office.old) change }
     ensures clean { O.is_clean office.new → O.is_clean office.old }
     ensures does { O.is_clean office.new → O.stands office.old → IsAccepted (O.register office.old) change.entry
         → Files (Some change.entry) (desk O.register O.told office.old) (desk O.register O.told office.new)
@@ -75,11 +77,12 @@ fn make<O: Office>(office: &mut O, change: Change<'_>) -> Result<(), SessionFaul
 }
 
 /// Files a response, unless one of its kind to this file is there. Of all the office's faults the session tells one.
-#[tactic(auto, using(crate::proofs::Filing::files_new))]
+#[tactic(auto, using(crate::proofs::Filing::files_new, crate::proofs::Filing::files_fit))]
 pub(crate) fn file_new<O: Office>(
     office: &mut O,
     response: Response<'_>,
 ) -> Result<(), SessionFault>
+    requires { IsSoundReceived (as_received response) }
     ensures clean { O.is_clean office.new → O.is_clean office.old }
     ensures does { O.is_clean office.new → O.stands office.old
         → Files (filing (O.register office.old) (as_received response.entry)) (desk O.register O.told office.old)

@@ -6,6 +6,7 @@ ghost use Rattle.oftp_wire.specs.declared.command.Command.TheVariants.{Ssid as a
 ghost use Rattle.oftp_session.specs.declared.session.Ending.{Ending};
 ghost use Rattle.oftp_register.specs.Register.{Register};
 ghost use Rattle.oftp_register.specs.Offices.{rest_of};
+ghost use Rattle.oftp_register.specs.Soundness.{IsSoundReceived};
 ghost use Rattle.oftp_partners.specs.declared.partner.Partner.{Partner as Entry};
 ghost use Rattle.oftp_session.specs.Phases.{Phase, frame_of, esid_of};
 ghost use Rattle.oftp_session.specs.Opening.{calling_ssid, came_await_ssid, came_initiate_opening, came_respond_opening, open_step, opened_step, ssid_verdict};
@@ -265,6 +266,7 @@ impl<'b> Session<'b> {
         link: Link,
         response: Response<'_>,
     ) -> Result<(), SessionFault>
+        requires { IsSoundReceived (as_received response) }
         ensures clean { O.is_clean office.new → O.is_clean office.old }
         ensures does { O.is_clean office.new → O.stands office.old → (partner : Entry) → self.old.partner ≡ Some partner
             → Does (response_step self.old.setting partner link (O.register office.old) (as_received response.entry)) (desk O.register O.told office.old)

@@ -1,9 +1,9 @@
 //! Incoming files, kept in memory.
 
-ghost use Rattle.std.specs.Prelude.{◌≡◌, ◌↔◌, ◌+◌, ◌≤◌, ℕ, [], ◌++◌, length, take, not, None, Ok, IfOk, IsTrue};
+ghost use Rattle.std.specs.Prelude.{◌≡◌, ◌↔◌, ◌+◌, ◌≤◌, ℕ, [], ◌++◌, length, None, Ok, IfOk, IsTrue};
 ghost use Rattle.oftp_register.specs.Register.{Issued, Incoming, same_identity};
 ghost use Rattle.oftp_register.specs.Changes.{closed, given_up, gone_on, issued, kept, sent, sent_as};
-ghost use Rattle.oftp_register.specs.Soundness.{AreFullRows, Ends, GoesOn, IsSoundIncoming};
+ghost use Rattle.oftp_register.specs.Soundness.{Ends, GoesOn, IfOpen, IsSoundIncoming, MayGoOn, MayStart};
 ghost use Rattle.oftp_register.specs.LookUps.{IsIncomingWithin, incoming_entry, is_due, issued_entry};
 ghost use Rattle.oftp_register.specs.Lists.{Makes, header_of, incoming_of, is_due_to, issued_of, response_of};
 
@@ -89,33 +89,54 @@ impl IncomingFile {
         }
     }
 
-    // Whether it has another identity.
-    pub(crate) fn is_another(&self, identity: &Identity) -> bool
-        ensures { result ≡ not (same_identity self.now.identity identity.now) }
+    // Whether, open, it may go on in a format with so many of its rows.
+    fn may_go_on(&self, format: Format, longest: u32, count: u64) -> bool
+        ensures { IsTrue result ↔ MayGoOn format longest count (incoming_of self.now) }
     {
-        !self.identity.is(identity)
+        match self.state {
+            IncomingState::Open if count <= self.rows.len() as u64 => {
+                are_full_rows(format, longest, &self.rows[..count as usize])
+            }
+            _ => true,
+        }
     }
 
-    // Whether the first so many of its rows fit a format.
-    pub(crate) fn begins_with(&self, format: Format, longest: u32, count: u64) -> bool
-        ensures { IsTrue result ↔ AreFullRows format longest (take count self.now.rows.items) }
+    // Whether it has another identity, or may go on so.
+    #[tactic(auto, unfolding(crate::specs::Soundness::MayStart))]
+    pub(crate) fn may_start(
+        &self,
+        identity: &Identity,
+        format: Format,
+        longest: u32,
+        count: u64,
+    ) -> bool
+        ensures { IsTrue result ↔ MayStart identity.now format longest count (incoming_of self.now) }
     {
-        let kept = self.rows.len().min(count as usize);
-        are_full_rows(format, longest, &self.rows[..kept])
+        !self.identity.is(identity) || self.may_go_on(format, longest, count)
     }
 
-    // Whether these rows may follow.
+    // Whether, open, it may be followed by these rows.
     pub(crate) fn takes(&self, rows: &Rows) -> bool
-        ensures { IsTrue result ↔ GoesOn rows.now (incoming_of self.now) }
+        ensures { IsTrue result ↔ IfOpen self.now.state (GoesOn rows.now (incoming_of self.now)) }
     {
-        self.has_room(rows) && are_full_rows(self.format, self.longest, rows.as_slice())
+        match self.state {
+            IncomingState::Open => {
+                self.has_room(rows) && are_full_rows(self.format, self.longest, rows.as_slice())
+            }
+            IncomingState::Whole => true,
+        }
     }
 
-    // Whether these rows may end it.
+    // Whether, open, it may be ended by these rows.
     pub(crate) fn ends_by(&self, rows: &Rows) -> bool
-        ensures { IsTrue result ↔ Ends rows.now (incoming_of self.now) }
+        ensures { IsTrue result ↔ IfOpen self.now.state (Ends rows.now (incoming_of self.now)) }
     {
-        self.has_room(rows) && are_rows(self.format, self.longest, rows.as_slice())
+        match self.state {
+            IncomingState::Open => {
+                self.has_room(rows) && are_rows(self.format, self.longest, rows.as_slice())
+            }
+            IncomingState::Whole => true,
+        }
     }
 
     fn has_room(&self, rows: &Rows) -> bool

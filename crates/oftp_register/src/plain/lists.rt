@@ -1,13 +1,13 @@
 //! The lists of an office in memory.
 
-ghost use Rattle.std.specs.Prelude.{◌≡◌, ◌≤◌, ◌<◌, ◌^◌, ℕ, Ok, IfOk, IfErr, IfSome, IsTrue, All, true, map, position, slice_get, take, drop, vec_len};
+ghost use Rattle.std.specs.Prelude.{◌≡◌, ◌↔◌, ◌≤◌, ◌<◌, ◌^◌, ℕ, Ok, IfOk, IfErr, IfSome, IsTrue, All, true, map, position, slice_get, take, drop, vec_len};
 ghost use Rattle.std.specs.List.{list_any};
 ghost use Rattle.oftp_register.specs.Register.{Register, answers, empty, has_received, same_identity, same_kind};
 ghost use Rattle.oftp_register.specs.Changes.{apply, closed, closing, filed, given_up, handed, issued, kept, marked, on_incoming, on_outgoing, refused, reopened, sent, settled, started, submitted};
 ghost use Rattle.oftp_register.specs.declared.change.Change.TheVariants as change;
-ghost use Rattle.oftp_register.specs.Soundness.{AreFullRows, IsFit, IsSound};
+ghost use Rattle.oftp_register.specs.Soundness.{AtNumber, Ends, GoesOn, IfOpen, IsFit, IsSound, MayStart};
 ghost use Rattle.oftp_register.specs.LookUps.{AreRowsWithin, IsIncomingWithin, IsItemWithin, IsOutgoingWithin, file_rows, files_full, in_by_no, list_in, list_issued, list_out, list_received, look_in, look_out, next_file, next_item, next_response, out_by_no, rows_of};
-ghost use Rattle.oftp_register.specs.Lists.{IsPlace, Makes, header_of, issued_of, newly_started, outgoing_of, received_of, register_in, to_send};
+ghost use Rattle.oftp_register.specs.Lists.{IsPlace, Makes, header_of, incoming_of, issued_of, newly_started, outgoing_of, received_of, register_in, to_send};
 
 use super::incoming::{Header, IncomingFile};
 use super::outgoing::OutgoingFile;
@@ -17,7 +17,7 @@ use crate::entries::{
     ReceivedResponse, Side,
 };
 use crate::entry::{Identity, ResponseKind};
-use crate::fit::{is_file, is_longest};
+use crate::fit::{is_file, is_longest, is_response};
 use crate::name::Name;
 use crate::office::OfficeFault;
 use oftp_vfile::{Format, Limits, Row, Rows};
@@ -106,7 +106,7 @@ fn is_answered(responses: &[ReceivedResponse], kind: ResponseKind, identity: &Id
     responses.iter().any(|response| is_kind(response.kind, kind) && response.identity.is(identity))
 }
 
-// Whether the file of this identity, if it is there, may go on with this header after so many rows.
+// Whether the file of this identity, if it is there, may go on in this format after so many rows.
 fn can_start(
     files: &[IncomingFile],
     identity: &Identity,
@@ -114,10 +114,11 @@ fn can_start(
     longest: u32,
     count: u64,
 ) -> bool
-    ensures { IsTrue result → All (λ file. same_identity file.identity identity.now ≡ true
-        → AreFullRows format longest (take count file.rows.items)) files.now }
+    ensures { IsTrue result ↔ All (λ file. MayStart identity.now format longest count (incoming_of file)) files.now }
 {
-    files.iter().all(|file| file.is_another(identity) || file.begins_with(format, longest, count))
+    files
+        .iter()
+        .all(|file| file.may_start(identity, format, longest, count))
 }
 
 impl Lists {
@@ -291,10 +292,30 @@ impl Lists {
         }
     }
 
-    // Whether the file that a change leaves is within the limits.
+    // Whether the file with this number, if it is there and open, may be followed by these rows.
+    fn may_keep(&self, no: u64, rows: &Rows) -> bool
+        ensures { IsTrue result ↔ AtNumber (λ file. IfOpen file.state (GoesOn rows.now file)) no (register_in self.now).incoming }
+    {
+        match place_of(no, self.incoming.len()) {
+            Some(place) => self.incoming[place].takes(rows),
+            None => true,
+        }
+    }
+
+    // Whether the file with this number, if it is there and open, may be ended by these rows.
+    fn may_close(&self, no: u64, rows: &Rows) -> bool
+        ensures { IsTrue result ↔ AtNumber (λ file. IfOpen file.state (Ends rows.now file)) no (register_in self.now).incoming }
+    {
+        match place_of(no, self.incoming.len()) {
+            Some(place) => self.incoming[place].ends_by(rows),
+            None => true,
+        }
+    }
+
+    // Whether a change is fit.
     #[tactic(auto, unfolding(crate::specs::Soundness::IsFit))]
-    fn allows(&self, change: &Change<'_>) -> bool
-        ensures { IsTrue result → IsFit (register_in self.now) change.now }
+    pub(crate) fn allows(&self, change: &Change<'_>) -> bool
+        ensures { IsTrue result ↔ IsFit (register_in self.now) change.now }
     {
         match change {
             Change::Submit {
@@ -313,14 +334,21 @@ impl Lists {
                 is_longest(*format, *longest)
                     && can_start(&self.incoming, identity, *format, *longest, *count)
             }
-            Change::Keep { no, rows } => match place_of(*no, self.incoming.len()) {
-                Some(place) => self.incoming[place].takes(rows),
-                None => true,
-            },
-            Change::Close { no, rows } => match place_of(*no, self.incoming.len()) {
-                Some(place) => self.incoming[place].ends_by(rows),
-                None => true,
-            },
+            Change::Keep { no, rows } => self.may_keep(*no, rows),
+            Change::Close { no, rows } => self.may_close(*no, rows),
+            Change::File {
+                kind,
+                reason,
+                creator,
+                text,
+                ..
+            } => is_response(*kind, *reason, creator.octets(), text),
+            Change::Issue {
+                kind,
+                reason,
+                text,
+                ..
+            } => is_response(*kind, *reason, &[], text),
             _ => true,
         }
     }
@@ -425,23 +453,21 @@ impl Lists {
                 text,
             } => self.issue(no, kind, reason, &text),
             Change::Mark { no, rows } => self.mark(no, rows),
-            Change::Closing { no } => self.begin_closing(no),
+            Change::BeginClosing { no } => self.begin_closing(no),
             Change::HandOver { no } => self.hand_over(no),
             Change::Refuse { no, reason } => self.refuse(no, reason),
             Change::Reopen { no } => self.reopen(no),
-            Change::Sent { no } => self.send(no),
+            Change::Send { no } => self.send(no),
         }
     }
 
-    // Makes a change that is fit. Another one isn't made, as if memory ran out.
+    // Makes a change that is fit.
     pub(crate) fn commit(&mut self, change: Change<'_>) -> Result<(), OfficeFault>
-        requires { IsSound (register_in self.old) }
+        requires sound { IsSound (register_in self.old) }
+        requires fit { IsFit (register_in self.old) change }
         ensures made { Makes register_in (apply (register_in self.old) change.entry) self.old self.new result }
         ensures sound { IsSound (register_in self.new) }
     {
-        if !self.allows(&change) {
-            return Err(OfficeFault::Memory);
-        }
         self.make(change)
     }
 

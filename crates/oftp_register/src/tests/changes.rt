@@ -2,7 +2,7 @@
 
 use super::*;
 use Act::{
-    Close, Closing, GiveUp, HandOver, Issue, Keep, Mark, Refuse, Reopen, Sent, Start, Submit,
+    BeginClosing, Close, GiveUp, HandOver, Issue, Keep, Mark, Refuse, Reopen, Send, Start, Submit,
 };
 use Cause::{Duplicate, Full, State, Unknown};
 use ResponseKind::{EndResponse, NegativeEndResponse};
@@ -11,10 +11,10 @@ use std::process::Abort;
 // A change, why it is refused if it is, and the register after it.
 type Step = (Act, Option<Cause>, &'static str);
 
-fn goes(alloc: Global, rt: &impl Abort, steps: &[Step]) -> Result<(), OfficeFault> {
+fn makes(alloc: Global, rt: &impl Abort, steps: &[Step]) -> Result<(), OfficeFault> {
     let mut office = PlainOffice::new(alloc, LIMITS);
     for (act, cause, register) in steps {
-        let made = office.commit(change(alloc, *act)?);
+        let made = commit(&mut office, change(alloc, *act)?);
         let answer = match cause {
             Some(cause) => Err(OfficeFault::Refused(*cause)),
             None => Ok(()),
@@ -38,7 +38,7 @@ const A_HANDED: &str = "out A handed 2/3 mark 0; out B waiting 0/0 mark 0; ";
 
 #[test]
 fn files_are_submitted(rt: HostRuntime) -> Result<(), OfficeFault> {
-    goes(
+    makes(
         rt.alloc(),
         &rt,
         &[
@@ -53,8 +53,8 @@ fn files_are_submitted(rt: HostRuntime) -> Result<(), OfficeFault> {
 }
 
 #[test]
-fn files_go(rt: HostRuntime) -> Result<(), OfficeFault> {
-    goes(
+fn only_files_with_a_number_go(rt: HostRuntime) -> Result<(), OfficeFault> {
+    makes(
         rt.alloc(),
         &rt,
         &[
@@ -62,26 +62,38 @@ fn files_go(rt: HostRuntime) -> Result<(), OfficeFault> {
             (Submit(b"B", &[]), None, AB),
             (Mark(0, 0), Some(Unknown), AB),
             (Mark(3, 0), Some(Unknown), AB),
-            (Closing(3), Some(Unknown), AB),
+            (BeginClosing(3), Some(Unknown), AB),
             (HandOver(3), Some(Unknown), AB),
             (Refuse(3), Some(Unknown), AB),
             (Reopen(3), Some(Unknown), AB),
+        ],
+    )
+}
+
+#[test]
+fn files_go(rt: HostRuntime) -> Result<(), OfficeFault> {
+    makes(
+        rt.alloc(),
+        &rt,
+        &[
+            (Submit(b"A", &[b"abc", b""]), None, A),
+            (Submit(b"B", &[]), None, AB),
             (Mark(1, 3), Some(State), AB),
             (HandOver(1), Some(State), AB),
             (Reopen(1), Some(State), AB),
             (Mark(1, 2), None, A_MARKED),
-            (Closing(1), None, A_CLOSING),
-            (Closing(1), Some(State), A_CLOSING),
+            (BeginClosing(1), None, A_CLOSING),
+            (BeginClosing(1), Some(State), A_CLOSING),
             (Mark(1, 1), Some(State), A_CLOSING),
             (Reopen(1), None, AB),
             (
-                Closing(1),
+                BeginClosing(1),
                 None,
                 "out A closing 2/3 mark 0; out B waiting 0/0 mark 0; ",
             ),
             (HandOver(1), None, A_HANDED),
             (HandOver(1), Some(State), A_HANDED),
-            (Closing(1), Some(State), A_HANDED),
+            (BeginClosing(1), Some(State), A_HANDED),
             (Reopen(1), Some(State), A_HANDED),
             (Mark(1, 1), Some(State), A_HANDED),
             (Refuse(1), Some(State), A_HANDED),
@@ -101,7 +113,7 @@ fn files_go(rt: HostRuntime) -> Result<(), OfficeFault> {
 
 #[test]
 fn responses_come(rt: HostRuntime) -> Result<(), OfficeFault> {
-    goes(
+    makes(
         rt.alloc(),
         &rt,
         &[
@@ -123,7 +135,7 @@ fn responses_come(rt: HostRuntime) -> Result<(), OfficeFault> {
                 "out A waiting 0/0 mark 0; got Z EERP; got A EERP; ",
             ),
             (
-                Closing(1),
+                BeginClosing(1),
                 None,
                 "out A closing 0/0 mark 0; got Z EERP; got A EERP; ",
             ),
@@ -143,45 +155,35 @@ fn responses_come(rt: HostRuntime) -> Result<(), OfficeFault> {
 
 #[test]
 fn files_are_delivered(rt: HostRuntime) -> Result<(), OfficeFault> {
-    goes(
+    makes(
         rt.alloc(),
         &rt,
         &[
             (Submit(b"A", &[]), None, "out A waiting 0/0 mark 0; "),
-            (
-                Submit(b"B", &[]),
-                None,
-                "out A waiting 0/0 mark 0; out B waiting 0/0 mark 0; ",
-            ),
-            (
-                Closing(1),
-                None,
-                "out A closing 0/0 mark 0; out B waiting 0/0 mark 0; ",
-            ),
-            (
-                HandOver(1),
-                None,
-                "out A handed 0/0 mark 0; out B waiting 0/0 mark 0; ",
-            ),
+            (BeginClosing(1), None, "out A closing 0/0 mark 0; "),
+            (HandOver(1), None, "out A handed 0/0 mark 0; "),
             (
                 Act::File(b"A", EndResponse),
                 None,
-                "out A delivered 0/0 mark 0; out B waiting 0/0 mark 0; got A EERP; ",
+                "out A delivered 0/0 mark 0; got A EERP; ",
             ),
+        ],
+    )
+}
+
+#[test]
+fn a_refused_file_stays_refused(rt: HostRuntime) -> Result<(), OfficeFault> {
+    makes(
+        rt.alloc(),
+        &rt,
+        &[
+            (Submit(b"A", &[]), None, "out A waiting 0/0 mark 0; "),
+            (BeginClosing(1), None, "out A closing 0/0 mark 0; "),
+            (Refuse(1), None, "out A refused 0/0 mark 0; "),
             (
-                Closing(2),
+                Act::File(b"A", EndResponse),
                 None,
-                "out A delivered 0/0 mark 0; out B closing 0/0 mark 0; got A EERP; ",
-            ),
-            (
-                Refuse(2),
-                None,
-                "out A delivered 0/0 mark 0; out B refused 0/0 mark 0; got A EERP; ",
-            ),
-            (
-                Act::File(b"B", EndResponse),
-                None,
-                "out A delivered 0/0 mark 0; out B refused 0/0 mark 0; got A EERP; got B EERP; ",
+                "out A refused 0/0 mark 0; got A EERP; ",
             ),
         ],
     )
@@ -189,7 +191,7 @@ fn files_are_delivered(rt: HostRuntime) -> Result<(), OfficeFault> {
 
 #[test]
 fn files_come(rt: HostRuntime) -> Result<(), OfficeFault> {
-    goes(
+    makes(
         rt.alloc(),
         &rt,
         &[
@@ -228,17 +230,17 @@ fn files_come(rt: HostRuntime) -> Result<(), OfficeFault> {
 
 #[test]
 fn responses_go(rt: HostRuntime) -> Result<(), OfficeFault> {
-    goes(
+    makes(
         rt.alloc(),
         &rt,
         &[
             (Start(b"D", 0), None, "in D Open 0/0; "),
             (Issue(1, EndResponse), Some(State), "in D Open 0/0; "),
-            (Sent(1), Some(State), "in D Open 0/0; "),
+            (Send(1), Some(State), "in D Open 0/0; "),
             (Close(1, &[]), None, "in D Whole 0/0; "),
-            (Sent(1), Some(State), "in D Whole 0/0; "),
+            (Send(1), Some(State), "in D Whole 0/0; "),
             (Issue(2, EndResponse), Some(Unknown), "in D Whole 0/0; "),
-            (Sent(0), Some(Unknown), "in D Whole 0/0; "),
+            (Send(0), Some(Unknown), "in D Whole 0/0; "),
             (
                 Issue(1, NegativeEndResponse),
                 None,
@@ -249,8 +251,8 @@ fn responses_go(rt: HostRuntime) -> Result<(), OfficeFault> {
                 Some(State),
                 "in D Whole 0/0 NERP Due; ",
             ),
-            (Sent(1), None, "in D Whole 0/0 NERP Sent; "),
-            (Sent(1), Some(State), "in D Whole 0/0 NERP Sent; "),
+            (Send(1), None, "in D Whole 0/0 NERP Sent; "),
+            (Send(1), Some(State), "in D Whole 0/0 NERP Sent; "),
             (
                 Issue(1, EndResponse),
                 Some(State),
@@ -258,4 +260,69 @@ fn responses_go(rt: HostRuntime) -> Result<(), OfficeFault> {
             ),
         ],
     )
+}
+
+// A file that goes on has the header of its last start; the number and the rows that stay are the old ones.
+#[test]
+fn a_header_is_replaced(rt: HostRuntime) -> Result<(), Fail> {
+    let alloc = rt.alloc();
+    let mut office = office_after(alloc, &[Start(b"D", 0), Keep(1, &[b"abc", b"de"])])?;
+    let start = Change::Start {
+        identity: file(b"D")?,
+        format: Format::Fixed,
+        longest: 3,
+        description: text("SCHEDULE")?,
+        count: 1,
+    };
+    commit(&mut office, start)?;
+    let found = office.look_in(&file(b"D")?)?.ok_or("no file D")?;
+    assert_eq!(rt; (found.no, found.rows, found.units), (1, 1, 3));
+    assert_eq!(rt; (found.format, found.longest), (Format::Fixed, 3));
+    assert_eq!(rt; found.description.as_str(), "SCHEDULE");
+    Ok(())
+}
+
+// A second response of a kind to one file is refused, and the first is kept with its words.
+#[test]
+fn the_first_text_is_kept(rt: HostRuntime) -> Result<(), Fail> {
+    let alloc = rt.alloc();
+    let mut office = office_after(alloc, &[Act::File(b"A", NegativeEndResponse)])?;
+    let second = Change::File {
+        kind: NegativeEndResponse,
+        identity: file(b"A")?,
+        reason: Count::new(3),
+        creator: code(b"O3")?,
+        text: text("LATER")?,
+    };
+    let made = commit(&mut office, second);
+    assert_eq!(rt; made, Err(OfficeFault::Refused(Duplicate)));
+    let received = office.list_received()?;
+    let entry = received.first().ok_or("no response")?;
+    assert_eq!(rt; (received.len(), entry.no), (1, 1));
+    assert_eq!(rt; entry.response.reason.get(), 9);
+    assert_eq!(rt; entry.response.creator.octets(), b"O2".as_slice());
+    assert_eq!(rt; entry.response.text.as_str(), "NO PLANT");
+    Ok(())
+}
+
+#[test]
+fn reasons_are_kept(rt: HostRuntime) -> Result<(), Fail> {
+    let acts = [
+        Submit(b"N", &[b"x"]),
+        Refuse(1),
+        Start(b"D", 0),
+        Close(1, &[]),
+        Issue(1, NegativeEndResponse),
+    ];
+    let mut office = office_after(rt.alloc(), &acts)?;
+    let refused = office.out_by_no(1)?.ok_or("no file N")?;
+    assert_eq!(rt; refused.state, OutgoingState::Refused(Count::new(13)));
+    let issued = office.list_issued()?;
+    let entry = issued.first().ok_or("no response")?;
+    assert_eq!(rt; (issued.len(), entry.no), (1, 1));
+    assert_eq!(rt; entry.response.kind, NegativeEndResponse);
+    assert_eq!(rt; entry.response.reason.get(), 9);
+    assert_eq!(rt; entry.response.text.as_str(), "NO PLANT");
+    assert_eq!(rt; entry.identity.originator.octets(), b"O1".as_slice());
+    Ok(())
 }

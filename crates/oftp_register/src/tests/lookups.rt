@@ -10,7 +10,7 @@ const FILLED: [Act; 8] = [
     Act::Start(b"E", 0),
     Act::Submit(b"A", &[b"x"]),
     Act::Submit(b"B", &[]),
-    Act::Closing(2),
+    Act::BeginClosing(2),
     Act::File(b"Z", ResponseKind::NegativeEndResponse),
 ];
 
@@ -49,12 +49,58 @@ fn responses_go_before_files(rt: HostRuntime) -> Result<(), Fail> {
     Ok(())
 }
 
+// Three responses to O1, the second sent, and two files to it.
+const MIXED: [Act; 13] = [
+    Act::Start(b"D", 0),
+    Act::Close(1, &[]),
+    Act::Issue(1, ResponseKind::EndResponse),
+    Act::Start(b"E", 0),
+    Act::Close(2, &[]),
+    Act::Issue(2, ResponseKind::NegativeEndResponse),
+    Act::Send(2),
+    Act::Start(b"F", 0),
+    Act::Close(3, &[]),
+    Act::Issue(3, ResponseKind::NegativeEndResponse),
+    Act::Submit(b"N", &[b"x"]),
+    Act::Submit(b"P", &[]),
+    Act::BeginClosing(2),
+];
+
+#[test]
+fn a_partner_is_sent_its_responses_and_then_its_files(rt: HostRuntime) -> Result<(), Fail> {
+    let alloc = rt.alloc();
+    let limits = Limits { files: 3, ..LIMITS };
+    let mut office = PlainOffice::new(alloc, limits);
+    for act in MIXED {
+        commit(&mut office, change(alloc, act)?)?;
+    }
+    for (response, file, files, wanted) in [
+        (0, 0, true, ("response", 1)),
+        (1, 0, true, ("response", 3)),
+        (2, 0, true, ("response", 3)),
+        (0, 2, true, ("response", 1)),
+        (3, 0, false, ("nothing", 0)),
+        (3, 0, true, ("file", 1)),
+        (3, 1, true, ("file", 2)),
+        (3, 2, true, ("nothing", 0)),
+    ] {
+        let cursor = Cursor { response, file };
+        assert_eq!(rt; next(&mut office, b"O1", cursor, files)?, wanted);
+    }
+    let cursor = Cursor {
+        response: 0,
+        file: 0,
+    };
+    assert_eq!(rt; next(&mut office, b"O2", cursor, true)?, ("nothing", 0));
+    Ok(())
+}
+
 #[test]
 fn what_was_sent_is_not_next(rt: HostRuntime) -> Result<(), Fail> {
     let alloc = rt.alloc();
     let mut office = office_after(alloc, &FILLED)?;
-    office.commit(change(alloc, Act::Sent(1))?)?;
-    office.commit(change(alloc, Act::HandOver(2))?)?;
+    commit(&mut office, change(alloc, Act::Send(1))?)?;
+    commit(&mut office, change(alloc, Act::HandOver(2))?)?;
     let cursor = Cursor {
         response: 0,
         file: 1,
@@ -99,23 +145,6 @@ fn an_office_tells_its_state(rt: HostRuntime) -> Result<(), Fail> {
     Ok(())
 }
 
-// The octets of some rows, each ended by a bar.
-fn part(
-    office: &mut PlainOffice,
-    from: u64,
-    most: u64,
-    alloc: Global,
-) -> Result<String, OfficeFault> {
-    let mut all = String::new(alloc);
-    for row in office.rows_of(Side::Incoming, 1, from, most)?.as_slice() {
-        for octet in row.octets() {
-            all.push(char::from(*octet))?;
-        }
-        all.push('|')?;
-    }
-    Ok(all)
-}
-
 #[test]
 fn rows_are_handed_out_in_parts(rt: HostRuntime) -> Result<(), Fail> {
     let alloc = rt.alloc();
@@ -127,43 +156,103 @@ fn rows_are_handed_out_in_parts(rt: HostRuntime) -> Result<(), Fail> {
         (3, 1, ""),
         (0, 0, ""),
     ] {
-        assert_eq!(rt; part(&mut office, from, most, alloc)?.as_str(), wanted);
+        assert_eq!(rt; rows_from(&mut office, from, most, alloc)?.as_str(), wanted);
     }
     assert_eq!(rt; office.rows_of(Side::Outgoing, 1, 0, 9)?.len(), 1);
     assert_eq!(rt; office.rows_of(Side::Outgoing, 3, 0, 9)?.len(), 0);
     Ok(())
 }
 
+// The changes of a file that is sent, in turn.
+#[tactic(auto, unfolding(crate::specs::Soundness::IsFit, crate::specs::Soundness::AreFit))]
+fn hand_over(alloc: Global, office: &mut PlainOffice) -> Result<(), OfficeFault> {
+    let mut changes = Vec::new(alloc);
+    changes.push(Change::BeginClosing { no: 1 })?;
+    changes.push(Change::HandOver { no: 1 })?;
+    commit_all(office, changes)
+}
+
 #[test]
 fn changes_in_turn_end_at_the_first_refusal(rt: HostRuntime) -> Result<(), Fail> {
     let alloc = rt.alloc();
-    let mut office = PlainOffice::new(alloc, LIMITS);
-    let mut changes = Vec::new(alloc);
-    for act in [Act::Submit(b"A", &[]), Act::HandOver(1), Act::Closing(1)] {
-        changes.push(change(alloc, act)?)?;
-    }
-    let made = commit_all(&mut office, changes);
-    assert_eq!(rt; made, Err(OfficeFault::Refused(Cause::State)));
-    let now = shown(alloc, &mut office)?;
-    assert_eq!(rt; now.as_str(), "out A waiting 0/0 mark 0; ");
+    let mut office = office_after(alloc, &[Act::Submit(b"N", &[])])?;
+    hand_over(alloc, &mut office)?;
+    let handed = "out N handed 0/0 mark 0; ";
+    assert_eq!(rt; shown(alloc, &mut office)?.as_str(), handed);
+    let refused = Err(OfficeFault::Refused(Cause::State));
+    assert_eq!(rt; hand_over(alloc, &mut office), refused);
+    assert_eq!(rt; shown(alloc, &mut office)?.as_str(), handed);
+    let mut empty = PlainOffice::new(alloc, LIMITS);
+    let unknown = Err(OfficeFault::Refused(Cause::Unknown));
+    assert_eq!(rt; hand_over(alloc, &mut empty), unknown);
     Ok(())
 }
 
-// A change that leaves a file beyond its limits isn't made.
+// Which changes are fit where one file is open, with a row, and another whole.
 #[test]
-fn files_keep_their_limits(rt: HostRuntime) -> Result<(), Fail> {
+fn changes_are_fit_or_not(rt: HostRuntime) -> Result<(), Fail> {
     let alloc = rt.alloc();
-    let mut office = office_after(alloc, &[Act::Start(b"D", 0)])?;
-    for act in [
-        Act::Submit(b"A", &[b"abcd"]),
-        Act::Keep(1, &[b"abcd"]),
-        Act::Close(1, &[b"a", b"abcd"]),
+    let acts = [
+        Act::Start(b"D", 0),
+        Act::Keep(1, &[b"abc"]),
+        Act::Start(b"E", 0),
+        Act::Close(2, &[]),
+    ];
+    let office = office_after(alloc, &acts)?;
+    for (act, fits) in [
+        (Act::Submit(b"N", &[b"abc"]), true),
+        (Act::Submit(b"N", &[b"abcd"]), false),
+        (Act::Keep(1, &[b"abc"]), true),
+        (Act::Keep(1, &[b"abcd"]), false),
+        (Act::Close(1, &[b"a", b"abcd"]), false),
+        // These are refused, so they leave no file.
+        (Act::Keep(2, &[b"abcd"]), true),
+        (Act::Close(3, &[b"abcd"]), true),
     ] {
-        let made = office.commit(change(alloc, act)?);
-        assert_eq!(rt; made, Err(OfficeFault::Memory), "at {act:?}");
+        let change = change(alloc, act)?;
+        assert_eq!(rt; office.is_fit(&change), fits, "at {act:?}");
     }
-    let now = shown(alloc, &mut office)?;
-    assert_eq!(rt; now.as_str(), "in D Open 0/0; ");
+    Ok(())
+}
+
+// A file goes on in another format only with rows that fit it.
+#[test]
+fn starts_are_fit_or_not(rt: HostRuntime) -> Result<(), Fail> {
+    let acts = [Act::Start(b"D", 0), Act::Keep(1, &[b"abc", b"de"])];
+    let office = office_after(rt.alloc(), &acts)?;
+    for (format, longest, count, fits) in [
+        (Format::Variable, 3, 2, true),
+        (Format::Variable, 2, 2, false),
+        (Format::Fixed, 3, 1, true),
+        (Format::Fixed, 3, 2, false),
+        (Format::Fixed, 0, 0, false),
+        (Format::Text, 0, 0, true),
+        (Format::Text, 0, 1, false),
+        // It is refused, so it leaves no file.
+        (Format::Fixed, 3, 3, true),
+    ] {
+        let start = Change::Start {
+            identity: file(b"D")?,
+            format,
+            longest,
+            description: text("")?,
+            count,
+        };
+        assert_eq!(rt; office.is_fit(&start), fits);
+    }
+    Ok(())
+}
+
+#[test]
+fn an_end_response_says_nothing_more(rt: HostRuntime) -> Result<(), Fail> {
+    let (none, words) = (text("")?, text("NO PLANT")?);
+    let end = ResponseKind::EndResponse;
+    assert!(rt; is_response(end, Count::new(0), b"", &none));
+    assert!(rt; !is_response(end, Count::new(9), b"", &none));
+    assert!(rt; !is_response(end, Count::new(0), b"O2", &none));
+    assert!(rt; !is_response(end, Count::new(0), b"", &words));
+    let negative = ResponseKind::NegativeEndResponse;
+    assert!(rt; is_response(negative, Count::new(9), b"O2", &words));
     Ok(())
 }
 

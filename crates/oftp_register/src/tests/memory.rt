@@ -7,9 +7,9 @@ const ACTS: [Act; 15] = [
     Act::Submit(b"A", &[b"abc", b""]),
     Act::Submit(b"B", &[b"x"]),
     Act::Mark(1, 1),
-    Act::Closing(1),
+    Act::BeginClosing(1),
     Act::Reopen(1),
-    Act::Closing(1),
+    Act::BeginClosing(1),
     Act::HandOver(1),
     Act::Refuse(2),
     Act::File(b"A", ResponseKind::NegativeEndResponse),
@@ -18,7 +18,7 @@ const ACTS: [Act; 15] = [
     Act::GiveUp(1),
     Act::Close(1, &[b"f"]),
     Act::Issue(1, ResponseKind::EndResponse),
-    Act::Sent(1),
+    Act::Send(1),
 ];
 
 // A second try, since one allocation alone is refused.
@@ -41,10 +41,11 @@ fn each_allocation_refused(rt: HostRuntime) -> Result<(), Fail> {
     let alloc = rt.alloc();
     let mut office = PlainOffice::new(alloc, LIMITS);
     for (at, act) in ACTS.iter().enumerate() {
-        if office.commit(change_again(alloc, *act)?).is_err() {
+        if let Err(fault) = commit(&mut office, change_again(alloc, *act)?) {
+            assert_eq!(rt; fault, OfficeFault::Memory);
             let before = shown(alloc, &mut office_after(alloc, &ACTS[..at])?)?;
             assert_eq!(rt; shown(alloc, &mut office)?.as_str(), before.as_str());
-            office.commit(change(alloc, *act)?)?;
+            commit(&mut office, change(alloc, *act)?)?;
         }
     }
     let all =

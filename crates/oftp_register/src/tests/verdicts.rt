@@ -35,7 +35,7 @@ fn terms() -> Result<Terms, OfficeFault> {
     })
 }
 
-const fn no(reason: StartReason) -> StartVerdict {
+const fn refused(reason: StartReason) -> StartVerdict {
     StartVerdict::Refuse {
         reason,
         retry: false,
@@ -74,17 +74,39 @@ fn verdict_from(row: u32) -> Result<StartVerdict, OfficeFault> {
 #[test]
 fn the_first_row_decides(rt: HostRuntime) -> Result<(), Fail> {
     for (row, verdict) in [
-        (1, no(StartReason::FileDirectionRefused)),
-        (2, no(StartReason::Unspecified)),
-        (3, no(StartReason::InvalidFilename)),
-        (4, no(StartReason::InvalidDestination)),
-        (5, no(StartReason::InvalidOrigin)),
-        (6, no(StartReason::MaximumRecordLengthNotSupported)),
-        (7, no(StartReason::FileSizeTooBig)),
+        (1, refused(StartReason::FileDirectionRefused)),
+        (2, refused(StartReason::Unspecified)),
+        (3, refused(StartReason::InvalidFilename)),
+        (4, refused(StartReason::InvalidDestination)),
+        (5, refused(StartReason::InvalidOrigin)),
+        (6, refused(StartReason::MaximumRecordLengthNotSupported)),
+        (7, refused(StartReason::FileSizeTooBig)),
         (9, FULL),
         (10, StartVerdict::Accept(Count::new(0))),
     ] {
         assert_eq!(rt; verdict_from(row)?, verdict, "row {row}");
+    }
+    Ok(())
+}
+
+#[test]
+fn longest_records_are_limited(rt: HostRuntime) -> Result<(), Fail> {
+    let too_long = refused(StartReason::MaximumRecordLengthNotSupported);
+    let taken = StartVerdict::Accept(Count::new(0));
+    let terms = terms()?;
+    for (layout, verdict) in [
+        (Layout::Fixed(Count::new(0)), too_long),
+        (Layout::Fixed(Count::new(1)), taken),
+        (Layout::Fixed(Count::new(16_384)), taken),
+        (Layout::Variable(Count::new(0)), too_long),
+        (Layout::Variable(Count::new(16_384)), taken),
+        (Layout::Variable(Count::new(16_385)), too_long),
+        (Layout::Unstructured, taken),
+        (Layout::Text, taken),
+    ] {
+        let mut sfid = offer()?;
+        sfid.layout = layout;
+        assert_eq!(rt; start_verdict(&sfid, None, false, &terms), verdict);
     }
     Ok(())
 }
@@ -101,46 +123,57 @@ fn protected_offers_are_refused(rt: HostRuntime) -> Result<(), Fail> {
             _ => sfid.enveloping = Count::new(1),
         }
         let verdict = start_verdict(&sfid, None, false, &terms);
-        assert_eq!(rt; verdict, no(StartReason::Unspecified));
+        assert_eq!(rt; verdict, refused(StartReason::Unspecified));
     }
     Ok(())
 }
 
-// What is answered where three rows are kept.
-fn verdict_at(
+// What is answered where three rows are kept, and the rows that stay.
+fn goes_on(
     restart: u64,
-    layout: Layout,
+    longest: u64,
     agreed: bool,
     alloc: Global,
-) -> Result<StartVerdict, OfficeFault> {
+) -> Result<(StartVerdict, String), OfficeFault> {
     let kept = [Act::Start(b"D", 0), Act::Keep(1, &[b"a", b"b", b"c"])];
     let mut office = office_after(alloc, &kept)?;
     let found = office.look_in(&file(b"D")?)?;
     let mut sfid = offer()?;
-    sfid.layout = layout;
-    if restart < 9 {
-        sfid.restart = Count::new(restart);
-    }
+    sfid.layout = Layout::Variable(Count::new(longest));
+    sfid.restart = Count::new(restart);
     let mut terms = terms()?;
     terms.restart = agreed;
-    Ok(start_verdict(&sfid, found.as_ref(), true, &terms))
+    let verdict = start_verdict(&sfid, found.as_ref(), true, &terms);
+    if let StartVerdict::Accept(count) = &verdict {
+        commit(&mut office, start(b"D", count.get())?)?;
+    }
+    let rows = rows_from(&mut office, 0, 9, alloc)?;
+    Ok((verdict, rows))
 }
 
 #[test]
 fn offered_above_and_below(rt: HostRuntime) -> Result<(), Fail> {
-    for (restart, longest, agreed, count) in [
-        (5, 3, true, 3),
-        (2, 3, true, 2),
-        (5, 3, false, 0),
-        (5, 4, true, 0),
+    for (restart, longest, agreed, count, rows) in [
+        (5, 3, true, 3, "a|b|c|"),
+        (2, 3, true, 2, "a|b|"),
+        (5, 3, false, 0, ""),
+        (5, 4, true, 0, ""),
     ] {
-        let layout = Layout::Variable(Count::new(longest));
-        let verdict = verdict_at(restart, layout, agreed, rt.alloc())?;
-        let wanted = StartVerdict::Accept(Count::new(count));
-        assert_eq!(rt; verdict, wanted);
+        let (verdict, kept) = goes_on(restart, longest, agreed, rt.alloc())?;
+        assert_eq!(rt; verdict, StartVerdict::Accept(Count::new(count)));
+        assert_eq!(rt; kept.as_str(), rows);
     }
-    let layout = Layout::Fixed(Count::new(3));
-    let verdict = verdict_at(5, layout, true, rt.alloc())?;
+    Ok(())
+}
+
+#[test]
+fn another_format_begins_anew(rt: HostRuntime) -> Result<(), Fail> {
+    let kept = [Act::Start(b"D", 0), Act::Keep(1, &[b"abc"])];
+    let mut office = office_after(rt.alloc(), &kept)?;
+    let found = office.look_in(&file(b"D")?)?;
+    let mut sfid = offer()?;
+    sfid.layout = Layout::Fixed(Count::new(3));
+    let verdict = start_verdict(&sfid, found.as_ref(), true, &terms()?);
     assert_eq!(rt; verdict, StartVerdict::Accept(Count::new(0)));
     Ok(())
 }
@@ -151,7 +184,7 @@ fn duplicate_file(rt: HostRuntime) -> Result<(), Fail> {
     let mut office = office_after(rt.alloc(), &whole)?;
     let found = office.look_in(&file(b"D")?)?;
     let verdict = start_verdict(&offer()?, found.as_ref(), true, &terms()?);
-    assert_eq!(rt; verdict, no(StartReason::DuplicateFile));
+    assert_eq!(rt; verdict, refused(StartReason::DuplicateFile));
     Ok(())
 }
 
@@ -163,7 +196,7 @@ fn table_full(rt: HostRuntime) -> Result<(), Fail> {
         octets: 67_108_864,
     };
     let mut office = PlainOffice::new(alloc, limits);
-    office.commit(change(alloc, Act::Start(b"E", 0))?)?;
+    commit(&mut office, change(alloc, Act::Start(b"E", 0))?)?;
     let found = office.look_in(&file(b"D")?)?;
     let is_full = office.files_full(Side::Incoming)?;
     let verdict = start_verdict(&offer()?, found.as_ref(), is_full, &terms()?);
@@ -173,17 +206,21 @@ fn table_full(rt: HostRuntime) -> Result<(), Fail> {
 
 #[test]
 fn ends_are_counted(rt: HostRuntime) -> Result<(), Fail> {
-    for (records, units, verdict) in [
-        (2, 3, EndVerdict::Accept),
-        (3, 3, EndVerdict::Refuse(EndReason::InvalidRecordCount)),
-        (3, 4, EndVerdict::Refuse(EndReason::InvalidRecordCount)),
-        (2, 4, EndVerdict::Refuse(EndReason::InvalidByteCount)),
+    // Two records of three octets, and a file of U or T, which counts none.
+    for (counted, records, units, verdict) in [
+        (2, 2, 3, EndVerdict::Accept),
+        (2, 3, 3, EndVerdict::Refuse(EndReason::InvalidRecordCount)),
+        (2, 3, 4, EndVerdict::Refuse(EndReason::InvalidRecordCount)),
+        (2, 2, 4, EndVerdict::Refuse(EndReason::InvalidByteCount)),
+        (0, 0, 3, EndVerdict::Accept),
+        (0, 1, 3, EndVerdict::Refuse(EndReason::InvalidRecordCount)),
+        (0, 0, 2, EndVerdict::Refuse(EndReason::InvalidByteCount)),
     ] {
         let efid = Efid {
             records: Count::new(records),
             units: Count::new(units),
         };
-        assert_eq!(rt; end_verdict(&efid, 2, 3), verdict);
+        assert_eq!(rt; end_verdict(&efid, counted, 3), verdict);
     }
     assert_eq!(rt; longest_of(Layout::Fixed(Count::new(3))), 3);
     assert_eq!(rt; format_of(Layout::Text), Format::Text);

@@ -3,14 +3,24 @@ use Rattle.std.proofs.lemmas.Result.{err_from_is_err_and}
 use Rattle.oftp_register.specs.Changes.{apply_all}
 use Rattle.oftp_register.specs.Offices.{IsRefused}
 use Rattle.oftp_register.specs.declared.office.OfficeFault.{OfficeFault}
-use Rattle.oftp_register.proofs.PrefixLemmas.{made_on, left_within, moved_on, refused_by}
+use Rattle.oftp_register.proofs.PrefixLemmas.{fit_first, fit_later, made_on, left_within, moved_on, refused_by}
 use Rattle.oftp_register.proofs.prefix.commit_all.Goals as goal
+
+pub commit-requires : goal.commit-requires
+commit-requires g c = record {
+  fit = λ k s. fit_first (g.O.Office.register c.loop-change.office) c.in-Some.change _ _ c.in-Some.ensures.steps.0 (c.loop-change.invariant.fit k s);
+}
 
 pub loop-change-preserved : goal.loop-change-preserved
 loop-change-preserved g c =
     let going = c.loop-change.invariant in
     let office = g.O.Office in
     record {
+      fit = λ k s.
+          let before = c.commit.ensures.clean k in
+          let stood = c.commit.ensures.stood k s in
+          fit_later (office.register c.loop-change.office) _ c.in-Some.change _ _ c.in-Some.ensures.steps.0 (going.fit before stood) (c.in_ok-commit.ensures.done k stood).0;
+      was = λ k s. going.was (c.commit.ensures.clean k) (c.commit.ensures.stood k s);
       clean = λ k. going.clean (c.commit.ensures.clean k);
       whole = moved_on c.loop-change.yielded _ _ c.args.changes.items c.in-Some.change going.whole c.in-Some.ensures.steps.0;
       stood = λ k s. (c.in_ok-commit.ensures.done k (going.stood (c.commit.ensures.clean k) s)).1;

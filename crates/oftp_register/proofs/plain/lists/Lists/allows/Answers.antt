@@ -1,37 +1,20 @@
-use Rattle.std.proofs.Common.{sym, subst}
-use Rattle.oftp_register.specs.Soundness.{Ends, GoesOn, IsFit}
 use Rattle.oftp_register.specs.Lists.{register_in}
-use Rattle.oftp_register.proofs.FitLemmas.{close_fits, fit_at, fit_nowhere, keep_fits, start_fits}
+use Rattle.oftp_register.proofs.FitLemmas.{close_asks, keep_asks, start_asks, tests_fit}
 use Rattle.oftp_register.proofs.plain.lists.Lists.allows.Goals as goal
 
 pub returns-then-is_longest : goal.returns-then-is_longest
-returns-then-is_longest c = λ yes.
+returns-then-is_longest c =
     let start = c.in-Start in
-    subst (IsFit (register_in c.args.self.now)) (sym start.is)
-    (start_fits c.args.self.now _ start.identity start.format start.longest start.description start.count c.deref.ensures.value (c.is_longest.ensures.0 c.if-is_longest.true) (c.can_start.ensures yes))
+    tests_fit (register_in c.args.self.now) c.args.change.now _ _ c.can_start.result start.is
+    (start_asks c.args.self.now _ start.identity start.format start.longest start.description start.count c.deref.ensures.value)
+    (λ yes. (c.is_longest.ensures.0 c.if-is_longest.true, c.can_start.ensures.0 yes), λ asked. c.can_start.ensures.1 asked.1)
 
-pub returns-in-Some : goal.returns-in-Some
-returns-in-Some c = λ yes.
-    let o = c.args.self.now in
-    let keep = c.in-Keep in
-    subst (IsFit (register_in o)) (sym keep.is)
-    (keep_fits (register_in o) keep.no keep.rows (fit_at o (GoesOn keep.rows) keep.no c.in-Some.place _ _ c.in-Some.ensures c.index.ensures (c.takes.ensures.0 yes)))
+pub returns-in-Keep : goal.returns-in-Keep
+returns-in-Keep c =
+    let r = register_in c.args.self.now in
+    tests_fit r c.args.change.now _ _ c.may_keep.result c.in-Keep.is (keep_asks r c.in-Keep.no c.in-Keep.rows) c.may_keep.ensures
 
-pub returns-in-None : goal.returns-in-None
-returns-in-None c = λ yes.
-    let o = c.args.self.now in
-    let keep = c.in-Keep in
-    subst (IsFit (register_in o)) (sym keep.is) (keep_fits (register_in o) keep.no keep.rows (fit_nowhere o (GoesOn keep.rows) keep.no _ c.len.ensures c.in-None.ensures))
-
-pub returns-in-Some-place_of : goal.returns-in-Some-place_of
-returns-in-Some-place_of c = λ yes.
-    let o = c.args.self.now in
-    let close = c.in-Close in
-    subst (IsFit (register_in o)) (sym close.is)
-    (close_fits (register_in o) close.no close.rows (fit_at o (Ends close.rows) close.no c.in-Some-place_of.place _ _ c.in-Some-place_of.ensures c.index-in-Some-place_of.ensures (c.ends_by.ensures.0 yes)))
-
-pub returns-in-None-place_of : goal.returns-in-None-place_of
-returns-in-None-place_of c = λ yes.
-    let o = c.args.self.now in
-    let close = c.in-Close in
-    subst (IsFit (register_in o)) (sym close.is) (close_fits (register_in o) close.no close.rows (fit_nowhere o (Ends close.rows) close.no _ c.len-in-Close.ensures c.in-None-place_of.ensures))
+pub returns-in-Close : goal.returns-in-Close
+returns-in-Close c =
+    let r = register_in c.args.self.now in
+    tests_fit r c.args.change.now _ _ c.may_close.result c.in-Close.is (close_asks r c.in-Close.no c.in-Close.rows) c.may_close.ensures
