@@ -15,7 +15,7 @@ use Rattle.oftp_wire.specs.declared.command.Command.{Command}
 use Rattle.oftp_wire.specs.declared.command.Command.TheVariants as commands
 use Rattle.oftp_wire.specs.declared.fault.WireFault.TheVariants.{UnknownCommand}
 use Rattle.oftp_wire.specs.Form.{Reserved, Return}
-use Rattle.oftp_wire.specs.Reading.{◌>>=◌, name_at, digits_at, count_at, text_at, skipped_at, ends_at, flag_at, mode_at, security_at, format_at, layout_at, rest_at, zero16_form, ready_form}
+use Rattle.oftp_wire.specs.Reading.{◌>>=◌, name_at, digits_at, count_at, text_at, skipped_at, ends_at, flag_at, mode_at, format_at, layout_at, rest_at, zero16_form, ready_form}
 
 -- SSRM
 unfoldable pub ssrm_of : List ℕ → Result (Unit {0}) WireFault
@@ -59,7 +59,7 @@ sfid_of o = do
   size ← count_at 13 112 o
   original_size ← count_at 13 125 o
   restart ← count_at 17 138 o
-  security ← security_at 155 o
+  security ← count_at 2 155 o
   cipher ← count_at 2 157 o
   compression ← count_at 1 159 o
   enveloping ← count_at 1 160 o

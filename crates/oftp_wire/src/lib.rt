@@ -23,7 +23,7 @@ mod reason;
 mod scan;
 
 pub use command::{
-    Command, Eerp, Efid, Efna, Efpa, Esid, Layout, Mode, Nerp, Security, Sfid, Sfna, Sfpa, Ssid,
+    Command, Eerp, Efid, Efna, Efpa, Esid, Layout, Mode, Nerp, Sfid, Sfna, Sfpa, Ssid,
 };
 pub use cutting::{CutStream, cut};
 pub use deframer::Deframer;

@@ -13,7 +13,7 @@ use crate::fault::WireFault;
 use crate::field::Octets;
 use crate::read::{
     count_at, digits_at, ends_at, flag_at, format_at, layout_at, mode_at, name_at, ready_at,
-    reserved_at, rest_at, return_at, security_at, text_at, zero_at,
+    reserved_at, rest_at, return_at, text_at, zero_at,
 };
 
 /// SSRM, which has no field of its own.
@@ -77,7 +77,7 @@ fn sfid(frame: &[u8]) -> Result<Sfid<'_>, WireFault>
     let size = count_at::<13>(frame, 112)?;
     let original_size = count_at::<13>(frame, 125)?;
     let restart = count_at::<17>(frame, 138)?;
-    let security = security_at(frame, 155)?;
+    let security = count_at::<2>(frame, 155)?;
     let cipher = count_at::<2>(frame, 157)?;
     let compression = count_at::<1>(frame, 159)?;
     let enveloping = count_at::<1>(frame, 160)?;

@@ -390,6 +390,38 @@ fn longest_record_without_records(rt: HostRuntime) -> Result<(), Fail> {
     Ok(())
 }
 
+/// SFID of an unstructured file whose security level is these two octets.
+fn sfid_of_level(alloc: Global, level: &[u8]) -> Result<Vec<u8>, AllocError> {
+    let fields: [&[u8]; 7] = [
+        b"HA                            202401311015300001        ",
+        b"O0177CARMAKER            O0013SUPPLIER            ",
+        b"U00000",
+        b"00000000000010000000000001",
+        b"00000000000000000",
+        level,
+        b"0000N000",
+    ];
+    joined(alloc, &fields)
+}
+
+#[test]
+fn any_security_level(rt: HostRuntime) -> Result<(), Fail> {
+    for (level, number) in [(b"00", 0), (b"04", 4), (b"99", 99)] {
+        let octets = sfid_of_level(rt.alloc(), level)?;
+        let command = parse(octets.as_slice())?;
+        let mut out = [0u8; 165];
+        assert_eq!(rt; encode(&command, &mut out), Ok(165), "{number}");
+        assert!(rt; out.as_slice() == octets.as_slice(), "{number}");
+        let Command::Sfid(sfid) = command else {
+            return Err("no SFID")?;
+        };
+        assert_eq!(rt; sfid.security.get(), number);
+    }
+    let octets = sfid_of_level(rt.alloc(), b"0x")?;
+    assert_eq!(rt; fault(octets.as_slice()), Some(WireFault::BadField(155)));
+    Ok(())
+}
+
 #[test]
 fn first_fault(rt: HostRuntime) {
     let cases: [(&[u8], WireFault); 9] = [
