@@ -1,4 +1,5 @@
--- Each kind of command, read from left to right. No public clause speaks of it.
+-- Each kind of command, read from left to right. `command_of` is what `parse` answers; by the law `one_spelling` it reads what
+-- octets spell, and refuses the others by their first fault.
 use Rattle.std.specs.Prelude.{ℕ, ◌+◌, List, [], ◌∷◌, Result, Ok, Err, ◌==◌, if◌then◌else◌}
 use Rattle.oftp_wire.specs.declared.fault.WireFault.{WireFault}
 use Rattle.oftp_wire.specs.declared.command.Esid.{Esid}

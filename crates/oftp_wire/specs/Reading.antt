@@ -1,4 +1,4 @@
--- Reading one field after the other: the value, or the fault. No public clause speaks of it.
+-- Reading one field after the other: the value, or the fault. The kinds' readers are made of it, and with them `command_of`.
 use Rattle.std.specs.Prelude.{ℕ, ◌-◌, Bool, List, [], ◌∷◌, length, codes, Option, Some, None, Result, Ok, Err}
 use Rattle.oftp_wire.specs.declared.fault.WireFault.{WireFault}
 use Rattle.oftp_wire.specs.declared.command.Mode.{Mode}

@@ -317,7 +317,7 @@ fn command(frame: &[u8]) -> Result<Command<'_>, WireFault>
 /// left to right: `UnknownCommand`, `WrongLength`, `BadField` or `BadText`, and never `NoRoom`. It takes
 /// no memory, and the command's texts are slices of the frame.
 pub fn parse(frame: &[u8]) -> Result<Command<'_>, WireFault>
-    // The reading that the definition computes.
+    // `command_of` computes it; by the law `one_spelling` it is the same as the clauses below.
     ensures value { result ≡ command_of frame.now }
     // What is read is spelled so.
     ensures found { IfOk result (λ c. Spells c frame.now) }
