@@ -234,7 +234,7 @@ eerp_table = record {
   end = 110;
 }
 
--- NERP with n octets of text (RFC 5024, section 5.3.14)
+-- NERP with n octets of text (RFC 5024, section 5.3.14); its places and its reserved octets are this station's profile
 abbrev pub nerp_table : ℕ → Table Nerp
 nerp_table n = record {
   rows = word 0 (codes "N")

@@ -168,7 +168,8 @@ pub struct Eerp<'a> {
     pub originator: X<'a, 25>,
 }
 
-/// NERP, negative end response: the file won't reach its destination (RFC 5024, section 5.3.14).
+/// NERP, negative end response: the file won't reach its destination (RFC 5024, section 5.3.14). Its places and its reserved octets
+/// are this station's profile.
 #[derive(Drop)]
 pub struct Nerp<'a> {
     /// The dataset name of the file.

@@ -346,25 +346,46 @@ fn eerp_name_with_space(rt: HostRuntime) -> Result<(), Fail> {
     Ok(())
 }
 
+/// NERP with this hash length and signature length, behind a text of two octets.
+fn nerp_fault(alloc: Global, lengths: &[u8]) -> Result<Option<WireFault>, AllocError> {
+    let fields: [&[u8]; 4] = [
+        b"NA                               202401311015300001",
+        b"O0177CARMAKER            O0013SUPPLIER            O0013SUPPLIER            ",
+        b"03002no",
+        lengths,
+    ];
+    fault_of_fields(alloc, &fields)
+}
+
+/// A hash length and a signature length, and the fault of a command where these stand at the two offsets.
+fn with_hash(hash: usize, signature: usize) -> [(&'static [u8], Option<WireFault>); 8] {
+    [
+        (b"\0\0\0\0", None),
+        // A length other than 0 is at fault, whatever stands behind it.
+        (b"\0\x01", Some(WireFault::BadField(hash))),
+        (b"\0\x01\0\0", Some(WireFault::BadField(hash))),
+        (b"\0\x01\0\0x", Some(WireFault::BadField(hash))),
+        (b"\0\0\0\x01", Some(WireFault::BadField(signature))),
+        (b"\0\0\x01\0x", Some(WireFault::BadField(signature))),
+        (b"\0\0\0\0x", Some(WireFault::WrongLength)),
+        (b"\0\0\0", Some(WireFault::WrongLength)),
+    ]
+}
+
 #[test]
-fn hash_and_signature_lengths(rt: HostRuntime) -> Result<(), Fail> {
-    let name = b"A                         ";
-    assert_eq!(rt;
-        eerp_fault(rt.alloc(), name, b"\0\x01\0\0")?,
-        Some(WireFault::BadField(106))
-    );
-    assert_eq!(rt;
-        eerp_fault(rt.alloc(), name, b"\0\0\x01\0x")?,
-        Some(WireFault::BadField(108))
-    );
-    assert_eq!(rt;
-        eerp_fault(rt.alloc(), name, b"\0\0\0\0x")?,
-        Some(WireFault::WrongLength)
-    );
-    assert_eq!(rt;
-        eerp_fault(rt.alloc(), name, b"\0\0\0")?,
-        Some(WireFault::WrongLength)
-    );
+fn eerp_with_hash(rt: HostRuntime) -> Result<(), Fail> {
+    for (lengths, expected) in with_hash(106, 108) {
+        let got = eerp_fault(rt.alloc(), b"A                         ", lengths)?;
+        assert_eq!(rt; got, expected, "{lengths:?}");
+    }
+    Ok(())
+}
+
+#[test]
+fn nerp_with_hash(rt: HostRuntime) -> Result<(), Fail> {
+    for (lengths, expected) in with_hash(133, 135) {
+        assert_eq!(rt; nerp_fault(rt.alloc(), lengths)?, expected, "{lengths:?}");
+    }
     Ok(())
 }
 
