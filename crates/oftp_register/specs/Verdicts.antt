@@ -7,8 +7,6 @@ use Rattle.oftp_wire.specs.declared.command.Efid.{Efid}
 use Rattle.oftp_wire.specs.declared.command.Sfid.{Sfid}
 use Rattle.oftp_wire.specs.declared.command.Layout.{Layout}
 use Rattle.oftp_wire.specs.declared.command.Layout.TheVariants as layout
-use Rattle.oftp_wire.specs.declared.command.Security.{Security}
-use Rattle.oftp_wire.specs.declared.command.Security.TheVariants.{Plain, Encrypted, Signed, Both}
 use Rattle.oftp_wire.specs.declared.reason.StartReason.TheVariants.{InvalidFilename, InvalidDestination, InvalidOrigin, MaximumRecordLengthNotSupported, FileSizeTooBig, DuplicateFile, FileDirectionRefused, Unspecified}
 use Rattle.oftp_wire.specs.declared.reason.EndReason.TheVariants.{InvalidRecordCount, InvalidByteCount}
 use Rattle.oftp_register.specs.declared.entry.IncomingState.{IncomingState}
@@ -49,16 +47,9 @@ has_length (layout.Variable longest) = nat_lt 0 longest && nat_le longest 16384
 has_length layout.Unstructured = true
 has_length layout.Text = true
 
--- security level 00
-abbrev pub is_unprotected : Security → Bool
-is_unprotected Plain = true
-is_unprotected Encrypted = false
-is_unprotected Signed = false
-is_unprotected Both = false
-
--- nothing is encrypted, compressed or enveloped, and no signed response is asked for
+-- the security level is 00, nothing is encrypted, compressed or enveloped, and no signed response is asked for
 abbrev pub is_plain : Sfid → Bool
-is_plain sfid = is_unprotected sfid.security && (sfid.cipher == 0 && (sfid.compression == 0 && (sfid.enveloping == 0 && not sfid.signed_response)))
+is_plain sfid = sfid.security == 0 && (sfid.cipher == 0 && (sfid.compression == 0 && (sfid.enveloping == 0 && not sfid.signed_response)))
 
 -- From where a file that is kept in part goes on: at most from where it is offered, and from its first row where restart isn't
 -- agreed or it is kept in another format or with another longest record.

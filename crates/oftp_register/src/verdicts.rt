@@ -2,14 +2,14 @@
 
 ghost use Rattle.std.specs.Prelude.{◌≡◌, ◌<◌, ◌^◌, false};
 ghost use Rattle.std.specs.Option.{option_copied};
-ghost use Rattle.oftp_register.specs.Verdicts.{end_verdict, format_of, has_length, is_plain, is_unprotected, kept_verdict, longest_of, restart_position, same_format, start_verdict};
+ghost use Rattle.oftp_register.specs.Verdicts.{end_verdict, format_of, has_length, is_plain, kept_verdict, longest_of, restart_position, same_format, start_verdict};
 
 use crate::entries::IncomingEntry;
 use crate::entry::IncomingState;
 use crate::fit::LONGEST_RECORD;
 use crate::name::Name;
 use oftp_vfile::{Format, Limits};
-use oftp_wire::{Count, Efid, EndReason, Layout, Security, Sfid, StartReason};
+use oftp_wire::{Count, Efid, EndReason, Layout, Sfid, StartReason};
 
 /// What a session agreed, as far as it decides whether a file is taken.
 #[derive(Drop)]
@@ -97,20 +97,11 @@ fn has_length(layout: Layout) -> bool
     }
 }
 
-fn is_unprotected(security: Security) -> bool
-    ensures { result ≡ is_unprotected security }
-{
-    match security {
-        Security::Plain => true,
-        Security::Encrypted | Security::Signed | Security::Both => false,
-    }
-}
-
 // Whether the file is sent as it is, and its response is to be as well.
 fn is_plain(sfid: &Sfid<'_>) -> bool
     ensures { result ≡ is_plain sfid.now }
 {
-    is_unprotected(sfid.security)
+    sfid.security.get() == 0
         && sfid.cipher.get() == 0
         && sfid.compression.get() == 0
         && sfid.enveloping.get() == 0

@@ -13,17 +13,15 @@ use Rattle.oftp_wire.specs.declared.command.Esid.{Esid}
 use Rattle.oftp_wire.specs.declared.command.Eerp.{Eerp}
 use Rattle.oftp_wire.specs.declared.command.Nerp.{Nerp}
 use Rattle.oftp_wire.specs.declared.command.Mode.{Mode}
-use Rattle.oftp_wire.specs.declared.command.Security.{Security}
 use Rattle.oftp_wire.specs.declared.command.Layout.{Layout}
 use Rattle.oftp_wire.specs.declared.command.Mode.TheVariants as modes
-use Rattle.oftp_wire.specs.declared.command.Security.TheVariants as securities
 use Rattle.oftp_wire.specs.declared.command.Layout.TheVariants.{Fixed, Variable, Unstructured, Text}
 use Rattle.oftp_wire.specs.Octets.{part, number, decimal}
 use Rattle.oftp_wire.specs.Form.{same_octets}
 use Rattle.oftp_wire.specs.Reading.{layout_from}
-use Rattle.oftp_wire.specs.Tables.{mode_of, security_of, format_of, has_records}
+use Rattle.oftp_wire.specs.Tables.{mode_of, format_of, has_records}
 use Rattle.oftp_wire.specs.Row.{IsSpelled, fault_in}
-use Rattle.oftp_wire.specs.Tables.{ssrm_table, ssid_table, sfid_table, sfpa_table, sfna_table, data_table, cdt_table, efid_table, efpa_table, efna_table, esid_table, eerp_table, nerp_table, single_table, is_recorded, longest_of, flag_octets, mode_octets, security_octets, format_octets}
+use Rattle.oftp_wire.specs.Tables.{ssrm_table, ssid_table, sfid_table, sfpa_table, sfna_table, data_table, cdt_table, efid_table, efpa_table, efna_table, esid_table, eerp_table, nerp_table, single_table, is_recorded, longest_of, flag_octets, mode_octets, format_octets}
 use Rattle.oftp_wire.specs.Kinds.{ssrm_of, ssid_of, sfid_of, sfpa_of, sfna_of, data_of, cdt_of, efid_of, efpa_of, efna_of, esid_of, eerp_of, nerp_of, single_of}
 use Rattle.oftp_wire.proofs.Forms.{number-decimal}
 use Rattle.oftp_wire.proofs.Exact.{only}
@@ -47,15 +45,6 @@ mode_back modes.Both = refl
 
 mode_one : (a b : Mode) → mode_octets a ≡ mode_octets b → a ≡ b
 mode_one a b e = sym (mode_back a) ∙ ap mode_of e ∙ mode_back b
-
-security_back : (m : Security) → security_of (security_octets m) ≡ m
-security_back securities.Plain = refl
-security_back securities.Encrypted = refl
-security_back securities.Signed = refl
-security_back securities.Both = refl
-
-security_one : (a b : Security) → security_octets a ≡ security_octets b → a ≡ b
-security_one a b e = sym (security_back a) ∙ ap security_of e ∙ security_back b
 
 layout_back : (l : Layout) → layout_from (format_of (format_octets l)) (longest_of l) ≡ l
 layout_back (Fixed n) = refl
@@ -110,7 +99,6 @@ sfid_parts b n = search rules
 sfid_same : (b : Bool) (n : ℕ) (s t : Sfid) → EachSame (sfid_table b n).rows s t → s ≡ t
 sfid_same b n s t e =
     let x7 : s.layout ≡ t.layout = layout_one s.layout t.layout e.1.1.1.1.1.1.1.1.0 e.1.1.1.1.1.1.1.1.1.0 in
-    let x12 : s.security ≡ t.security = security_one s.security t.security e.1.1.1.1.1.1.1.1.1.1.1.1.1.0 in
     let x16 : s.signed_response ≡ t.signed_response = flag_one s.signed_response t.signed_response e.1.1.1.1.1.1.1.1.1.1.1.1.1.1.1.1.1.0 in
     let made : ◌≡◌ {A = Sfid} (record { dataset = s.dataset; date = s.date; time = s.time; user = s.user; destination = s.destination; originator = s.originator; layout = s.layout; size = s.size; original_size = s.original_size; restart = s.restart; security = s.security; cipher = s.cipher; compression = s.compression; enveloping = s.enveloping; signed_response = s.signed_response; description = s.description }) (record { dataset = t.dataset; date = t.date; time = t.time; user = t.user; destination = t.destination; originator = t.originator; layout = t.layout; size = t.size; original_size = t.original_size; restart = t.restart; security = t.security; cipher = t.cipher; compression = t.compression; enveloping = t.enveloping; signed_response = t.signed_response; description = t.description }) = cc in
     made

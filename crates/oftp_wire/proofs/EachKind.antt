@@ -8,12 +8,12 @@ use Rattle.oftp_wire.specs.declared.command.Sfna.{Sfna}
 use Rattle.oftp_wire.specs.declared.command.Efna.{Efna}
 use Rattle.oftp_wire.specs.Octets.{part, number, front}
 use Rattle.oftp_wire.specs.Form.{OneOf, same_octets}
-use Rattle.oftp_wire.specs.Reading.{name_at, count_at, digits_at, text_at, skipped_at, ends_at, flag_at, mode_at, security_at, format_at, layout_at, layout_from, rest_at}
-use Rattle.oftp_wire.specs.Tables.{format_of, has_records, security_of}
+use Rattle.oftp_wire.specs.Reading.{name_at, count_at, digits_at, text_at, skipped_at, ends_at, flag_at, mode_at, format_at, layout_at, layout_from, rest_at}
+use Rattle.oftp_wire.specs.Tables.{format_of, has_records}
 use Rattle.oftp_wire.specs.Kinds.{esid_of, eerp_of, sfpa_of, cdt_of, ssid_of, sfid_of, nerp_of, ssrm_of, sfna_of, data_of, efid_of, efpa_of, efna_of, single_of}
 use Rattle.oftp_wire.specs.Row.{IsSpelled, fault_in}
 use Rattle.oftp_wire.specs.Tables.{esid_table, eerp_table, sfpa_table, cdt_table, ssid_table, sfid_table, nerp_table, is_recorded, ssrm_table, sfna_table, data_table, efid_table, efpa_table, efna_table, single_table}
-use Rattle.oftp_wire.proofs.Forms.{IsFine, found, length-part, name_ok, digits_ok, count_ok, length_ok, word_ok, return_ok, text_ok, flag_ok, mode_ok, security_ok, format_ok, longest_ok, recorded_is}
+use Rattle.oftp_wire.proofs.Forms.{IsFine, found, length-part, name_ok, digits_ok, count_ok, length_ok, word_ok, return_ok, text_ok, flag_ok, mode_ok, format_ok, longest_ok, recorded_is}
 use Rattle.oftp_wire.proofs.Exact.{Exact, step, finish}
 
 abbrev pub IsKind : List ℕ → List ℕ → Type 0
@@ -88,7 +88,7 @@ ssid_exact o f0 = rw f0.fine (
 
 pub sfid_exact : (o : List ℕ) → IsKind (codes "H") o
     → Exact (sfid_of o) (fault_in (sfid_table (has_records (format_of (part 106 1 o))) (number (part 162 3 o))) o) (λ s. IsSpelled (sfid_table (is_recorded s.layout) (length s.description)) s o)
-unfolding sfid_of name_at digits_at count_at text_at security_at flag_at format_at layout_at skipped_at ends_at
+unfolding sfid_of name_at digits_at count_at text_at flag_at format_at layout_at skipped_at ends_at
 sfid_exact o f0 = rw f0.fine (
     step _ _ _ _ _ _ _ (λ f1.
     step _ _ _ _ _ _ _ (λ f2.
@@ -116,8 +116,8 @@ sfid_exact o f0 = rw f0.fine (
     let len : length (part 165 n o) ≡ n = length-part 165 n o (found f19).within in
     let le : n ≤ 999 = omega (arith, (count_ok f18).0) in
     let l = longest_ok format f9 in
-    let s : Sfid = record { dataset = front (part 1 26 o); date = part 30 8 o; time = part 38 10 o; user = front (part 48 8 o); destination = front (part 56 25 o); originator = front (part 81 25 o); layout = layout_from format m; size = number (part 112 13 o); original_size = number (part 125 13 o); restart = number (part 138 17 o); security = security_of (part 155 2 o); cipher = number (part 157 2 o); compression = number (part 159 1 o); enveloping = number (part 160 1 o); signed_response = same_octets (part 161 1 o) (codes "Y"); description = part 165 n o } in
-    let whole : IsSpelled (sfid_table (has_records format) n) s o = record { whole = e; fields = (word_ok f0, (name_ok f1, ((tt, tt), (digits_ok f3, (digits_ok f4, (name_ok f5, (name_ok f6, (name_ok f7, (format_ok m f8, (((l.small, l.zero_unless), l.says), (count_ok f10, (count_ok f11, (count_ok f12, (security_ok f13, (count_ok f14, (count_ok f15, (count_ok f16, (flag_ok f17, (length_ok _ f18 (sym len), (text_ok le f19, tt)))))))))))))))))))) } in
+    let s : Sfid = record { dataset = front (part 1 26 o); date = part 30 8 o; time = part 38 10 o; user = front (part 48 8 o); destination = front (part 56 25 o); originator = front (part 81 25 o); layout = layout_from format m; size = number (part 112 13 o); original_size = number (part 125 13 o); restart = number (part 138 17 o); security = number (part 155 2 o); cipher = number (part 157 2 o); compression = number (part 159 1 o); enveloping = number (part 160 1 o); signed_response = same_octets (part 161 1 o) (codes "Y"); description = part 165 n o } in
+    let whole : IsSpelled (sfid_table (has_records format) n) s o = record { whole = e; fields = (word_ok f0, (name_ok f1, ((tt, tt), (digits_ok f3, (digits_ok f4, (name_ok f5, (name_ok f6, (name_ok f7, (format_ok m f8, (((l.small, l.zero_unless), l.says), (count_ok f10, (count_ok f11, (count_ok f12, (count_ok f13, (count_ok f14, (count_ok f15, (count_ok f16, (flag_ok f17, (length_ok _ f18 (sym len), (text_ok le f19, tt)))))))))))))))))))) } in
     record { met = rw (recorded_is format m, len) whole }
     )))))))))))))))))))))
 

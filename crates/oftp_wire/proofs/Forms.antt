@@ -13,9 +13,9 @@ use Rattle.oftp_wire.specs.declared.fault.WireFault.{WireFault}
 use Rattle.oftp_wire.specs.declared.fault.WireFault.TheVariants.{WrongLength}
 use Rattle.oftp_wire.specs.Octets.{part, is_digit, is_allowed, spaces, padded, front, is_padded, decimal, number, IsName, IsDigits}
 use Rattle.oftp_wire.specs.Form.{Form, Name, Digits, OneOf, DigitsIf, Return, Utf8, size, same_octets, allows, complaint, fault_of}
-use Rattle.oftp_wire.specs.Reading.{layout_from, flag_form, mode_form, format_form, security_form}
-use Rattle.oftp_wire.specs.Tables.{mode_of, security_of, format_of, has_records}
-use Rattle.oftp_wire.specs.Tables.{flag_words, flag_octets, mode_words, mode_octets, format_words, format_octets, longest_of, is_recorded, security_words, security_octets}
+use Rattle.oftp_wire.specs.Reading.{layout_from, flag_form, mode_form, format_form}
+use Rattle.oftp_wire.specs.Tables.{mode_of, format_of, has_records}
+use Rattle.oftp_wire.specs.Tables.{flag_words, flag_octets, mode_words, mode_octets, format_words, format_octets, longest_of, is_recorded}
 use Rattle.oftp_wire.specs.declared.command.Format.{Format}
 use Rattle.oftp_wire.specs.declared.command.Format.TheVariants.{Fixed, Variable, Unstructured, Text}
 use Rattle.oftp_wire.proofs.Numbers.{digit_at}
@@ -253,12 +253,6 @@ pub mode_ok : {at : ℕ} {o : List ℕ} → IsFine mode_form at o → IsChoice (
 mode_ok {at} {o} h =
     chosen (IsChoice (λ w. mode_octets (mode_of w)) mode_words 1) mode_words (part at 1 o) (found h).allowed
     (((refl, refl), refl), (((refl, refl), refl), (((refl, refl), refl), tt)))
-
--- a security level without fault says its digits
-pub security_ok : {at : ℕ} {o : List ℕ} → IsFine security_form at o → IsChoice (λ w. security_octets (security_of w)) security_words 2 (part at 2 o)
-security_ok {at} {o} h =
-    chosen (IsChoice (λ w. security_octets (security_of w)) security_words 2) security_words (part at 2 o) (found h).allowed
-    (((refl, refl), refl), (((refl, refl), refl), (((refl, refl), refl), (((refl, refl), refl), tt))))
 
 -- a format without fault says its letter
 pub format_ok : {at : ℕ} {o : List ℕ} (n : ℕ) → IsFine format_form at o → IsChoice (λ w. format_octets (layout_from (format_of w) n)) format_words 1 (part at 1 o)

@@ -1,6 +1,6 @@
 -- The laws of Spelling.
-use Rattle.std.proofs.Common.{◌≡◌, ℕ, List, [], ◌∷◌, length, None, Result, Ok, sym, subst, ◌∙◌, arith, rules}
-use Rattle.std.specs.Prelude.{codes}
+use Rattle.std.proofs.Common.{◌≡◌, ℕ, List, [], ◌∷◌, length, Option, Some, None, Result, Ok, Err, sym, ap, subst, ◌∙◌, arith, rules, MatchResult}
+use Rattle.std.specs.Prelude.{◌↔◌, codes}
 use Rattle.oftp_wire.specs.declared.fault.WireFault.{WireFault}
 use Rattle.oftp_wire.specs.declared.command.Command.{Command}
 use Rattle.oftp_wire.specs.declared.command.Command.TheVariants as commands
@@ -8,7 +8,9 @@ use Rattle.oftp_wire.specs.Tables.{ssrm_table, ssid_table, sfid_table, sfpa_tabl
 use Rattle.oftp_wire.specs.Spelling.{Spells, IsFit, Canon, Fault, fault_by}
 use Rattle.oftp_wire.proofs.Spelled.{canon_spelled, no_fault}
 use Rattle.oftp_wire.proofs.Again.{ssid_parts, sfid_parts, sfpa_parts, sfna_parts, data_parts, efid_parts, efpa_parts, efna_parts, esid_parts, eerp_parts, nerp_parts, sfid_fine, sfna_fine, data_fine, efna_fine, esid_fine, nerp_fine}
-use Rattle.oftp_wire.proofs.Whole.{command_again, begins}
+use Rattle.oftp_wire.specs.Kinds.{command_of}
+use Rattle.oftp_wire.proofs.Exact.{Exact}
+use Rattle.oftp_wire.proofs.Whole.{command_exact, command_again, begins}
 
 -- the canonical octets of a command spell it
 pub canon_spells : (x : Command) → IsFit x → Spells x (Canon x)
@@ -118,3 +120,28 @@ spells_free commands.Rtr (c ∷ cs) h =
     let e : c ≡ 80 = begins 80 c cs h.fields.0.1 in
     let g = subst (λ (d : ℕ). Spells commands.Rtr (d ∷ cs)) e h in
     rw e (no_fault (single_table (codes "P")) tt (80 ∷ cs) (search rules) g)
+
+-- what is exact tells of each answer
+exact_at : (r : Result Command WireFault) (o : List ℕ) → command_of o ≡ r → MatchResult r (λ x. Spells x o) (λ e. Fault o ≡ Some e)
+exact_at r o h = subst (λ (q : Result Command WireFault). MatchResult q (λ x. Spells x o) (λ e. Fault o ≡ Some e)) h (command_exact o).met
+
+-- what is read is what is spelled
+pub reads_spelled : (x : Command) (o : List ℕ) → (command_of o ≡ Ok x) ↔ Spells x o
+reads_spelled x o = (exact_at (Ok x) o, command_again x o)
+
+-- no fault is none
+none_some : (e : WireFault) → ◌≡◌ {A = Option WireFault} None (Some e) → ⊥
+none_some e h = cc
+
+-- equal faults
+some_is : (e f : WireFault) → ◌≡◌ {A = Option WireFault} (Some e) (Some f) → e ≡ f
+some_is e f h = cc
+
+-- where there is a fault, it is answered
+refused_by : (r : Result Command WireFault) (o : List ℕ) (e : WireFault) → MatchResult r (λ x. Spells x o) (λ f. Fault o ≡ Some f) → Fault o ≡ Some e → r ≡ Err e
+refused_by (Ok x) o e h k = absurd (none_some e (sym (spells_free x o h) ∙ k))
+refused_by (Err f) o e h k = ap Err (some_is f e (sym h ∙ k))
+
+-- a fault that is answered is the first of Spelling
+pub refuses_fault : (e : WireFault) (o : List ℕ) → (command_of o ≡ Err e) ↔ (Fault o ≡ Some e)
+refuses_fault e o = (exact_at (Err e) o, refused_by (command_of o) o e (command_exact o).met)

@@ -1,4 +1,4 @@
--- The forms of fields (RFC 5024, section 5.1): how long one is, which octets it allows, and the fault where it has others.
+-- The forms of fields (RFC 5024, section 5.3): how long one is, which octets it allows, and the fault where it has others.
 use Rattle.std.specs.Prelude.{ℕ, ◌+◌, Bool, true, false, ◌&&◌, ◌||◌, List, [], ◌∷◌, length, nat_lt, ◌==◌, if◌then◌else◌, Option, Some, None}
 use Rattle.std.specs.List.{list_all, list_any}
 use Rattle.std.specs.Str.{is_utf8}

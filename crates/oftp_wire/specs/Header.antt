@@ -1,5 +1,5 @@
--- The stream header of RFC 5024, section 8: the octet 10 (version 1, no flags), then the frame's length in three octets, the
--- most significant first. The length counts these four octets.
+-- The stream header of RFC 5024, section 8: the octet 10 in hexadecimal (version 1, no flags), then the frame's length in three
+-- octets, the most significant first. The length counts these four octets.
 use Rattle.std.specs.Prelude.{ℕ, ◌+◌, ◌/◌, ◌%◌, ◌≤◌, List, [], ◌∷◌, ◌++◌, length}
 
 -- the header of a frame of n octets

@@ -1,4 +1,5 @@
--- Each kind of command, read from left to right. No public clause speaks of it.
+-- Each kind of command, read from left to right. `command_of` is what `parse` answers; by the law `one_spelling` it reads what
+-- octets spell, and refuses the others by their first fault.
 use Rattle.std.specs.Prelude.{ℕ, ◌+◌, List, [], ◌∷◌, Result, Ok, Err, ◌==◌, if◌then◌else◌}
 use Rattle.oftp_wire.specs.declared.fault.WireFault.{WireFault}
 use Rattle.oftp_wire.specs.declared.command.Esid.{Esid}
@@ -15,7 +16,7 @@ use Rattle.oftp_wire.specs.declared.command.Command.{Command}
 use Rattle.oftp_wire.specs.declared.command.Command.TheVariants as commands
 use Rattle.oftp_wire.specs.declared.fault.WireFault.TheVariants.{UnknownCommand}
 use Rattle.oftp_wire.specs.Form.{Reserved, Return}
-use Rattle.oftp_wire.specs.Reading.{◌>>=◌, name_at, digits_at, count_at, text_at, skipped_at, ends_at, flag_at, mode_at, security_at, format_at, layout_at, rest_at, zero16_form, ready_form}
+use Rattle.oftp_wire.specs.Reading.{◌>>=◌, name_at, digits_at, count_at, text_at, skipped_at, ends_at, flag_at, mode_at, format_at, layout_at, rest_at, zero16_form, ready_form}
 
 -- SSRM
 unfoldable pub ssrm_of : List ℕ → Result (Unit {0}) WireFault
@@ -59,7 +60,7 @@ sfid_of o = do
   size ← count_at 13 112 o
   original_size ← count_at 13 125 o
   restart ← count_at 17 138 o
-  security ← security_at 155 o
+  security ← count_at 2 155 o
   cipher ← count_at 2 157 o
   compression ← count_at 1 159 o
   enveloping ← count_at 1 160 o

@@ -1,14 +1,13 @@
--- Reading one field after the other: the value, or the fault. No public clause speaks of it.
+-- Reading one field after the other: the value, or the fault. The kinds' readers are made of it, and with them `command_of`.
 use Rattle.std.specs.Prelude.{ℕ, ◌-◌, Bool, List, [], ◌∷◌, length, codes, Option, Some, None, Result, Ok, Err}
 use Rattle.oftp_wire.specs.declared.fault.WireFault.{WireFault}
 use Rattle.oftp_wire.specs.declared.command.Mode.{Mode}
 use Rattle.oftp_wire.specs.declared.command.Format.{Format}
 use Rattle.oftp_wire.specs.declared.command.Format.TheVariants.{Fixed as FixedFormat, Variable as VariableFormat, Unstructured as UnstructuredFormat, Text as TextFormat}
-use Rattle.oftp_wire.specs.declared.command.Security.{Security}
 use Rattle.oftp_wire.specs.declared.command.Layout.{Layout}
 use Rattle.oftp_wire.specs.declared.command.Layout.TheVariants.{Fixed, Variable, Unstructured, Text}
 use Rattle.oftp_wire.specs.Octets.{part, front, number}
-use Rattle.oftp_wire.specs.Tables.{flag_words, mode_words, mode_of, format_words, format_of, has_records, security_words, security_of, zero16}
+use Rattle.oftp_wire.specs.Tables.{flag_words, mode_words, mode_of, format_words, format_of, has_records, zero16}
 use Rattle.oftp_wire.specs.Form.{Form, Name, Digits, OneOf, DigitsIf, Any, Utf8, fault_of, end_fault, same_octets}
 
 -- what follows a value; a fault ends the reading
@@ -35,10 +34,6 @@ mode_form = OneOf 1 mode_words
 -- F, V, U or T
 abbrev pub format_form : Form
 format_form = OneOf 1 format_words
-
--- 00, 01, 02 or 03
-abbrev pub security_form : Form
-security_form = OneOf 2 security_words
 
 -- a hash length or a signature length, which is 0
 abbrev pub zero16_form : Form
@@ -81,10 +76,6 @@ flag_at at o = unless (fault_of flag_form at o) (same_octets (part at 1 o) (89 �
 -- the mode that a letter names
 unfoldable pub mode_at : ℕ → List ℕ → Result Mode WireFault
 mode_at at o = unless (fault_of mode_form at o) (mode_of (part at 1 o))
-
--- the security level that two digits name
-unfoldable pub security_at : ℕ → List ℕ → Result Security WireFault
-security_at at o = unless (fault_of security_form at o) (security_of (part at 2 o))
 
 -- the format that a letter names
 unfoldable pub format_at : ℕ → List ℕ → Result Format WireFault

@@ -13,7 +13,7 @@ pub data Head : Type 0 where
   Waits : Head
   Bad : FrameFault → Head
 
--- what stands at the front of the octet 10 and these octets
+-- what stands at the front of the octet 10 (hexadecimal) and these octets
 unfoldable pub sized : ℕ → List ℕ → Head
 sized limit [] = Waits
 sized limit (a ∷ []) = Waits
@@ -40,7 +40,7 @@ IsWithin count Waits = ⊤
 IsWithin count (Bad fault) = ⊤
 
 -- a stream that is being cut: the greatest length of a frame, the octets that were fed and not handed out, the fault that was
--- told, and how many octets can be held with no memory taken
+-- told, and up to how many octets memory was taken beforehand
 pub record Stream : Type 0 where
   pub limit : ℕ
   pub rest : List ℕ
@@ -90,7 +90,7 @@ shown (Err fault) = Err fault
 abbrev pub NoFrame : ℕ → List ℕ → Type 0
 NoFrame limit s = (m more : List ℕ) → IsCommand limit m → s ≡ frame m ++ more → ⊥
 
--- the fault of the length in the octet 10 and these octets
+-- the fault of the length in the octet 10 (hexadecimal) and these octets
 abbrev pub length_fault : ℕ → List ℕ → Option FrameFault
 length_fault limit [] = None
 length_fault limit (a ∷ []) = None

@@ -11,11 +11,7 @@ use Rattle.oftp_wire.specs.declared.command.Efid.{Efid}
 use Rattle.oftp_wire.specs.declared.command.Efpa.{Efpa}
 use Rattle.oftp_wire.specs.declared.command.Efna.{Efna}
 use Rattle.oftp_wire.specs.declared.command.Mode.{Mode}
-use Rattle.oftp_wire.specs.declared.command.Mode.TheVariants.{Send, Receive}
-use Rattle.oftp_wire.specs.declared.command.Mode.TheVariants.{Both as BothWays}
-use Rattle.oftp_wire.specs.declared.command.Security.{Security}
-use Rattle.oftp_wire.specs.declared.command.Security.TheVariants.{Plain, Encrypted, Signed}
-use Rattle.oftp_wire.specs.declared.command.Security.TheVariants.{Both as EncryptedAndSigned}
+use Rattle.oftp_wire.specs.declared.command.Mode.TheVariants.{Send, Receive, Both}
 use Rattle.oftp_wire.specs.declared.command.Format.{Format}
 use Rattle.oftp_wire.specs.declared.command.Format.TheVariants.{Fixed as FixedFormat, Variable as VariableFormat, Unstructured as UnstructuredFormat, Text as TextFormat}
 use Rattle.oftp_wire.specs.declared.command.Layout.{Layout}
@@ -42,11 +38,11 @@ mode_words = codes "S" ∷ codes "R" ∷ codes "B" ∷ []
 abbrev pub mode_octets : Mode → List ℕ
 mode_octets Send = codes "S"
 mode_octets Receive = codes "R"
-mode_octets BothWays = codes "B"
+mode_octets Both = codes "B"
 
 -- the mode of a letter
 abbrev pub mode_of : List ℕ → Mode
-mode_of w = if same_octets w (83 ∷ []) then Send else (if same_octets w (82 ∷ []) then Receive else BothWays)
+mode_of w = if same_octets w (83 ∷ []) then Send else (if same_octets w (82 ∷ []) then Receive else Both)
 
 -- F, V, U or T
 abbrev pub format_words : List (List ℕ)
@@ -83,21 +79,6 @@ longest_of (Fixed n) = n
 longest_of (Variable n) = n
 longest_of Unstructured = 0
 longest_of Text = 0
-
--- 00 none, 01 encrypted, 02 signed, 03 both
-abbrev pub security_words : List (List ℕ)
-security_words = codes "00" ∷ codes "01" ∷ codes "02" ∷ codes "03" ∷ []
-
--- the digits of a security level
-abbrev pub security_octets : Security → List ℕ
-security_octets Plain = codes "00"
-security_octets Encrypted = codes "01"
-security_octets Signed = codes "02"
-security_octets EncryptedAndSigned = codes "03"
-
--- the security level of two digits
-abbrev pub security_of : List ℕ → Security
-security_of w = if same_octets w (48 ∷ 48 ∷ []) then Plain else (if same_octets w (48 ∷ 49 ∷ []) then Encrypted else (if same_octets w (48 ∷ 50 ∷ []) then Signed else EncryptedAndSigned))
 
 -- a hash length or a signature length of 0
 abbrev pub zero16 : List ℕ
@@ -149,7 +130,7 @@ sfid_table recorded n = record {
       ∷ count 112 13 (λ s. s.size)
       ∷ count 125 13 (λ s. s.original_size)
       ∷ count 138 17 (λ s. s.restart)
-      ∷ choice 155 2 security_words (λ s. security_octets s.security)
+      ∷ count 155 2 (λ s. s.security)
       ∷ count 157 2 (λ s. s.cipher)
       ∷ count 159 1 (λ s. s.compression)
       ∷ count 160 1 (λ s. s.enveloping)
@@ -253,7 +234,7 @@ eerp_table = record {
   end = 110;
 }
 
--- NERP with n octets of text (RFC 5024, section 5.3.14)
+-- NERP with n octets of text (RFC 5024, section 5.3.14); its places and its reserved octets are this station's profile
 abbrev pub nerp_table : ℕ → Table Nerp
 nerp_table n = record {
   rows = word 0 (codes "N")

@@ -63,8 +63,8 @@ pub struct Sfid<'a> {
     pub original_size: Count<13>,
     /// Where the transfer would begin: in records, or without records in blocks of 1024 octets.
     pub restart: Count<17>,
-    /// What protects the file.
-    pub security: Security,
+    /// The security level: 0 for none, 1 for encrypted, 2 for signed, 3 for both.
+    pub security: Count<2>,
     /// The cipher suite, 0 for none.
     pub cipher: Count<2>,
     /// The compression, 0 for none.
@@ -97,19 +97,6 @@ pub enum Layout {
     Unstructured,
     /// `T`: lines of text.
     Text,
-}
-
-/// What protects a virtual file.
-#[derive(Clone, Copy, Debug, PartialEq, Eq)]
-pub enum Security {
-    /// 00: nothing.
-    Plain,
-    /// 01: it is encrypted.
-    Encrypted,
-    /// 02: it is signed.
-    Signed,
-    /// 03: it is encrypted and signed.
-    Both,
 }
 
 /// SFPA, start file positive answer: the file is taken (RFC 5024, section 5.3.4).
@@ -181,7 +168,8 @@ pub struct Eerp<'a> {
     pub originator: X<'a, 25>,
 }
 
-/// NERP, negative end response: the file won't reach its destination (RFC 5024, section 5.3.14).
+/// NERP, negative end response: the file won't reach its destination (RFC 5024, section 5.3.14). Its places and its reserved octets
+/// are this station's profile.
 #[derive(Drop)]
 pub struct Nerp<'a> {
     /// The dataset name of the file.

@@ -12,7 +12,9 @@ use std::alloc::{AllocError, Global};
 /// What was read of a stream: copies of its commands, and the fault that stands behind them.
 #[derive(Drop)]
 pub struct CutStream {
+    /// The commands, without their headers.
     pub commands: Vec<Vec<u8>>,
+    /// The fault behind the last command, or `None` where the rest is a frame that isn't whole, or nothing.
     pub fault: Option<FrameFault>,
 }
 

@@ -31,7 +31,12 @@ impl Model for Deframer {
 
     ghost Value = { Stream };
 
-    ghost view = { λ d. record { limit = d.limit; rest = drop d.begin d.buffer.items; told = d.told; room = d.room } };
+    ghost view = { λ d. record {
+      limit = d.limit;
+      rest = drop d.begin d.buffer.items;
+      told = d.told;
+      room = d.room;
+    } };
 
     // The capacity is twice the room, since `make_room` asks for twice what is needed.
     ghost invariant = { λ d. (5 ≤ d.limit) × (d.limit ≤ 100003) × (d.begin ≤ length d.buffer.items)
@@ -92,8 +97,8 @@ impl Deframer {
     ghost use Rattle.std.specs.Io.BufRead.{Rests};
     ghost use Rattle.oftp_wire.specs.contracts.deframer.Deframer.{the_row};
 
-    /// A deframer that was fed nothing. `limit` is the greatest length of a frame in octets, its header counted: by RFC 5024,
-    /// section 8, it is 100003.
+    /// A deframer that was fed nothing. `limit` is the greatest length of a frame in octets, its header counted: 5 to 100003, the
+    /// greatest of RFC 5024, section 8.
     pub fn new(alloc: Global, limit: usize) -> Deframer
         requires low { 5 ≤ limit }
         requires high { limit ≤ 100003 }
@@ -108,12 +113,13 @@ impl Deframer {
         }
     }
 
-    /// The same with memory taken beforehand, so that `feed` needs none while the octets that are fed and not handed out are at
-    /// most `room`. The only fault is `Memory`.
+    /// The same with memory taken beforehand, twice `room` octets: `feed` doesn't answer `Memory` while the octets that are fed and
+    /// not handed out are at most `room`. `limit` is 5 to 100003. The only fault is `Memory`.
     pub fn with_room(alloc: Global, limit: usize, room: usize) -> Result<Deframer, FrameFault>
         requires low { 5 ≤ limit }
         requires high { limit ≤ 100003 }
-        ensures ok { IfOk result (λ d. d ≡ record { limit = limit; rest = []; told = None; room = room }) }
+        ensures ok { IfOk result
+            (λ d. d ≡ record { limit = limit; rest = []; told = None; room = room }) }
         ensures err { IfErr result (λ fault. fault ≡ FrameFault.Memory) }
     {
         let capacity = room.checked_mul(2).ok_or(FrameFault::Memory)?;
@@ -126,25 +132,27 @@ impl Deframer {
         })
     }
 
-    /// How many octets, fed and not handed out, it holds with no memory taken by `feed`: the `room` of `with_room`, else 0.
+    /// Up to how many octets, fed and not handed out, `feed` doesn't answer `Memory`: the `room` of `with_room`, else 0.
     pub fn room(&self) -> usize
         ensures { result ≡ self.now.room }
     {
         self.room
     }
 
-    /// Takes the next piece of the stream. The fault is `Memory`, which leaves the deframer as it was, or the one that `next`
-    /// answered before. Over a whole stream the work is linear in its octets, however they are cut.
+    /// Takes the next piece of the stream. The fault is the one that `next` answered before, or `Memory`, which comes only where
+    /// more than `room` octets would be held; both leave the deframer as it was. Over a whole stream the work is linear in its
+    /// octets, however they are cut.
     pub fn feed(&mut self, piece: &[u8]) -> Result<(), FrameFault>
-        ensures ok { OnOk result (self.new ≡ record self.old { rest = self.old.rest ++ piece.now }) }
+        ensures ok { OnOk result
+            (self.new ≡ record self.old { rest = self.old.rest ++ piece.now }) }
         ensures open { OnOk result (self.old.told ≡ None) }
         ensures err { OnErr result (self.new ≡ self.old) }
         ensures told { IfErr result (λ fault. IfSome self.old.told (λ before. fault ≡ before)) }
         ensures memory { IfErr result (λ fault. IfNone self.old.told ((fault ≡ FrameFault.Memory)
             × (self.old.room < length self.old.rest + length piece.now))) }
     {
-        if let Some(fault) = self.told {
-            return Err(fault);
+        if let Some(before) = self.told {
+            return Err(before);
         }
         if self.buffer.capacity() - self.buffer.len() < piece.len() {
             drop_front(&mut self.buffer, self.begin);
@@ -159,12 +167,16 @@ impl Deframer {
     /// fault is `BadHeader` or `BadLength`, and both calls answer it from then on. RFC 5024, section 8.
     pub fn next(&mut self) -> Result<Option<&[u8]>, FrameFault>
         ensures value { shown result ≡ next_of self.old self.old.told }
-        ensures* after { sem 𝓛 (Rests the_row self.entry (λ new. new ≡ left_of self.old self.old.told)) }
+        ensures* after { sem 𝓛 (Rests the_row self.entry
+            (λ new. new ≡ left_of self.old self.old.told)) }
 
         // The same in the words of `Front`.
-        ensures command { IfOk result (λ found. IfSome found (λ m. BeginsWith self.old.limit self.old.rest m.now)) }
-        ensures none { IfOk result (λ found. IfNone found (IsRest self.old.limit self.old.rest None)) }
-        ensures fault { self.old.told ≡ None → IfErr result (λ fault. IsRest self.old.limit self.old.rest (Some fault)) }
+        ensures command { IfOk result (λ found. IfSome found
+            (λ m. BeginsWith self.old.limit self.old.rest m.now)) }
+        ensures none { IfOk result
+            (λ found. IfNone found (IsRest self.old.limit self.old.rest None)) }
+        ensures fault { self.old.told ≡ None
+            → IfErr result (λ fault. IsRest self.old.limit self.old.rest (Some fault)) }
     {
         if let Some(fault) = self.told {
             return Err(fault);

@@ -7,11 +7,11 @@ ghost use Rattle.oftp_wire.specs.Form.{same_octets};
 ghost use Rattle.oftp_wire.specs.Octets.{padded, decimal, IsName, IsDigits};
 ghost use Rattle.oftp_wire.specs.Piece.{octets_of, IsRight, Writes};
 ghost use Rattle.oftp_wire.specs.Row.{IsWord, EachFits};
-ghost use Rattle.oftp_wire.specs.Tables.{flag_octets, mode_octets, security_octets, format_octets, longest_of, is_recorded, esid_table, sfpa_table, eerp_table, ssid_table, sfid_table_of, nerp_table, ssrm_table, sfna_table, data_table, cdt_table, efid_table, efpa_table, efna_table, single_table, flag_words, mode_words, security_words, format_words};
+ghost use Rattle.oftp_wire.specs.Tables.{flag_octets, mode_octets, format_octets, longest_of, is_recorded, esid_table, sfpa_table, eerp_table, ssid_table, sfid_table_of, nerp_table, ssrm_table, sfna_table, data_table, cdt_table, efid_table, efpa_table, efna_table, single_table, flag_words, mode_words, format_words};
 ghost use Rattle.oftp_wire.specs.Spelling.{Canon, IsFit, IsWritten};
 
 use crate::command::{
-    Command, Eerp, Efid, Efna, Efpa, Esid, Layout, Mode, Nerp, Security, Sfid, Sfna, Sfpa, Ssid,
+    Command, Eerp, Efid, Efna, Efpa, Esid, Layout, Mode, Nerp, Sfid, Sfna, Sfpa, Ssid,
 };
 use crate::fault::WireFault;
 use crate::field::{Count, Digits, Octets, Text, X};
@@ -96,20 +96,6 @@ fn mode_piece(mode: Mode) -> Piece<'static>
     }
 }
 
-/// The two digits of a security level.
-fn security_piece(security: Security) -> Piece<'static>
-    ensures right { IsRight result }
-    ensures octets { octets_of result ≡ security_octets security }
-    ensures fit { IsWord 2 security_words (security_octets security) }
-{
-    match security {
-        Security::Plain => Piece::Octets(b"00"),
-        Security::Encrypted => Piece::Octets(b"01"),
-        Security::Signed => Piece::Octets(b"02"),
-        Security::Both => Piece::Octets(b"03"),
-    }
-}
-
 /// F, V, U or T.
 fn format_piece(layout: Layout) -> Piece<'static>
     ensures right { IsRight result }
@@ -183,7 +169,7 @@ fn put_sfid(out: &mut [u8], s: &Sfid) -> Result<usize, WireFault>
             s.size.piece(),
             s.original_size.piece(),
             s.restart.piece(),
-            security_piece(s.security),
+            s.security.piece(),
             s.cipher.piece(),
             s.compression.piece(),
             s.enveloping.piece(),

@@ -1,4 +1,4 @@
-//! The fields of commands, which keep their ranges (RFC 5024, section 5.1).
+//! The fields of commands, which keep their ranges (RFC 5024, section 5.3).
 
 ghost use Rattle.std.specs.Prelude.{◌≡◌, ◌<◌, ◌≤◌, ◌^◌, length, IfSome, IfNone};
 ghost use Rattle.std.specs.Str.{IsUtf8};

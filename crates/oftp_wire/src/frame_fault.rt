@@ -11,7 +11,7 @@ use std::fmt;
 /// Why a stream can't be cut into commands. RFC 5024, section 8.
 #[derive(Clone, Copy, Debug, PartialEq, Eq)]
 pub enum FrameFault {
-    /// A frame begins with another octet than 10.
+    /// A frame begins with another octet than 10, in hexadecimal.
     BadHeader,
     /// The length of a frame is below 5 or above the limit.
     BadLength,

@@ -1,8 +1,10 @@
 //! What holds of Spelling, for the crates above.
 
-ghost use Rattle.std.specs.Prelude.{◌≡◌, ◌≤◌, ℕ, List, ◌∷◌, length, None, false};
+ghost use Rattle.std.specs.Prelude.{◌≡◌, ◌↔◌, ◌≤◌, ℕ, List, ◌∷◌, length, Some, None, Ok, Err, false};
 ghost use Rattle.oftp_wire.specs.declared.command.Command.{Command};
 ghost use Rattle.oftp_wire.specs.declared.command.Command.TheVariants as commands;
+ghost use Rattle.oftp_wire.specs.declared.fault.WireFault.{WireFault};
+ghost use Rattle.oftp_wire.specs.Kinds.{command_of};
 ghost use Rattle.oftp_wire.specs.Spelling.{Spells, IsFit, Canon, Fault, is_data};
 
 /// The laws of Spelling; it does nothing.
@@ -13,6 +15,11 @@ pub fn one_spelling()
     ensures one { (c d : Command) (octets : List ℕ) → Spells c octets → Spells d octets → c ≡ d }
     // Octets that spell a command have no fault.
     ensures free { (c : Command) (octets : List ℕ) → Spells c octets → Fault octets ≡ None }
+    // `command_of`, which clauses cite for what octets are read as, reads what they spell,
+    ensures reads { (c : Command) (octets : List ℕ) → (command_of octets ≡ Ok c) ↔ Spells c octets }
+    // and refuses the others by their first fault.
+    ensures refuses { (fault : WireFault) (octets : List ℕ)
+        → (command_of octets ≡ Err fault) ↔ (Fault octets ≡ Some fault) }
     // A spelling has an octet at least.
     ensures some { (c : Command) → 1 ≤ length (Canon c) }
     // Without a payload it has no more than SFID with the longest description.

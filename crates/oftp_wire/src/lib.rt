@@ -1,8 +1,13 @@
-//! The commands of the ODETTE File Transfer Protocol 2 as octets (RFC 5024, section 5).
+//! The commands of the ODETTE File Transfer Protocol 2 as octets (RFC 5024, section 5), and the stream that
+//! carries them in frames (section 8).
 //!
 //! `parse` reads the octets of one frame and `encode` writes them. Both are proved against Spelling
 //! (`specs/Spelling.antt`), which has a table for each kind: what octets spell a command, which of them
 //! are canonical, and what is wrong with others. Neither takes memory.
+//!
+//! A `Deframer` takes a stream in pieces and hands out the commands of its frames; `header` is what stands
+//! before a command. Both are proved against Front (`specs/Stream.antt`): the commands hang on the stream
+//! alone, and not on how it is cut.
 #![tactic(auto)]
 
 mod command;
@@ -23,7 +28,7 @@ mod reason;
 mod scan;
 
 pub use command::{
-    Command, Eerp, Efid, Efna, Efpa, Esid, Layout, Mode, Nerp, Security, Sfid, Sfna, Sfpa, Ssid,
+    Command, Eerp, Efid, Efna, Efpa, Esid, Layout, Mode, Nerp, Sfid, Sfna, Sfpa, Ssid,
 };
 pub use cutting::{CutStream, cut};
 pub use deframer::Deframer;

@@ -13,7 +13,7 @@ use crate::fault::WireFault;
 use crate::field::Octets;
 use crate::read::{
     count_at, digits_at, ends_at, flag_at, format_at, layout_at, mode_at, name_at, ready_at,
-    reserved_at, rest_at, return_at, security_at, text_at, zero_at,
+    reserved_at, rest_at, return_at, text_at, zero_at,
 };
 
 /// SSRM, which has no field of its own.
@@ -77,7 +77,7 @@ fn sfid(frame: &[u8]) -> Result<Sfid<'_>, WireFault>
     let size = count_at::<13>(frame, 112)?;
     let original_size = count_at::<13>(frame, 125)?;
     let restart = count_at::<17>(frame, 138)?;
-    let security = security_at(frame, 155)?;
+    let security = count_at::<2>(frame, 155)?;
     let cipher = count_at::<2>(frame, 157)?;
     let compression = count_at::<1>(frame, 159)?;
     let enveloping = count_at::<1>(frame, 160)?;
@@ -317,7 +317,7 @@ fn command(frame: &[u8]) -> Result<Command<'_>, WireFault>
 /// left to right: `UnknownCommand`, `WrongLength`, `BadField` or `BadText`, and never `NoRoom`. It takes
 /// no memory, and the command's texts are slices of the frame.
 pub fn parse(frame: &[u8]) -> Result<Command<'_>, WireFault>
-    // The reading that the definition computes.
+    // `command_of` computes it; by the law `one_spelling` it is the same as the clauses below.
     ensures value { result ≡ command_of frame.now }
     // What is read is spelled so.
     ensures found { IfOk result (λ c. Spells c frame.now) }

@@ -4,9 +4,9 @@ ghost use Rattle.std.specs.Prelude.{◌≡◌, ℕ, ◌+◌, ◌*◌, ◌^◌, �
 ghost use Rattle.std.specs.List.{list_all};
 ghost use Rattle.oftp_wire.specs.Octets.{part, is_digit, is_padded, front, number};
 ghost use Rattle.oftp_wire.specs.Form.{fault_of, Digits as digit_field, Return, Reserved};
-ghost use Rattle.oftp_wire.specs.Reading.{name_at, digits_at, count_at, text_at, skipped_at, ends_at, flag_at, mode_at, security_at, format_at, layout_at, rest_at, zero16_form, ready_form};
+ghost use Rattle.oftp_wire.specs.Reading.{name_at, digits_at, count_at, text_at, skipped_at, ends_at, flag_at, mode_at, format_at, layout_at, rest_at, zero16_form, ready_form};
 
-use crate::command::{Format, Layout, Mode, Security};
+use crate::command::{Format, Layout, Mode};
 use crate::fault::WireFault;
 use crate::field::{Count, Digits, Octets, Text, X};
 use crate::scan::{all_digits, number_of, part_of, value_of};
@@ -147,21 +147,6 @@ pub(crate) fn mode_at(frame: &[u8], at: usize) -> Result<Mode, WireFault>
         [b'S'] => Ok(Mode::Send),
         [b'R'] => Ok(Mode::Receive),
         [b'B'] => Ok(Mode::Both),
-        _ => Err(WireFault::BadField(at)),
-    }
-}
-
-/// The two digits of a security level.
-#[tactic(auto, unfolding(crate::specs::Reading::security_at, crate::specs::Form::fault_of))]
-pub(crate) fn security_at(frame: &[u8], at: usize) -> Result<Security, WireFault>
-    requires { at < 2 ^ 62 }
-    ensures { result ≡ security_at at frame.now }
-{
-    match part_of(frame, at, 2)? {
-        b"00" => Ok(Security::Plain),
-        b"01" => Ok(Security::Encrypted),
-        b"02" => Ok(Security::Signed),
-        b"03" => Ok(Security::Both),
         _ => Err(WireFault::BadField(at)),
     }
 }

@@ -16,7 +16,7 @@ pub enum StartReason {
     InvalidDestination,
     /// 03: the station takes no files of the originator.
     InvalidOrigin,
-    /// 05: the longest record is above the station's limit.
+    /// 05: the longest record is above the station's limit, or 0.
     MaximumRecordLengthNotSupported,
     /// 06: the file is larger than the station takes.
     FileSizeTooBig,
@@ -44,7 +44,7 @@ pub enum SessionReason {
     Normal,
     /// 01: no command begins with the octet that came.
     CommandNotRecognised,
-    /// 02: the command isn't allowed now.
+    /// 02: the command isn't allowed now, or a frame is at fault.
     ProtocolViolation,
     /// 03: the station knows no partner of this identification code.
     UserCodeNotKnown,

@@ -346,25 +346,46 @@ fn eerp_name_with_space(rt: HostRuntime) -> Result<(), Fail> {
     Ok(())
 }
 
+/// NERP with this hash length and signature length, behind a text of two octets.
+fn nerp_fault(alloc: Global, lengths: &[u8]) -> Result<Option<WireFault>, AllocError> {
+    let fields: [&[u8]; 4] = [
+        b"NA                               202401311015300001",
+        b"O0177CARMAKER            O0013SUPPLIER            O0013SUPPLIER            ",
+        b"03002no",
+        lengths,
+    ];
+    fault_of_fields(alloc, &fields)
+}
+
+/// A hash length and a signature length, and the fault of a command where these stand at the two offsets.
+fn with_hash(hash: usize, signature: usize) -> [(&'static [u8], Option<WireFault>); 8] {
+    [
+        (b"\0\0\0\0", None),
+        // A length other than 0 is at fault, whatever stands behind it.
+        (b"\0\x01", Some(WireFault::BadField(hash))),
+        (b"\0\x01\0\0", Some(WireFault::BadField(hash))),
+        (b"\0\x01\0\0x", Some(WireFault::BadField(hash))),
+        (b"\0\0\0\x01", Some(WireFault::BadField(signature))),
+        (b"\0\0\x01\0x", Some(WireFault::BadField(signature))),
+        (b"\0\0\0\0x", Some(WireFault::WrongLength)),
+        (b"\0\0\0", Some(WireFault::WrongLength)),
+    ]
+}
+
 #[test]
-fn hash_and_signature_lengths(rt: HostRuntime) -> Result<(), Fail> {
-    let name = b"A                         ";
-    assert_eq!(rt;
-        eerp_fault(rt.alloc(), name, b"\0\x01\0\0")?,
-        Some(WireFault::BadField(106))
-    );
-    assert_eq!(rt;
-        eerp_fault(rt.alloc(), name, b"\0\0\x01\0x")?,
-        Some(WireFault::BadField(108))
-    );
-    assert_eq!(rt;
-        eerp_fault(rt.alloc(), name, b"\0\0\0\0x")?,
-        Some(WireFault::WrongLength)
-    );
-    assert_eq!(rt;
-        eerp_fault(rt.alloc(), name, b"\0\0\0")?,
-        Some(WireFault::WrongLength)
-    );
+fn eerp_with_hash(rt: HostRuntime) -> Result<(), Fail> {
+    for (lengths, expected) in with_hash(106, 108) {
+        let got = eerp_fault(rt.alloc(), b"A                         ", lengths)?;
+        assert_eq!(rt; got, expected, "{lengths:?}");
+    }
+    Ok(())
+}
+
+#[test]
+fn nerp_with_hash(rt: HostRuntime) -> Result<(), Fail> {
+    for (lengths, expected) in with_hash(133, 135) {
+        assert_eq!(rt; nerp_fault(rt.alloc(), lengths)?, expected, "{lengths:?}");
+    }
     Ok(())
 }
 
@@ -387,6 +408,38 @@ fn longest_record_without_records(rt: HostRuntime) -> Result<(), Fail> {
         let got = fault_of_fields(rt.alloc(), &[front, stations, layout, sizes, back])?;
         assert_eq!(rt; got, expected, "{layout:?}");
     }
+    Ok(())
+}
+
+/// SFID of an unstructured file whose security level is these two octets.
+fn sfid_of_level(alloc: Global, level: &[u8]) -> Result<Vec<u8>, AllocError> {
+    let fields: [&[u8]; 7] = [
+        b"HA                            202401311015300001        ",
+        b"O0177CARMAKER            O0013SUPPLIER            ",
+        b"U00000",
+        b"00000000000010000000000001",
+        b"00000000000000000",
+        level,
+        b"0000N000",
+    ];
+    joined(alloc, &fields)
+}
+
+#[test]
+fn any_security_level(rt: HostRuntime) -> Result<(), Fail> {
+    for (level, number) in [(b"00", 0), (b"04", 4), (b"99", 99)] {
+        let octets = sfid_of_level(rt.alloc(), level)?;
+        let command = parse(octets.as_slice())?;
+        let mut out = [0u8; 165];
+        assert_eq!(rt; encode(&command, &mut out), Ok(165), "{number}");
+        assert!(rt; out.as_slice() == octets.as_slice(), "{number}");
+        let Command::Sfid(sfid) = command else {
+            return Err("no SFID")?;
+        };
+        assert_eq!(rt; sfid.security.get(), number);
+    }
+    let octets = sfid_of_level(rt.alloc(), b"0x")?;
+    assert_eq!(rt; fault(octets.as_slice()), Some(WireFault::BadField(155)));
     Ok(())
 }
 

@@ -1,7 +1,7 @@
 //! Each row of both verdicts.
 
 use super::*;
-use oftp_wire::{Efid, EndReason, Layout, Security, Sfid, StartReason};
+use oftp_wire::{Efid, EndReason, Layout, Sfid, StartReason};
 
 // A V file of at most 3 octets a record, from O1 to O2, offered at row 5.
 fn offer() -> Result<Sfid<'static>, OfficeFault> {
@@ -16,7 +16,7 @@ fn offer() -> Result<Sfid<'static>, OfficeFault> {
         size: Count::new(65_536),
         original_size: Count::new(65_536),
         restart: Count::new(5),
-        security: Security::Plain,
+        security: Count::new(0),
         cipher: Count::new(0),
         compression: Count::new(0),
         enveloping: Count::new(0),
@@ -114,12 +114,13 @@ fn longest_records_are_limited(rt: HostRuntime) -> Result<(), Fail> {
 #[test]
 fn protected_offers_are_refused(rt: HostRuntime) -> Result<(), Fail> {
     let terms = terms()?;
-    for fault in 0..4 {
+    for fault in 0..5 {
         let mut sfid = offer()?;
         match fault {
-            0 => sfid.security = Security::Signed,
-            1 => sfid.cipher = Count::new(1),
-            2 => sfid.compression = Count::new(1),
+            0 => sfid.security = Count::new(2),
+            1 => sfid.security = Count::new(4),
+            2 => sfid.cipher = Count::new(1),
+            3 => sfid.compression = Count::new(1),
             _ => sfid.enveloping = Count::new(1),
         }
         let verdict = start_verdict(&sfid, None, false, &terms);

