@@ -15,7 +15,8 @@ use std::mem;
 /// Takes payloads, and makes rows of their subrecords (RFC 5024, 7.2).
 ///
 /// It holds the rows that were finished since they were last taken away, and the open tail behind
-/// them. An octet is copied once, into the tail; a finished record or block is handed on as it is.
+/// them. An octet is copied once, into the tail, except while a record of V grows; a finished record
+/// or block is handed on as it is.
 #[derive(Drop)]
 pub struct Taker {
     alloc: Global,
@@ -275,14 +276,12 @@ impl Taker {
     }
 
     /// For how many octets of a record room is made at once: for all of it where its length is
-    /// known, else for a block at least and for twice what came.
+    /// known, else for twice what came, so that a short record keeps little more than it has.
     fn record_size(&self, ends: bool) -> usize {
         match self.format {
             Format::Fixed => self.longest,
             _ if ends => 0,
-            _ => BLOCK
-                .max(self.tail.len().saturating_mul(2))
-                .min(self.longest),
+            _ => self.tail.len().saturating_mul(2).min(self.longest),
         }
     }
 }

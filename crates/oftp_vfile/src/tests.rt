@@ -138,6 +138,19 @@ fn fixed_records(rt: HostRuntime) -> Result<(), Fail> {
     Ok(())
 }
 
+/// A short record that came in two subrecords keeps little more memory than its octets need.
+#[test]
+fn short_record_in_two(rt: HostRuntime) -> Result<(), Fail> {
+    let mut taker = taker(rt.alloc(), Format::Variable, 16_384);
+    taker.take(&[0x01, 0x41, 0x81, 0x42])?;
+    for row in taker.take_rows() {
+        let octets = row.into_octets();
+        assert_eq!(rt; octets.as_slice(), b"AB".as_slice());
+        assert!(rt; octets.capacity() <= 4);
+    }
+    Ok(())
+}
+
 /// Each payload is refused by a taker that has taken nothing.
 fn refuses(
     rt: &impl Abort,
