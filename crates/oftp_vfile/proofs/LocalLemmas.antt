@@ -6,8 +6,8 @@ use Rattle.std.proofs.lemmas.List.Elements.{All-cons, All-nil, All-push}
 use Rattle.std.proofs.lemmas.List.Concat.{flat_map-append}
 use Rattle.oftp_vfile.specs.declared.format.Format.{Format}
 use Rattle.oftp_vfile.specs.declared.format.Format.TheVariants.{Fixed, Variable, Unstructured, Text}
-use Rattle.oftp_vfile.specs.VirtualFile.{octets_in, AreBlocks}
-use Rattle.oftp_vfile.specs.LocalForm.{IsFirstRecord, IsLocal, IsLongest, digit_of, digits_of, local_of, local_row, number_of}
+use Rattle.oftp_vfile.specs.VirtualFile.{octets_in, AreBlocks, IsLongest}
+use Rattle.oftp_vfile.specs.LocalForm.{IsFirstRecord, IsLocal, digit_of, digits_of, local_of, local_row, number_of}
 use Rattle.oftp_vfile.proofs.CarriesLemmas.{same_lengths, octets_in-push}
 
 -- a decimal digit, as a character

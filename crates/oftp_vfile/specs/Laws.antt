@@ -2,13 +2,13 @@ use Rattle.std.specs.Prelude.{◌≡◌, ℕ, false, List, ◌++◌, ◌+◌, �
 use Rattle.oftp_vfile.specs.declared.format.Format.{Format}
 use Rattle.oftp_vfile.specs.declared.format.Stage.{Stage}
 use Rattle.oftp_vfile.specs.declared.format.TakeFault.{TakeFault}
-use Rattle.oftp_vfile.specs.VirtualFile.{is_stream, AreRows, closed, records_in, units_in}
+use Rattle.oftp_vfile.specs.VirtualFile.{is_stream, AreRows, IsLongest, closed, records_in, units_in}
 use Rattle.oftp_vfile.specs.Subrecord.{Subrecord, payload_of}
 use Rattle.oftp_vfile.specs.Carries.{Carries, CarriesWhole, is_open}
 use Rattle.oftp_vfile.specs.Taking.{Taking, Took, CarriesWithin, FirstFault, counts_of}
 use Rattle.oftp_vfile.specs.Fill.{Fills, fill_from, weight, fill, payloads_of, wholly_sent}
 use Rattle.oftp_vfile.specs.Filling.{Filling, AreLent, IsInRows, Sent}
-use Rattle.oftp_vfile.specs.LocalForm.{IsLocal, IsLongest}
+use Rattle.oftp_vfile.specs.LocalForm.{IsLocal}
 
 -- There is one list of payloads that follows the filling rule, and it is fill.
 abbrev pub FillIsOne : Type 0

@@ -1,4 +1,4 @@
-use Rattle.std.specs.Prelude.{◌≡◌, ◌<◌, ◌≤◌, ◌+◌, ◌-◌, ◌*◌, ◌/◌, ◌%◌, ◌++◌, ◌∷◌, [], ℕ, List, length, fold}
+use Rattle.std.specs.Prelude.{◌≡◌, ◌≤◌, ◌+◌, ◌-◌, ◌*◌, ◌/◌, ◌%◌, ◌++◌, ◌∷◌, [], ℕ, List, length, fold}
 use Rattle.std.specs.List.{flat_map}
 use Rattle.oftp_vfile.specs.declared.format.Format.{Format}
 use Rattle.oftp_vfile.specs.declared.format.Format.TheVariants.{Fixed, Variable, Unstructured, Text}
@@ -34,10 +34,3 @@ IsLocal format longest content rows = AreRows format longest rows × (content �
 -- The content of a V file begins with this record, and has this rest.
 abbrev pub IsFirstRecord : ℕ → List ℕ → List ℕ → List ℕ → Type 0
 IsFirstRecord longest content row rest = (content ≡ local_row Variable row ++ rest) × (length row ≤ longest)
-
--- The longest record that a file of this format may have, 0 in U and T, which have no records.
-abbrev pub IsLongest : Format → ℕ → Type 0
-IsLongest Fixed n = (0 < n) × (n ≤ 16384)
-IsLongest Variable n = (0 < n) × (n ≤ 16384)
-IsLongest Unstructured n = n ≡ 0
-IsLongest Text n = n ≡ 0

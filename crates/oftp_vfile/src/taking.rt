@@ -87,7 +87,7 @@ impl Taker {
     pub fn new(
         alloc: Global,
         format: Format,
-        longest: usize,
+        longest: u32,
         kept_rows: u64,
         kept_units: u64,
         limits: Limits,
@@ -100,7 +100,7 @@ impl Taker {
         Taker {
             alloc,
             format,
-            longest,
+            longest: longest as usize,
             limit: limits.octets,
             kept_rows,
             kept_units,
@@ -252,7 +252,8 @@ impl Taker {
             0
         };
         self.kept_units + self.units + count as u64 > self.limit
-            || self.kept_rows + self.away + self.rows.len() as u64 + new_rows as u64 > MOST_ROWS
+            || self.kept_rows + self.away + self.rows.len() as u64 + new_rows as u64
+                > MOST_ROWS as u64
     }
 
     /// Takes a subrecord that has no fault. An `Err` changes nothing.

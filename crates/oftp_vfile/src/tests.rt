@@ -11,7 +11,7 @@ const LIMITS: Limits = Limits {
     octets: 8_388_608,
 };
 
-fn taker(alloc: Global, format: Format, longest: usize) -> Taker {
+fn taker(alloc: Global, format: Format, longest: u32) -> Taker {
     Taker::new(alloc, format, longest, 0, 0, LIMITS)
 }
 
@@ -156,7 +156,7 @@ fn refuses(
     rt: &impl Abort,
     alloc: Global,
     format: Format,
-    longest: usize,
+    longest: u32,
     cases: &[(&[u8], TakeFault)],
 ) {
     let mut taker = taker(alloc, format, longest);
@@ -235,7 +235,7 @@ fn mark_of_a_short_block(rt: HostRuntime) -> Result<(), Fail> {
 
 #[test]
 fn local_form(rt: HostRuntime) -> Result<(), Fail> {
-    let cases: [(Format, usize, &[u8], usize); 4] = [
+    let cases: [(Format, u32, &[u8], usize); 4] = [
         (Format::Variable, 3, b"00003ABC00000", 2),
         (Format::Fixed, 3, b"ABCDEF", 2),
         (Format::Unstructured, 0, b"ABC", 1),
