@@ -15,11 +15,11 @@ abbrev pub FillIsOne : Type 0
 FillIsOne = (size : ℕ) (records : List (List ℕ)) → 2 ≤ size → Fills size records (fill_from (weight records) size records)
     × ((subs : List (List Subrecord)) → Fills size records subs → map payload_of subs ≡ fill size records)
 
--- Its payloads aren't empty, and have at most size octets.
+-- The payloads of fill aren't empty, and have at most size octets.
 abbrev pub FillFits : Type 0
 FillFits = (size : ℕ) (records : List (List ℕ)) → 2 ≤ size → All (λ (p : List ℕ). (0 < length p) × (length p ≤ size)) (fill size records)
 
--- Its payloads carry exactly the rows, to the end.
+-- The payloads of a file carry exactly its rows, to the end.
 abbrev pub FillIsWhole : Type 0
 FillIsWhole = (format : Format) (longest size : ℕ) (rows : List (List ℕ)) → 2 ≤ size → AreRows format longest rows
     → CarriesWhole format longest (payloads_of format size rows) rows

@@ -12,10 +12,6 @@ digit_of n place = 48 + n / place % 10
 abbrev pub digits_of : ℕ → List ℕ
 digits_of n = digit_of n 10000 ∷ digit_of n 1000 ∷ digit_of n 100 ∷ digit_of n 10 ∷ digit_of n 1 ∷ []
 
--- The number that decimal digits spell.
-abbrev pub number_of : List ℕ → ℕ
-number_of digits = fold (λ n d. n * 10 + (d - 48)) 0 digits
-
 -- A row in the local form: a record of V after five digits of its length, any other row as it is.
 abbrev pub local_row : Format → List ℕ → List ℕ
 local_row Fixed row = row
