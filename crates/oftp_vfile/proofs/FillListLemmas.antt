@@ -3,9 +3,9 @@ use Rattle.std.proofs.lemmas.Bool.{eqb-false, ltb-false, ltb-true}
 use Rattle.std.proofs.lemmas.List.{length-append, length-drop, length-take-le}
 use Rattle.std.proofs.lemmas.List.Elements.{All-cons, All-nil}
 use Rattle.oftp_vfile.specs.Subrecord.{Subrecord, payload_of}
-use Rattle.oftp_vfile.specs.Filling.{Filling, left_of, IfBuffer, IsFirst}
+use Rattle.oftp_vfile.specs.Filling.{Filling, left_of, IfBuffer, IsFirstPayload}
 use Rattle.oftp_vfile.specs.Fill.{needs, next_count, next_of, behind, Packs, Fills, packed, fill_from, weight, fill}
-use Rattle.oftp_vfile.specs.Packing.{IsNext}
+use Rattle.oftp_vfile.specs.Packing.{PacksNext}
 use Rattle.oftp_vfile.specs.declared.format.Filled.{Filled}
 use Rattle.oftp_vfile.specs.declared.format.Filled.TheVariants.{Buffer, Done, More}
 use Rattle.oftp_vfile.proofs.PackingLemmas.{needs_some}
@@ -83,13 +83,13 @@ fill_first size records ss left h s p =
     let all : Fills size records (ss ∷ fill_from (weight left) size left) = (s, left, p, fills_fill (weight left) size left h (omega arith)) in
     ap (map payload_of) (fills_one size records (fill_from (weight records) size records) (ss ∷ fill_from (weight left) size left) (fills_fill (weight records) size records h (omega arith)) all)
 
-pub first_next : (size : ℕ) (old new : Filling) (rows : List (List ℕ)) (last : Bool) (octets : List ℕ) → 2 ≤ size → IsNext size old new rows last octets → IsFirst size old new rows last octets
+pub first_next : (size : ℕ) (old new : Filling) (rows : List (List ℕ)) (last : Bool) (octets : List ℕ) → 2 ≤ size → PacksNext size old new rows last octets → IsFirstPayload size old new rows last octets
 first_next size old new rows last octets h n more b =
     let p = n more b in
     fill_first size (left_of old (rows ++ more)) p.0 _ h p.2 p.3 ∙ ap (λ (x : List ℕ). x ∷ fill size (left_of new (drop (new.row - old.row) rows ++ more))) (sym p.1)
 
 pub first_if : (size : ℕ) (old new : Filling) (rows : List (List ℕ)) (last : Bool) (out : List ℕ) (r : Filled) → 2 ≤ size
-    → IfBuffer r (λ n. (n ≤ size) × IsNext size old new rows last (take n out)) → IfBuffer r (λ n. (n ≤ size) × IsFirst size old new rows last (take n out))
+    → IfBuffer r (λ n. (n ≤ size) × PacksNext size old new rows last (take n out)) → IfBuffer r (λ n. (n ≤ size) × IsFirstPayload size old new rows last (take n out))
 first_if size old new rows last out (Buffer n) h p = (p.0, first_next size old new rows last (take n out) h p.1)
 first_if size old new rows last out Done h p = tt
 first_if size old new rows last out More h p = tt

@@ -8,7 +8,7 @@ use Rattle.oftp_vfile.specs.Subrecord.{Subrecord, payload_of}
 use Rattle.oftp_vfile.specs.VirtualFile.{is_stream, octets_in}
 use Rattle.oftp_vfile.specs.Filling.{advanced, Filling, from_offset, left_of, AreBehind, nothing_left, least, Reaches, IsInRows}
 use Rattle.oftp_vfile.specs.Fill.{needs, next_count, next_of, behind, IsFull, Packs}
-use Rattle.oftp_vfile.specs.Packing.{HasPacked, rest_at, IsTail, HasStreamed, HasEnded, IsNext}
+use Rattle.oftp_vfile.specs.Packing.{HasPacked, rest_at, IsTail, HasStreamed, HasEnded, PacksNext}
 use Rattle.oftp_vfile.proofs.PackingLemmas.{from_offset-zero}
 
 -- a payload is one only
@@ -57,7 +57,7 @@ drop_place rows row offset h o = subst (λ (x : List ℕ). offset < length x) (a
 pub records_next : (size : ℕ) (f : Filling) (rows : List (List ℕ)) (row offset free : ℕ) (octets : List ℕ) (last : Bool) → is_stream f.format ≡ false → IsInRows f rows
     → (0 < offset → offset < length (get_or rows row [])) → HasPacked size (from_offset f.offset rows) octets free (from_offset offset (drop row rows))
     → IsFull free (from_offset offset (drop row rows)) → (from_offset offset (drop row rows) ≡ [] → last ≡ false → free < needs (least f.format)) → 0 < length octets
-    → IsNext size f (advanced f rows row offset) rows last octets
+    → PacksNext size f (advanced f rows row offset) rows last octets
 records_next size f rows row offset free octets last e i j p full ends some more b =
     let cur : List (List ℕ) = from_offset offset (drop row rows) in
     let g : Filling = advanced f rows row offset in
@@ -77,7 +77,7 @@ least_behind Unstructured = omega arith
 least_behind Text = omega arith
 
 -- where something is left behind the least further row, no such row goes into the payload
-pub next_enough : (size : ℕ) (old new : Filling) (rows : List (List ℕ)) (last : Bool) (octets : List ℕ) → IsNext size old new rows last octets → (left_of new (drop (new.row - old.row) rows ++ least old.format ∷ []) ≡ [] → ⊥) → last ≡ false → Reaches size old rows → ⊥
+pub next_enough : (size : ℕ) (old new : Filling) (rows : List (List ℕ)) (last : Bool) (octets : List ℕ) → PacksNext size old new rows last octets → (left_of new (drop (new.row - old.row) rows ++ least old.format ∷ []) ≡ [] → ⊥) → last ≡ false → Reaches size old rows → ⊥
 next_enough size old new rows last octets n left e r =
     let b : AreBehind old.format last (least old.format ∷ []) = subst (λ (x : Bool). AreBehind old.format x (least old.format ∷ [])) (sym e) (least_behind old.format) in
     let p = n (least old.format ∷ []) b in
@@ -140,7 +140,7 @@ records_done size offset free rows records' octets p n f h full =
     from_offset-none offset rows (sym (append-nil (from_offset offset rows)) ∙ sym none.0)
 
 -- something was written only if something is left
-pub records_some : (size : ℕ) (f : Filling) (new : Filling) (rows : List (List ℕ)) (octets : List ℕ) (last : Bool) → is_stream f.format ≡ false → IsNext size f new rows last octets → nothing_left f rows last ≡ true → ⊥
+pub records_some : (size : ℕ) (f : Filling) (new : Filling) (rows : List (List ℕ)) (octets : List ℕ) (last : Bool) → is_stream f.format ≡ false → PacksNext size f new rows last octets → nothing_left f rows last ≡ true → ⊥
 records_some size f new rows octets last e n h =
     let t : (eqb (length rows) 0 && last) ≡ true = sym (ap (λ (b : Bool). cond b f.done (eqb (length rows) 0 && last)) e) ∙ h in
     let both = and_true (eqb (length rows) 0) last t in
@@ -201,7 +201,7 @@ full_stream false free [] (y ∷ ys) f t h = f
 pub stream_next : (size : ℕ) (f : Filling) (rows : List (List ℕ)) (row offset free : ℕ) (octets : List ℕ) (last : Bool) → is_stream f.format ≡ true → f.done ≡ false → IsInRows f rows
     → (0 < offset → offset < length (get_or rows row [])) → HasStreamed last size (rest_at rows 0 f.offset) octets free (rest_at rows row offset)
     → free < 2 → (last ≡ true → 0 < length (rest_at rows row offset)) → 0 < length octets
-    → IsNext size f (advanced f rows row offset) rows last octets
+    → PacksNext size f (advanced f rows row offset) rows last octets
 stream_next size f rows row offset free octets last e d i j p full goes some more b =
     let cur : List ℕ = rest_at rows row offset in
     let tail : List ℕ = octets_in more in
@@ -221,7 +221,7 @@ ended_some size stream [] p = cc
 ended_some size stream (s ∷ ss) p = omega arith
 
 pub stream_ended : (size : ℕ) (f : Filling) (rows : List (List ℕ)) (row offset : ℕ) (octets : List ℕ) (last : Bool) → is_stream f.format ≡ true → f.done ≡ false → last ≡ true
-    → HasEnded size (rest_at rows 0 f.offset) octets → IsNext size f (advanced (record f { done = true }) rows row offset) rows last octets
+    → HasEnded size (rest_at rows 0 f.offset) octets → PacksNext size f (advanced (record f { done = true }) rows row offset) rows last octets
 stream_ended size f rows row offset octets last e d l p more b =
     let g : Filling = advanced (record f { done = true }) rows row offset in
     let none : more ≡ [] = subst (λ (x : Bool). AreBehind f.format x more) l b in

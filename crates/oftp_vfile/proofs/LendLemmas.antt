@@ -4,9 +4,8 @@ use Rattle.std.proofs.lemmas.List.{length-drop, take-append-drop, drop_all, nil_
 use Rattle.std.proofs.lemmas.List.Elements.{All-cons, All-nil, All-drop}
 use Rattle.oftp_vfile.specs.declared.format.Format.{Format}
 use Rattle.oftp_vfile.specs.declared.format.Format.TheVariants.{Fixed, Variable, Unstructured, Text}
-use Rattle.oftp_vfile.specs.VirtualFile.{is_stream, AreBlocks, AreRows}
+use Rattle.oftp_vfile.specs.VirtualFile.{is_stream, AreBlocks, AreRows, IsLongest}
 use Rattle.oftp_vfile.specs.Filling.{Filling, AreBehind, AreLent, IsInRows, Sent}
-use Rattle.oftp_vfile.specs.LocalForm.{IsLongest}
 
 blocks_from : (size c : ℕ) (rows : List (List ℕ)) → AreBlocks size rows → AreBlocks size (drop c rows)
 blocks_from size zero rows a = a

@@ -1,4 +1,4 @@
-use Rattle.std.proofs.Common.{◌≡◌, ℕ, suc, zero, ◌+◌, ◌-◌, ◌*◌, ◌%◌, ◌<◌, ◌≤◌, Bool, true, false, eqb, min, List, [], ◌∷◌, ◌++◌, length, take, drop, refl, sym, ap, ◌∙◌, subst, arith, append_assoc, ◌⊎◌, inl, inr, All}
+use Rattle.std.proofs.Common.{◌≡◌, ℕ, suc, zero, ◌+◌, ◌-◌, ◌*◌, ◌%◌, ◌<◌, ◌≤◌, Bool, true, false, eqb, min, List, [], ◌∷◌, ◌++◌, length, take, drop, refl, sym, ap, ◌∙◌, subst, arith, append_assoc, ◌⊎◌, inl, inr, All, fold}
 use Rattle.std.proofs.Math.Nat.{add-mod_left, mod-eq_of_lt, mul-mod_right}
 use Rattle.std.proofs.lemmas.Bool.{cases_lt, eqb-false, eqb-true}
 use Rattle.std.proofs.lemmas.List.{append-nil, length-append, length-drop, length-take-le, take-append-drop, nil_from_length}
@@ -6,13 +6,17 @@ use Rattle.std.proofs.lemmas.List.Elements.{All-cons, All-nil, All-push}
 use Rattle.std.proofs.lemmas.List.Concat.{flat_map-append}
 use Rattle.oftp_vfile.specs.declared.format.Format.{Format}
 use Rattle.oftp_vfile.specs.declared.format.Format.TheVariants.{Fixed, Variable, Unstructured, Text}
-use Rattle.oftp_vfile.specs.VirtualFile.{octets_in, AreBlocks}
-use Rattle.oftp_vfile.specs.LocalForm.{IsFirstRecord, IsLocal, IsLongest, digit_of, digits_of, local_of, local_row, number_of}
+use Rattle.oftp_vfile.specs.VirtualFile.{octets_in, AreBlocks, IsLongest}
+use Rattle.oftp_vfile.specs.LocalForm.{IsFirstRecord, IsLocal, digit_of, digits_of, local_of, local_row}
 use Rattle.oftp_vfile.proofs.CarriesLemmas.{same_lengths, octets_in-push}
 
 -- a decimal digit, as a character
 abbrev pub IsDigit : ℕ → Type 0
 IsDigit d = (48 ≤ d) × (d ≤ 57)
+
+-- The number that decimal digits spell.
+abbrev pub number_of : List ℕ → ℕ
+number_of digits = fold (λ n d. n * 10 + (d - 48)) 0 digits
 
 -- the number that five digits of it spell
 pub number_digits : (n : ℕ) → n < 100000 → number_of (digits_of n) ≡ n

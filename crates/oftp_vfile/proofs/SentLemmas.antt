@@ -14,7 +14,7 @@ use Rattle.oftp_vfile.specs.VirtualFile.{is_stream, octets_in, whole_count, AreB
 use Rattle.oftp_vfile.specs.Subrecord.{Subrecord, payload_of, octets_of, AreShort}
 use Rattle.oftp_vfile.specs.Carries.{Carries, Carried, pieces, onto}
 use Rattle.oftp_vfile.specs.Fill.{Fills, behind, fill_from, weight, fill, records_of, payloads_of, rows_ended, wholly_sent}
-use Rattle.oftp_vfile.specs.Filling.{Filling, new_filling, from_offset, left_of, AreBehind, IsFirst, IfBuffer, nothing_left, Moves, Sent, AreLent}
+use Rattle.oftp_vfile.specs.Filling.{Filling, new_filling, from_offset, left_of, AreBehind, IsFirstPayload, IfBuffer, nothing_left, Moves, Sent, AreLent}
 use Rattle.oftp_vfile.proofs.PackingLemmas.{from_offset-zero}
 use Rattle.oftp_vfile.proofs.FillerLemmas.{left_records, left_stream, in_octets}
 use Rattle.oftp_vfile.proofs.FillListLemmas.{fills_fill}
@@ -62,7 +62,7 @@ none_behind format last more e b = subst (λ (x : Bool). AreBehind format x more
 
 -- One more payload is the next of the file's.
 pub sent_step : (size : ℕ) (old new : Filling) (from : ℕ) (file lent payloads : List (List ℕ)) (last : Bool) (octets : List ℕ) → Sent old size from file payloads → AreLent old from file lent last
-    → IsFirst size old new lent last octets → Moves old new lent last → Sent new size from file (payloads ++ octets ∷ [])
+    → IsFirstPayload size old new lent last octets → Moves old new lent last → Sent new size from file (payloads ++ octets ∷ [])
 sent_step size old new from file lent payloads last octets s a f m =
     let more : List (List ℕ) = a.0 in
     let before : ℕ = old.row - from in
@@ -88,7 +88,7 @@ sent_step size old new from file lent payloads last octets s a f m =
     }
 
 pub sent_if : (size : ℕ) (old new : Filling) (from : ℕ) (file lent payloads : List (List ℕ)) (last : Bool) (out : List ℕ) (r : Filled) → Sent old size from file payloads → AreLent old from file lent last
-    → IfBuffer r (λ n. (n ≤ size) × IsFirst size old new lent last (take n out)) → IfBuffer r (λ n. Moves old new lent last) → IfBuffer r (λ n. Sent new size from file (payloads ++ take n out ∷ []))
+    → IfBuffer r (λ n. (n ≤ size) × IsFirstPayload size old new lent last (take n out)) → IfBuffer r (λ n. Moves old new lent last) → IfBuffer r (λ n. Sent new size from file (payloads ++ take n out ∷ []))
 sent_if size old new from file lent payloads last out (Buffer n) s a f m = sent_step size old new from file lent payloads last (take n out) s a f.1 m
 sent_if size old new from file lent payloads last out Done s a f m = tt
 sent_if size old new from file lent payloads last out More s a f m = tt

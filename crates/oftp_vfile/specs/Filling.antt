@@ -35,7 +35,7 @@ abbrev pub left_of : Filling → List (List ℕ) → List (List ℕ)
 left_of f rows =
     if is_stream f.format then (if f.done then [] else drop f.offset (octets_in rows) ∷ []) else from_offset f.offset rows
 
--- The rows behind those that were lent: none where these were the last, else some, empty ones only in V.
+-- The rows behind those that were lent: none where these were the last, else some, of which the first is empty in V alone.
 abbrev pub AreBehind : Format → Bool → List (List ℕ) → Type 0
 AreBehind format true more = more ≡ []
 AreBehind format false [] = ⊥
@@ -44,9 +44,10 @@ AreBehind Variable false (r ∷ rs) = Unit {0}
 AreBehind Unstructured false (r ∷ rs) = 0 < length r
 AreBehind Text false (r ∷ rs) = 0 < length r
 
--- These octets come next, before all other payloads, whatever rows stand behind those that were lent.
-abbrev pub IsFirst : ℕ → Filling → Filling → List (List ℕ) → Bool → List ℕ → Type 0
-IsFirst size old new rows last octets =
+-- These octets are the first payload that fill makes of what is left, and it makes the others of what is left behind them,
+-- whatever rows stand behind those that were lent.
+abbrev pub IsFirstPayload : ℕ → Filling → Filling → List (List ℕ) → Bool → List ℕ → Type 0
+IsFirstPayload size old new rows last octets =
     (more : List (List ℕ)) → AreBehind old.format last more →
     fill size (left_of old (rows ++ more)) ≡ octets ∷ fill size (left_of new (drop (new.row - old.row) rows ++ more))
 

@@ -2,24 +2,24 @@ use Rattle.std.specs.Prelude.{◌≡◌, ℕ, false, List, ◌++◌, ◌+◌, �
 use Rattle.oftp_vfile.specs.declared.format.Format.{Format}
 use Rattle.oftp_vfile.specs.declared.format.Stage.{Stage}
 use Rattle.oftp_vfile.specs.declared.format.TakeFault.{TakeFault}
-use Rattle.oftp_vfile.specs.VirtualFile.{is_stream, AreRows, closed, records_in, units_in}
+use Rattle.oftp_vfile.specs.VirtualFile.{is_stream, AreRows, IsLongest, closed, records_in, units_in}
 use Rattle.oftp_vfile.specs.Subrecord.{Subrecord, payload_of}
 use Rattle.oftp_vfile.specs.Carries.{Carries, CarriesWhole, is_open}
 use Rattle.oftp_vfile.specs.Taking.{Taking, Took, CarriesWithin, FirstFault, counts_of}
 use Rattle.oftp_vfile.specs.Fill.{Fills, fill_from, weight, fill, payloads_of, wholly_sent}
 use Rattle.oftp_vfile.specs.Filling.{Filling, AreLent, IsInRows, Sent}
-use Rattle.oftp_vfile.specs.LocalForm.{IsLocal, IsLongest}
+use Rattle.oftp_vfile.specs.LocalForm.{IsLocal}
 
 -- There is one list of payloads that follows the filling rule, and it is fill.
 abbrev pub FillIsOne : Type 0
 FillIsOne = (size : ℕ) (records : List (List ℕ)) → 2 ≤ size → Fills size records (fill_from (weight records) size records)
     × ((subs : List (List Subrecord)) → Fills size records subs → map payload_of subs ≡ fill size records)
 
--- Its payloads aren't empty, and have at most size octets.
+-- The payloads of fill aren't empty, and have at most size octets.
 abbrev pub FillFits : Type 0
 FillFits = (size : ℕ) (records : List (List ℕ)) → 2 ≤ size → All (λ (p : List ℕ). (0 < length p) × (length p ≤ size)) (fill size records)
 
--- Its payloads carry exactly the rows, to the end.
+-- The payloads of a file carry exactly its rows, to the end.
 abbrev pub FillIsWhole : Type 0
 FillIsWhole = (format : Format) (longest size : ℕ) (rows : List (List ℕ)) → 2 ≤ size → AreRows format longest rows
     → CarriesWhole format longest (payloads_of format size rows) rows

@@ -1,4 +1,4 @@
-use Rattle.std.specs.Prelude.{◌≡◌, ◌<◌, ◌≤◌, ◌+◌, ◌-◌, ◌*◌, ◌/◌, ◌%◌, ◌++◌, ◌∷◌, [], ℕ, List, length, fold}
+use Rattle.std.specs.Prelude.{◌≡◌, ◌≤◌, ◌+◌, ◌-◌, ◌*◌, ◌/◌, ◌%◌, ◌++◌, ◌∷◌, [], ℕ, List, length, fold}
 use Rattle.std.specs.List.{flat_map}
 use Rattle.oftp_vfile.specs.declared.format.Format.{Format}
 use Rattle.oftp_vfile.specs.declared.format.Format.TheVariants.{Fixed, Variable, Unstructured, Text}
@@ -11,10 +11,6 @@ digit_of n place = 48 + n / place % 10
 -- The five decimal digits of a number below 100,000.
 abbrev pub digits_of : ℕ → List ℕ
 digits_of n = digit_of n 10000 ∷ digit_of n 1000 ∷ digit_of n 100 ∷ digit_of n 10 ∷ digit_of n 1 ∷ []
-
--- The number that decimal digits spell.
-abbrev pub number_of : List ℕ → ℕ
-number_of digits = fold (λ n d. n * 10 + (d - 48)) 0 digits
 
 -- A row in the local form: a record of V after five digits of its length, any other row as it is.
 abbrev pub local_row : Format → List ℕ → List ℕ
@@ -34,10 +30,3 @@ IsLocal format longest content rows = AreRows format longest rows × (content �
 -- The content of a V file begins with this record, and has this rest.
 abbrev pub IsFirstRecord : ℕ → List ℕ → List ℕ → List ℕ → Type 0
 IsFirstRecord longest content row rest = (content ≡ local_row Variable row ++ rest) × (length row ≤ longest)
-
--- The longest record that a file of this format may have, 0 in U and T, which have no records.
-abbrev pub IsLongest : Format → ℕ → Type 0
-IsLongest Fixed n = (0 < n) × (n ≤ 16384)
-IsLongest Variable n = (0 < n) × (n ≤ 16384)
-IsLongest Unstructured n = n ≡ 0
-IsLongest Text n = n ≡ 0

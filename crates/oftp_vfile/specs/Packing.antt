@@ -30,9 +30,10 @@ HasStreamed last free stream octets free' stream' =
 abbrev pub HasEnded : ℕ → List ℕ → List ℕ → Type 0
 HasEnded free stream octets = (sofar : List Subrecord) × (octets ≡ payload_of sofar) × Packs free (stream ∷ []) sofar []
 
--- These octets are the next payload, whatever rows stand behind those that were lent.
-abbrev pub IsNext : ℕ → Filling → Filling → List (List ℕ) → Bool → List ℕ → Type 0
-IsNext size old new rows last octets =
+-- These octets are subrecords that the filling rule packs of what is left, up to what is left behind them, whatever rows stand
+-- behind those that were lent. So says the rule itself; IsFirstPayload says it of the list that fill makes.
+abbrev pub PacksNext : ℕ → Filling → Filling → List (List ℕ) → Bool → List ℕ → Type 0
+PacksNext size old new rows last octets =
     (more : List (List ℕ)) → AreBehind old.format last more →
     (ss : List Subrecord) × (octets ≡ payload_of ss) × (0 < length ss)
     × Packs size (left_of old (rows ++ more)) ss (left_of new (drop (new.row - old.row) rows ++ more))

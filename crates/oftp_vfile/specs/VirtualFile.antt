@@ -27,6 +27,14 @@ records_in format rows = if is_stream format then 0 else length rows
 abbrev pub whole_count : Format → List (List ℕ) → ℕ
 whole_count format rows = if is_stream format then count_by (λ (r : List ℕ). length r == 1024) rows else length rows
 
+-- The longest record that a file of this format may have, in octets: 1 to 16,384 in F and V, and 0 in U and T, which have no
+-- records.
+abbrev pub IsLongest : Format → ℕ → Type 0
+IsLongest Fixed longest = (0 < longest) × (longest ≤ 16384)
+IsLongest Variable longest = (0 < longest) × (longest ≤ 16384)
+IsLongest Unstructured longest = longest ≡ 0
+IsLongest Text longest = longest ≡ 0
+
 -- Rows of this size each, the last of which may be shorter and isn't empty.
 abbrev pub AreBlocks : ℕ → List (List ℕ) → Type 0
 AreBlocks size [] = Unit {0}

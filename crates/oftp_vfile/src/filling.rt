@@ -2,8 +2,8 @@
 ghost use Rattle.std.specs.Prelude.{◌≡◌, ◌+◌, ◌<◌, ◌≤◌, ◌++◌, ◌∷◌, [], ℕ, List, length, take, slice_index_or, true, false, All, ◌↔◌};
 ghost use Rattle.oftp_vfile.specs.VirtualFile.{is_stream, whole_count};
 ghost use Rattle.oftp_vfile.specs.Fill.{needs, payloads_of};
-ghost use Rattle.oftp_vfile.specs.Filling.{Filling, AreLent, IfBuffer, IsFirst, IsInRows, Moves, Reaches, Sent, advanced, least, new_filling, nothing_left};
-ghost use Rattle.oftp_vfile.specs.Packing.{IsNext};
+ghost use Rattle.oftp_vfile.specs.Filling.{Filling, AreLent, IfBuffer, IsFirstPayload, IsInRows, Moves, Reaches, Sent, advanced, least, new_filling, nothing_left};
+ghost use Rattle.oftp_vfile.specs.Packing.{PacksNext};
 
 use crate::content::Row;
 use crate::format::{BLOCK, Filled, Format};
@@ -110,7 +110,7 @@ impl Filler {
 
         // A payload is the first of those of what is left, wherever the lent rows end.
         ensures buffer { IfBuffer result (λ n. (n ≤ length out.old)
-            × IsFirst (length out.old) self.old self.new rows.now last (take n out.new)) }
+            × IsFirstPayload (length out.old) self.old self.new rows.now last (take n out.new)) }
         ensures moves { IfBuffer result (λ n. Moves self.old self.new rows.now last) }
 
         // More comes exactly where a subrecord of a further row could fit, Done exactly where
@@ -160,7 +160,7 @@ impl Filler {
         requires few { self.old.row + length rows.now ≤ 1000000 }
         requires place { IsInRows self.old rows.now }
         ensures buffer { IfBuffer result (λ n. (n ≤ length out.old)
-            × IsNext (length out.old) self.old self.new rows.now last (take n out.new)) }
+            × PacksNext (length out.old) self.old self.new rows.now last (take n out.new)) }
         ensures moves { IfBuffer result (λ n. Moves self.old self.new rows.now last) }
         ensures enough { IfBuffer result (λ n. last ≡ false
             → Reaches (length out.old) self.old rows.now → ⊥) }
@@ -189,7 +189,7 @@ impl Filler {
         requires place { IsInRows self.old rows.now }
         requires some { All (λ r. 0 < length r) rows.now }
         ensures buffer { IfBuffer result (λ n. (n ≤ length out.old)
-            × IsNext (length out.old) self.old self.new rows.now last (take n out.new)) }
+            × PacksNext (length out.old) self.old self.new rows.now last (take n out.new)) }
         ensures moves { IfBuffer result (λ n. Moves self.old self.new rows.now last) }
         ensures enough { IfBuffer result (λ n. last ≡ false
             → Reaches (length out.old) self.old rows.now → ⊥) }

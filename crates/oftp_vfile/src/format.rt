@@ -1,7 +1,6 @@
 //! Formats, limits and faults.
 ghost use Rattle.std.specs.Prelude.{◌≡◌, ◌↔◌, IsTrue};
-ghost use Rattle.oftp_vfile.specs.VirtualFile.{is_stream};
-ghost use Rattle.oftp_vfile.specs.LocalForm.{IsLongest};
+ghost use Rattle.oftp_vfile.specs.VirtualFile.{IsLongest, is_stream};
 ghost use Rattle.oftp_vfile.specs.declared.format.LocalFault.TheVariants.{Memory as NoLocalMemory};
 ghost use Rattle.oftp_vfile.specs.declared.format.TakeFault.TheVariants.{Memory};
 
@@ -13,10 +12,10 @@ use std::fmt;
 pub const BLOCK: usize = 1024;
 
 /// How many rows a file has at most.
-pub const MOST_ROWS: u64 = 1_000_000;
+pub const MOST_ROWS: usize = 1_000_000;
 
-/// How many octets a record has at most.
-const MOST_LONGEST: usize = 16_384;
+/// How many octets the longest record of a file has at most.
+pub const LONGEST_RECORD: u32 = 16_384;
 
 /// The format of a virtual file (RFC 5024, 1.5.3).
 #[derive(Clone, Copy, Debug, PartialEq, Eq, Hash)]
@@ -44,11 +43,11 @@ impl Format {
 
     /// Whether a file may have this longest record, in octets: 1 to 16,384 in F and V, 0 in U and
     /// T, which have no records.
-    pub fn allows_longest(self, longest: usize) -> bool
+    pub fn allows_longest(self, longest: u32) -> bool
         ensures { IsTrue result ↔ IsLongest self longest }
     {
         match self {
-            Format::Fixed | Format::Variable => 1 <= longest && longest <= MOST_LONGEST,
+            Format::Fixed | Format::Variable => 0 < longest && longest <= LONGEST_RECORD,
             Format::Unstructured | Format::Text => longest == 0,
         }
     }

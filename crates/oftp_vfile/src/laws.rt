@@ -6,12 +6,12 @@ pub fn fill_is_one()
     ensures { FillIsOne }
 {}
 
-/// Its payloads fit.
+/// The payloads that follow the filling rule aren't empty, and have at most the size given.
 pub fn fill_fits()
     ensures { FillFits }
 {}
 
-/// Its payloads carry exactly the rows, to the end.
+/// The payloads of a file carry exactly its rows, to the end.
 pub fn fill_is_whole()
     ensures { FillIsWhole }
 {}

@@ -13,7 +13,9 @@ mod taking;
 
 pub use content::{Row, Rows};
 pub use filling::Filler;
-pub use format::{Filled, Format, Limits, LocalFault, Stage, TakeFault};
+pub use format::{
+    BLOCK, Filled, Format, LONGEST_RECORD, Limits, LocalFault, MOST_ROWS, Stage, TakeFault,
+};
 pub use laws::{
     closed_is_file, counts_are_file, fill_fits, fill_is_one, fill_is_taken, fill_is_whole,
     lends_rows, mark_is_sent, one_fault, one_file, one_reading, rows_from, took_is_within,

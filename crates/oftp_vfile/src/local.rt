@@ -1,7 +1,7 @@
 //! The local form of files: what an operator hands in and fetches.
 ghost use Rattle.std.specs.Prelude.{◌≡◌, ◌<◌, ◌≤◌, ◌↔◌, ◌++◌, ℕ, List, length, IsTrue, IfSome, IfNone, IfOk, IfErr};
-ghost use Rattle.oftp_vfile.specs.VirtualFile.{octets_in, AreBlocks, AreRows};
-ghost use Rattle.oftp_vfile.specs.LocalForm.{IsFirstRecord, IsLocal, IsLongest, digit_of, digits_of, local_of};
+ghost use Rattle.oftp_vfile.specs.VirtualFile.{octets_in, AreBlocks, AreRows, IsLongest};
+ghost use Rattle.oftp_vfile.specs.LocalForm.{IsFirstRecord, IsLocal, digit_of, digits_of, local_of};
 
 use crate::content::{Row, Rows};
 use crate::format::{BLOCK, Format, LocalFault};
@@ -16,7 +16,7 @@ pub struct VFile {
     /// How its rows are made up.
     pub format: Format,
     /// The length of each record (F) or of the longest that may come (V), in octets; 0 in U and T.
-    pub longest: usize,
+    pub longest: u32,
     /// Its records (F, V), or its octets in rows of 1,024, the last of which may be shorter (U, T).
     pub rows: Rows,
 }
@@ -32,7 +32,7 @@ impl VFile {
     pub fn from_local(
         alloc: Global,
         format: Format,
-        longest: usize,
+        longest: u32,
         content: &[u8],
     ) -> Result<VFile, LocalFault>
         requires { IsLongest format longest }
@@ -46,12 +46,13 @@ impl VFile {
         ensures not_local { ((rows : List (List ℕ)) → IsLocal format longest content.now rows → ⊥)
             → result ≡ Err LocalFault.NotLocal }
     {
-        if !is_local(format, longest, content) {
+        let size = longest as usize;
+        if !is_local(format, size, content) {
             return Err(LocalFault::NotLocal);
         }
         let rows = match format {
-            Format::Fixed => read_blocks(alloc, longest, content)?,
-            Format::Variable => read_records(alloc, longest, content)?,
+            Format::Fixed => read_blocks(alloc, size, content)?,
+            Format::Variable => read_records(alloc, size, content)?,
             Format::Unstructured | Format::Text => read_blocks(alloc, BLOCK, content)?,
         };
         Ok(VFile {

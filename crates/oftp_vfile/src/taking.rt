@@ -15,7 +15,8 @@ use std::mem;
 /// Takes payloads, and makes rows of their subrecords (RFC 5024, 7.2).
 ///
 /// It holds the rows that were finished since they were last taken away, and the open tail behind
-/// them. An octet is copied once, into the tail; a finished record or block is handed on as it is.
+/// them. An octet is copied once, into the tail, except while a record of V grows; a finished record
+/// or block is handed on as it is.
 #[derive(Drop)]
 pub struct Taker {
     alloc: Global,
@@ -86,7 +87,7 @@ impl Taker {
     pub fn new(
         alloc: Global,
         format: Format,
-        longest: usize,
+        longest: u32,
         kept_rows: u64,
         kept_units: u64,
         limits: Limits,
@@ -99,7 +100,7 @@ impl Taker {
         Taker {
             alloc,
             format,
-            longest,
+            longest: longest as usize,
             limit: limits.octets,
             kept_rows,
             kept_units,
@@ -251,7 +252,8 @@ impl Taker {
             0
         };
         self.kept_units + self.units + count as u64 > self.limit
-            || self.kept_rows + self.away + self.rows.len() as u64 + new_rows as u64 > MOST_ROWS
+            || self.kept_rows + self.away + self.rows.len() as u64 + new_rows as u64
+                > MOST_ROWS as u64
     }
 
     /// Takes a subrecord that has no fault. An `Err` changes nothing.
@@ -275,14 +277,12 @@ impl Taker {
     }
 
     /// For how many octets of a record room is made at once: for all of it where its length is
-    /// known, else for a block at least and for twice what came.
+    /// known, else for twice what came, so that a short record keeps little more than it has.
     fn record_size(&self, ends: bool) -> usize {
         match self.format {
             Format::Fixed => self.longest,
             _ if ends => 0,
-            _ => BLOCK
-                .max(self.tail.len().saturating_mul(2))
-                .min(self.longest),
+            _ => self.tail.len().saturating_mul(2).min(self.longest),
         }
     }
 }

@@ -11,7 +11,7 @@ const LIMITS: Limits = Limits {
     octets: 8_388_608,
 };
 
-fn taker(alloc: Global, format: Format, longest: usize) -> Taker {
+fn taker(alloc: Global, format: Format, longest: u32) -> Taker {
     Taker::new(alloc, format, longest, 0, 0, LIMITS)
 }
 
@@ -138,12 +138,25 @@ fn fixed_records(rt: HostRuntime) -> Result<(), Fail> {
     Ok(())
 }
 
+/// A short record that came in two subrecords keeps little more memory than its octets need.
+#[test]
+fn short_record_in_two(rt: HostRuntime) -> Result<(), Fail> {
+    let mut taker = taker(rt.alloc(), Format::Variable, 16_384);
+    taker.take(&[0x01, 0x41, 0x81, 0x42])?;
+    for row in taker.take_rows() {
+        let octets = row.into_octets();
+        assert_eq!(rt; octets.as_slice(), b"AB".as_slice());
+        assert!(rt; octets.capacity() <= 4);
+    }
+    Ok(())
+}
+
 /// Each payload is refused by a taker that has taken nothing.
 fn refuses(
     rt: &impl Abort,
     alloc: Global,
     format: Format,
-    longest: usize,
+    longest: u32,
     cases: &[(&[u8], TakeFault)],
 ) {
     let mut taker = taker(alloc, format, longest);
@@ -222,7 +235,7 @@ fn mark_of_a_short_block(rt: HostRuntime) -> Result<(), Fail> {
 
 #[test]
 fn local_form(rt: HostRuntime) -> Result<(), Fail> {
-    let cases: [(Format, usize, &[u8], usize); 4] = [
+    let cases: [(Format, u32, &[u8], usize); 4] = [
         (Format::Variable, 3, b"00003ABC00000", 2),
         (Format::Fixed, 3, b"ABCDEF", 2),
         (Format::Unstructured, 0, b"ABC", 1),

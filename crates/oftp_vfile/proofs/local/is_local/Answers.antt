@@ -1,7 +1,8 @@
 use Rattle.std.proofs.Common.{◌%◌, length, sym, subst}
 use Rattle.std.proofs.lemmas.Bool.{eqb-true, eq-eqb}
 use Rattle.oftp_vfile.specs.declared.format.Format.{Format}
-use Rattle.oftp_vfile.specs.LocalForm.{IsLocal, IsLongest}
+use Rattle.oftp_vfile.specs.LocalForm.{IsLocal}
+use Rattle.oftp_vfile.specs.VirtualFile.{IsLongest}
 use Rattle.oftp_vfile.proofs.LocalLemmas.{fixed_yes, fixed_no, stream_local}
 use Rattle.oftp_vfile.proofs.local.is_local.Goals as goal
 

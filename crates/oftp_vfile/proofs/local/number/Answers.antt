@@ -2,8 +2,8 @@ use Rattle.std.proofs.Common.{rules, ℕ, List, ◌≡◌, ◌<◌, ◌+◌, ◌
 use Rattle.std.proofs.lemmas.List.{length-take-le, take_more, take_all}
 use Rattle.std.proofs.lemmas.List.Elements.{All-push}
 use Rattle.std.proofs.lemmas.List.Sums.{fold_more}
-use Rattle.oftp_vfile.specs.LocalForm.{digits_of, number_of}
-use Rattle.oftp_vfile.proofs.LocalLemmas.{IsDigit, digits_number, number_small}
+use Rattle.oftp_vfile.specs.LocalForm.{digits_of}
+use Rattle.oftp_vfile.proofs.LocalLemmas.{IsDigit, digits_number, number_of, number_small}
 use Rattle.oftp_vfile.proofs.local.number.Goals as goal
 
 pub overflow_mul-number : goal.overflow_mul-number

@@ -1,6 +1,5 @@
 use Rattle.std.proofs.Common.{◌≡◌, All, take}
-use Rattle.oftp_vfile.specs.LocalForm.{number_of}
-use Rattle.oftp_vfile.proofs.LocalLemmas.{IsDigit}
+use Rattle.oftp_vfile.proofs.LocalLemmas.{IsDigit, number_of}
 use Rattle.oftp_vfile.proofs.local.number.Given as goal
 
 abbrev pub invariant-loop-digit : goal.invariant-loop-digit

@@ -3,7 +3,7 @@ use Rattle.std.proofs.lemmas.Bool.{true≢false}
 use Rattle.std.proofs.lemmas.List.{length-take-le}
 use Rattle.oftp_vfile.specs.declared.format.Format.{Format}
 use Rattle.oftp_vfile.specs.Filling.{advanced, Filling, from_offset, least}
-use Rattle.oftp_vfile.specs.Packing.{HasPacked, IsNext}
+use Rattle.oftp_vfile.specs.Packing.{HasPacked, PacksNext}
 use Rattle.oftp_vfile.specs.Fill.{needs}
 use Rattle.oftp_vfile.proofs.FillerLemmas.{records_next, next_enough, records_left, records_more, records_done, records_some, nothing_records, full_all, row_left, full_none, needs_two}
 use Rattle.oftp_vfile.proofs.filling.Filler.next_of_records.Goals as goal
@@ -76,7 +76,7 @@ returns-clause-buffer c =
     ] in
     let next = records_next size f rows place.row place.offset free (take at c.pack_records-at.new.out) c.args.last c.requires.records c.requires.place c.pack_records-at.ensures.offset p full ends some in
     let new : Filling = advanced f rows place.row place.offset in
-    (c.pack_records-at.ensures.room, subst (λ (x : Filling). IsNext size f x rows c.args.last (take at c.pack_records-at.new.out)) (sym c.advance.ensures) next)
+    (c.pack_records-at.ensures.room, subst (λ (x : Filling). PacksNext size f x rows c.args.last (take at c.pack_records-at.new.out)) (sym c.advance.ensures) next)
 
 pub returns-clause-enough : goal.returns-clause-enough
 returns-clause-enough c =

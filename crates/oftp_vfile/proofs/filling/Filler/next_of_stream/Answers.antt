@@ -1,7 +1,7 @@
 use Rattle.std.proofs.Common.{ℕ, ◌≡◌, ◌-◌, ◌<◌, [], ◌∷◌, ◌++◌, false, take, drop, length, ap, sym, subst, ◌∙◌, arith}
 use Rattle.std.proofs.lemmas.List.{length-take-le}
 use Rattle.oftp_vfile.specs.Filling.{advanced, Filling, least}
-use Rattle.oftp_vfile.specs.Packing.{rest_at, HasStreamed, IsNext}
+use Rattle.oftp_vfile.specs.Packing.{rest_at, HasStreamed, PacksNext}
 use Rattle.oftp_vfile.proofs.FillerLemmas.{stream_next, stream_more, stream_left, next_enough}
 use Rattle.oftp_vfile.proofs.filling.Filler.next_of_stream.Goals as goal
 
@@ -43,7 +43,7 @@ returns-in-Full-clause-buffer c =
     let some : 0 < length octets = omega (arith, written, told.0, c.requires.room) in
     let next = stream_next size f rows place.row place.offset free octets c.args.last c.requires.stream going c.requires.place c.pack_stream-at.ensures.offset p told.0 told.1 some in
     let new : Filling = advanced f rows place.row place.offset in
-    (c.pack_stream-at.ensures.room, subst (λ (x : Filling). IsNext size f x rows c.args.last octets) (sym c.advance.ensures) next)
+    (c.pack_stream-at.ensures.room, subst (λ (x : Filling). PacksNext size f x rows c.args.last octets) (sym c.advance.ensures) next)
 
 pub returns-in-Full-clause-enough : goal.returns-in-Full-clause-enough
 returns-in-Full-clause-enough c =

@@ -1,6 +1,7 @@
 use Rattle.std.proofs.Common.{ℕ, List, refl, sym, subst}
 use Rattle.oftp_vfile.specs.declared.format.Format.{Format}
-use Rattle.oftp_vfile.specs.LocalForm.{IsLocal, IsLongest}
+use Rattle.oftp_vfile.specs.LocalForm.{IsLocal}
+use Rattle.oftp_vfile.specs.VirtualFile.{IsLongest}
 use Rattle.oftp_vfile.proofs.LocalLemmas.{blocks_local, fixed_local, fixed_no, one_file}
 use Rattle.oftp_vfile.proofs.local.VFile.from_local.Goals as goal
 use Rattle.oftp_vfile.proofs.local.VFile.from_local.Goals.{in-Fixed+in_ok-rows-in-Fixed, in-Variable+in_ok-rows-in-Variable, in-Unstructured+in_ok-rows-in-Unstructured}
