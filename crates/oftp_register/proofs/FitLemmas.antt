@@ -4,6 +4,7 @@ use Rattle.std.specs.Vec.{vec_len}
 use Rattle.std.proofs.lemmas.List.{length-map}
 use Rattle.std.proofs.lemmas.List.Elements.{All-cons, All-head, All-map, All-nil, All-tail}
 use Rattle.oftp_vfile.specs.declared.format.Format.{Format}
+use Rattle.oftp_vfile.specs.VirtualFile.{IsLongest}
 use Rattle.oftp_register.specs.declared.change.Change.{Change}
 use Rattle.oftp_register.specs.declared.change.Change.TheVariants as change
 use Rattle.oftp_register.specs.declared.entry.Identity.{Identity}
@@ -13,7 +14,7 @@ use Rattle.oftp_register.specs.declared.plain.incoming.IncomingFile.{IncomingFil
 use Rattle.oftp_register.specs.declared.plain.lists.Lists.{Lists}
 use Rattle.oftp_register.specs.Register.{Register, Incoming, same_identity}
 use Rattle.oftp_register.specs.Changes.{apply}
-use Rattle.oftp_register.specs.Soundness.{AtNumber, Ends, GoesOn, IfOpen, IsFit, IsLongest, IsSound, MayStart}
+use Rattle.oftp_register.specs.Soundness.{AtNumber, Ends, GoesOn, IfOpen, IsFit, IsSound, MayStart}
 use Rattle.oftp_register.specs.Lists.{IsPlace, Makes, incoming_of, register_in}
 use Rattle.oftp_register.proofs.Places.{above, above_again}
 use Rattle.oftp_register.proofs.KeepLemmas.{apply_keeps}

@@ -4,6 +4,7 @@ use Rattle.std.proofs.lemmas.Bool.{cases_Bool, cond-true, cond-false, ltb-false}
 use Rattle.std.proofs.lemmas.List.Elements.{All-cons, All-head, All-tail, All-nil}
 use Rattle.std.specs.List.{list_any}
 use Rattle.std.proofs.lemmas.Bool.{or_from}
+use Rattle.oftp_vfile.specs.VirtualFile.{IsLongest}
 use Rattle.oftp_register.specs.declared.change.Cause.{Cause}
 use Rattle.oftp_register.specs.declared.change.Cause.TheVariants.{State, Full}
 use Rattle.oftp_register.specs.declared.entry.IncomingState.{IncomingState}
@@ -12,7 +13,7 @@ use Rattle.oftp_register.specs.declared.entry.Dispatch.{Dispatch}
 use Rattle.oftp_register.specs.declared.entry.Dispatch.TheVariants.{Due, Sent}
 use Rattle.oftp_register.specs.Register.{Register, Incoming, Issued, same_identity}
 use Rattle.oftp_register.specs.Changes.{begun, closed, given_up, gone_on, if_open, if_unanswered, issued, issued_on, kept, mapped, sent, sent_as, sent_of, started_in}
-use Rattle.oftp_register.specs.Soundness.{AreFullRows, AreNamedOnce, Ends, FitsState, GoesOn, IfOpen, IsAnsweredWhole, IsLongest, IsResponse, IsSoundAnswer, IsSoundIncoming, MayGoOn, MayStart}
+use Rattle.oftp_register.specs.Soundness.{AreFullRows, AreNamedOnce, Ends, FitsState, GoesOn, IfOpen, IsAnsweredWhole, IsResponse, IsSoundAnswer, IsSoundIncoming, MayGoOn, MayStart}
 use Rattle.oftp_register.proofs.NameLemmas.{once-append, same_identity-true}
 use Rattle.oftp_register.proofs.NumberLemmas.{mapped_ok, not_both, one_result}
 use Rattle.oftp_register.proofs.RowLemmas.{full-nil, full-append, rows-append}

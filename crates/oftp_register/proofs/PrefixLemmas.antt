@@ -10,7 +10,7 @@ use Rattle.oftp_register.specs.declared.office.OfficeFault.TheVariants.{Store, M
 use Rattle.oftp_register.specs.Register.{Register}
 use Rattle.oftp_register.specs.Changes.{apply, apply_all, go_on_by}
 use Rattle.oftp_register.specs.Soundness.{AreFit, IsFit}
-use Rattle.oftp_register.specs.Offices.{IsAfterPrefix, IsRefused}
+use Rattle.oftp_register.specs.Offices.{EndsAt, IsAfterPrefix, IsRefused}
 
 -- how far the changes are made
 pub record IsGoing {O : Type 0} (is_clean stands : O → Type 0) (register : O → Register) (told : O → ℕ) (changes : List Change) (old now : O) (gone rest : List Change) : Type 0 where
@@ -70,6 +70,23 @@ front_of gone rest all whole = ap (take (length gone)) (sym whole) ∙ take_at g
 
 within_all : {A : Type 0} (gone rest all : List A) → gone ++ rest ≡ all → length gone ≤ length all
 within_all gone rest all whole = omega (arith, length-append gone rest, ap length whole)
+
+-- the changes end at the next one
+pub ends_at : (r before : Register) (changes gone rest later : List Change) (k : Change) (fault : OfficeFault) → gone ++ rest ≡ changes → rest ≡ k ∷ later → apply_all r gone ≡ Ok before
+    → ((cause : Cause) → fault ≡ Refused cause → apply before k ≡ Err cause) → EndsAt fault r before changes
+ends_at r before changes gone rest later k fault whole is made refusal =
+    let further = moved_on gone rest later changes k whole is in
+    record {
+      made = length gone;
+      short = omega (arith, length-append gone rest, ap length whole, ap length is);
+      register = ap (apply_all r) (front_of gone rest changes whole) ∙ made;
+      refusal = λ cause told.
+          ap (λ n. apply_all r (take n changes)) (sym (length-append gone (k ∷ []))) ∙ ap (apply_all r) (front_of (gone ++ k ∷ []) later changes further) ∙ apply_all-push r before gone k made ∙ refusal cause told;
+    }
+
+-- a refusal of one change
+pub refusal_of : (r : Register) (k : Change) (Stands : Type 0) (fault : OfficeFault) → IsRefused {T = ⊤} (apply r k) (Err fault) Stands → (cause : Cause) → fault ≡ Refused cause → apply r k ≡ Err cause
+refusal_of r k Stands fault refused cause is = (subst (λ f. IsRefused {T = ⊤} (apply r k) (Err f) Stands) is refused).0
 
 -- what there is after the changes so far
 pub left_at : {C : Type 0} (holds : C → Register → Type 0) (r s : Register) (changes gone rest : List Change) (c : C) → gone ++ rest ≡ changes → apply_all r gone ≡ Ok s → holds c s → IsAfterPrefix holds r changes c

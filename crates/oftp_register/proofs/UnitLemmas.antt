@@ -4,11 +4,11 @@ use Rattle.std.specs.List.{flat_map}
 use Rattle.std.proofs.lemmas.List.Elements.{All-cons, All-head, All-tail, All-nil, All-weaker}
 use Rattle.oftp_vfile.specs.declared.format.Format.{Format}
 use Rattle.oftp_vfile.specs.declared.format.Format.TheVariants.{Fixed, Variable, Unstructured, Text}
-use Rattle.oftp_vfile.specs.VirtualFile.{AreBlocks, AreRows, units_in}
+use Rattle.oftp_vfile.specs.VirtualFile.{AreBlocks, AreRows, IsLongest, units_in}
 use Rattle.oftp_register.specs.declared.entry.IncomingState.{IncomingState}
 use Rattle.oftp_register.specs.declared.entry.IncomingState.TheVariants.{Open, Whole}
 use Rattle.oftp_register.specs.Register.{Incoming, Outgoing}
-use Rattle.oftp_register.specs.Soundness.{AreFullRows, FitsState, IsLongest, IsSoundIncoming, IsSoundOutgoing}
+use Rattle.oftp_register.specs.Soundness.{AreFullRows, FitsState, IsSoundIncoming, IsSoundOutgoing}
 
 -- no row is longer than this
 abbrev AreShort : List (List ℕ) → Type 0

@@ -1,5 +1,5 @@
 -- What the calls of an office do, and what a stop leaves.
-use Rattle.std.specs.Prelude.{◌≡◌, ℕ, ◌+◌, ◌%◌, ◌^◌, ◌≤◌, ◌⊎◌, List, length, take, Result, Ok, Err, Option, None, Some, ⊤}
+use Rattle.std.specs.Prelude.{◌≡◌, ℕ, ◌+◌, ◌%◌, ◌^◌, ◌<◌, ◌≤◌, ◌⊎◌, List, length, take, Result, Ok, Err, Option, None, Some, ⊤}
 use Rattle.oftp_register.specs.Register.{Register}
 use Rattle.oftp_register.specs.Changes.{apply, apply_all}
 use Rattle.oftp_register.specs.declared.change.Cause.{Cause}
@@ -54,6 +54,13 @@ Only r rest = (c : rest.Content) → rest.may_leave c → rest.holds c r
 abbrev pub WithOrWithout : Option Change → Register → Rest → Type 0
 WithOrWithout None r rest = Only r rest
 WithOrWithout (Some change) r rest = (c : rest.Content) → rest.may_leave c → rest.holds c r ⊎ ((s : Register) × (apply r change ≡ Ok s) × rest.holds c s)
+
+-- changes ended at one that wasn't made, by this fault: a refusal is the register's
+pub record EndsAt (fault : OfficeFault) (old new : Register) (changes : List Change) : Type 0 where
+  pub made : ℕ
+  pub short : made < length changes
+  pub register : apply_all old (take made changes) ≡ Ok new
+  pub refusal : (cause : Cause) → fault ≡ Refused cause → apply_all old (take (made + 1) changes) ≡ Err cause
 
 -- what is left stands for the register after the first so many of the changes, all of them made
 abbrev pub IsAfterPrefix : {C : Type 0} → (C → Register → Type 0) → Register → List Change → C → Type 0

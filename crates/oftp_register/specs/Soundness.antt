@@ -3,7 +3,7 @@ use Rattle.std.specs.Prelude.{◌≡◌, ℕ, zero, suc, ◌+◌, ◌<◌, ◌�
 use Rattle.std.specs.List.{list_any}
 use Rattle.oftp_vfile.specs.declared.format.Format.{Format}
 use Rattle.oftp_vfile.specs.declared.format.Format.TheVariants.{Fixed, Variable, Unstructured, Text}
-use Rattle.oftp_vfile.specs.VirtualFile.{AreRows}
+use Rattle.oftp_vfile.specs.VirtualFile.{AreRows, IsLongest}
 use Rattle.oftp_register.specs.declared.entry.Identity.{Identity}
 use Rattle.oftp_register.specs.declared.entry.ResponseKind.{ResponseKind}
 use Rattle.oftp_register.specs.declared.entry.ResponseKind.TheVariants.{EndResponse, NegativeEndResponse}
@@ -13,13 +13,6 @@ use Rattle.oftp_register.specs.declared.change.Change.{Change}
 use Rattle.oftp_register.specs.declared.change.Change.TheVariants as change
 use Rattle.oftp_register.specs.Register.{Register, Incoming, Outgoing, Issued, Received, answers, same_identity}
 use Rattle.oftp_register.specs.Changes.{apply}
-
--- the longest record of a format: 1 to 16,384 octets in F and V, and none in U and T
-abbrev pub IsLongest : Format → ℕ → Type 0
-IsLongest Fixed longest = (0 < longest) × (longest ≤ 16384)
-IsLongest Variable longest = (0 < longest) × (longest ≤ 16384)
-IsLongest Unstructured longest = longest ≡ 0
-IsLongest Text longest = longest ≡ 0
 
 -- Rows after which more may come: in U and T each is a full block (RFC 5024, section 1.5.4).
 abbrev pub AreFullRows : Format → ℕ → List (List ℕ) → Type 0

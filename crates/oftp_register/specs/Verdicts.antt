@@ -1,5 +1,5 @@
 -- Whether a listener takes what is offered.
-use Rattle.std.specs.Prelude.{ℕ, ◌/◌, ◌==◌, ◌&&◌, not, Bool, true, false, nat_le, nat_lt, min, if◌then◌else◌, List, [], ◌∷◌, Option, None, Some}
+use Rattle.std.specs.Prelude.{ℕ, ◌/◌, ◌==◌, ◌&&◌, not, Bool, true, false, nat_le, nat_lt, min, if◌then◌else◌, List, [], ◌∷◌, Option, None, Some, is_none}
 use Rattle.std.specs.Str.{bytes_eq}
 use Rattle.oftp_vfile.specs.declared.format.Format.{Format}
 use Rattle.oftp_vfile.specs.declared.format.Format.TheVariants.{Fixed, Variable, Unstructured, Text}
@@ -51,42 +51,41 @@ has_length layout.Text = true
 abbrev pub is_plain : Sfid → Bool
 is_plain sfid = sfid.security == 0 && (sfid.cipher == 0 && (sfid.compression == 0 && (sfid.enveloping == 0 && not sfid.signed_response)))
 
--- From where a file that is kept in part goes on: at most from where it is offered, and from its first row where restart isn't
--- agreed or it is kept in another format or with another longest record.
-abbrev pub restart_position : Sfid → IncomingEntry → Bool → ℕ
-restart_position sfid entry restart =
+-- From where a file goes on: at most from where it is offered, and from its first row where it is new, restart isn't agreed, or
+-- it is kept in another format or with another longest record.
+abbrev pub restart_position : Sfid → Option IncomingEntry → Bool → ℕ
+restart_position sfid None restart = 0
+restart_position sfid (Some entry) restart =
     if restart && (same_format entry.format (format_of sfid.layout) && entry.longest == longest_of sfid.layout) then min sfid.restart entry.rows else 0
 
--- what is answered where a file of this identity is there, by its state
-abbrev pub by_state : Sfid → IncomingEntry → Bool → IncomingState → StartVerdict
-by_state sfid entry restart Open = start.Accept (restart_position sfid entry restart)
-by_state sfid entry restart Whole = start.Refuse DuplicateFile false
+-- all its rows are here
+abbrev pub is_whole : IncomingState → Bool
+is_whole Open = false
+is_whole Whole = true
 
--- the same of the entry
-abbrev pub kept_verdict : Sfid → IncomingEntry → Bool → StartVerdict
-kept_verdict sfid entry restart = by_state sfid entry restart entry.state
-
--- the file is taken as far as what is kept allows
-abbrev pub found_verdict : Sfid → Option IncomingEntry → Bool → Bool → StartVerdict
-found_verdict sfid (Some entry) is_full restart = kept_verdict sfid entry restart
-found_verdict sfid None is_full restart = if is_full then start.Refuse Unspecified true else start.Accept 0
+-- the file was received before
+abbrev pub is_received : Option IncomingEntry → Bool
+is_received None = false
+is_received (Some entry) = is_whole entry.state
 
 -- no octet
-abbrev pub is_blank : List ℕ → Bool
-is_blank [] = true
-is_blank (x ∷ xs) = false
+abbrev pub is_empty : List ℕ → Bool
+is_empty [] = true
+is_empty (x ∷ xs) = false
 
 -- The answer to SFID (RFC 5024, sections 5.3.3 to 5.3.5). The first row that fits decides.
 abbrev pub start_verdict : Sfid → Option IncomingEntry → Bool → Terms → StartVerdict
 start_verdict sfid found is_full terms =
     if not terms.receives then start.Refuse FileDirectionRefused false
     else (if not (is_plain sfid) then start.Refuse Unspecified false
-    else (if is_blank sfid.dataset then start.Refuse InvalidFilename false
+    else (if is_empty sfid.dataset then start.Refuse InvalidFilename false
     else (if not (bytes_eq sfid.destination terms.station) then start.Refuse InvalidDestination false
     else (if not (bytes_eq sfid.originator terms.partner) then start.Refuse InvalidOrigin false
     else (if not (has_length sfid.layout) then start.Refuse MaximumRecordLengthNotSupported false
     else (if nat_lt (terms.limits.octets / 1024) sfid.size then start.Refuse FileSizeTooBig false
-    else found_verdict sfid found is_full terms.restart))))))
+    else (if is_received found then start.Refuse DuplicateFile false
+    else (if is_none found && is_full then start.Refuse Unspecified true
+    else start.Accept (restart_position sfid found terms.restart)))))))))
 
 -- the answer to EFID, by the counts of the whole file (RFC 5024, sections 5.3.8 to 5.3.10)
 abbrev pub end_verdict : Efid → ℕ → ℕ → EndVerdict

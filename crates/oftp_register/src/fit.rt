@@ -2,17 +2,11 @@
 
 ghost use Rattle.std.specs.Prelude.{◌≡◌, ◌↔◌, ◌<◌, ◌≤◌, IsTrue, All, length};
 ghost use Rattle.oftp_vfile.specs.VirtualFile.{AreBlocks, AreRows};
-ghost use Rattle.oftp_register.specs.Soundness.{AreFullRows, IsFile, IsLongest, IsResponse};
+ghost use Rattle.oftp_register.specs.Soundness.{AreFullRows, IsFile, IsResponse};
 
 use crate::entry::ResponseKind;
-use oftp_vfile::{Format, Limits, Row};
+use oftp_vfile::{BLOCK, Format, Limits, MOST_ROWS, Row};
 use oftp_wire::{Count, Text};
-
-/// How many rows a file has at most.
-pub const MOST_ROWS: usize = 1_000_000;
-
-/// The longest record of F and V at most, in octets.
-pub const LONGEST_RECORD: u32 = 16_384;
 
 /// How many files an office may hold on each side at most.
 pub const MOST_FILES: u64 = 1_000_000;
@@ -20,24 +14,11 @@ pub const MOST_FILES: u64 = 1_000_000;
 /// How many octets of a file an office may hold at most.
 pub const MOST_OCTETS: u64 = 1_024_000_000;
 
-// The octets of a block (RFC 5024, section 1.5.4).
-const BLOCK: usize = 1024;
-
 /// Whether an office may be made with these limits: 1,000,000 files and 1,024,000,000 octets of a file at most.
 pub fn are_limits(limits: Limits) -> bool
     ensures { IsTrue result ↔ (limits.files ≤ 1000000) × (limits.octets ≤ 1024000000) }
 {
     limits.files <= MOST_FILES && limits.octets <= MOST_OCTETS
-}
-
-/// Whether this may be the longest record of a file of this format: 1 to 16,384 octets in F and V, and 0 in U and T.
-pub fn is_longest(format: Format, longest: u32) -> bool
-    ensures { IsTrue result ↔ IsLongest format longest }
-{
-    match format {
-        Format::Fixed | Format::Variable => 0 < longest && longest <= LONGEST_RECORD,
-        Format::Unstructured | Format::Text => longest == 0,
-    }
 }
 
 /// Whether these rows fit a file to which more rows may come: records of the right length in F and V, and full blocks of 1024
@@ -83,7 +64,7 @@ pub fn are_rows(format: Format, longest: u32, rows: &[Row]) -> bool
 pub fn is_file(format: Format, longest: u32, rows: &[Row]) -> bool
     ensures { IsTrue result ↔ IsFile format longest rows.now }
 {
-    is_longest(format, longest) && rows.len() <= MOST_ROWS && are_rows(format, longest, rows)
+    format.allows_longest(longest) && rows.len() <= MOST_ROWS && are_rows(format, longest, rows)
 }
 
 /// Whether a response may give this reason, this creator and this text: an end response gives none of them (RFC 5024, sections

@@ -302,11 +302,11 @@ pub trait Office {
     /// Makes a change. When it returns `Ok`, a stop leaves the change made.
     ///
     /// The change has to be fit: the file that it leaves has at most 1,000,000 rows, which fit its format and longest record, and
-    /// an end response gives no reason, no creator and no text. [`is_file`], [`is_longest`], [`are_full_rows`], [`are_rows`] and
+    /// an end response gives no reason, no creator and no text. [`is_file`], [`Format::allows_longest`], [`are_full_rows`], [`are_rows`] and
     /// [`is_response`] are the tests that a caller can make before.
     ///
     /// [`is_file`]: crate::is_file
-    /// [`is_longest`]: crate::is_longest
+    /// [`Format::allows_longest`]: oftp_vfile::Format::allows_longest
     /// [`are_full_rows`]: crate::are_full_rows
     /// [`are_rows`]: crate::are_rows
     /// [`is_response`]: crate::is_response

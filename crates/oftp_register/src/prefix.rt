@@ -1,9 +1,9 @@
 //! Many changes in turn, over any office.
 
-ghost use Rattle.std.specs.Prelude.{◌≡◌, Ok, OnErr, OnOk};
+ghost use Rattle.std.specs.Prelude.{◌≡◌, IfErr, Ok, OnOk};
 ghost use Rattle.oftp_register.specs.Changes.{apply_all};
 ghost use Rattle.oftp_register.specs.Soundness.{AreFit};
-ghost use Rattle.oftp_register.specs.Offices.{Counts, IsAfterPrefix, IsRefused};
+ghost use Rattle.oftp_register.specs.Offices.{Counts, EndsAt, IsAfterPrefix, IsRefused};
 
 use crate::change::Change;
 use crate::office::{Office, OfficeFault};
@@ -13,8 +13,8 @@ use crate::office::{Office, OfficeFault};
 ///
 /// # Errors
 ///
-/// The fault of the change that wasn't made: [`OfficeFault::Refused`] exactly where the register refuses one of the changes,
-/// with the cause of the first. An office that is still open then keeps the register after the changes before.
+/// The fault of the change that wasn't made: [`OfficeFault::Refused`] where it is the first that the register refuses, with its
+/// cause. An office that is still open then keeps the register after the changes before.
 pub fn commit_all<O: Office>(office: &mut O, changes: Vec<Change<'_>>) -> Result<(), OfficeFault>
     requires fit { O.is_clean office.old → O.stands office.old → AreFit (O.register office.old) changes.items }
     ensures clean { O.is_clean office.new → O.is_clean office.old }
@@ -22,8 +22,8 @@ pub fn commit_all<O: Office>(office: &mut O, changes: Vec<Change<'_>>) -> Result
         → OnOk result ((apply_all (O.register office.old) changes.entry.items ≡ Ok (O.register office.new)) × O.stands office.new) }
     ensures refused { O.is_clean office.new → O.stands office.old
         → IsRefused (apply_all (O.register office.old) changes.entry.items) result (O.stands office.new) }
-    ensures kept { O.is_clean office.new → O.stands office.old → OnErr result (O.stands office.new
-        → IsAfterPrefix (λ now r. now ≡ r) (O.register office.old) changes.entry.items (O.register office.new)) }
+    ensures kept { O.is_clean office.new → O.stands office.old → O.stands office.new
+        → IfErr result (λ fault. EndsAt fault (O.register office.old) (O.register office.new) changes.entry.items) }
     ensures left { O.is_clean office.new → O.stands office.old → (c : O.Content) → O.may_leave office.new c
         → IsAfterPrefix O.holds (O.register office.old) changes.entry.items c }
     ensures counts { Counts (O.told office.old) (O.told office.new) result }

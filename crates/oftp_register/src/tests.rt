@@ -1,7 +1,7 @@
 //! Registers written by hand from the table of changes.
 
 use super::*;
-use oftp_vfile::{Format, Limits, Row, Rows};
+use oftp_vfile::{Format, LONGEST_RECORD, Limits, Row, Rows};
 use oftp_wire::{Count, Digits, Text, X};
 use std::alloc::{AllocError, Global};
 use std::test::Fail;

@@ -2,13 +2,12 @@
 
 ghost use Rattle.std.specs.Prelude.{◌≡◌, ◌<◌, ◌^◌, false};
 ghost use Rattle.std.specs.Option.{option_copied};
-ghost use Rattle.oftp_register.specs.Verdicts.{end_verdict, format_of, has_length, is_plain, kept_verdict, longest_of, restart_position, same_format, start_verdict};
+ghost use Rattle.oftp_register.specs.Verdicts.{end_verdict, format_of, has_length, is_plain, is_received, longest_of, restart_position, same_format, start_verdict};
 
 use crate::entries::IncomingEntry;
 use crate::entry::IncomingState;
-use crate::fit::LONGEST_RECORD;
 use crate::name::Name;
-use oftp_vfile::{Format, Limits};
+use oftp_vfile::{Format, LONGEST_RECORD, Limits};
 use oftp_wire::{Count, Efid, EndReason, Layout, Sfid, StartReason};
 
 /// What a session agreed, as far as it decides whether a file is taken.
@@ -108,26 +107,28 @@ fn is_plain(sfid: &Sfid<'_>) -> bool
         && !sfid.signed_response
 }
 
-// From where a file that is kept in part goes on.
-fn restart_position(sfid: &Sfid<'_>, entry: &IncomingEntry, restart: bool) -> Count<17>
-    ensures { result ≡ restart_position sfid.now entry.now restart }
+// From where a file goes on.
+fn restart_position(sfid: &Sfid<'_>, found: Option<&IncomingEntry>, restart: bool) -> Count<17>
+    ensures { result ≡ restart_position sfid.now (option_copied found.entry) restart }
 {
-    if restart
-        && is_format(entry.format, format_of(sfid.layout))
-        && entry.longest == longest_of(sfid.layout)
-    {
-        Count::new(sfid.restart.get().min(entry.rows))
-    } else {
-        Count::new(0)
+    match found {
+        Some(entry)
+            if restart
+                && is_format(entry.format, format_of(sfid.layout))
+                && entry.longest == longest_of(sfid.layout) => {
+            Count::new(sfid.restart.get().min(entry.rows))
+        }
+        _ => Count::new(0),
     }
 }
 
-fn kept_verdict(sfid: &Sfid<'_>, entry: &IncomingEntry, restart: bool) -> StartVerdict
-    ensures { result ≡ kept_verdict sfid.now entry.now restart }
+// Whether the file was received before.
+fn is_received(found: Option<&IncomingEntry>) -> bool
+    ensures { result ≡ is_received (option_copied found.entry) }
 {
-    match entry.state {
-        IncomingState::Open => StartVerdict::Accept(restart_position(sfid, entry, restart)),
-        IncomingState::Whole => refused(StartReason::DuplicateFile),
+    match found {
+        Some(entry) => entry.state == IncomingState::Whole,
+        None => false,
     }
 }
 
@@ -171,14 +172,16 @@ pub fn start_verdict(
     if sfid.size.get() > terms.limits.octets / 1024 {
         return refused(StartReason::FileSizeTooBig);
     }
-    match found {
-        Some(entry) => kept_verdict(sfid, entry, terms.restart),
-        None if is_full => StartVerdict::Refuse {
+    if is_received(found) {
+        return refused(StartReason::DuplicateFile);
+    }
+    if found.is_none() && is_full {
+        return StartVerdict::Refuse {
             reason: StartReason::Unspecified,
             retry: true,
-        },
-        None => StartVerdict::Accept(Count::new(0)),
+        };
     }
+    StartVerdict::Accept(restart_position(sfid, found, terms.restart))
 }
 
 /// Whether the end of a file has its counts (RFC 5024, sections 5.3.8 to 5.3.10): those of the whole file, rows of earlier

@@ -11,11 +11,11 @@ use super::units::units_of;
 use crate::change::Cause;
 use crate::entries::{IncomingEntry, IssuedEntry, IssuedResponse};
 use crate::entry::{Dispatch, Identity, IncomingState};
-use crate::fit::{MOST_ROWS, are_full_rows, are_rows};
+use crate::fit::{are_full_rows, are_rows};
 use crate::name::Name;
 use crate::note::Note;
 use crate::office::OfficeFault;
-use oftp_vfile::{Format, Row, Rows};
+use oftp_vfile::{Format, MOST_ROWS, Row, Rows};
 use oftp_wire::Text;
 use std::alloc::{AllocError, Global};
 

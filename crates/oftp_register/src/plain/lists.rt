@@ -17,7 +17,7 @@ use crate::entries::{
     ReceivedResponse, Side,
 };
 use crate::entry::{Identity, ResponseKind};
-use crate::fit::{is_file, is_longest, is_response};
+use crate::fit::{is_file, is_response};
 use crate::name::Name;
 use crate::office::OfficeFault;
 use oftp_vfile::{Format, Limits, Row, Rows};
@@ -331,7 +331,7 @@ impl Lists {
                 count,
                 ..
             } => {
-                is_longest(*format, *longest)
+                format.allows_longest(*longest)
                     && can_start(&self.incoming, identity, *format, *longest, *count)
             }
             Change::Keep { no, rows } => self.may_keep(*no, rows),

@@ -270,7 +270,7 @@ fn rows_fit_their_format(rt: HostRuntime) -> Result<(), Fail> {
     ] {
         assert_eq!(rt; is_file(format, longest, three.as_slice()), fits);
     }
-    assert!(rt; is_longest(Format::Fixed, 1));
+    assert!(rt; Format::Fixed.allows_longest(1));
     assert!(rt; !are_full_rows(Format::Text, 0, three.as_slice()));
     let short = rows(rt.alloc(), &[b"abc", b"a"])?;
     assert!(rt; !are_rows(Format::Text, 0, short.as_slice()));

@@ -1,9 +1,9 @@
-use Rattle.std.proofs.Common.{Err, sym, ap, ◌∙◌, subst, inl, inr}
+use Rattle.std.proofs.Common.{Err, IfErr, sym, ap, ◌∙◌, subst, inl, inr}
 use Rattle.std.proofs.lemmas.Result.{err_from_is_err_and}
 use Rattle.oftp_register.specs.Changes.{apply_all}
-use Rattle.oftp_register.specs.Offices.{IsRefused}
+use Rattle.oftp_register.specs.Offices.{EndsAt, IsRefused}
 use Rattle.oftp_register.specs.declared.office.OfficeFault.{OfficeFault}
-use Rattle.oftp_register.proofs.PrefixLemmas.{fit_first, fit_later, made_on, left_within, moved_on, refused_by}
+use Rattle.oftp_register.proofs.PrefixLemmas.{ends_at, fit_first, fit_later, made_on, left_within, moved_on, refusal_of, refused_by}
 use Rattle.oftp_register.proofs.prefix.commit_all.Goals as goal
 
 pub commit-requires : goal.commit-requires
@@ -43,6 +43,21 @@ returns-in_err-commit-clause-refused g c = λ k s.
     subst (λ answer. IsRefused (apply_all first c.args.changes.items) answer Stands) (sym (told.1 ∙ ap (λ (x : OfficeFault). Err x) told.2))
     (refused_by Stands first (office.register c.loop-change.office) c.args.changes.items c.loop-change.yielded _ _ c.in-Some.change fault going.whole c.in-Some.ensures.steps.0 (going.made before s)
     (c.in_err-commit.ensures.refused k (going.stood before s)))
+
+pub returns-in_err-commit-clause-kept : goal.returns-in_err-commit-clause-kept
+returns-in_err-commit-clause-kept g c = λ k s stands.
+    let going = c.loop-change.invariant in
+    let office = g.O.Office in
+    let first = office.register c.args.office.now in
+    let mid = office.register c.loop-change.office in
+    let after = office.register c.commit.new.self in
+    let before = c.commit.ensures.clean k in
+    let fault = c.in_err-commit.field-0.0 in
+    let told = err_from_is_err_and c.from_residual.result c.from_residual.ensures.1 in
+    subst (λ answer. IfErr answer (λ f. EndsAt f first after c.args.changes.items)) (sym (told.1 ∙ ap (λ (x : OfficeFault). Err x) told.2))
+    (subst (λ now. EndsAt fault first now c.args.changes.items) (sym (c.in_err-commit.ensures.same k (going.stood before s) stands))
+    (ends_at first mid c.args.changes.items c.loop-change.yielded _ _ c.in-Some.change fault going.whole c.in-Some.ensures.steps.0 (going.made before s)
+    (refusal_of mid c.in-Some.change _ fault (c.in_err-commit.ensures.refused k (going.stood before s)))))
 
 pub returns-in_err-commit-clause-left : goal.returns-in_err-commit-clause-left
 returns-in_err-commit-clause-left g c = λ k s content may.
