@@ -476,6 +476,7 @@ impl<'b> Session<'b> {
             → (turned self.old.setting p r).change ≡ None × (self.new.spoken ≡ (turned self.old.setting p r).output)
             × Stands (turned self.old.setting p r).phase self.new }
         ensures fewer { is_due self.old.state ≡ true → turns_left self.new.state < turns_left self.old.state }
+        ensures idle { is_due self.old.state ≡ false → self.new ≡ record self.old { spoken = [] } }
         ensures setting { self.new.setting ≡ self.old.setting }
     {
         match self.state {
@@ -491,8 +492,8 @@ impl<'b> Session<'b> {
         }
     }
 
-    /// Makes the own command that is due, and answers it as what is to be sent. Where none is due, nothing is sent and nothing is
-    /// changed.
+    /// Makes the own command that is due, and answers it as what is to be sent. Where none is due in a session that goes on, nothing
+    /// is sent and nothing is changed.
     ///
     /// # Errors
     ///
@@ -503,12 +504,15 @@ impl<'b> Session<'b> {
             → is_over p ≡ false → Stands p self.old
             → Does (turned self.old.setting p (O.register office.old)) (desk O.register O.told office.old)
             (desk O.register O.told office.new) (rest_of O.holds O.may_leave O.stands office.new) (heard result) }
+        ensures idle { is_due self.old.state ≡ false → is_closed self.old.state ≡ false
+            → (heard result ≡ Ok []) × (office.new ≡ office.old) }
         ensures closed { is_closed self.old.state ≡ true → (heard result ≡ Err SessionFault.Ended) × (office.new ≡ office.old) }
         ensures* goes { sem 𝓛 (Rests (the_row (record { mir = named 1; lft = [] })) self.entry (λ new. (new.setting ≡ self.old.setting)
             × (O.is_clean office.new → O.stands office.old → (p : Phase) → Holds p (O.register office.old) → is_over p ≡ false
             → Stands p self.old → Goes (turned self.old.setting p (O.register office.old)).phase result new)
             × (is_due self.old.state ≡ true → OnOk result (turns_left new.state < turns_left self.old.state))
-            × (is_closed self.old.state ≡ true → new ≡ self.old))) }
+            × (is_closed self.old.state ≡ true → new ≡ self.old)
+            × (is_due self.old.state ≡ false → is_closed self.old.state ≡ false → new ≡ record self.old { spoken = [] }))) }
     {
         if self.is_closed() {
             return Err(SessionFault::Ended);
