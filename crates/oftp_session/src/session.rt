@@ -271,6 +271,7 @@ impl<'b> Session<'b> {
             (desk O.register O.told office.new) (rest_of O.holds O.may_leave O.stands office.new) (spoken result self.new.spoken) }
         ensures goes { (partner : Entry) → self.old.partner ≡ Some partner
             → Goes (response_step self.old.setting partner link (O.register office.old) (as_received response.entry)).phase result self.new }
+        ensures err { IfErr result (λ fault. fault ≡ SessionFault.Office) }
         ensures setting { self.new.setting ≡ self.old.setting }
     {
         if !self.is_between(&response.identity) {
@@ -356,6 +357,7 @@ impl<'b> Session<'b> {
             (desk O.register O.told office.new) (rest_of O.holds O.may_leave O.stands office.new) (spoken result self.new.spoken) }
         ensures goes { (partner : Entry) → self.old.partner ≡ Some partner
             → Goes (came_listener_idle self.old.setting partner link (O.register office.old) command.now).phase result self.new }
+        ensures err { IfErr result (λ fault. fault ≡ SessionFault.Office) }
         ensures setting { self.new.setting ≡ self.old.setting }
     {
         match command {
@@ -402,6 +404,7 @@ impl<'b> Session<'b> {
             (desk O.register O.told office.new) (rest_of O.holds O.may_leave O.stands office.new) (spoken result self.new.spoken) }
         ensures goes { (p : Phase) → is_over p ≡ false → Stands p self.old
             → Goes (came self.old.setting p (O.register office.old) command.now).phase result self.new }
+        ensures err { is_closed self.old.state ≡ false → IfErr result (λ fault. fault ≡ SessionFault.Office) }
         ensures closed { is_closed self.old.state ≡ true → (result ≡ Err SessionFault.Ended) × (self.new ≡ self.old) × (office.new ≡ office.old) }
         ensures setting { self.new.setting ≡ self.old.setting }
     {
@@ -444,6 +447,7 @@ impl<'b> Session<'b> {
             → is_over p ≡ false → Stands p self.old
             → Does (came self.old.setting p (O.register office.old) command.now) (desk O.register O.told office.old)
             (desk O.register O.told office.new) (rest_of O.holds O.may_leave O.stands office.new) (heard result) }
+        ensures err { is_closed self.old.state ≡ false → IfErr result (λ fault. fault ≡ SessionFault.Office) }
         ensures closed { is_closed self.old.state ≡ true → (heard result ≡ Err SessionFault.Ended) × (office.new ≡ office.old) }
         ensures* goes { sem 𝓛 (Rests (the_row (record { mir = named 1; lft = [] })) self.entry (λ new. (new.setting ≡ self.old.setting)
             × ((p : Phase) → Holds p (O.register office.old) → is_over p ≡ false → Stands p self.old
@@ -504,6 +508,7 @@ impl<'b> Session<'b> {
             → is_over p ≡ false → Stands p self.old
             → Does (turned self.old.setting p (O.register office.old)) (desk O.register O.told office.old)
             (desk O.register O.told office.new) (rest_of O.holds O.may_leave O.stands office.new) (heard result) }
+        ensures err { is_closed self.old.state ≡ false → IfErr result (λ fault. fault ≡ SessionFault.Office) }
         ensures idle { is_due self.old.state ≡ false → is_closed self.old.state ≡ false
             → (heard result ≡ Ok []) × (office.new ≡ office.old) }
         ensures closed { is_closed self.old.state ≡ true → (heard result ≡ Err SessionFault.Ended) × (office.new ≡ office.old) }
