@@ -15,9 +15,9 @@ use Rattle.oftp_partners.specs.declared.partner.Partner.{Partner}
 
 -- where a session stands (RFC 5024, section 9)
 pub data Phase : Type 0 where
-  RespondOpening : Phase
-  InitiateOpening : (partner : Partner) → Phase
-  AwaitSsid : Phase
+  ResponderOpening : Phase
+  InitiatorOpening : (partner : Partner) → Phase
+  AwaitingSsid : Phase
   ListenerIdle : (partner : Partner) (link : Link) → Phase
   SpeakerIdle : (partner : Partner) (link : Link) (done : WhenDone) → Phase
   EndedHere : (reason : SessionReason) → Phase

@@ -8,7 +8,7 @@ ghost use Rattle.oftp_register.specs.Register.{Register};
 ghost use Rattle.oftp_register.specs.Offices.{rest_of};
 ghost use Rattle.oftp_partners.specs.declared.partner.Partner.{Partner as Entry};
 ghost use Rattle.oftp_session.specs.Phases.{Phase, frame_of, esid_of};
-ghost use Rattle.oftp_session.specs.Opening.{calling_ssid, came_await_ssid, came_initiate_opening, came_respond_opening, open_step, opened_step, ssid_verdict};
+ghost use Rattle.oftp_session.specs.Opening.{calling_ssid, came_awaiting_ssid, came_initiator_opening, came_responder_opening, open_step, opened_step, ssid_verdict};
 ghost use Rattle.oftp_session.specs.Listener.{came_listener_idle, is_between, response_step};
 ghost use Rattle.oftp_session.specs.Speaker.{came_speaker_idle, nothing_next};
 ghost use Rattle.oftp_session.specs.Steps.{came, has_turn, is_over, opening, turned, Holds};
@@ -38,11 +38,11 @@ pub enum Ending {
 #[derive(Clone, Copy, Debug, Drop, PartialEq, Eq)]
 pub enum State {
     /// A responder, whose ready message is due.
-    RespondOpening,
+    ResponderOpening,
     /// An initiator, who awaits the partner's ready message.
-    InitiateOpening,
+    InitiatorOpening,
     /// The partner's SSID is awaited.
-    AwaitSsid,
+    AwaitingSsid,
     /// The partner speaks, and no file is being received.
     ListenerIdle(Link),
     /// The station speaks, and waits for nothing.
@@ -109,13 +109,13 @@ impl<'b> Session<'b> {
     /// A session with a partner who calls.
     pub fn responder(book: &'b Book) -> Session<'b>
         ensures setting { result.setting ≡ record { book = book.entry.now; called = None } }
-        ensures stands { Stands Phase.RespondOpening result }
+        ensures stands { Stands Phase.ResponderOpening result }
     {
         Session {
             book,
             called: None,
             partner: None,
-            state: State::RespondOpening,
+            state: State::ResponderOpening,
             frame: [0; 1200],
             len: 0,
         }
@@ -124,13 +124,13 @@ impl<'b> Session<'b> {
     /// A session with a partner whom the station calls.
     pub fn initiator(book: &'b Book, partner: &'b Partner) -> Session<'b>
         ensures setting { result.setting ≡ record { book = book.entry.now; called = Some partner.entry.now } }
-        ensures stands { Stands (Phase.InitiateOpening partner.entry.now) result }
+        ensures stands { Stands (Phase.InitiatorOpening partner.entry.now) result }
     {
         Session {
             book,
             called: Some(partner),
             partner: None,
-            state: State::InitiateOpening,
+            state: State::InitiatorOpening,
             frame: [0; 1200],
             len: 0,
         }
@@ -142,9 +142,9 @@ impl<'b> Session<'b> {
         ensures due { result ≡ is_due self.now.state }
     {
         match self.state {
-            State::RespondOpening | State::SpeakerIdle(_, _) => true,
-            State::InitiateOpening
-            | State::AwaitSsid
+            State::ResponderOpening | State::SpeakerIdle(_, _) => true,
+            State::InitiatorOpening
+            | State::AwaitingSsid
             | State::ListenerIdle(_)
             | State::Over(_)
             | State::Broken => false,
@@ -158,9 +158,9 @@ impl<'b> Session<'b> {
     {
         match self.state {
             State::Over(ending) => Some(ending),
-            State::RespondOpening
-            | State::InitiateOpening
-            | State::AwaitSsid
+            State::ResponderOpening
+            | State::InitiatorOpening
+            | State::AwaitingSsid
             | State::ListenerIdle(_)
             | State::SpeakerIdle(_, _)
             | State::Broken => None,
@@ -173,9 +173,9 @@ impl<'b> Session<'b> {
     {
         match self.state {
             State::Over(_) | State::Broken => true,
-            State::RespondOpening
-            | State::InitiateOpening
-            | State::AwaitSsid
+            State::ResponderOpening
+            | State::InitiatorOpening
+            | State::AwaitingSsid
             | State::ListenerIdle(_)
             | State::SpeakerIdle(_, _) => false,
         }
@@ -287,11 +287,11 @@ impl<'b> Session<'b> {
         Ok(())
     }
 
-    #[tactic(auto, unfolding(crate::specs::Opening::came_respond_opening))]
-    fn in_respond_opening(&mut self, command: &Command<'_>)
-        ensures says { self.new.spoken ≡ (came_respond_opening command.now).output }
-        ensures quiet { (came_respond_opening command.now).change ≡ None }
-        ensures goes { Stands (came_respond_opening command.now).phase self.new }
+    #[tactic(auto, unfolding(crate::specs::Opening::came_responder_opening))]
+    fn in_responder_opening(&mut self, command: &Command<'_>)
+        ensures says { self.new.spoken ≡ (came_responder_opening command.now).output }
+        ensures quiet { (came_responder_opening command.now).change ≡ None }
+        ensures goes { Stands (came_responder_opening command.now).phase self.new }
         ensures setting { self.new.setting ≡ self.old.setting }
     {
         match command {
@@ -303,21 +303,21 @@ impl<'b> Session<'b> {
     // Offers the session to the partner that is called.
     fn call(&mut self, partner: &'b Partner)
         ensures { self.new ≡ record self.old {
-          state = State.AwaitSsid;
+          state = State.AwaitingSsid;
           spoken = frame_of (an_ssid (calling_ssid self.old.setting.book partner.entry.now));
         } }
     {
         let offer = calling_ssid(self.book, partner);
-        self.speak(State::AwaitSsid, &offer);
+        self.speak(State::AwaitingSsid, &offer);
     }
 
-    #[tactic(auto, unfolding(crate::specs::Opening::came_initiate_opening))]
-    fn in_initiate_opening(&mut self, command: &Command<'_>)
+    #[tactic(auto, unfolding(crate::specs::Opening::came_initiator_opening))]
+    fn in_initiator_opening(&mut self, command: &Command<'_>)
         ensures says { (partner : Entry) → self.old.setting.called ≡ Some partner
-            → self.new.spoken ≡ (came_initiate_opening self.old.setting partner command.now).output }
-        ensures quiet { (partner : Entry) → (came_initiate_opening self.old.setting partner command.now).change ≡ None }
+            → self.new.spoken ≡ (came_initiator_opening self.old.setting partner command.now).output }
+        ensures quiet { (partner : Entry) → (came_initiator_opening self.old.setting partner command.now).change ≡ None }
         ensures goes { (partner : Entry) → self.old.setting.called ≡ Some partner
-            → Stands (came_initiate_opening self.old.setting partner command.now).phase self.new }
+            → Stands (came_initiator_opening self.old.setting partner command.now).phase self.new }
         ensures setting { self.new.setting ≡ self.old.setting }
     {
         match command {
@@ -330,11 +330,11 @@ impl<'b> Session<'b> {
         }
     }
 
-    #[tactic(auto, unfolding(crate::specs::Opening::came_await_ssid))]
-    fn in_await_ssid(&mut self, command: &Command<'_>)
-        ensures says { self.new.spoken ≡ (came_await_ssid self.old.setting command.now).output }
-        ensures quiet { (came_await_ssid self.old.setting command.now).change ≡ None }
-        ensures goes { Stands (came_await_ssid self.old.setting command.now).phase self.new }
+    #[tactic(auto, unfolding(crate::specs::Opening::came_awaiting_ssid))]
+    fn in_awaiting_ssid(&mut self, command: &Command<'_>)
+        ensures says { self.new.spoken ≡ (came_awaiting_ssid self.old.setting command.now).output }
+        ensures quiet { (came_awaiting_ssid self.old.setting command.now).change ≡ None }
+        ensures goes { Stands (came_awaiting_ssid self.old.setting command.now).phase self.new }
         ensures setting { self.new.setting ≡ self.old.setting }
     {
         match command {
@@ -409,16 +409,16 @@ impl<'b> Session<'b> {
         ensures setting { self.new.setting ≡ self.old.setting }
     {
         match self.state {
-            State::RespondOpening => {
-                self.in_respond_opening(command);
+            State::ResponderOpening => {
+                self.in_responder_opening(command);
                 Ok(())
             }
-            State::InitiateOpening => {
-                self.in_initiate_opening(command);
+            State::InitiatorOpening => {
+                self.in_initiator_opening(command);
                 Ok(())
             }
-            State::AwaitSsid => {
-                self.in_await_ssid(command);
+            State::AwaitingSsid => {
+                self.in_awaiting_ssid(command);
                 Ok(())
             }
             State::ListenerIdle(link) => self.in_listener_idle(office, link, command),
@@ -484,10 +484,10 @@ impl<'b> Session<'b> {
         ensures setting { self.new.setting ≡ self.old.setting }
     {
         match self.state {
-            State::RespondOpening => self.speak(State::AwaitSsid, &Command::Ssrm),
+            State::ResponderOpening => self.speak(State::AwaitingSsid, &Command::Ssrm),
             State::SpeakerIdle(link, done) => self.close(link, done),
-            State::InitiateOpening
-            | State::AwaitSsid
+            State::InitiatorOpening
+            | State::AwaitingSsid
             | State::ListenerIdle(_)
             | State::Over(_)
             | State::Broken => {
