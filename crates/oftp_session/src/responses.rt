@@ -64,8 +64,10 @@ pub(crate) fn negative_end_response<'a>(nerp: &Nerp<'a>) -> Response<'a>
 // Makes a change that the register accepts.
 fn make<O: Office>(office: &mut O, change: Change<'_>) -> Result<(), SessionFault>
     ensures clean { O.is_clean office.new → O.is_clean office.old }
-    ensures does { O.is_clean office.new → O.stands office.old → IsAccepted (O.register office.old) change.entry
-        → Files (Some change.entry) (desk O.register O.told office.old) (desk O.register O.told office.new)
+    ensures does { O.is_clean office.new → O.stands office.old
+        → IsAccepted (O.register office.old) change.entry
+        → Files (Some change.entry)
+        (desk O.register O.told office.old) (desk O.register O.told office.new)
         (rest_of O.holds O.may_leave O.stands office.new) result }
     ensures err { IfErr result (λ fault. fault ≡ SessionFault.Office) }
 {
@@ -83,8 +85,9 @@ pub(crate) fn file_new<O: Office>(
 ) -> Result<(), SessionFault>
     ensures clean { O.is_clean office.new → O.is_clean office.old }
     ensures does { O.is_clean office.new → O.stands office.old
-        → Files (filing (O.register office.old) (as_received response.entry)) (desk O.register O.told office.old)
-        (desk O.register O.told office.new) (rest_of O.holds O.may_leave O.stands office.new) result }
+        → Files (filing (O.register office.old) (as_received response.entry))
+        (desk O.register O.told office.old) (desk O.register O.told office.new)
+        (rest_of O.holds O.may_leave O.stands office.new) result }
     ensures err { IfErr result (λ fault. fault ≡ SessionFault.Office) }
 {
     match office.has_received(response.kind, &response.identity) {

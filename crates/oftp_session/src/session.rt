@@ -123,7 +123,8 @@ impl<'b> Session<'b> {
 
     /// A session with a partner whom the station calls.
     pub fn initiator(book: &'b Book, partner: &'b Partner) -> Session<'b>
-        ensures setting { result.setting ≡ record { book = book.entry.now; called = Some partner.entry.now } }
+        ensures setting { result.setting
+            ≡ record { book = book.entry.now; called = Some partner.entry.now } }
         ensures stands { Stands (Phase.InitiatorOpening partner.entry.now) result }
     {
         Session {
@@ -200,7 +201,10 @@ impl<'b> Session<'b> {
 
     // Ends the session, for this reason.
     fn end(&mut self, reason: SessionReason)
-        ensures { self.new ≡ record self.old { state = State.Over (Ending.Own reason); spoken = frame_of (esid_of reason) } }
+        ensures { self.new ≡ record self.old {
+          state = State.Over (Ending.Own reason);
+          spoken = frame_of (esid_of reason);
+        } }
     {
         self.speak(State::Over(Ending::Own(reason)), &esid(reason));
     }
@@ -218,8 +222,11 @@ impl<'b> Session<'b> {
 
     // Goes on with a partner with whom this was agreed: a responder answers, an initiator speaks.
     fn agree(&mut self, letter: Mode, agreement: &Agreement<'b>)
-        ensures says { self.new.spoken ≡ (open_step self.old.setting letter (terms agreement.now) self.old.setting.called).output }
-        ensures goes { Stands (open_step self.old.setting letter (terms agreement.now) self.old.setting.called).phase self.new }
+        ensures says { let setting = self.old.setting in
+            self.new.spoken
+            ≡ (open_step setting letter (terms agreement.now) setting.called).output }
+        ensures goes { let setting = self.old.setting in
+            Stands (open_step setting letter (terms agreement.now) setting.called).phase self.new }
         ensures setting { self.new.setting ≡ self.old.setting }
     {
         self.partner = Some(agreement.partner);
@@ -233,8 +240,12 @@ impl<'b> Session<'b> {
 
     // Opens the session with a partner who sends this SSID, or ends it.
     fn open(&mut self, ssid: &Ssid<'_>)
-        ensures says { self.new.spoken ≡ (opened_step self.old.setting ssid.now.mode (ssid_verdict self.old.setting ssid.now)).output }
-        ensures goes { Stands (opened_step self.old.setting ssid.now.mode (ssid_verdict self.old.setting ssid.now)).phase self.new }
+        ensures says { let setting = self.old.setting in
+            self.new.spoken
+            ≡ (opened_step setting ssid.now.mode (ssid_verdict setting ssid.now)).output }
+        ensures goes { let setting = self.old.setting in
+            Stands (opened_step setting ssid.now.mode (ssid_verdict setting ssid.now)).phase
+            self.new }
         ensures setting { self.new.setting ≡ self.old.setting }
     {
         match ssid_verdict(self.book, self.called, ssid) {
@@ -245,7 +256,8 @@ impl<'b> Session<'b> {
 
     // Whether a response to this file goes from the partner to the station.
     fn is_between(&self, file: &Identity) -> bool
-        ensures { (partner : Entry) → self.now.partner ≡ Some partner → result ≡ is_between self.now.setting partner file.now }
+        ensures { (partner : Entry) → self.now.partner ≡ Some partner
+            → result ≡ is_between self.now.setting partner file.now }
     {
         let station = self.book.station();
         match self.partner {
@@ -266,11 +278,16 @@ impl<'b> Session<'b> {
         response: Response<'_>,
     ) -> Result<(), SessionFault>
         ensures clean { O.is_clean office.new → O.is_clean office.old }
-        ensures does { O.is_clean office.new → O.stands office.old → (partner : Entry) → self.old.partner ≡ Some partner
-            → Does (response_step self.old.setting partner link (O.register office.old) (as_received response.entry)) (desk O.register O.told office.old)
-            (desk O.register O.told office.new) (rest_of O.holds O.may_leave O.stands office.new) (spoken result self.new.spoken) }
+        ensures does { O.is_clean office.new → O.stands office.old
+            → (partner : Entry) → self.old.partner ≡ Some partner
+            → Does (response_step self.old.setting partner link
+            (O.register office.old) (as_received response.entry))
+            (desk O.register O.told office.old) (desk O.register O.told office.new)
+            (rest_of O.holds O.may_leave O.stands office.new) (spoken result self.new.spoken) }
         ensures goes { (partner : Entry) → self.old.partner ≡ Some partner
-            → Goes (response_step self.old.setting partner link (O.register office.old) (as_received response.entry)).phase result self.new }
+            → Goes (response_step self.old.setting partner link
+            (O.register office.old) (as_received response.entry)).phase
+            result self.new }
         ensures err { IfErr result (λ fault. fault ≡ SessionFault.Office) }
         ensures setting { self.new.setting ≡ self.old.setting }
     {
@@ -314,8 +331,10 @@ impl<'b> Session<'b> {
     #[tactic(auto, unfolding(crate::specs::Opening::came_initiator_opening))]
     fn in_initiator_opening(&mut self, command: &Command<'_>)
         ensures says { (partner : Entry) → self.old.setting.called ≡ Some partner
-            → self.new.spoken ≡ (came_initiator_opening self.old.setting partner command.now).output }
-        ensures quiet { (partner : Entry) → (came_initiator_opening self.old.setting partner command.now).change ≡ None }
+            → self.new.spoken
+            ≡ (came_initiator_opening self.old.setting partner command.now).output }
+        ensures quiet { (partner : Entry)
+            → (came_initiator_opening self.old.setting partner command.now).change ≡ None }
         ensures goes { (partner : Entry) → self.old.setting.called ≡ Some partner
             → Stands (came_initiator_opening self.old.setting partner command.now).phase self.new }
         ensures setting { self.new.setting ≡ self.old.setting }
@@ -352,11 +371,16 @@ impl<'b> Session<'b> {
         command: &Command<'_>,
     ) -> Result<(), SessionFault>
         ensures clean { O.is_clean office.new → O.is_clean office.old }
-        ensures does { O.is_clean office.new → O.stands office.old → (partner : Entry) → self.old.partner ≡ Some partner
-            → Does (came_listener_idle self.old.setting partner link (O.register office.old) command.now) (desk O.register O.told office.old)
-            (desk O.register O.told office.new) (rest_of O.holds O.may_leave O.stands office.new) (spoken result self.new.spoken) }
+        ensures does { O.is_clean office.new → O.stands office.old
+            → (partner : Entry) → self.old.partner ≡ Some partner
+            → Does (came_listener_idle self.old.setting partner link
+            (O.register office.old) command.now)
+            (desk O.register O.told office.old) (desk O.register O.told office.new)
+            (rest_of O.holds O.may_leave O.stands office.new) (spoken result self.new.spoken) }
         ensures goes { (partner : Entry) → self.old.partner ≡ Some partner
-            → Goes (came_listener_idle self.old.setting partner link (O.register office.old) command.now).phase result self.new }
+            → Goes (came_listener_idle self.old.setting partner link
+            (O.register office.old) command.now).phase
+            result self.new }
         ensures err { IfErr result (λ fault. fault ≡ SessionFault.Office) }
         ensures setting { self.new.setting ≡ self.old.setting }
     {
@@ -399,13 +423,19 @@ impl<'b> Session<'b> {
         command: &Command<'_>,
     ) -> Result<(), SessionFault>
         ensures clean { O.is_clean office.new → O.is_clean office.old }
-        ensures does { O.is_clean office.new → O.stands office.old → (p : Phase) → is_over p ≡ false → Stands p self.old
-            → Does (came self.old.setting p (O.register office.old) command.now) (desk O.register O.told office.old)
-            (desk O.register O.told office.new) (rest_of O.holds O.may_leave O.stands office.new) (spoken result self.new.spoken) }
+        ensures does { O.is_clean office.new → O.stands office.old
+            → (p : Phase) → is_over p ≡ false → Stands p self.old
+            → Does (came self.old.setting p (O.register office.old) command.now)
+            (desk O.register O.told office.old) (desk O.register O.told office.new)
+            (rest_of O.holds O.may_leave O.stands office.new) (spoken result self.new.spoken) }
         ensures goes { (p : Phase) → is_over p ≡ false → Stands p self.old
-            → Goes (came self.old.setting p (O.register office.old) command.now).phase result self.new }
-        ensures err { is_closed self.old.state ≡ false → IfErr result (λ fault. fault ≡ SessionFault.Office) }
-        ensures closed { is_closed self.old.state ≡ true → (result ≡ Err SessionFault.Ended) × (self.new ≡ self.old) × (office.new ≡ office.old) }
+            → Goes (came self.old.setting p (O.register office.old) command.now).phase
+            result self.new }
+        ensures err { is_closed self.old.state ≡ false
+            → IfErr result (λ fault. fault ≡ SessionFault.Office) }
+        ensures closed { is_closed self.old.state ≡ true
+            → (result ≡ Err SessionFault.Ended)
+            × (self.new ≡ self.old) × (office.new ≡ office.old) }
         ensures setting { self.new.setting ≡ self.old.setting }
     {
         match self.state {
@@ -443,13 +473,17 @@ impl<'b> Session<'b> {
         command: &Command<'_>,
     ) -> Result<Out<'_>, SessionFault>
         ensures clean { O.is_clean office.new → O.is_clean office.old }
-        ensures does { O.is_clean office.new → O.stands office.old → (p : Phase) → Holds p (O.register office.old)
-            → is_over p ≡ false → Stands p self.old
-            → Does (came self.old.setting p (O.register office.old) command.now) (desk O.register O.told office.old)
-            (desk O.register O.told office.new) (rest_of O.holds O.may_leave O.stands office.new) (heard result) }
-        ensures err { is_closed self.old.state ≡ false → IfErr result (λ fault. fault ≡ SessionFault.Office) }
-        ensures closed { is_closed self.old.state ≡ true → (heard result ≡ Err SessionFault.Ended) × (office.new ≡ office.old) }
-        ensures* goes { sem 𝓛 (Rests (the_row (record { mir = named 1; lft = [] })) self.entry (λ new. (new.setting ≡ self.old.setting)
+        ensures does { O.is_clean office.new → O.stands office.old
+            → (p : Phase) → Holds p (O.register office.old) → is_over p ≡ false → Stands p self.old
+            → Does (came self.old.setting p (O.register office.old) command.now)
+            (desk O.register O.told office.old) (desk O.register O.told office.new)
+            (rest_of O.holds O.may_leave O.stands office.new) (heard result) }
+        ensures err { is_closed self.old.state ≡ false
+            → IfErr result (λ fault. fault ≡ SessionFault.Office) }
+        ensures closed { is_closed self.old.state ≡ true
+            → (heard result ≡ Err SessionFault.Ended) × (office.new ≡ office.old) }
+        ensures* goes { sem 𝓛 (Rests (the_row (record { mir = named 1; lft = [] })) self.entry
+            (λ new. (new.setting ≡ self.old.setting)
             × ((p : Phase) → Holds p (O.register office.old) → is_over p ≡ false → Stands p self.old
             → Goes (came self.old.setting p (O.register office.old) command.now).phase result new)
             × (is_closed self.old.state ≡ true → new ≡ self.old))) }
@@ -460,9 +494,11 @@ impl<'b> Session<'b> {
 
     // Says that nothing is next.
     fn close(&mut self, link: Link, done: WhenDone)
-        ensures says { (partner : Entry) → self.new.spoken ≡ (nothing_next partner link done).output }
+        ensures says { (partner : Entry)
+            → self.new.spoken ≡ (nothing_next partner link done).output }
         ensures quiet { (partner : Entry) → (nothing_next partner link done).change ≡ None }
-        ensures goes { (partner : Entry) → self.old.partner ≡ Some partner → Stands (nothing_next partner link done).phase self.new }
+        ensures goes { (partner : Entry) → self.old.partner ≡ Some partner
+            → Stands (nothing_next partner link done).phase self.new }
         ensures fewer { turns_left self.new.state ≡ 0 }
         ensures setting { self.new.setting ≡ self.old.setting }
     {
@@ -477,9 +513,11 @@ impl<'b> Session<'b> {
     fn go_on(&mut self)
         requires { is_closed self.old.state ≡ false }
         ensures does { (p : Phase) (r : Register) → is_over p ≡ false → Stands p self.old
-            → (turned self.old.setting p r).change ≡ None × (self.new.spoken ≡ (turned self.old.setting p r).output)
+            → (turned self.old.setting p r).change ≡ None
+            × (self.new.spoken ≡ (turned self.old.setting p r).output)
             × Stands (turned self.old.setting p r).phase self.new }
-        ensures fewer { is_due self.old.state ≡ true → turns_left self.new.state < turns_left self.old.state }
+        ensures fewer { is_due self.old.state ≡ true
+            → turns_left self.new.state < turns_left self.old.state }
         ensures idle { is_due self.old.state ≡ false → self.new ≡ record self.old { spoken = [] } }
         ensures setting { self.new.setting ≡ self.old.setting }
     {
@@ -504,20 +542,27 @@ impl<'b> Session<'b> {
     /// As [`Session::on_command`].
     pub fn turn<O: Office>(&mut self, office: &mut O) -> Result<Out<'_>, SessionFault>
         ensures clean { O.is_clean office.new → O.is_clean office.old }
-        ensures does { O.is_clean office.new → O.stands office.old → (p : Phase) → Holds p (O.register office.old)
-            → is_over p ≡ false → Stands p self.old
-            → Does (turned self.old.setting p (O.register office.old)) (desk O.register O.told office.old)
-            (desk O.register O.told office.new) (rest_of O.holds O.may_leave O.stands office.new) (heard result) }
-        ensures err { is_closed self.old.state ≡ false → IfErr result (λ fault. fault ≡ SessionFault.Office) }
+        ensures does { O.is_clean office.new → O.stands office.old
+            → (p : Phase) → Holds p (O.register office.old) → is_over p ≡ false → Stands p self.old
+            → Does (turned self.old.setting p (O.register office.old))
+            (desk O.register O.told office.old) (desk O.register O.told office.new)
+            (rest_of O.holds O.may_leave O.stands office.new) (heard result) }
+        ensures err { is_closed self.old.state ≡ false
+            → IfErr result (λ fault. fault ≡ SessionFault.Office) }
         ensures idle { is_due self.old.state ≡ false → is_closed self.old.state ≡ false
             → (heard result ≡ Ok []) × (office.new ≡ office.old) }
-        ensures closed { is_closed self.old.state ≡ true → (heard result ≡ Err SessionFault.Ended) × (office.new ≡ office.old) }
-        ensures* goes { sem 𝓛 (Rests (the_row (record { mir = named 1; lft = [] })) self.entry (λ new. (new.setting ≡ self.old.setting)
-            × (O.is_clean office.new → O.stands office.old → (p : Phase) → Holds p (O.register office.old) → is_over p ≡ false
-            → Stands p self.old → Goes (turned self.old.setting p (O.register office.old)).phase result new)
-            × (is_due self.old.state ≡ true → OnOk result (turns_left new.state < turns_left self.old.state))
+        ensures closed { is_closed self.old.state ≡ true
+            → (heard result ≡ Err SessionFault.Ended) × (office.new ≡ office.old) }
+        ensures* goes { sem 𝓛 (Rests (the_row (record { mir = named 1; lft = [] })) self.entry
+            (λ new. (new.setting ≡ self.old.setting)
+            × (O.is_clean office.new → O.stands office.old
+            → (p : Phase) → Holds p (O.register office.old) → is_over p ≡ false → Stands p self.old
+            → Goes (turned self.old.setting p (O.register office.old)).phase result new)
+            × (is_due self.old.state ≡ true
+            → OnOk result (turns_left new.state < turns_left self.old.state))
             × (is_closed self.old.state ≡ true → new ≡ self.old)
-            × (is_due self.old.state ≡ false → is_closed self.old.state ≡ false → new ≡ record self.old { spoken = [] }))) }
+            × (is_due self.old.state ≡ false → is_closed self.old.state ≡ false
+            → new ≡ record self.old { spoken = [] }))) }
     {
         if self.is_closed() {
             return Err(SessionFault::Ended);
@@ -532,11 +577,15 @@ impl<'b> Session<'b> {
     ///
     /// [`SessionFault::Ended`] where the session had ended, and then nothing is changed.
     pub fn fail(&mut self, reason: SessionReason) -> Result<Out<'_>, SessionFault>
-        ensures open { (p : Phase) → is_over p ≡ false → Stands p self.old → heard result ≡ Ok (frame_of (esid_of reason)) }
-        ensures broken { self.old.state ≡ State.Broken → heard result ≡ Ok (frame_of (esid_of reason)) }
-        ensures ended { (ending : Ending) → self.old.state ≡ State.Over ending → heard result ≡ Err SessionFault.Ended }
+        ensures open { (p : Phase) → is_over p ≡ false → Stands p self.old
+            → heard result ≡ Ok (frame_of (esid_of reason)) }
+        ensures broken { self.old.state ≡ State.Broken
+            → heard result ≡ Ok (frame_of (esid_of reason)) }
+        ensures ended { (ending : Ending) → self.old.state ≡ State.Over ending
+            → heard result ≡ Err SessionFault.Ended }
         ensures err { IfErr result (λ fault. fault ≡ SessionFault.Ended) }
-        ensures* over { sem 𝓛 (Rests (the_row (record { mir = named 1; lft = [] })) self.entry (λ new. (new.setting ≡ self.old.setting)
+        ensures* over { sem 𝓛 (Rests (the_row (record { mir = named 1; lft = [] })) self.entry
+            (λ new. (new.setting ≡ self.old.setting)
             × OnOk result (Stands (Phase.EndedHere reason) new) × OnErr result (new ≡ self.old))) }
     {
         if let State::Over(_) = self.state {
