@@ -1,5 +1,5 @@
 -- What a call of a session does: one step.
-use Rattle.std.specs.Prelude.{◌≡◌, ℕ, ◌⊎◌, Bool, true, false, List, [], Option, None, Some, Result, Ok, Err, is_ok}
+use Rattle.std.specs.Prelude.{◌≡◌, ℕ, nat_lt, ◌⊎◌, Bool, true, false, List, [], Option, None, Some, Result, Ok, Err, is_ok}
 use Rattle.oftp_register.specs.declared.change.Change.{Change}
 use Rattle.oftp_register.specs.Register.{Register}
 use Rattle.oftp_register.specs.Changes.{apply}
@@ -124,16 +124,7 @@ is_closed (state.SpeakerIdle link done) = false
 is_closed (state.Over ending) = true
 is_closed state.Broken = true
 
--- whether a turn is due, and how many may follow one another
-abbrev pub is_due : State → Bool
-is_due state.ResponderOpening = true
-is_due state.InitiatorOpening = false
-is_due state.AwaitingSsid = false
-is_due (state.ListenerIdle link) = false
-is_due (state.SpeakerIdle link done) = true
-is_due (state.Over ending) = false
-is_due state.Broken = false
-
+-- how many turns may follow one another, and whether one is due
 abbrev pub turns_left : State → ℕ
 turns_left state.ResponderOpening = 1
 turns_left state.InitiatorOpening = 0
@@ -142,6 +133,9 @@ turns_left (state.ListenerIdle link) = 0
 turns_left (state.SpeakerIdle link done) = 1
 turns_left (state.Over ending) = 0
 turns_left state.Broken = 0
+
+abbrev pub is_due : State → Bool
+is_due s = nat_lt 0 (turns_left s)
 
 -- how a state ended, if it did
 abbrev pub ended_as : State → Option Ending
@@ -157,17 +151,7 @@ ended_as state.Broken = None
 abbrev pub IsAccepted : Register → Change → Type 0
 IsAccepted r change = is_ok (apply r change) ≡ true
 
--- a helper that makes a change, if one is due: it is made, or the office told a fault
-pub record IsFiled (change : Option Change) (old new : Desk) (rest : Rest) : Type 0 where
-  pub register : Makes change old.register new.register
-  pub stands : rest.stands
-  pub faults : new.faults ≡ old.faults
-
-abbrev pub FilesNot : Option Change → Desk → Desk → Rest → SessionFault → Type 0
-FilesNot change old new rest fault.Ended = ⊥
-FilesNot change old new rest fault.Office = IsBroken change old new rest
-FilesNot change old new rest fault.Memory = ⊥
-
+-- a helper that makes a change, if one is due, and says nothing
 abbrev pub Files : {T : Type 0} → Option Change → Desk → Desk → Rest → Result T SessionFault → Type 0
-Files change old new rest (Ok x) = IsFiled change old new rest
-Files change old new rest (Err fault) = FilesNot change old new rest fault
+Files change old new rest (Ok x) = IsMade change [] old new rest []
+Files change old new rest (Err fault) = DoesNot change old new rest fault

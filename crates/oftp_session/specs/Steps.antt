@@ -1,5 +1,5 @@
 -- The steps of a session, by cases of phase.
-use Rattle.std.specs.Prelude.{ℕ, ⊤, Bool, true, false, Option, None, Some}
+use Rattle.std.specs.Prelude.{ℕ, nat_lt, ⊤, Bool, true, false, Option, None, Some}
 use Rattle.oftp_wire.specs.declared.command.Command.{Command}
 use Rattle.oftp_wire.specs.declared.command.Command.TheVariants.{Ssrm}
 use Rattle.oftp_partners.specs.declared.partner.Partner.{Partner}
@@ -25,17 +25,7 @@ is_over (SpeakerIdle partner link done) = false
 is_over (EndedHere reason) = true
 is_over (EndedThere reason) = true
 
--- whether an own command is due
-abbrev pub has_turn : Phase → Bool
-has_turn ResponderOpening = true
-has_turn (InitiatorOpening partner) = false
-has_turn AwaitingSsid = false
-has_turn (ListenerIdle partner link) = false
-has_turn (SpeakerIdle partner link done) = true
-has_turn (EndedHere reason) = false
-has_turn (EndedThere reason) = false
-
--- how many own commands may follow one another
+-- how many own commands may follow one another, and whether one is due
 abbrev pub turns_due : Phase → ℕ
 turns_due ResponderOpening = 1
 turns_due (InitiatorOpening partner) = 0
@@ -44,6 +34,9 @@ turns_due (ListenerIdle partner link) = 0
 turns_due (SpeakerIdle partner link done) = 1
 turns_due (EndedHere reason) = 0
 turns_due (EndedThere reason) = 0
+
+abbrev pub has_turn : Phase → Bool
+has_turn p = nat_lt 0 (turns_due p)
 
 -- the own command that is due, or nothing
 unfoldable pub turned : Setting → Phase → Register → Step
