@@ -12,7 +12,7 @@ use Rattle.oftp_register.specs.declared.change.Change.{Change}
 use Rattle.oftp_register.specs.Register.{Register}
 use Rattle.oftp_register.specs.Changes.{apply, or_else, after_all}
 use Rattle.oftp_register.specs.Offices.{Rest, Only, WithOrWithout}
-use Rattle.oftp_session.specs.Phases.{Phase, RespondOpening, InitiateOpening, AwaitSsid, ListenerIdle, SpeakerIdle, EndedHere, EndedThere, Step, register_after}
+use Rattle.oftp_session.specs.Phases.{Phase, ResponderOpening, InitiatorOpening, AwaitingSsid, ListenerIdle, SpeakerIdle, EndedHere, EndedThere, Step, register_after}
 use Rattle.oftp_session.specs.Steps.{has_turn, is_over}
 use Rattle.oftp_session.specs.Settings.{Setting}
 use Rattle.oftp_session.specs.declared.session.Ending.{Ending}
@@ -35,9 +35,9 @@ sound_start : (setting : Setting) (r : Register) → Sound r (started setting r)
 sound_start setting r = record { replay = refl; counted = tt }
 
 over_from : (p : Phase) (e : Ending) → Some e ≡ ending_of p → is_over p ≡ true
-over_from RespondOpening e h = absurd (let no : ⊥ = cc in no)
-over_from (InitiateOpening partner) e h = absurd (let no : ⊥ = cc in no)
-over_from AwaitSsid e h = absurd (let no : ⊥ = cc in no)
+over_from ResponderOpening e h = absurd (let no : ⊥ = cc in no)
+over_from (InitiatorOpening partner) e h = absurd (let no : ⊥ = cc in no)
+over_from AwaitingSsid e h = absurd (let no : ⊥ = cc in no)
 over_from (ListenerIdle partner link) e h = absurd (let no : ⊥ = cc in no)
 over_from (SpeakerIdle partner link done) e h = absurd (let no : ⊥ = cc in no)
 over_from (EndedHere reason) e h = refl

@@ -13,7 +13,7 @@ use Rattle.oftp_wire.specs.Stream.{Whole, Waits, Bad}
 use Rattle.oftp_register.specs.Offices.{Rest}
 use Rattle.oftp_session.specs.declared.session.Ending.{Ending}
 use Rattle.oftp_session.specs.declared.session.Ending.TheVariants.{Own}
-use Rattle.oftp_session.specs.Phases.{Phase, RespondOpening, InitiateOpening, AwaitSsid, ListenerIdle, SpeakerIdle, EndedHere, EndedThere, Step, fails}
+use Rattle.oftp_session.specs.Phases.{Phase, ResponderOpening, InitiatorOpening, AwaitingSsid, ListenerIdle, SpeakerIdle, EndedHere, EndedThere, Step, fails}
 use Rattle.oftp_session.specs.Steps.{has_turn, is_over}
 use Rattle.oftp_session.specs.Calls.{Seen, ending_of}
 use Rattle.oftp_engine.specs.declared.serving.RunFault.{RunFault}
@@ -26,9 +26,9 @@ pub live_from : (p : Phase) (e : Option Ending) → e ≡ ending_of p → e ≡ 
 live_from p e h none = at p (sym h ∙ none)
   where
     at : (q : Phase) → ending_of q ≡ None → is_over q ≡ false
-    at RespondOpening h = refl
-    at (InitiateOpening partner) h = refl
-    at AwaitSsid h = refl
+    at ResponderOpening h = refl
+    at (InitiatorOpening partner) h = refl
+    at AwaitingSsid h = refl
     at (ListenerIdle partner link) h = refl
     at (SpeakerIdle partner link done) h = refl
     at (EndedHere reason) h = absurd (let no : ⊥ = cc in no)

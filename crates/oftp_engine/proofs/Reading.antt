@@ -7,7 +7,7 @@ use Rattle.std.specs.Io.KnownBytes.{Consumes}
 use Rattle.oftp_wire.specs.Stream.{Stream}
 use Rattle.oftp_session.specs.declared.session.Ending.{Ending}
 use Rattle.oftp_engine.specs.declared.serving.End.TheVariants.{Input}
-use Rattle.oftp_session.specs.Phases.{Phase, RespondOpening, InitiateOpening, AwaitSsid, ListenerIdle, SpeakerIdle, EndedHere, EndedThere}
+use Rattle.oftp_session.specs.Phases.{Phase, ResponderOpening, InitiatorOpening, AwaitingSsid, ListenerIdle, SpeakerIdle, EndedHere, EndedThere}
 use Rattle.oftp_session.specs.Steps.{is_over}
 use Rattle.oftp_session.specs.Settings.{Setting}
 use Rattle.oftp_session.specs.Calls.{Seen, ending_of}
@@ -103,9 +103,9 @@ some_same e = cc
 
 -- how a session that is over has ended
 pub ending_from : (p : Phase) (e : Ending) → Some e ≡ ending_of p → ended_as e ≡ ending p
-ending_from RespondOpening e h = absurd (let no : ⊥ = cc in no)
-ending_from (InitiateOpening partner) e h = absurd (let no : ⊥ = cc in no)
-ending_from AwaitSsid e h = absurd (let no : ⊥ = cc in no)
+ending_from ResponderOpening e h = absurd (let no : ⊥ = cc in no)
+ending_from (InitiatorOpening partner) e h = absurd (let no : ⊥ = cc in no)
+ending_from AwaitingSsid e h = absurd (let no : ⊥ = cc in no)
 ending_from (ListenerIdle partner link) e h = absurd (let no : ⊥ = cc in no)
 ending_from (SpeakerIdle partner link done) e h = absurd (let no : ⊥ = cc in no)
 ending_from (EndedHere reason) e h = ap ended_as (some_same h)
@@ -113,9 +113,9 @@ ending_from (EndedThere reason) e h = ap ended_as (some_same h)
 
 -- where octets are awaited, the end of the input is how the session ends
 pub input_ending : (p : Phase) → is_over p ≡ false → Input ≡ ending p
-input_ending RespondOpening h = refl
-input_ending (InitiateOpening partner) h = refl
-input_ending AwaitSsid h = refl
+input_ending ResponderOpening h = refl
+input_ending (InitiatorOpening partner) h = refl
+input_ending AwaitingSsid h = refl
 input_ending (ListenerIdle partner link) h = refl
 input_ending (SpeakerIdle partner link done) h = refl
 input_ending (EndedHere reason) h = absurd (false≢true (sym h))

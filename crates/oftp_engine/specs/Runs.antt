@@ -11,7 +11,7 @@ use Rattle.oftp_wire.specs.declared.reason.SessionReason.TheVariants.{CommandNot
 use Rattle.oftp_register.specs.declared.change.Change.{Change}
 use Rattle.oftp_register.specs.Register.{Register}
 use Rattle.oftp_session.specs.Settings.{Setting}
-use Rattle.oftp_session.specs.Phases.{Phase, RespondOpening, InitiateOpening, AwaitSsid, ListenerIdle, SpeakerIdle, EndedHere, EndedThere, Step, register_after, fails}
+use Rattle.oftp_session.specs.Phases.{Phase, ResponderOpening, InitiatorOpening, AwaitingSsid, ListenerIdle, SpeakerIdle, EndedHere, EndedThere, Step, register_after, fails}
 use Rattle.oftp_session.specs.Steps.{has_turn, turned, turns_due, came, is_over, opening}
 use Rattle.oftp_engine.specs.declared.serving.End.{End}
 use Rattle.oftp_engine.specs.declared.serving.End.TheVariants.{Own, Partner, Input}
@@ -106,9 +106,9 @@ run limit s c = run_by (suc (length s)) limit s c
 
 -- how a session ends that read all there is
 abbrev pub ending : Phase → End
-ending RespondOpening = Input
-ending (InitiateOpening partner) = Input
-ending AwaitSsid = Input
+ending ResponderOpening = Input
+ending (InitiatorOpening partner) = Input
+ending AwaitingSsid = Input
 ending (ListenerIdle partner link) = Input
 ending (SpeakerIdle partner link done) = Input
 ending (EndedHere reason) = Own reason

@@ -9,14 +9,14 @@ use Rattle.oftp_session.specs.declared.link.Link.{Link}
 use Rattle.oftp_session.specs.declared.session.State.TheVariants as state
 use Rattle.oftp_session.specs.Calls.{Seen, Stands}
 use Rattle.oftp_session.specs.Settings.{Setting}
-use Rattle.oftp_session.specs.Phases.{Phase, RespondOpening, InitiateOpening, AwaitSsid, ListenerIdle, SpeakerIdle, EndedHere, EndedThere, register_after}
+use Rattle.oftp_session.specs.Phases.{Phase, ResponderOpening, InitiatorOpening, AwaitingSsid, ListenerIdle, SpeakerIdle, EndedHere, EndedThere, register_after}
 use Rattle.oftp_session.specs.Steps.{has_turn, turned, turns_due, came, is_over, Holds}
 
 -- each phase holds of every register
 pub holds_all : (p : Phase) (r : Register) → Holds p r
-holds_all RespondOpening r = tt
-holds_all (InitiateOpening partner) r = tt
-holds_all AwaitSsid r = tt
+holds_all ResponderOpening r = tt
+holds_all (InitiatorOpening partner) r = tt
+holds_all AwaitingSsid r = tt
 holds_all (ListenerIdle partner link) r = tt
 holds_all (SpeakerIdle partner link done) r = tt
 holds_all (EndedHere reason) r = tt
@@ -32,9 +32,9 @@ holds_came setting p r command h = holds_all (came setting p r command).phase (r
 -- fewer own turns are due after one
 pub turn_falls : (setting : Setting) (p : Phase) (r : Register) → has_turn p ≡ true → turns_due (turned setting p r).phase < turns_due p
 unfolding turned
-turn_falls setting RespondOpening r h = omega arith
-turn_falls setting (InitiateOpening partner) r h = absurd (false≢true h)
-turn_falls setting AwaitSsid r h = absurd (false≢true h)
+turn_falls setting ResponderOpening r h = omega arith
+turn_falls setting (InitiatorOpening partner) r h = absurd (false≢true h)
+turn_falls setting AwaitingSsid r h = absurd (false≢true h)
 turn_falls setting (ListenerIdle partner link) r h = absurd (false≢true h)
 turn_falls setting (SpeakerIdle partner link ChangeDirection) r h = omega arith
 turn_falls setting (SpeakerIdle partner link EndSession) r h = omega arith
@@ -43,9 +43,9 @@ turn_falls setting (EndedThere reason) r h = absurd (false≢true h)
 
 -- a session that ended has no turn
 pub over_no_turn : (p : Phase) → is_over p ≡ true → has_turn p ≡ false
-over_no_turn RespondOpening h = absurd (false≢true h)
-over_no_turn (InitiateOpening partner) h = refl
-over_no_turn AwaitSsid h = refl
+over_no_turn ResponderOpening h = absurd (false≢true h)
+over_no_turn (InitiatorOpening partner) h = refl
+over_no_turn AwaitingSsid h = refl
 over_no_turn (ListenerIdle partner link) h = refl
 over_no_turn (SpeakerIdle partner link done) h = absurd (false≢true h)
 over_no_turn (EndedHere reason) h = refl
@@ -53,9 +53,9 @@ over_no_turn (EndedThere reason) h = refl
 
 -- a session with a turn hasn't ended
 pub turn_live : (p : Phase) → has_turn p ≡ true → is_over p ≡ false
-turn_live RespondOpening h = refl
-turn_live (InitiateOpening partner) h = refl
-turn_live AwaitSsid h = refl
+turn_live ResponderOpening h = refl
+turn_live (InitiatorOpening partner) h = refl
+turn_live AwaitingSsid h = refl
 turn_live (ListenerIdle partner link) h = refl
 turn_live (SpeakerIdle partner link done) h = refl
 turn_live (EndedHere reason) h = absurd (false≢true h)
@@ -63,9 +63,9 @@ turn_live (EndedThere reason) h = absurd (false≢true h)
 
 -- a session that listens is in a phase that listens
 pub listening_from : (p : Phase) (s : Seen) (link : Link) → s.state ≡ state.ListenerIdle link → Stands p s → (partner : Partner) × (p ≡ ListenerIdle partner link) × (s.partner ≡ Some partner)
-listening_from RespondOpening s link e h = absurd (let no : ⊥ = cc in no)
-listening_from (InitiateOpening partner) s link e h = absurd (let i = h.0 in let no : ⊥ = cc in no)
-listening_from AwaitSsid s link e h = absurd (let no : ⊥ = cc in no)
+listening_from ResponderOpening s link e h = absurd (let no : ⊥ = cc in no)
+listening_from (InitiatorOpening partner) s link e h = absurd (let i = h.0 in let no : ⊥ = cc in no)
+listening_from AwaitingSsid s link e h = absurd (let no : ⊥ = cc in no)
 listening_from (ListenerIdle partner other) s link e h =
     let i = h.0 in
     let same : other ≡ link = cc in

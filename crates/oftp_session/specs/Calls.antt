@@ -1,5 +1,5 @@
 -- What a call of a session does: one step.
-use Rattle.std.specs.Prelude.{◌≡◌, ℕ, ◌⊎◌, Bool, true, false, List, [], Option, None, Some, Result, Ok, Err, is_ok}
+use Rattle.std.specs.Prelude.{◌≡◌, ℕ, nat_lt, ◌⊎◌, Bool, true, false, List, [], Option, None, Some, Result, Ok, Err, is_ok}
 use Rattle.oftp_register.specs.declared.change.Change.{Change}
 use Rattle.oftp_register.specs.Register.{Register}
 use Rattle.oftp_register.specs.Changes.{apply}
@@ -14,7 +14,7 @@ use Rattle.oftp_session.specs.declared.session.Out.{Out}
 use Rattle.oftp_session.specs.declared.session.Out.TheVariants.{Nothing, Send}
 use Rattle.oftp_session.specs.Settings.{Setting}
 use Rattle.oftp_partners.specs.declared.partner.Partner.{Partner as Entry}
-use Rattle.oftp_session.specs.Phases.{Phase, RespondOpening, InitiateOpening, AwaitSsid, ListenerIdle, SpeakerIdle, EndedHere, EndedThere, Step}
+use Rattle.oftp_session.specs.Phases.{Phase, ResponderOpening, InitiatorOpening, AwaitingSsid, ListenerIdle, SpeakerIdle, EndedHere, EndedThere, Step}
 
 -- what a caller sees of a session: its book and whom it calls, the partner once it is known, its state, and the frame that it
 -- said last, [] for none
@@ -26,9 +26,9 @@ pub record Seen : Type 0 where
 
 -- a session is in this phase
 abbrev pub Stands : Phase → Seen → Type 0
-Stands RespondOpening s = s.state ≡ state.RespondOpening
-Stands (InitiateOpening partner) s = (s.state ≡ state.InitiateOpening) × (s.setting.called ≡ Some partner)
-Stands AwaitSsid s = s.state ≡ state.AwaitSsid
+Stands ResponderOpening s = s.state ≡ state.ResponderOpening
+Stands (InitiatorOpening partner) s = (s.state ≡ state.InitiatorOpening) × (s.setting.called ≡ Some partner)
+Stands AwaitingSsid s = s.state ≡ state.AwaitingSsid
 Stands (ListenerIdle partner link) s = (s.state ≡ state.ListenerIdle link) × (s.partner ≡ Some partner)
 Stands (SpeakerIdle partner link done) s = (s.state ≡ state.SpeakerIdle link done) × (s.partner ≡ Some partner)
 Stands (EndedHere reason) s = s.state ≡ state.Over (Own reason)
@@ -36,9 +36,9 @@ Stands (EndedThere reason) s = s.state ≡ state.Over (Partner reason)
 
 -- how a session ended, if it did
 abbrev pub ending_of : Phase → Option Ending
-ending_of RespondOpening = None
-ending_of (InitiateOpening partner) = None
-ending_of AwaitSsid = None
+ending_of ResponderOpening = None
+ending_of (InitiatorOpening partner) = None
+ending_of AwaitingSsid = None
 ending_of (ListenerIdle partner link) = None
 ending_of (SpeakerIdle partner link done) = None
 ending_of (EndedHere reason) = Some (Own reason)
@@ -116,38 +116,32 @@ Goes phase (Err fault) s = s.state ≡ state.Broken
 
 -- a session that ended or broke answers no more
 abbrev pub is_closed : State → Bool
-is_closed state.RespondOpening = false
-is_closed state.InitiateOpening = false
-is_closed state.AwaitSsid = false
+is_closed state.ResponderOpening = false
+is_closed state.InitiatorOpening = false
+is_closed state.AwaitingSsid = false
 is_closed (state.ListenerIdle link) = false
 is_closed (state.SpeakerIdle link done) = false
 is_closed (state.Over ending) = true
 is_closed state.Broken = true
 
--- whether a turn is due, and how many may follow one another
-abbrev pub is_due : State → Bool
-is_due state.RespondOpening = true
-is_due state.InitiateOpening = false
-is_due state.AwaitSsid = false
-is_due (state.ListenerIdle link) = false
-is_due (state.SpeakerIdle link done) = true
-is_due (state.Over ending) = false
-is_due state.Broken = false
-
+-- how many turns may follow one another, and whether one is due
 abbrev pub turns_left : State → ℕ
-turns_left state.RespondOpening = 1
-turns_left state.InitiateOpening = 0
-turns_left state.AwaitSsid = 0
+turns_left state.ResponderOpening = 1
+turns_left state.InitiatorOpening = 0
+turns_left state.AwaitingSsid = 0
 turns_left (state.ListenerIdle link) = 0
 turns_left (state.SpeakerIdle link done) = 1
 turns_left (state.Over ending) = 0
 turns_left state.Broken = 0
 
+abbrev pub is_due : State → Bool
+is_due s = nat_lt 0 (turns_left s)
+
 -- how a state ended, if it did
 abbrev pub ended_as : State → Option Ending
-ended_as state.RespondOpening = None
-ended_as state.InitiateOpening = None
-ended_as state.AwaitSsid = None
+ended_as state.ResponderOpening = None
+ended_as state.InitiatorOpening = None
+ended_as state.AwaitingSsid = None
 ended_as (state.ListenerIdle link) = None
 ended_as (state.SpeakerIdle link done) = None
 ended_as (state.Over ending) = Some ending
@@ -157,17 +151,7 @@ ended_as state.Broken = None
 abbrev pub IsAccepted : Register → Change → Type 0
 IsAccepted r change = is_ok (apply r change) ≡ true
 
--- a helper that makes a change, if one is due: it is made, or the office told a fault
-pub record IsFiled (change : Option Change) (old new : Desk) (rest : Rest) : Type 0 where
-  pub register : Makes change old.register new.register
-  pub stands : rest.stands
-  pub faults : new.faults ≡ old.faults
-
-abbrev pub FilesNot : Option Change → Desk → Desk → Rest → SessionFault → Type 0
-FilesNot change old new rest fault.Ended = ⊥
-FilesNot change old new rest fault.Office = IsBroken change old new rest
-FilesNot change old new rest fault.Memory = ⊥
-
+-- a helper that makes a change, if one is due, and says nothing
 abbrev pub Files : {T : Type 0} → Option Change → Desk → Desk → Rest → Result T SessionFault → Type 0
-Files change old new rest (Ok x) = IsFiled change old new rest
-Files change old new rest (Err fault) = FilesNot change old new rest fault
+Files change old new rest (Ok x) = IsMade change [] old new rest []
+Files change old new rest (Err fault) = DoesNot change old new rest fault

@@ -13,7 +13,7 @@ use Rattle.oftp_partners.specs.declared.partner.Partner.{Partner}
 use Rattle.oftp_session.specs.declared.link.Link.{Link}
 use Rattle.oftp_session.specs.declared.link.WhenDone.TheVariants.{ChangeDirection}
 use Rattle.oftp_session.specs.Settings.{Setting}
-use Rattle.oftp_session.specs.Phases.{AwaitSsid, ListenerIdle, SpeakerIdle, Step, quiet, says, fails, leaves}
+use Rattle.oftp_session.specs.Phases.{AwaitingSsid, ListenerIdle, SpeakerIdle, Step, quiet, says, fails, leaves}
 
 -- whether a station in one mode sends what the other receives
 abbrev pub flows : Mode → Mode → Bool
@@ -61,7 +61,7 @@ pub record Agreement : Type 0 where
 abbrev pub is_initiator : Setting → Bool
 is_initiator setting = is_some setting.called
 
--- the rows of the table below the one on the code
+-- what is agreed once the code is looked up: the tests after the code, in their order
 abbrev pub agreement : Setting → Ssid → Option Partner → Result Agreement SessionReason
 agreement setting ssid None = Err UserCodeNotKnown
 agreement setting ssid (Some partner) =
@@ -71,7 +71,7 @@ agreement setting ssid (Some partner) =
     if ssid.authentication then Err AuthenticationIncompatible else
     Ok (record { partner = partner; link = agreed setting.book partner ssid }))))
 
--- what is agreed with a partner who sends this SSID, or why the session ends: the first row that fits
+-- what is agreed with a partner who sends this SSID, or why the session ends: the first test that fails
 unfoldable pub ssid_verdict : Setting → Ssid → Result Agreement SessionReason
 ssid_verdict setting ssid =
     if not (ssid.level == 5) then Err ModeIncompatible else (
@@ -120,18 +120,18 @@ opened_step setting letter (Ok a) = open_step setting letter a setting.called
 opened_step setting letter (Err reason) = fails reason
 
 -- what comes before the own ready message went out
-unfoldable pub came_respond_opening : Command → Step
-came_respond_opening (command.Esid esid) = leaves esid.reason
-came_respond_opening _ = fails ProtocolViolation
+unfoldable pub came_responder_opening : Command → Step
+came_responder_opening (command.Esid esid) = leaves esid.reason
+came_responder_opening _ = fails ProtocolViolation
 
 -- what comes where the called partner's ready message is awaited
-unfoldable pub came_initiate_opening : Setting → Partner → Command → Step
-came_initiate_opening setting partner command.Ssrm = says AwaitSsid (command.Ssid (calling_ssid setting.book partner))
-came_initiate_opening setting partner (command.Esid esid) = leaves esid.reason
-came_initiate_opening setting partner _ = fails ProtocolViolation
+unfoldable pub came_initiator_opening : Setting → Partner → Command → Step
+came_initiator_opening setting partner command.Ssrm = says AwaitingSsid (command.Ssid (calling_ssid setting.book partner))
+came_initiator_opening setting partner (command.Esid esid) = leaves esid.reason
+came_initiator_opening setting partner _ = fails ProtocolViolation
 
 -- what comes where the partner's SSID is awaited
-unfoldable pub came_await_ssid : Setting → Command → Step
-came_await_ssid setting (command.Ssid ssid) = opened_step setting ssid.mode (ssid_verdict setting ssid)
-came_await_ssid setting (command.Esid esid) = leaves esid.reason
-came_await_ssid setting _ = fails ProtocolViolation
+unfoldable pub came_awaiting_ssid : Setting → Command → Step
+came_awaiting_ssid setting (command.Ssid ssid) = opened_step setting ssid.mode (ssid_verdict setting ssid)
+came_awaiting_ssid setting (command.Esid esid) = leaves esid.reason
+came_awaiting_ssid setting _ = fails ProtocolViolation

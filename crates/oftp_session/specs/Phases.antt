@@ -15,9 +15,9 @@ use Rattle.oftp_partners.specs.declared.partner.Partner.{Partner}
 
 -- where a session stands (RFC 5024, section 9)
 pub data Phase : Type 0 where
-  RespondOpening : Phase
-  InitiateOpening : (partner : Partner) → Phase
-  AwaitSsid : Phase
+  ResponderOpening : Phase
+  InitiatorOpening : (partner : Partner) → Phase
+  AwaitingSsid : Phase
   ListenerIdle : (partner : Partner) (link : Link) → Phase
   SpeakerIdle : (partner : Partner) (link : Link) (done : WhenDone) → Phase
   EndedHere : (reason : SessionReason) → Phase
@@ -42,13 +42,13 @@ frame_of command = frame (Canon command)
 abbrev pub quiet : Phase → Step
 quiet phase = record { phase = phase; change = None; output = [] }
 
--- a command is sent, and nothing is changed
-abbrev pub says : Phase → Command → Step
-says phase command = record { phase = phase; change = None; output = frame_of command }
-
 -- a change, if it is due, and then an answer
 abbrev pub answers : Phase → Option Change → Command → Step
 answers phase change command = record { phase = phase; change = change; output = frame_of command }
+
+-- a command is sent, and nothing is changed
+abbrev pub says : Phase → Command → Step
+says phase command = answers phase None command
 
 -- the end of a session, with no text (RFC 5024, section 5.3.11)
 abbrev pub esid_of : SessionReason → Command

@@ -60,7 +60,8 @@ pub(crate) fn answering_ssid<'b>(
     partner: &'b Partner,
     link: &Link,
 ) -> Command<'b>
-    ensures { result ≡ an_ssid (answering_ssid book.entry.now letter (record { partner = partner.entry.now; link = link.now })) }
+    ensures { result ≡ an_ssid (answering_ssid book.entry.now letter
+        (record { partner = partner.entry.now; link = link.now })) }
 {
     Command::Ssid(ssid_with(
         book,

@@ -9,6 +9,8 @@ mod link;
 mod opening;
 mod responses;
 mod session;
+#[cfg(test)]
+mod tests;
 
 pub use link::{Link, WhenDone};
 pub use session::{Ending, Out, Session, SessionFault, State};

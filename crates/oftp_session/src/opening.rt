@@ -77,7 +77,8 @@ fn partner_for<'b>(
     called: Option<&'b Partner>,
     code: &X<'_, 25>,
 ) -> Option<&'b Partner>
-    ensures { option_map (λ p. p.now) result ≡ called_as code.now book.entry.now.partners (option_map (λ p. p.now) called.entry) }
+    ensures { option_map (λ p. p.now) result
+        ≡ called_as code.now book.entry.now.partners (option_map (λ p. p.now) called.entry) }
 {
     match called {
         None => book.partner(code.octets()),
@@ -98,7 +99,8 @@ pub(crate) fn ssid_verdict<'b>(
     called: Option<&'b Partner>,
     ssid: &Ssid<'_>,
 ) -> Result<Agreement<'b>, SessionReason>
-    ensures { shown result ≡ ssid_verdict (record { book = book.entry.now; called = option_map (λ p. p.now) called.entry }) ssid.now }
+    ensures { shown result ≡ ssid_verdict
+        (record { book = book.entry.now; called = option_map (λ p. p.now) called.entry }) ssid.now }
 {
     if ssid.level.get() != 5 {
         return Err(SessionReason::ModeIncompatible);

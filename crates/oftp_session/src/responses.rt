@@ -1,6 +1,6 @@
 //! The responses that come from a partner.
 
-ghost use Rattle.std.specs.Prelude.{◌≡◌, Some};
+ghost use Rattle.std.specs.Prelude.{◌≡◌, Some, IfErr};
 ghost use Rattle.oftp_register.specs.Offices.{rest_of};
 ghost use Rattle.oftp_register.specs.Soundness.{IsFit, IsSoundReceived};
 ghost use Rattle.oftp_session.specs.Calls.{Files, IsAccepted, desk};
@@ -66,9 +66,12 @@ pub(crate) fn negative_end_response<'a>(nerp: &Nerp<'a>) -> Response<'a>
 fn make<O: Office>(office: &mut O, change: Change<'_>) -> Result<(), SessionFault>
     requires fit { O.is_clean office.old → O.stands office.old → IsFit (O.register office.old) change }
     ensures clean { O.is_clean office.new → O.is_clean office.old }
-    ensures does { O.is_clean office.new → O.stands office.old → IsAccepted (O.register office.old) change.entry
-        → Files (Some change.entry) (desk O.register O.told office.old) (desk O.register O.told office.new)
+    ensures does { O.is_clean office.new → O.stands office.old
+        → IsAccepted (O.register office.old) change.entry
+        → Files (Some change.entry)
+        (desk O.register O.told office.old) (desk O.register O.told office.new)
         (rest_of O.holds O.may_leave O.stands office.new) result }
+    ensures err { IfErr result (λ fault. fault ≡ SessionFault.Office) }
 {
     if office.commit(change).is_err() {
         return Err(SessionFault::Office);
@@ -85,8 +88,10 @@ pub(crate) fn file_new<O: Office>(
     requires { IsSoundReceived (as_received response) }
     ensures clean { O.is_clean office.new → O.is_clean office.old }
     ensures does { O.is_clean office.new → O.stands office.old
-        → Files (filing (O.register office.old) (as_received response.entry)) (desk O.register O.told office.old)
-        (desk O.register O.told office.new) (rest_of O.holds O.may_leave O.stands office.new) result }
+        → Files (filing (O.register office.old) (as_received response.entry))
+        (desk O.register O.told office.old) (desk O.register O.told office.new)
+        (rest_of O.holds O.may_leave O.stands office.new) result }
+    ensures err { IfErr result (λ fault. fault ≡ SessionFault.Office) }
 {
     match office.has_received(response.kind, &response.identity) {
         Ok(true) => Ok(()),

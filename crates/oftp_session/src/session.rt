@@ -9,7 +9,7 @@ ghost use Rattle.oftp_register.specs.Offices.{rest_of};
 ghost use Rattle.oftp_register.specs.Soundness.{IsSoundReceived};
 ghost use Rattle.oftp_partners.specs.declared.partner.Partner.{Partner as Entry};
 ghost use Rattle.oftp_session.specs.Phases.{Phase, frame_of, esid_of};
-ghost use Rattle.oftp_session.specs.Opening.{calling_ssid, came_await_ssid, came_initiate_opening, came_respond_opening, open_step, opened_step, ssid_verdict};
+ghost use Rattle.oftp_session.specs.Opening.{calling_ssid, came_awaiting_ssid, came_initiator_opening, came_responder_opening, open_step, opened_step, ssid_verdict};
 ghost use Rattle.oftp_session.specs.Listener.{came_listener_idle, is_between, response_step};
 ghost use Rattle.oftp_session.specs.Speaker.{came_speaker_idle, nothing_next};
 ghost use Rattle.oftp_session.specs.Steps.{came, has_turn, is_over, opening, turned, Holds};
@@ -39,11 +39,11 @@ pub enum Ending {
 #[derive(Clone, Copy, Debug, Drop, PartialEq, Eq)]
 pub enum State {
     /// A responder, whose ready message is due.
-    RespondOpening,
+    ResponderOpening,
     /// An initiator, who awaits the partner's ready message.
-    InitiateOpening,
+    InitiatorOpening,
     /// The partner's SSID is awaited.
-    AwaitSsid,
+    AwaitingSsid,
     /// The partner speaks, and no file is being received.
     ListenerIdle(Link),
     /// The station speaks, and waits for nothing.
@@ -110,13 +110,13 @@ impl<'b> Session<'b> {
     /// A session with a partner who calls.
     pub fn responder(book: &'b Book) -> Session<'b>
         ensures setting { result.setting ≡ record { book = book.entry.now; called = None } }
-        ensures stands { Stands Phase.RespondOpening result }
+        ensures stands { Stands Phase.ResponderOpening result }
     {
         Session {
             book,
             called: None,
             partner: None,
-            state: State::RespondOpening,
+            state: State::ResponderOpening,
             frame: [0; 1200],
             len: 0,
         }
@@ -124,14 +124,15 @@ impl<'b> Session<'b> {
 
     /// A session with a partner whom the station calls.
     pub fn initiator(book: &'b Book, partner: &'b Partner) -> Session<'b>
-        ensures setting { result.setting ≡ record { book = book.entry.now; called = Some partner.entry.now } }
-        ensures stands { Stands (Phase.InitiateOpening partner.entry.now) result }
+        ensures setting { result.setting
+            ≡ record { book = book.entry.now; called = Some partner.entry.now } }
+        ensures stands { Stands (Phase.InitiatorOpening partner.entry.now) result }
     {
         Session {
             book,
             called: Some(partner),
             partner: None,
-            state: State::InitiateOpening,
+            state: State::InitiatorOpening,
             frame: [0; 1200],
             len: 0,
         }
@@ -143,9 +144,9 @@ impl<'b> Session<'b> {
         ensures due { result ≡ is_due self.now.state }
     {
         match self.state {
-            State::RespondOpening | State::SpeakerIdle(_, _) => true,
-            State::InitiateOpening
-            | State::AwaitSsid
+            State::ResponderOpening | State::SpeakerIdle(_, _) => true,
+            State::InitiatorOpening
+            | State::AwaitingSsid
             | State::ListenerIdle(_)
             | State::Over(_)
             | State::Broken => false,
@@ -159,9 +160,9 @@ impl<'b> Session<'b> {
     {
         match self.state {
             State::Over(ending) => Some(ending),
-            State::RespondOpening
-            | State::InitiateOpening
-            | State::AwaitSsid
+            State::ResponderOpening
+            | State::InitiatorOpening
+            | State::AwaitingSsid
             | State::ListenerIdle(_)
             | State::SpeakerIdle(_, _)
             | State::Broken => None,
@@ -174,9 +175,9 @@ impl<'b> Session<'b> {
     {
         match self.state {
             State::Over(_) | State::Broken => true,
-            State::RespondOpening
-            | State::InitiateOpening
-            | State::AwaitSsid
+            State::ResponderOpening
+            | State::InitiatorOpening
+            | State::AwaitingSsid
             | State::ListenerIdle(_)
             | State::SpeakerIdle(_, _) => false,
         }
@@ -201,7 +202,10 @@ impl<'b> Session<'b> {
 
     // Ends the session, for this reason.
     fn end(&mut self, reason: SessionReason)
-        ensures { self.new ≡ record self.old { state = State.Over (Ending.Own reason); spoken = frame_of (esid_of reason) } }
+        ensures { self.new ≡ record self.old {
+          state = State.Over (Ending.Own reason);
+          spoken = frame_of (esid_of reason);
+        } }
     {
         self.speak(State::Over(Ending::Own(reason)), &esid(reason));
     }
@@ -219,8 +223,11 @@ impl<'b> Session<'b> {
 
     // Goes on with a partner with whom this was agreed: a responder answers, an initiator speaks.
     fn agree(&mut self, letter: Mode, agreement: &Agreement<'b>)
-        ensures says { self.new.spoken ≡ (open_step self.old.setting letter (terms agreement.now) self.old.setting.called).output }
-        ensures goes { Stands (open_step self.old.setting letter (terms agreement.now) self.old.setting.called).phase self.new }
+        ensures says { let setting = self.old.setting in
+            self.new.spoken
+            ≡ (open_step setting letter (terms agreement.now) setting.called).output }
+        ensures goes { let setting = self.old.setting in
+            Stands (open_step setting letter (terms agreement.now) setting.called).phase self.new }
         ensures setting { self.new.setting ≡ self.old.setting }
     {
         self.partner = Some(agreement.partner);
@@ -234,8 +241,12 @@ impl<'b> Session<'b> {
 
     // Opens the session with a partner who sends this SSID, or ends it.
     fn open(&mut self, ssid: &Ssid<'_>)
-        ensures says { self.new.spoken ≡ (opened_step self.old.setting ssid.now.mode (ssid_verdict self.old.setting ssid.now)).output }
-        ensures goes { Stands (opened_step self.old.setting ssid.now.mode (ssid_verdict self.old.setting ssid.now)).phase self.new }
+        ensures says { let setting = self.old.setting in
+            self.new.spoken
+            ≡ (opened_step setting ssid.now.mode (ssid_verdict setting ssid.now)).output }
+        ensures goes { let setting = self.old.setting in
+            Stands (opened_step setting ssid.now.mode (ssid_verdict setting ssid.now)).phase
+            self.new }
         ensures setting { self.new.setting ≡ self.old.setting }
     {
         match ssid_verdict(self.book, self.called, ssid) {
@@ -246,7 +257,8 @@ impl<'b> Session<'b> {
 
     // Whether a response to this file goes from the partner to the station.
     fn is_between(&self, file: &Identity) -> bool
-        ensures { (partner : Entry) → self.now.partner ≡ Some partner → result ≡ is_between self.now.setting partner file.now }
+        ensures { (partner : Entry) → self.now.partner ≡ Some partner
+            → result ≡ is_between self.now.setting partner file.now }
     {
         let station = self.book.station();
         match self.partner {
@@ -268,11 +280,17 @@ impl<'b> Session<'b> {
     ) -> Result<(), SessionFault>
         requires { IsSoundReceived (as_received response) }
         ensures clean { O.is_clean office.new → O.is_clean office.old }
-        ensures does { O.is_clean office.new → O.stands office.old → (partner : Entry) → self.old.partner ≡ Some partner
-            → Does (response_step self.old.setting partner link (O.register office.old) (as_received response.entry)) (desk O.register O.told office.old)
-            (desk O.register O.told office.new) (rest_of O.holds O.may_leave O.stands office.new) (spoken result self.new.spoken) }
+        ensures does { O.is_clean office.new → O.stands office.old
+            → (partner : Entry) → self.old.partner ≡ Some partner
+            → Does (response_step self.old.setting partner link
+            (O.register office.old) (as_received response.entry))
+            (desk O.register O.told office.old) (desk O.register O.told office.new)
+            (rest_of O.holds O.may_leave O.stands office.new) (spoken result self.new.spoken) }
         ensures goes { (partner : Entry) → self.old.partner ≡ Some partner
-            → Goes (response_step self.old.setting partner link (O.register office.old) (as_received response.entry)).phase result self.new }
+            → Goes (response_step self.old.setting partner link
+            (O.register office.old) (as_received response.entry)).phase
+            result self.new }
+        ensures err { IfErr result (λ fault. fault ≡ SessionFault.Office) }
         ensures setting { self.new.setting ≡ self.old.setting }
     {
         if !self.is_between(&response.identity) {
@@ -288,11 +306,11 @@ impl<'b> Session<'b> {
         Ok(())
     }
 
-    #[tactic(auto, unfolding(crate::specs::Opening::came_respond_opening))]
-    fn in_respond_opening(&mut self, command: &Command<'_>)
-        ensures says { self.new.spoken ≡ (came_respond_opening command.now).output }
-        ensures quiet { (came_respond_opening command.now).change ≡ None }
-        ensures goes { Stands (came_respond_opening command.now).phase self.new }
+    #[tactic(auto, unfolding(crate::specs::Opening::came_responder_opening))]
+    fn in_responder_opening(&mut self, command: &Command<'_>)
+        ensures says { self.new.spoken ≡ (came_responder_opening command.now).output }
+        ensures quiet { (came_responder_opening command.now).change ≡ None }
+        ensures goes { Stands (came_responder_opening command.now).phase self.new }
         ensures setting { self.new.setting ≡ self.old.setting }
     {
         match command {
@@ -304,21 +322,23 @@ impl<'b> Session<'b> {
     // Offers the session to the partner that is called.
     fn call(&mut self, partner: &'b Partner)
         ensures { self.new ≡ record self.old {
-          state = State.AwaitSsid;
+          state = State.AwaitingSsid;
           spoken = frame_of (an_ssid (calling_ssid self.old.setting.book partner.entry.now));
         } }
     {
         let offer = calling_ssid(self.book, partner);
-        self.speak(State::AwaitSsid, &offer);
+        self.speak(State::AwaitingSsid, &offer);
     }
 
-    #[tactic(auto, unfolding(crate::specs::Opening::came_initiate_opening))]
-    fn in_initiate_opening(&mut self, command: &Command<'_>)
+    #[tactic(auto, unfolding(crate::specs::Opening::came_initiator_opening))]
+    fn in_initiator_opening(&mut self, command: &Command<'_>)
         ensures says { (partner : Entry) → self.old.setting.called ≡ Some partner
-            → self.new.spoken ≡ (came_initiate_opening self.old.setting partner command.now).output }
-        ensures quiet { (partner : Entry) → (came_initiate_opening self.old.setting partner command.now).change ≡ None }
+            → self.new.spoken
+            ≡ (came_initiator_opening self.old.setting partner command.now).output }
+        ensures quiet { (partner : Entry)
+            → (came_initiator_opening self.old.setting partner command.now).change ≡ None }
         ensures goes { (partner : Entry) → self.old.setting.called ≡ Some partner
-            → Stands (came_initiate_opening self.old.setting partner command.now).phase self.new }
+            → Stands (came_initiator_opening self.old.setting partner command.now).phase self.new }
         ensures setting { self.new.setting ≡ self.old.setting }
     {
         match command {
@@ -331,11 +351,11 @@ impl<'b> Session<'b> {
         }
     }
 
-    #[tactic(auto, unfolding(crate::specs::Opening::came_await_ssid))]
-    fn in_await_ssid(&mut self, command: &Command<'_>)
-        ensures says { self.new.spoken ≡ (came_await_ssid self.old.setting command.now).output }
-        ensures quiet { (came_await_ssid self.old.setting command.now).change ≡ None }
-        ensures goes { Stands (came_await_ssid self.old.setting command.now).phase self.new }
+    #[tactic(auto, unfolding(crate::specs::Opening::came_awaiting_ssid))]
+    fn in_awaiting_ssid(&mut self, command: &Command<'_>)
+        ensures says { self.new.spoken ≡ (came_awaiting_ssid self.old.setting command.now).output }
+        ensures quiet { (came_awaiting_ssid self.old.setting command.now).change ≡ None }
+        ensures goes { Stands (came_awaiting_ssid self.old.setting command.now).phase self.new }
         ensures setting { self.new.setting ≡ self.old.setting }
     {
         match command {
@@ -353,11 +373,17 @@ impl<'b> Session<'b> {
         command: &Command<'_>,
     ) -> Result<(), SessionFault>
         ensures clean { O.is_clean office.new → O.is_clean office.old }
-        ensures does { O.is_clean office.new → O.stands office.old → (partner : Entry) → self.old.partner ≡ Some partner
-            → Does (came_listener_idle self.old.setting partner link (O.register office.old) command.now) (desk O.register O.told office.old)
-            (desk O.register O.told office.new) (rest_of O.holds O.may_leave O.stands office.new) (spoken result self.new.spoken) }
+        ensures does { O.is_clean office.new → O.stands office.old
+            → (partner : Entry) → self.old.partner ≡ Some partner
+            → Does (came_listener_idle self.old.setting partner link
+            (O.register office.old) command.now)
+            (desk O.register O.told office.old) (desk O.register O.told office.new)
+            (rest_of O.holds O.may_leave O.stands office.new) (spoken result self.new.spoken) }
         ensures goes { (partner : Entry) → self.old.partner ≡ Some partner
-            → Goes (came_listener_idle self.old.setting partner link (O.register office.old) command.now).phase result self.new }
+            → Goes (came_listener_idle self.old.setting partner link
+            (O.register office.old) command.now).phase
+            result self.new }
+        ensures err { IfErr result (λ fault. fault ≡ SessionFault.Office) }
         ensures setting { self.new.setting ≡ self.old.setting }
     {
         match command {
@@ -399,25 +425,32 @@ impl<'b> Session<'b> {
         command: &Command<'_>,
     ) -> Result<(), SessionFault>
         ensures clean { O.is_clean office.new → O.is_clean office.old }
-        ensures does { O.is_clean office.new → O.stands office.old → (p : Phase) → is_over p ≡ false → Stands p self.old
-            → Does (came self.old.setting p (O.register office.old) command.now) (desk O.register O.told office.old)
-            (desk O.register O.told office.new) (rest_of O.holds O.may_leave O.stands office.new) (spoken result self.new.spoken) }
+        ensures does { O.is_clean office.new → O.stands office.old
+            → (p : Phase) → is_over p ≡ false → Stands p self.old
+            → Does (came self.old.setting p (O.register office.old) command.now)
+            (desk O.register O.told office.old) (desk O.register O.told office.new)
+            (rest_of O.holds O.may_leave O.stands office.new) (spoken result self.new.spoken) }
         ensures goes { (p : Phase) → is_over p ≡ false → Stands p self.old
-            → Goes (came self.old.setting p (O.register office.old) command.now).phase result self.new }
-        ensures closed { is_closed self.old.state ≡ true → (result ≡ Err SessionFault.Ended) × (self.new ≡ self.old) × (office.new ≡ office.old) }
+            → Goes (came self.old.setting p (O.register office.old) command.now).phase
+            result self.new }
+        ensures err { is_closed self.old.state ≡ false
+            → IfErr result (λ fault. fault ≡ SessionFault.Office) }
+        ensures closed { is_closed self.old.state ≡ true
+            → (result ≡ Err SessionFault.Ended)
+            × (self.new ≡ self.old) × (office.new ≡ office.old) }
         ensures setting { self.new.setting ≡ self.old.setting }
     {
         match self.state {
-            State::RespondOpening => {
-                self.in_respond_opening(command);
+            State::ResponderOpening => {
+                self.in_responder_opening(command);
                 Ok(())
             }
-            State::InitiateOpening => {
-                self.in_initiate_opening(command);
+            State::InitiatorOpening => {
+                self.in_initiator_opening(command);
                 Ok(())
             }
-            State::AwaitSsid => {
-                self.in_await_ssid(command);
+            State::AwaitingSsid => {
+                self.in_awaiting_ssid(command);
                 Ok(())
             }
             State::ListenerIdle(link) => self.in_listener_idle(office, link, command),
@@ -442,12 +475,17 @@ impl<'b> Session<'b> {
         command: &Command<'_>,
     ) -> Result<Out<'_>, SessionFault>
         ensures clean { O.is_clean office.new → O.is_clean office.old }
-        ensures does { O.is_clean office.new → O.stands office.old → (p : Phase) → Holds p (O.register office.old)
-            → is_over p ≡ false → Stands p self.old
-            → Does (came self.old.setting p (O.register office.old) command.now) (desk O.register O.told office.old)
-            (desk O.register O.told office.new) (rest_of O.holds O.may_leave O.stands office.new) (heard result) }
-        ensures closed { is_closed self.old.state ≡ true → (heard result ≡ Err SessionFault.Ended) × (office.new ≡ office.old) }
-        ensures* goes { sem 𝓛 (Rests (the_row (record { mir = named 1; lft = [] })) self.entry (λ new. (new.setting ≡ self.old.setting)
+        ensures does { O.is_clean office.new → O.stands office.old
+            → (p : Phase) → Holds p (O.register office.old) → is_over p ≡ false → Stands p self.old
+            → Does (came self.old.setting p (O.register office.old) command.now)
+            (desk O.register O.told office.old) (desk O.register O.told office.new)
+            (rest_of O.holds O.may_leave O.stands office.new) (heard result) }
+        ensures err { is_closed self.old.state ≡ false
+            → IfErr result (λ fault. fault ≡ SessionFault.Office) }
+        ensures closed { is_closed self.old.state ≡ true
+            → (heard result ≡ Err SessionFault.Ended) × (office.new ≡ office.old) }
+        ensures* goes { sem 𝓛 (Rests (the_row (record { mir = named 1; lft = [] })) self.entry
+            (λ new. (new.setting ≡ self.old.setting)
             × ((p : Phase) → Holds p (O.register office.old) → is_over p ≡ false → Stands p self.old
             → Goes (came self.old.setting p (O.register office.old) command.now).phase result new)
             × (is_closed self.old.state ≡ true → new ≡ self.old))) }
@@ -458,9 +496,11 @@ impl<'b> Session<'b> {
 
     // Says that nothing is next.
     fn close(&mut self, link: Link, done: WhenDone)
-        ensures says { (partner : Entry) → self.new.spoken ≡ (nothing_next partner link done).output }
+        ensures says { (partner : Entry)
+            → self.new.spoken ≡ (nothing_next partner link done).output }
         ensures quiet { (partner : Entry) → (nothing_next partner link done).change ≡ None }
-        ensures goes { (partner : Entry) → self.old.partner ≡ Some partner → Stands (nothing_next partner link done).phase self.new }
+        ensures goes { (partner : Entry) → self.old.partner ≡ Some partner
+            → Stands (nothing_next partner link done).phase self.new }
         ensures fewer { turns_left self.new.state ≡ 0 }
         ensures setting { self.new.setting ≡ self.old.setting }
     {
@@ -475,16 +515,19 @@ impl<'b> Session<'b> {
     fn go_on(&mut self)
         requires { is_closed self.old.state ≡ false }
         ensures does { (p : Phase) (r : Register) → is_over p ≡ false → Stands p self.old
-            → (turned self.old.setting p r).change ≡ None × (self.new.spoken ≡ (turned self.old.setting p r).output)
+            → (turned self.old.setting p r).change ≡ None
+            × (self.new.spoken ≡ (turned self.old.setting p r).output)
             × Stands (turned self.old.setting p r).phase self.new }
-        ensures fewer { is_due self.old.state ≡ true → turns_left self.new.state < turns_left self.old.state }
+        ensures fewer { is_due self.old.state ≡ true
+            → turns_left self.new.state < turns_left self.old.state }
+        ensures idle { is_due self.old.state ≡ false → self.new ≡ record self.old { spoken = [] } }
         ensures setting { self.new.setting ≡ self.old.setting }
     {
         match self.state {
-            State::RespondOpening => self.speak(State::AwaitSsid, &Command::Ssrm),
+            State::ResponderOpening => self.speak(State::AwaitingSsid, &Command::Ssrm),
             State::SpeakerIdle(link, done) => self.close(link, done),
-            State::InitiateOpening
-            | State::AwaitSsid
+            State::InitiatorOpening
+            | State::AwaitingSsid
             | State::ListenerIdle(_)
             | State::Over(_)
             | State::Broken => {
@@ -493,24 +536,35 @@ impl<'b> Session<'b> {
         }
     }
 
-    /// Makes the own command that is due, and answers it as what is to be sent. Where none is due, nothing is sent and nothing is
-    /// changed.
+    /// Makes the own command that is due, and answers it as what is to be sent. Where none is due in a session that goes on, nothing
+    /// is sent and nothing is changed.
     ///
     /// # Errors
     ///
     /// As [`Session::on_command`].
     pub fn turn<O: Office>(&mut self, office: &mut O) -> Result<Out<'_>, SessionFault>
         ensures clean { O.is_clean office.new → O.is_clean office.old }
-        ensures does { O.is_clean office.new → O.stands office.old → (p : Phase) → Holds p (O.register office.old)
-            → is_over p ≡ false → Stands p self.old
-            → Does (turned self.old.setting p (O.register office.old)) (desk O.register O.told office.old)
-            (desk O.register O.told office.new) (rest_of O.holds O.may_leave O.stands office.new) (heard result) }
-        ensures closed { is_closed self.old.state ≡ true → (heard result ≡ Err SessionFault.Ended) × (office.new ≡ office.old) }
-        ensures* goes { sem 𝓛 (Rests (the_row (record { mir = named 1; lft = [] })) self.entry (λ new. (new.setting ≡ self.old.setting)
-            × (O.is_clean office.new → O.stands office.old → (p : Phase) → Holds p (O.register office.old) → is_over p ≡ false
-            → Stands p self.old → Goes (turned self.old.setting p (O.register office.old)).phase result new)
-            × (is_due self.old.state ≡ true → OnOk result (turns_left new.state < turns_left self.old.state))
-            × (is_closed self.old.state ≡ true → new ≡ self.old))) }
+        ensures does { O.is_clean office.new → O.stands office.old
+            → (p : Phase) → Holds p (O.register office.old) → is_over p ≡ false → Stands p self.old
+            → Does (turned self.old.setting p (O.register office.old))
+            (desk O.register O.told office.old) (desk O.register O.told office.new)
+            (rest_of O.holds O.may_leave O.stands office.new) (heard result) }
+        ensures err { is_closed self.old.state ≡ false
+            → IfErr result (λ fault. fault ≡ SessionFault.Office) }
+        ensures idle { is_due self.old.state ≡ false → is_closed self.old.state ≡ false
+            → (heard result ≡ Ok []) × (office.new ≡ office.old) }
+        ensures closed { is_closed self.old.state ≡ true
+            → (heard result ≡ Err SessionFault.Ended) × (office.new ≡ office.old) }
+        ensures* goes { sem 𝓛 (Rests (the_row (record { mir = named 1; lft = [] })) self.entry
+            (λ new. (new.setting ≡ self.old.setting)
+            × (O.is_clean office.new → O.stands office.old
+            → (p : Phase) → Holds p (O.register office.old) → is_over p ≡ false → Stands p self.old
+            → Goes (turned self.old.setting p (O.register office.old)).phase result new)
+            × (is_due self.old.state ≡ true
+            → OnOk result (turns_left new.state < turns_left self.old.state))
+            × (is_closed self.old.state ≡ true → new ≡ self.old)
+            × (is_due self.old.state ≡ false → is_closed self.old.state ≡ false
+            → new ≡ record self.old { spoken = [] }))) }
     {
         if self.is_closed() {
             return Err(SessionFault::Ended);
@@ -525,11 +579,15 @@ impl<'b> Session<'b> {
     ///
     /// [`SessionFault::Ended`] where the session had ended, and then nothing is changed.
     pub fn fail(&mut self, reason: SessionReason) -> Result<Out<'_>, SessionFault>
-        ensures open { (p : Phase) → is_over p ≡ false → Stands p self.old → heard result ≡ Ok (frame_of (esid_of reason)) }
-        ensures broken { self.old.state ≡ State.Broken → heard result ≡ Ok (frame_of (esid_of reason)) }
-        ensures ended { (ending : Ending) → self.old.state ≡ State.Over ending → heard result ≡ Err SessionFault.Ended }
+        ensures open { (p : Phase) → is_over p ≡ false → Stands p self.old
+            → heard result ≡ Ok (frame_of (esid_of reason)) }
+        ensures broken { self.old.state ≡ State.Broken
+            → heard result ≡ Ok (frame_of (esid_of reason)) }
+        ensures ended { (ending : Ending) → self.old.state ≡ State.Over ending
+            → heard result ≡ Err SessionFault.Ended }
         ensures err { IfErr result (λ fault. fault ≡ SessionFault.Ended) }
-        ensures* over { sem 𝓛 (Rests (the_row (record { mir = named 1; lft = [] })) self.entry (λ new. (new.setting ≡ self.old.setting)
+        ensures* over { sem 𝓛 (Rests (the_row (record { mir = named 1; lft = [] })) self.entry
+            (λ new. (new.setting ≡ self.old.setting)
             × OnOk result (Stands (Phase.EndedHere reason) new) × OnErr result (new ≡ self.old))) }
     {
         if let State::Over(_) = self.state {
