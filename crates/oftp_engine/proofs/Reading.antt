@@ -56,6 +56,8 @@ pub gave_on : {R : Type 0} (remaining : R → Option (List ℕ)) (before now nex
 gave_on remaining before now next given piece n g h = record {
   bytes = consumes_on (remaining before.inner) (remaining now.inner) (remaining next.inner) given (take n piece) g.bytes h.bytes;
   count = omega (arith, g.count, h.moved, length-append given (take n piece), length-take-le n piece h.fits);
+  within = omega (arith, g.count, g.within, g.most, h.within, length-append given (take n piece), length-take-le n piece h.fits);
+  most = h.most ∙ g.most;
 }
 
 pub gave_zero : {R : Type 0} (remaining : R → Option (List ℕ)) (before now next : Port R) (given piece : List ℕ) (n : ℕ) → Gave remaining before now given → Gives remaining now next piece n → n ≡ 0 → Gave remaining before next given
@@ -65,6 +67,8 @@ pub gave_kept : {R : Type 0} (remaining : R → Option (List ℕ)) (before now n
 gave_kept remaining before now next given g h = record {
   bytes = subst (λ (x : List ℕ). Consumes (remaining before.inner) (remaining next.inner) x) (append-nil given) (consumes_on (remaining before.inner) (remaining now.inner) (remaining next.inner) given [] g.bytes (keeps_consumes (remaining now.inner) (remaining next.inner) h.bytes));
   count = omega (arith, g.count, h.moved);
+  within = g.within;
+  most = h.most ∙ g.most;
 }
 
 pub read_on : {R : Type 0} (remaining : R → Option (List ℕ)) (before now next : Port R) (given piece : List ℕ) (n : ℕ) (Clean Stood : Type 0) (setting : Setting) (stream fed : Stream) (seen : Seen) (a z : Scene) (la lz : Rest) → Gave remaining before now given → now.faults ≡ before.faults → Gives remaining now next piece n → (Clean → Stood → IsWaiting (started setting a.register) given stream seen a z la lz) → fed ≡ record stream { rest = stream.rest ++ take n piece } → IsReading remaining before next Clean Stood setting fed seen a z la lz

@@ -1,5 +1,5 @@
 -- What a served session leaves, and what it has out: the whole run over the octets that the reader gave.
-use Rattle.std.specs.Prelude.{◌≡◌, ℕ, ◌+◌, ◌<◌, ◌≤◌, ◌⊎◌, ⊤, true, List, ◌++◌, length, take, Option, None, Some, Result, Ok, Err}
+use Rattle.std.specs.Prelude.{◌≡◌, ℕ, ◌+◌, ◌-◌, ◌<◌, ◌≤◌, ◌⊎◌, ⊤, List, ◌++◌, length, take, Option, None, Some, Result, Ok, Err}
 use Rattle.std.specs.Io.KnownBytes.{Consumes}
 use Rattle.oftp_session.specs.Phases.{frame_of, esid_of}
 use Rattle.oftp_wire.specs.declared.reason.SessionReason.TheVariants.{ResourcesNotAvailable}
@@ -18,15 +18,19 @@ use Rattle.oftp_session.specs.declared.session.Ending.TheVariants as own
 use Rattle.oftp_engine.specs.declared.port.Port.{Port}
 use Rattle.oftp_engine.specs.declared.serving.RunFault.{RunFault}
 use Rattle.oftp_engine.specs.declared.serving.RunFault.TheVariants as fault
+use Rattle.oftp_engine.specs.Ports.{IsDone}
 use Rattle.oftp_engine.specs.Runs.{Course, Output, run, started, octets_of, ending, answered}
 use Rattle.oftp_wire.specs.Stream.{Stream}
 use Rattle.oftp_session.specs.Calls.{Seen}
 use Rattle.oftp_engine.specs.Serving.{Scene, Took, IsPumping}
 
--- the octets that a reader gave in a call: as many as its port counts, and the next ones that it had, where these are known
+-- the octets that a reader gave in a call: as many as its port counts, at most as many as the port's limit left, and the next
+-- ones that it had, where these are known
 pub record Gave {R : Type 0} (remaining : R → Option (List ℕ)) (old new : Port R) (given : List ℕ) : Type 0 where
   pub bytes : Consumes (remaining old.inner) (remaining new.inner) given
   pub count : new.moved ≡ old.moved + length given
+  pub within : length given ≤ old.most - old.moved
+  pub most : new.most ≡ old.most
 
 -- the session over these octets, from a register
 abbrev pub whole : Setting → List ℕ → Register → Course
@@ -120,10 +124,10 @@ abbrev pub ReaderTold : {R : Type 0} → Port R → Port R → Result End RunFau
 ReaderTold old new (Ok end) = new.faults ≡ old.faults
 ReaderTold old new (Err fault) = ReaderErr old new fault
 
--- a session ends by its input only where the reader told the end
-abbrev pub InputEnded : {R : Type 0} → Port R → Result End RunFault → Type 0
-InputEnded now (Ok end) = end ≡ Input → now.ended ≡ true
-InputEnded now (Err fault) = ⊤
+-- a session ends by its input only where no more is to come
+abbrev pub InputEnded : {R : Type 0} → (R → Option (List ℕ)) → Port R → Result End RunFault → Type 0
+InputEnded remaining now (Ok end) = end ≡ Input → IsDone remaining now
+InputEnded remaining now (Err fault) = ⊤
 
 -- while it reads: how far it came where the office is clean and stood
 pub record IsReading {R : Type 0} (remaining : R → Option (List ℕ)) (before now : Port R) (Clean Stood : Type 0) (setting : Setting) (stream : Stream) (seen : Seen) (old new : Scene) (rest_old rest_new : Rest) : Type 0 where

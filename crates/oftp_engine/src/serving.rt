@@ -296,7 +296,7 @@ pub fn serve<O: Office, R: Read, W: Write>(
         (rest_of O.holds O.may_leave O.stands office.new) result) }
     ensures clean { O.is_clean office.new → O.is_clean office.old }
     ensures told { ReaderTold reader.old reader.new result }
-    ensures ends { InputEnded reader.new result }
+    ensures ends { InputEnded R.remaining reader.new result }
     ensures out { Puts W.contents writer.old writer.new }
 {
     let mut session = opened(book, role);

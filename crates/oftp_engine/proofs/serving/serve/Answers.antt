@@ -28,7 +28,7 @@ pieces-init g c =
       clean = λ h. h;
       reads = record {
         given = [];
-        gave = record { bytes = consumes_none (g.R.Read.remaining c.args.reader.now.inner) []; count = omega arith };
+        gave = record { bytes = consumes_none (g.R.Read.remaining c.args.reader.now.inner) []; count = omega arith; within = omega arith; most = refl };
         faults = refl;
         pumping = λ clean stood. subst (λ (x : Stream). IsPumping k [] x c.opened-session.result first first lf lf) (sym c.new-stream.ensures) (record {
           come = record { at = k; went = went_none k [] first lf; now = record { setting = c.opened-session.ensures.setting; stands = c.opened-session.ensures.stands; register = refl; holds = holds_all (opening setting.called) (g.O.Office.register c.args.office.now) } };
