@@ -3,10 +3,7 @@ use Rattle.std.proofs.Common.{◌≡◌, ℕ, zero, suc, ◌+◌, ◌-◌, ◌�
 use Rattle.std.proofs.Math.Seq.{take-add}
 use Rattle.std.proofs.lemmas.List.{append-nil, take_at, drop_at}
 use Rattle.std.proofs.lemmas.Bool.{le-ltb, lt-ltb}
-use Rattle.oftp_session.specs.Phases.{frame_of}
 use Rattle.oftp_wire.specs.Stream.{front}
-use Rattle.oftp_session.specs.Phases.{esid_of}
-use Rattle.oftp_wire.specs.declared.reason.SessionReason.TheVariants.{ResourcesNotAvailable}
 use Rattle.oftp_wire.specs.Stream.{Waits}
 use Rattle.oftp_register.specs.declared.change.Change.{Change}
 use Rattle.oftp_register.specs.Register.{Register}
@@ -21,7 +18,7 @@ use Rattle.oftp_register.specs.declared.change.Cause.{Cause}
 use Rattle.oftp_engine.specs.declared.serving.RunFault.{RunFault}
 use Rattle.oftp_engine.specs.declared.serving.RunFault.TheVariants as fault
 use Rattle.oftp_engine.specs.Runs.{Course, Output, run, started, octets_of, answered, advance, is_stopped, with_change}
-use Rattle.oftp_engine.specs.Serving.{Grows, Leads, Reaches, Scene, Took, BreaksOff, IsRefused, IsShort, Fails, Comes, IsOver, Sound, Counted}
+use Rattle.oftp_engine.specs.Serving.{Grows, Leads, Reaches, Scene, Took, BreaksOff, IsRefused, IsShort, Fails, Comes, IsOver, Sound, Counted, last_frame}
 use Rattle.oftp_engine.specs.Served.{whole, broken_off, LeavesPrefix, IsWhole, IsBrokenOff, IsRefusedService, IsOutOfMemory, ServesErr}
 use Rattle.oftp_engine.proofs.Courses.{grows_on, grows_step, run_grows, run_over, run_waits, run_stopped}
 use Rattle.oftp_engine.proofs.Progress.{octets_step}
@@ -160,7 +157,7 @@ is_refused setting given old new lo ln h =
     let se : Sound r (advance h.at h.step) = step.sound r sd in
     let g : Grows h.at w = goes_on setting given r h.at (advance h.at h.step) h.reaches step in
     let ge : Grows (advance h.at h.step) w = goes_past setting given r h.at (advance h.at h.step) h.reaches in
-    let out : Took old new (octets_of h.at.outputs ++ take h.count (frame_of (esid_of ResourcesNotAvailable))) = subst (λ (x : List ℕ). Took old new (x ++ take h.count (frame_of (esid_of ResourcesNotAvailable)))) (sym h.outputs) h.took in
+    let out : Took old new (octets_of h.at.outputs ++ take h.count last_frame) = subst (λ (x : List ℕ). Took old new (x ++ take h.count last_frame)) (sym h.outputs) h.took in
     let kept : answered h.at.outputs (length (octets_of h.at.outputs)) ≤ length h.at.changes = answered_most h.at.outputs (length (octets_of h.at.outputs)) (length h.at.changes) sd.counted in
     let more : length h.at.changes ≤ length (advance h.at h.step).changes = more_changes h.at h.step in
     elim h.cases [
@@ -170,6 +167,7 @@ is_refused setting given old new lo ln h =
         outputs = g.outputs;
         count = h.count;
         out = out;
+        said = h.said;
         made = length h.at.changes;
         kept = kept;
         few = few h.at w g;
@@ -183,6 +181,7 @@ is_refused setting given old new lo ln h =
         outputs = g.outputs;
         count = h.count;
         out = out;
+        said = h.said;
         made = length (advance h.at h.step).changes;
         kept = omega arith;
         few = few (advance h.at h.step) w ge;

@@ -13,7 +13,7 @@ use Rattle.oftp_session.specs.Calls.{Seen}
 use Rattle.oftp_engine.specs.declared.serving.RunFault.{RunFault}
 use Rattle.oftp_engine.specs.declared.serving.RunFault.TheVariants as fault
 use Rattle.oftp_engine.specs.Runs.{Course, Output, advance, run, is_stopped, octets_of, with_output, with_change, turned_in, came_in}
-use Rattle.oftp_engine.specs.Serving.{Leads, Reaches, Scene, Took, Went, Fails, Made, StepFails}
+use Rattle.oftp_engine.specs.Serving.{IsSaid, Leads, Reaches, Scene, Took, Went, Fails, Made, StepFails}
 use Rattle.oftp_engine.proofs.Bytes.{appends_none, appends_on, count_on}
 use Rattle.oftp_engine.proofs.Courses.{grows_none, grows_on, grows_step, octets-append, stopped_before, run_turn, run_frame, run_bad, run_over}
 
@@ -124,6 +124,7 @@ fails_step c step s a b la lb fault.Office r h = record {
   between = [];
   outputs = sym (append-nil (octets_of c.outputs));
   took = h.took;
+  said = h.said;
   cases = h.cases;
   faults = h.faults;
 }
@@ -146,6 +147,9 @@ outputs_later c d at xs ys p q = q ∙ ap (λ (x : List ℕ). x ++ ys) p ∙ app
 
 took_later : (a b z : Scene) (xs ys zs : List ℕ) → Took a b xs → Took b z (ys ++ zs) → Took a z ((xs ++ ys) ++ zs)
 took_later a b z xs ys zs p q = subst (Took a z) (sym (append_assoc xs ys zs)) (took_on a b z xs (ys ++ zs) p q)
+
+said_later : (a b z : Scene) (count : ℕ) → b.told ≡ a.told → IsSaid b z count → IsSaid a z count
+said_later a b z count same h = elim h [ inl all ↦ inl (all.0, all.1 ∙ same) | inr part ↦ inr (part.0, part.1 ∙ ap next_count same) ]
 
 pub fails_later : (c d : Course) (s t : List ℕ) (a b z : Scene) (la lb lz : Rest) (f : RunFault) → Went c s d t a b la lb → Fails d t b z lb lz f → Fails c s a z la lz f
 fails_later c d s t a b z la lb lz fault.Read w h = absurd h
@@ -171,6 +175,7 @@ fails_later c d s t a b z la lb lz fault.Office w h = record {
   between = w.between ++ h.between;
   outputs = outputs_later c d _ w.between h.between w.outputs h.outputs;
   took = took_later a b z w.between h.between _ w.took h.took;
+  said = said_later a b z h.count w.told h.said;
   cases = elim h.cases [ inl x ↦ inl (record { same = x.same; left = x.left }) | inr x ↦ inr (record { same = x.same; left = x.left }) ];
   faults = h.faults ∙ ap next_count w.faults;
 }
@@ -260,6 +265,7 @@ fails_with c s a b la lb fault.Office h = record {
   between = h.between;
   outputs = h.outputs;
   took = h.took;
+  said = h.said;
   cases = h.cases;
   faults = h.faults;
 }

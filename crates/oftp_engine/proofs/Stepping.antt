@@ -6,7 +6,6 @@ use Rattle.oftp_wire.specs.declared.reason.SessionReason.{SessionReason}
 use Rattle.oftp_register.specs.declared.change.Cause.{Cause}
 use Rattle.oftp_session.specs.Phases.{frame_of}
 use Rattle.oftp_session.specs.Phases.{esid_of}
-use Rattle.oftp_wire.specs.declared.reason.SessionReason.TheVariants.{ResourcesNotAvailable}
 use Rattle.oftp_register.specs.declared.change.Change.{Change}
 use Rattle.oftp_register.specs.Register.{Register}
 use Rattle.oftp_register.specs.Changes.{or_else}
@@ -20,13 +19,12 @@ use Rattle.oftp_engine.proofs.Bytes.{appends_none}
 use Rattle.oftp_engine.specs.declared.port.Port.{Port}
 use Rattle.oftp_engine.specs.declared.serving.RunFault.{RunFault}
 use Rattle.oftp_engine.specs.declared.serving.RunFault.TheVariants as fault
-use Rattle.oftp_engine.specs.Ports.{Sent, Wrote}
+use Rattle.oftp_engine.specs.Ports.{Sent}
 use Rattle.oftp_engine.specs.Runs.{Course, advance}
-use Rattle.oftp_engine.specs.Serving.{LastWords, NotMade, NoMemory, Stepped, StepFails, Scene, Took, IsAt, StaysBefore, StaysAfter}
+use Rattle.oftp_engine.specs.Serving.{LastWords, last_frame, NotMade, NoMemory, Stepped, StepFails, Scene, Took, IsAt, StaysBefore, StaysAfter}
 
-pub last_from : {W : Type 0} (contents : W → Option (List ℕ)) (a d : Port W) (said : List ℕ) (b : Bool) → said ≡ frame_of (esid_of ResourcesNotAvailable) → Sent contents a d said b → LastWords contents a d
-last_from contents a d said true e s = record { count = length said; wrote = subst (λ (x : List ℕ). Wrote contents a d (take (length said) x)) e (subst (λ (x : List ℕ). Wrote contents a d x) (sym (take_all (length said) said (omega arith))) s.wrote) }
-last_from contents a d said false e s = record { count = s.count; wrote = subst (λ (x : List ℕ). Wrote contents a d (take s.count x)) e s.wrote }
+pub last_from : {W : Type 0} (contents : W → Option (List ℕ)) (a d : Port W) (said : List ℕ) (all : Bool) → said ≡ last_frame → Sent contents a d said all → LastWords contents a d
+last_from contents a d said all e s = (all, subst (λ (x : List ℕ). Sent contents a d x all) e s)
 
 ok_of : Result (List ℕ) SessionFault → List ℕ
 ok_of (Ok x) = x
@@ -125,12 +123,26 @@ broken_cases x y lo ln c step same (inr h) =
 pub stepped_office : {W : Type 0} (contents : W → Option (List ℕ)) (a d : Port W) (x y : Desk) (lo ln : Rest) (c : Course) (step : Step) →
     IsBroken step.change x y ln → x.register ≡ c.register → LastWords contents a d →
     NotMade c step (at_desk x (contents a.inner) a.moved a.faults) (at_desk y (contents d.inner) d.moved d.faults) lo ln
-stepped_office contents a d x y lo ln c step broken same last = record {
-  count = last.count;
-  took = record { contents = last.wrote.contents; taken = last.wrote.moved };
-  cases = broken_cases x y lo ln c step same broken.cases;
-  faults = broken.faults;
-}
+stepped_office contents a d x y lo ln c step broken same last = at last.0 last.1
+  where
+    whole : take (length last_frame) last_frame ≡ last_frame
+    whole = take_all (length last_frame) last_frame (omega arith)
+
+    at : (all : Bool) → Sent contents a d last_frame all → NotMade c step (at_desk x (contents a.inner) a.moved a.faults) (at_desk y (contents d.inner) d.moved d.faults) lo ln
+    at true s = record {
+      count = length last_frame;
+      took = subst (Took (at_desk x (contents a.inner) a.moved a.faults) (at_desk y (contents d.inner) d.moved d.faults)) (sym whole) (record { contents = s.wrote.contents; taken = s.wrote.moved });
+      said = inl (refl, s.faults);
+      cases = broken_cases x y lo ln c step same broken.cases;
+      faults = broken.faults;
+    }
+    at false s = record {
+      count = s.count;
+      took = record { contents = s.wrote.contents; taken = s.wrote.moved };
+      said = inr (s.short, s.faults);
+      cases = broken_cases x y lo ln c step same broken.cases;
+      faults = broken.faults;
+    }
 
 -- a call that ran out of memory
 pub stepped_memory : {W : Type 0} (contents : W → Option (List ℕ)) (a : Port W) (x y : Desk) (lo ln : Rest) (c : Course) (step : Step) →

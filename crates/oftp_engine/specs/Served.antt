@@ -1,8 +1,6 @@
 -- What a served session leaves, and what it has out: the whole run over the octets that the reader gave.
 use Rattle.std.specs.Prelude.{◌≡◌, ℕ, ◌+◌, ◌-◌, ◌<◌, ◌≤◌, ◌⊎◌, ⊤, List, ◌++◌, length, take, Option, None, Some, Result, Ok, Err}
 use Rattle.std.specs.Io.KnownBytes.{Consumes}
-use Rattle.oftp_session.specs.Phases.{frame_of, esid_of}
-use Rattle.oftp_wire.specs.declared.reason.SessionReason.TheVariants.{ResourcesNotAvailable}
 use Rattle.oftp_register.specs.Register.{Register}
 use Rattle.oftp_register.specs.Changes.{after_all}
 use Rattle.oftp_register.specs.Offices.{Rest, Only, next_count}
@@ -22,7 +20,7 @@ use Rattle.oftp_engine.specs.Ports.{IsDone}
 use Rattle.oftp_engine.specs.Runs.{Course, Output, run, started, octets_of, ending, answered}
 use Rattle.oftp_wire.specs.Stream.{Stream}
 use Rattle.oftp_session.specs.Calls.{Seen}
-use Rattle.oftp_engine.specs.Serving.{Scene, Took, IsPumping}
+use Rattle.oftp_engine.specs.Serving.{Scene, Took, IsPumping, IsSaid, last_frame}
 
 -- the octets that a reader gave in a call: as many as its port counts, at most as many as the port's limit left, and the next
 -- ones that it had, where these are known
@@ -72,14 +70,15 @@ pub record IsBrokenOff (setting : Setting) (given : List ℕ) (old new : Scene) 
   pub faults : new.faults ≡ old.faults
   pub told : new.told ≡ next_count old.told
 
--- the office told a fault: whole outputs are out and a beginning of ESID 08, and the register is the one after some
--- changes, at least those that were answered
+-- the office told a fault: whole outputs are out, and after them ESID 08 or as much of it as the writer took before it told a fault.
+-- The register is the one after some changes, at least those that were answered
 pub record IsRefusedService (setting : Setting) (given : List ℕ) (old new : Scene) (rest : Rest) : Type 0 where
   pub outs : List Output
   pub later : List Output
   pub outputs : (whole setting given old.register).outputs ≡ outs ++ later
   pub count : ℕ
-  pub out : Took old new (octets_of outs ++ take count (frame_of (esid_of ResourcesNotAvailable)))
+  pub out : Took old new (octets_of outs ++ take count last_frame)
+  pub said : IsSaid old new count
   pub made : ℕ
   pub kept : answered outs (length (octets_of outs)) ≤ made
   pub few : made ≤ length (whole setting given old.register).changes

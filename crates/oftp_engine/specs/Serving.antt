@@ -1,5 +1,5 @@
 -- How far the engine has come in a run, for its own functions.
-use Rattle.std.specs.Prelude.{◌≡◌, ℕ, ◌+◌, ◌<◌, ◌%◌, ◌^◌, ◌⊎◌, ⊤, false, ◌≤◌, List, [], ◌∷◌, ◌++◌, length, take, Option, None, Some, Result, Ok, Err}
+use Rattle.std.specs.Prelude.{◌≡◌, ℕ, ◌+◌, ◌<◌, ◌%◌, ◌^◌, ◌⊎◌, ⊤, Bool, false, ◌≤◌, List, [], ◌∷◌, ◌++◌, length, take, Option, None, Some, Result, Ok, Err}
 use Rattle.std.specs.Io.KnownBytes.{Appends}
 use Rattle.oftp_wire.specs.Stream.{Stream, front}
 use Rattle.oftp_wire.specs.Stream.{Waits}
@@ -14,7 +14,7 @@ use Rattle.oftp_session.specs.Calls.{Seen, Stands, ending_of}
 use Rattle.oftp_session.specs.declared.session.Ending.{Ending}
 use Rattle.oftp_engine.specs.Runs.{Course, Output, run, is_stopped, advance, octets_of}
 use Rattle.oftp_engine.specs.declared.port.Port.{Port}
-use Rattle.oftp_engine.specs.Ports.{Wrote}
+use Rattle.oftp_engine.specs.Ports.{Sent}
 use Rattle.oftp_engine.specs.declared.serving.RunFault.{RunFault}
 use Rattle.oftp_engine.specs.declared.serving.RunFault.TheVariants as fault
 
@@ -27,6 +27,10 @@ Counted most (o ∷ outputs) = (o.after ≤ most) × Counted most outputs
 pub record Sound (r : Register) (c : Course) : Type 0 where
   pub replay : c.register ≡ after_all r c.changes
   pub counted : Counted (length c.changes) c.outputs
+
+-- what is said last after a fault of the office
+abbrev pub last_frame : List ℕ
+last_frame = frame_of (esid_of ResourcesNotAvailable)
 
 -- d comes later in a run than c
 pub record Grows (c d : Course) : Type 0 where
@@ -59,6 +63,10 @@ pub record Scene : Type 0 where
 pub record Took (old new : Scene) (octets : List ℕ) : Type 0 where
   pub contents : Appends old.contents new.contents octets
   pub taken : new.taken % 2 ^ 64 ≡ (old.taken + length octets) % 2 ^ 64
+
+-- so many octets of the last frame are out: all, or fewer where the writer told a fault
+abbrev pub IsSaid : Scene → Scene → ℕ → Type 0
+IsSaid old new count = ((count ≡ length last_frame) × (new.told ≡ old.told)) ⊎ ((count < length last_frame) × (new.told ≡ next_count old.told))
 
 -- a session stands where a course stands
 pub record IsAt (c : Course) (seen : Seen) (scene : Scene) : Type 0 where
@@ -110,7 +118,8 @@ pub record IsRefused (c : Course) (s : List ℕ) (old new : Scene) (rest_old res
   pub reaches : Reaches c s at (advance at step)
   pub between : List ℕ
   pub outputs : octets_of at.outputs ≡ octets_of c.outputs ++ between
-  pub took : Took old new (between ++ take count (frame_of (esid_of ResourcesNotAvailable)))
+  pub took : Took old new (between ++ take count last_frame)
+  pub said : IsSaid old new count
   pub cases : StaysBefore c at step new.register rest_old rest_new ⊎ StaysAfter c at step new.register rest_old rest_new
   pub faults : new.faults ≡ next_count old.faults
 
@@ -156,7 +165,8 @@ pub record MadePart (c : Course) (step : Step) (old new : Scene) (rest_old rest_
 -- .. the office told a fault
 pub record NotMade (c : Course) (step : Step) (old new : Scene) (rest_old rest_new : Rest) : Type 0 where
   pub count : ℕ
-  pub took : Took old new (take count (frame_of (esid_of ResourcesNotAvailable)))
+  pub took : Took old new (take count last_frame)
+  pub said : IsSaid old new count
   pub cases : StaysBefore c c step new.register rest_old rest_new ⊎ StaysAfter c c step new.register rest_old rest_new
   pub faults : new.faults ≡ next_count old.faults
 
@@ -178,10 +188,9 @@ abbrev pub Stepped : {T : Type 0} → Course → Step → Seen → Scene → Sce
 Stepped c step seen old new rest_old rest_new (Ok x) = Made c step seen old new rest_old rest_new
 Stepped c step seen old new rest_old rest_new (Err fault) = StepFails c step old new rest_old rest_new fault
 
--- a beginning of ESID 08 is out
-pub record LastWords {W : Type 0} (contents : W → Option (List ℕ)) (old new : Port W) : Type 0 where
-  pub count : ℕ
-  pub wrote : Wrote contents old new (take count (frame_of (esid_of ResourcesNotAvailable)))
+-- the last frame is out, or the writer told a fault within it
+abbrev pub LastWords : {W : Type 0} → (W → Option (List ℕ)) → Port W → Port W → Type 0
+LastWords contents old new = (all : Bool) × Sent contents old new last_frame all
 
 -- .. of an office and a writer's port, by what they tell
 abbrev pub scene : {O W : Type 0} → (O → Register) → (O → ℕ) → (W → Option (List ℕ)) → O → Port W → Scene
