@@ -1,11 +1,13 @@
 -- What a run does, one event at a time.
 use Rattle.oftp_wire.specs.declared.reason.SessionReason.TheVariants.{ProtocolViolation}
-use Rattle.std.proofs.Common.{◌≡◌, ℕ, zero, suc, ◌+◌, ◌≤◌, ◌<◌, Bool, true, false, cond, not, ◌&&◌, ◌||◌, List, [], ◌∷◌, ◌++◌, length, drop, Option, None, Some, refl, sym, ap, ◌∙◌, subst, arith, append_assoc, length-append, length-drop}
+use Rattle.std.proofs.Common.{◌≡◌, ℕ, zero, suc, ◌+◌, ◌≤◌, ◌<◌, Bool, true, false, cond, not, ◌&&◌, ◌||◌, List, [], ◌∷◌, ◌++◌, length, drop, Option, None, Some, Ok, refl, sym, ap, ◌∙◌, subst, arith, append_assoc, length-append, length-drop}
 use Rattle.std.proofs.lemmas.List.{append-nil}
 use Rattle.std.proofs.lemmas.Bool.{ltb-false, le-ltb, and_parts}
 use Rattle.oftp_register.specs.Register.{Register}
-use Rattle.oftp_register.specs.Changes.{apply, or_else, after_all}
+use Rattle.oftp_register.specs.Changes.{apply_all}
 use Rattle.oftp_register.specs.declared.change.Change.{Change}
+use Rattle.oftp_register.proofs.PrefixLemmas.{made_on}
+use Rattle.oftp_wire.specs.Kinds.{command_of}
 use Rattle.oftp_wire.specs.Stream.{front, command_in, IsWithin}
 use Rattle.oftp_wire.specs.Stream.{Head, Whole, Waits, Bad}
 use Rattle.oftp_wire.proofs.Streams.{front_within}
@@ -13,7 +15,8 @@ use Rattle.oftp_session.specs.Phases.{Phase, Step, register_after, fails}
 use Rattle.oftp_session.specs.Steps.{has_turn, turned, turns_due, is_over}
 use Rattle.oftp_session.proofs.Phases.{turn_falls, over_no_turn}
 use Rattle.oftp_engine.specs.Runs.{Course, Output, octets_of, with_change, with_output, advance, came_in, turned_in, is_stopped, turns, settled, on_front, next_in, run_by, run}
-use Rattle.oftp_engine.specs.Serving.{Grows, Sound, Counted}
+use Rattle.oftp_engine.specs.Serving.{Allows, Grows, Sound, Counted}
+use Rattle.oftp_engine.proofs.Accepted.{step_allowed, turn_allowed}
 
 -- a course that grows
 
@@ -37,13 +40,9 @@ change_later : (changes : List Change) (k : Option Change) → (later : List Cha
 change_later changes None = ([], sym (append-nil changes))
 change_later changes (Some k) = (k ∷ [], refl)
 
-after_all_push : (r : Register) (ks : List Change) (k : Change) → after_all r (ks ++ k ∷ []) ≡ or_else (apply (after_all r ks) k) (after_all r ks)
-after_all_push r [] k = refl
-after_all_push r (x ∷ ks) k = after_all_push (or_else (apply r x) r) ks k
-
-replay_step : (r x : Register) (ks : List Change) (k : Option Change) → x ≡ after_all r ks → register_after x k ≡ after_all r (with_change ks k)
-replay_step r x ks None h = h
-replay_step r x ks (Some k) h = ap (λ (y : Register). or_else (apply y k) y) h ∙ sym (after_all_push r ks k)
+replay_step : (r x : Register) (ks : List Change) (k : Option Change) → apply_all r ks ≡ Ok x → Allows x k → apply_all r (with_change ks k) ≡ Ok (register_after x k)
+replay_step r x ks None h allows = h
+replay_step r x ks (Some k) h allows = made_on r x (register_after x (Some k)) ks k h allows
 
 counted_more : (m n : ℕ) (outputs : List Output) → m ≤ n → Counted m outputs → Counted n outputs
 counted_more m n [] le h = tt
@@ -61,19 +60,19 @@ more_changes : (ks : List Change) (k : Option Change) → length ks ≤ length (
 more_changes ks None = omega arith
 more_changes ks (Some k) = omega (arith, length-append ks (k ∷ []))
 
-sound_step : (r : Register) (c : Course) (s : Step) → Sound r c → Sound r (advance c s)
+sound_step : (r : Register) (c : Course) (s : Step) → Allows c.register s.change → Sound r c → Sound r (advance c s)
 unfolding advance
-sound_step r c s h = record {
-  replay = replay_step r c.register c.changes s.change h.replay;
+sound_step r c s allows h = record {
+  replay = replay_step r c.register c.changes s.change h.replay allows;
   counted = counted_output (length (with_change c.changes s.change)) c.outputs s.output (counted_more (length c.changes) (length (with_change c.changes s.change)) c.outputs (more_changes c.changes s.change) h.counted);
 }
 
-pub grows_step : (c : Course) (s : Step) → Grows c (advance c s)
+pub grows_step : (c : Course) (s : Step) → Allows c.register s.change → Grows c (advance c s)
 unfolding advance
-grows_step c s =
+grows_step c s allows =
     let o = output_later c.outputs s.output (length (with_change c.changes s.change)) in
     let k = change_later c.changes s.change in
-    record { later_outputs = o.0; outputs = o.1; later_changes = k.0; changes = k.1; sound = λ r h. sound_step r c s h }
+    record { later_outputs = o.0; outputs = o.1; later_changes = k.0; changes = k.1; sound = λ r h. sound_step r c s allows h }
 
 pub phase_step : (c : Course) (s : Step) → (advance c s).phase ≡ s.phase
 unfolding advance
@@ -156,7 +155,7 @@ settle_stopped limit c h = quiet_turns (turns_due c.phase) limit c (stops (has_t
 turns_grow : (n : ℕ) (limit : Option ℕ) (c : Course) → Grows c (turns n limit c)
 unfolding turns
 turns_grow zero limit c = grows_none c
-turns_grow (suc n) limit c = either (has_turn c.phase && not (is_stopped limit c)) (turns n limit (turned_in c)) (grows_on c (turned_in c) _ (grows_step c (turned c.setting c.phase c.register)) (turns_grow n limit (turned_in c)))
+turns_grow (suc n) limit c = either (has_turn c.phase && not (is_stopped limit c)) (turns n limit (turned_in c)) (grows_on c (turned_in c) _ (grows_step c (turned c.setting c.phase c.register) (turn_allowed c.setting c.phase c.register)) (turns_grow n limit (turned_in c)))
   where
     either : (b : Bool) (d : Course) → Grows c d → Grows c (cond b d c)
     either true d g = g
@@ -248,9 +247,9 @@ grows_either d false e g = g
 
 front_grows : (go_on : List ℕ → Course → Course) (s : List ℕ) (d : Course) (f : Head) → ((t : List ℕ) (e : Course) → Grows e (go_on t e)) → Grows d (on_front go_on s d f)
 unfolding on_front
-front_grows go_on s d (Whole k) h = grows_on d (came_in d (command_in k s)) _ (grows_step d _) (h (drop k s) (came_in d (command_in k s)))
+front_grows go_on s d (Whole k) h = grows_on d (came_in d (command_in k s)) _ (grows_step d _ (step_allowed d.setting d.phase d.register (command_of (command_in k s)))) (h (drop k s) (came_in d (command_in k s)))
 front_grows go_on s d Waits h = grows_none d
-front_grows go_on s d (Bad fault) h = grows_step d (fails ProtocolViolation)
+front_grows go_on s d (Bad fault) h = grows_step d (fails ProtocolViolation) refl
 
 run_by_grows : (n : ℕ) (limit : Option ℕ) (s : List ℕ) (c : Course) → Grows c (run_by n limit s c)
 unfolding run_by next_in

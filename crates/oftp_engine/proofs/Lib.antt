@@ -1,3 +1,4 @@
+pub mod Accepted
 pub mod Bytes
 pub mod Courses
 pub mod Ending

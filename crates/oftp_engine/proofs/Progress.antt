@@ -13,8 +13,9 @@ use Rattle.oftp_session.specs.Calls.{Seen}
 use Rattle.oftp_engine.specs.declared.serving.RunFault.{RunFault}
 use Rattle.oftp_engine.specs.declared.serving.RunFault.TheVariants as fault
 use Rattle.oftp_engine.specs.Runs.{Course, Output, advance, run, is_stopped, octets_of, with_output, with_change, turned_in, came_in}
-use Rattle.oftp_engine.specs.Serving.{IsSaid, Leads, Reaches, Scene, Took, Went, Fails, Made, StepFails}
+use Rattle.oftp_engine.specs.Serving.{Allows, IsSaid, Leads, Reaches, Scene, Took, Went, Fails, Made, StepFails}
 use Rattle.oftp_engine.proofs.Bytes.{appends_none, appends_on, count_on}
+use Rattle.oftp_engine.proofs.Accepted.{turn_allowed}
 use Rattle.oftp_engine.proofs.Courses.{grows_none, grows_on, grows_step, octets-append, stopped_before, run_turn, run_frame, run_bad, run_over}
 
 -- what the writer took
@@ -59,8 +60,10 @@ pub reaches_itself : (c : Course) (s : List ℕ) → Reaches c s c c
 reaches_itself c s = record { grows = grows_none c; same = λ more limit h. (s ++ more, refl) }
 
 -- what led to a step leads past it
-pub leads_step : (c : Course) (step : Step) (s t : List ℕ) → ((more : List ℕ) (limit : Option ℕ) → is_stopped limit c ≡ false → run limit (s ++ more) c ≡ run limit (t ++ more) (advance c step)) → Leads c s (advance c step) t
-leads_step c step s t h = record { grows = grows_step c step; same = λ more limit stopped. h more limit (stopped_before limit c (advance c step) (grows_step c step) stopped) }
+pub leads_step : (c : Course) (step : Step) (s t : List ℕ) → Allows c.register step.change → ((more : List ℕ) (limit : Option ℕ) → is_stopped limit c ≡ false → run limit (s ++ more) c ≡ run limit (t ++ more) (advance c step)) → Leads c s (advance c step) t
+leads_step c step s t allows h =
+    let grows = grows_step c step allows in
+    record { grows = grows; same = λ more limit stopped. h more limit (stopped_before limit c (advance c step) grows stopped) }
 
 pub reaches_step : (c : Course) (step : Step) (s t : List ℕ) → ((more : List ℕ) (limit : Option ℕ) → is_stopped limit c ≡ false → run limit (s ++ more) c ≡ run limit (t ++ more) (advance c step)) → Reaches c s c (advance c step)
 reaches_step c step s t h = record { grows = grows_none c; same = λ more limit stopped. (t ++ more, h more limit stopped) }
@@ -100,9 +103,9 @@ went_step c step s t seen a b la lb leads made = record {
   told = made.told;
 }
 
-pub fails_step : (c : Course) (step : Step) (s : List ℕ) (a b : Scene) (la lb : Rest) (f : RunFault) → Reaches c s c (advance c step) → StepFails c step a b la lb f → Fails c s a b la lb f
-fails_step c step s a b la lb fault.Read r h = absurd h
-fails_step c step s a b la lb fault.Write r h = record {
+pub fails_step : (c : Course) (step : Step) (s : List ℕ) (a b : Scene) (la lb : Rest) (f : RunFault) → Allows c.register step.change → Reaches c s c (advance c step) → StepFails c step a b la lb f → Fails c s a b la lb f
+fails_step c step s a b la lb fault.Read allows r h = absurd h
+fails_step c step s a b la lb fault.Write allows r h = record {
   at = c;
   step = step;
   count = h.count;
@@ -116,7 +119,7 @@ fails_step c step s a b la lb fault.Write r h = record {
   faults = h.faults;
   told = h.told;
 }
-fails_step c step s a b la lb fault.Office r h = record {
+fails_step c step s a b la lb fault.Office allows r h = record {
   at = c;
   step = step;
   count = h.count;
@@ -125,14 +128,15 @@ fails_step c step s a b la lb fault.Office r h = record {
   outputs = sym (append-nil (octets_of c.outputs));
   took = h.took;
   said = h.said;
+  allows = allows;
   cases = h.cases;
   faults = h.faults;
 }
-fails_step c step s a b la lb fault.Memory r h = record {
+fails_step c step s a b la lb fault.Memory allows r h = record {
   at = c;
   next = advance c step;
   reaches = r;
-  later = grows_step c step;
+  later = grows_step c step allows;
   between = [];
   outputs = sym (append-nil (octets_of c.outputs));
   took = h.took;
@@ -176,6 +180,7 @@ fails_later c d s t a b z la lb lz fault.Office w h = record {
   outputs = outputs_later c d _ w.between h.between w.outputs h.outputs;
   took = took_later a b z w.between h.between _ w.took h.took;
   said = said_later a b z h.count w.told h.said;
+  allows = h.allows;
   cases = elim h.cases [ inl x ↦ inl (record { same = x.same; left = x.left }) | inr x ↦ inr (record { same = x.same; left = x.left }) ];
   faults = h.faults ∙ ap next_count w.faults;
 }
@@ -196,7 +201,7 @@ fails_later c d s t a b z la lb lz fault.Memory w h = record {
 -- a due turn, whatever is there to be read
 
 pub leads_turn : (c : Course) (s : List ℕ) → has_turn c.phase ≡ true → Leads c s (turned_in c) s
-leads_turn c s h = leads_step c (turned c.setting c.phase c.register) s s (λ more limit stopped. run_turn limit (s ++ more) c h stopped)
+leads_turn c s h = leads_step c (turned c.setting c.phase c.register) s s (turn_allowed c.setting c.phase c.register) (λ more limit stopped. run_turn limit (s ++ more) c h stopped)
 
 pub reaches_turn : (c : Course) (s : List ℕ) → has_turn c.phase ≡ true → Reaches c s c (turned_in c)
 reaches_turn c s h = reaches_step c (turned c.setting c.phase c.register) s s (λ more limit stopped. run_turn limit (s ++ more) c h stopped)
@@ -266,6 +271,7 @@ fails_with c s a b la lb fault.Office h = record {
   outputs = h.outputs;
   took = h.took;
   said = h.said;
+  allows = h.allows;
   cases = h.cases;
   faults = h.faults;
 }

@@ -35,7 +35,7 @@ unfolding ok_of
 ok_same x y e = ap ok_of e
 
 -- the register and what a stop leaves, after a step that was made
-made_register : (change : Option Change) (r new : Register) → Makes change r new → new ≡ register_after r change
+pub made_register : (change : Option Change) (r new : Register) → Makes change r new → new ≡ register_after r change
 made_register None r new h = h
 made_register (Some k) r new h = sym (ap (λ (x : Result Register Cause). or_else x r) h)
 

@@ -21,19 +21,17 @@ pub record Output : Type 0 where
   pub octets : List ℕ
   pub after : ℕ
 
--- a session so far: its book, its phase, the register, the changes that were accepted, the frames that went out and the phases
--- that it came to, in order
+-- a session so far: its book, its phase, the register, the changes that were made and the frames that went out, in order
 pub record Course : Type 0 where
   pub setting : Setting
   pub phase : Phase
   pub register : Register
   pub changes : List Change
   pub outputs : List Output
-  pub phases : List Phase
 
 -- a session before its first step
 abbrev pub started : Setting → Register → Course
-started setting r = record { setting = setting; phase = opening setting.called; register = r; changes = []; outputs = []; phases = [] }
+started setting r = record { setting = setting; phase = opening setting.called; register = r; changes = []; outputs = [] }
 
 abbrev pub octets_of : List Output → List ℕ
 octets_of outputs = flat_map (λ o. o.octets) outputs
@@ -54,7 +52,6 @@ advance c s = record {
   register = register_after c.register s.change;
   changes = with_change c.changes s.change;
   outputs = with_output c.outputs s.output (length (with_change c.changes s.change));
-  phases = c.phases ++ s.phase ∷ [];
 }
 
 -- octets that spell no command end the session, for the reason that their fault has

@@ -2,7 +2,7 @@
 use Rattle.std.specs.Prelude.{◌≡◌, ℕ, ◌+◌, ◌-◌, ◌<◌, ◌≤◌, ◌⊎◌, ⊤, List, ◌++◌, length, take, Option, None, Some, Result, Ok, Err}
 use Rattle.std.specs.Io.KnownBytes.{Consumes}
 use Rattle.oftp_register.specs.Register.{Register}
-use Rattle.oftp_register.specs.Changes.{after_all}
+use Rattle.oftp_register.specs.Changes.{apply_all}
 use Rattle.oftp_register.specs.Offices.{Rest, Only, next_count}
 use Rattle.oftp_engine.specs.declared.serving.End.{End}
 use Rattle.oftp_session.specs.Settings.{Setting}
@@ -38,14 +38,16 @@ whole setting given r = run None given (started setting r)
 abbrev pub broken_off : Setting → ℕ → List ℕ → Register → Course
 broken_off setting taken given r = run (Some taken) given (started setting r)
 
--- what a stop leaves holds the register after n of the run's changes, from so many on, where the office's register is the
--- one after n or n - 1 of them
+-- what a stop leaves holds the register after n of the run's changes, all made, from so many on, where the office's register is
+-- the one after n or n - 1 of them
 pub record IsPrefix {C : Type 0} (holds' : C → Register → Type 0) (c : Course) (r : Register) (low made : ℕ) (content : C) : Type 0 where
   pub count : ℕ
   pub least : low ≤ count
   pub most : count ≤ length c.changes
   pub near : (made ≡ count) ⊎ (made + 1 ≡ count)
-  pub holds : holds' content (after_all r (take count c.changes))
+  pub register : Register
+  pub replay : apply_all r (take count c.changes) ≡ Ok register
+  pub holds : holds' content register
 
 abbrev pub LeavesPrefix : Course → Register → ℕ → ℕ → Rest → Type 0
 LeavesPrefix c r least made rest = (content : rest.Content) → rest.may_leave content → IsPrefix rest.holds c r least made content
@@ -54,6 +56,7 @@ LeavesPrefix c r least made rest = (content : rest.Content) → rest.may_leave c
 pub record IsWhole (setting : Setting) (given : List ℕ) (old new : Scene) (rest : Rest) : Type 0 where
   pub out : Took old new (octets_of (whole setting given old.register).outputs)
   pub register : new.register ≡ (whole setting given old.register).register
+  pub replay : apply_all old.register (whole setting given old.register).changes ≡ Ok new.register
   pub stands : rest.stands
   pub left : Only new.register rest
   pub faults : new.faults ≡ old.faults
@@ -65,6 +68,7 @@ pub record IsBrokenOff (setting : Setting) (given : List ℕ) (old new : Scene) 
   pub short : taken < length (octets_of (broken_off setting taken given old.register).outputs)
   pub out : Took old new (take taken (octets_of (broken_off setting taken given old.register).outputs))
   pub register : new.register ≡ (broken_off setting taken given old.register).register
+  pub replay : apply_all old.register (broken_off setting taken given old.register).changes ≡ Ok new.register
   pub stands : rest.stands
   pub left : Only new.register rest
   pub faults : new.faults ≡ old.faults
@@ -82,7 +86,7 @@ pub record IsRefusedService (setting : Setting) (given : List ℕ) (old new : Sc
   pub made : ℕ
   pub kept : answered outs (length (octets_of outs)) ≤ made
   pub few : made ≤ length (whole setting given old.register).changes
-  pub register : rest.stands → new.register ≡ after_all old.register (take made (whole setting given old.register).changes)
+  pub register : rest.stands → apply_all old.register (take made (whole setting given old.register).changes) ≡ Ok new.register
   pub left : LeavesPrefix (whole setting given old.register) old.register (answered outs (length (octets_of outs))) made rest
   pub faults : new.faults ≡ next_count old.faults
 
@@ -95,7 +99,7 @@ pub record IsOutOfMemory (setting : Setting) (given : List ℕ) (old new : Scene
   pub made : ℕ
   pub kept : answered outs (length (octets_of outs)) ≤ made
   pub few : made ≤ length (whole setting given old.register).changes
-  pub register : new.register ≡ after_all old.register (take made (whole setting given old.register).changes)
+  pub register : apply_all old.register (take made (whole setting given old.register).changes) ≡ Ok new.register
   pub stands : rest.stands
   pub left : Only new.register rest
   pub faults : new.faults ≡ old.faults

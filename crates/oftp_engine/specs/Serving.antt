@@ -6,11 +6,11 @@ use Rattle.oftp_wire.specs.Stream.{Waits}
 use Rattle.oftp_wire.specs.declared.reason.SessionReason.TheVariants.{ResourcesNotAvailable}
 use Rattle.oftp_register.specs.declared.change.Change.{Change}
 use Rattle.oftp_register.specs.Register.{Register}
-use Rattle.oftp_register.specs.Changes.{after_all}
+use Rattle.oftp_register.specs.Changes.{apply_all}
 use Rattle.oftp_register.specs.Offices.{Rest, Only, WithOrWithout, next_count}
-use Rattle.oftp_session.specs.Phases.{Step, frame_of, esid_of}
+use Rattle.oftp_session.specs.Phases.{Step, register_after, frame_of, esid_of}
 use Rattle.oftp_session.specs.Steps.{has_turn, is_over, Holds}
-use Rattle.oftp_session.specs.Calls.{Seen, Stands, ending_of}
+use Rattle.oftp_session.specs.Calls.{Makes, Seen, Stands, ending_of}
 use Rattle.oftp_session.specs.declared.session.Ending.{Ending}
 use Rattle.oftp_engine.specs.Runs.{Course, Output, run, is_stopped, advance, octets_of}
 use Rattle.oftp_engine.specs.declared.port.Port.{Port}
@@ -23,9 +23,13 @@ abbrev pub Counted : ℕ → List Output → Type 0
 Counted most [] = Unit {0}
 Counted most (o ∷ outputs) = (o.after ≤ most) × Counted most outputs
 
--- the register is the one after the changes, from r on
+-- the change of a step, if it makes one, is one that the register takes
+abbrev pub Allows : Register → Option Change → Type 0
+Allows r change = Makes change r (register_after r change)
+
+-- the register is the one after the changes, from r on, all of them made
 pub record Sound (r : Register) (c : Course) : Type 0 where
-  pub replay : c.register ≡ after_all r c.changes
+  pub replay : apply_all r c.changes ≡ Ok c.register
   pub counted : Counted (length c.changes) c.outputs
 
 -- what is said last after a fault of the office
@@ -120,6 +124,7 @@ pub record IsRefused (c : Course) (s : List ℕ) (old new : Scene) (rest_old res
   pub outputs : octets_of at.outputs ≡ octets_of c.outputs ++ between
   pub took : Took old new (between ++ take count last_frame)
   pub said : IsSaid old new count
+  pub allows : Allows at.register step.change
   pub cases : StaysBefore c at step new.register rest_old rest_new ⊎ StaysAfter c at step new.register rest_old rest_new
   pub faults : new.faults ≡ next_count old.faults
 

@@ -278,9 +278,11 @@ fn opened<'b>(book: &'b Book, role: Role<'b>) -> Session<'b>
 ///
 /// # Errors
 ///
-/// [`RunFault::Read`] and [`RunFault::Write`] only where that port told a fault; the register is then that of all that was
-/// answered. [`RunFault::Office`] where the office told a fault: an ESID 08 was written if the writer took it, and the register
-/// is the one after a prefix of the session's changes, with each that was answered. [`RunFault::Memory`] where a growth was refused.
+/// [`RunFault::Read`] only where the reader told a fault: all that came before it is answered and made. [`RunFault::Write`] only
+/// where the writer told one: the register then has each change that was answered, and that one too whose answer was being
+/// written. [`RunFault::Office`] where the office told a fault: an ESID 08 was written as far as the writer took it, and the
+/// register is the one after a prefix of the session's changes, with each that was answered. [`RunFault::Memory`] where a growth
+/// was refused: the register is such a one too.
 pub fn serve<O: Office, R: Read, W: Write>(
     alloc: Global,
     office: &mut O,
