@@ -9,17 +9,18 @@ use Rattle.oftp_register.specs.declared.change.Change.{Change}
 use Rattle.oftp_register.specs.Register.{Register}
 use Rattle.oftp_register.specs.Changes.{apply_all}
 use Rattle.oftp_register.specs.Offices.{Rest, Only, WithOrWithout}
-use Rattle.oftp_session.specs.Phases.{Phase, RespondOpening, InitiateOpening, AwaitSsid, ListenerIdle, SpeakerIdle, EndedHere, EndedThere, Step, register_after}
-use Rattle.oftp_session.specs.Steps.{has_turn, is_over}
+use Rattle.oftp_session.specs.Phases.{Step, register_after}
+use Rattle.oftp_session.specs.Steps.{has_turn}
 use Rattle.oftp_session.specs.Settings.{Setting}
 use Rattle.oftp_session.specs.declared.session.Ending.{Ending}
-use Rattle.oftp_session.specs.Calls.{Seen, ending_of}
+use Rattle.oftp_session.specs.Calls.{Seen}
 use Rattle.oftp_engine.specs.declared.serving.RunFault.{RunFault}
 use Rattle.oftp_engine.specs.declared.serving.RunFault.TheVariants as fault
 use Rattle.oftp_engine.specs.Runs.{Course, Output, run, started, octets_of, answered, advance, is_stopped, with_change}
 use Rattle.oftp_engine.specs.Serving.{Grows, Leads, Reaches, Scene, Took, BreaksOff, IsRefused, IsShort, Fails, Comes, IsOver, Sound, Counted, last_frame}
 use Rattle.oftp_engine.specs.Served.{whole, broken_off, LeavesPrefix, IsWhole, IsBrokenOff, IsRefusedService, IsOutOfMemory, ServesErr}
 use Rattle.oftp_engine.proofs.Courses.{grows_on, grows_step, run_grows, run_over, run_waits, run_stopped}
+use Rattle.oftp_engine.proofs.Phases.{over_from}
 use Rattle.oftp_engine.proofs.Progress.{octets_step}
 use Rattle.oftp_engine.proofs.Stepping.{made_register}
 
@@ -37,15 +38,6 @@ run_sound limit setting given r = (run_grows limit given (started setting r)).so
 -- the register is the one after all the run's changes
 replay_all : (limit : Option ℕ) (setting : Setting) (given : List ℕ) (r now : Register) → now ≡ (run limit given (started setting r)).register → apply_all r (run limit given (started setting r)).changes ≡ Ok now
 replay_all limit setting given r now same = (run_sound limit setting given r).replay ∙ ap Ok (sym same)
-
-over_from : (p : Phase) (e : Ending) → Some e ≡ ending_of p → is_over p ≡ true
-over_from RespondOpening e h = absurd (let no : ⊥ = cc in no)
-over_from (InitiateOpening partner) e h = absurd (let no : ⊥ = cc in no)
-over_from AwaitSsid e h = absurd (let no : ⊥ = cc in no)
-over_from (ListenerIdle partner link) e h = absurd (let no : ⊥ = cc in no)
-over_from (SpeakerIdle partner link done) e h = absurd (let no : ⊥ = cc in no)
-over_from (EndedHere reason) e h = refl
-over_from (EndedThere reason) e h = refl
 
 -- what the run over all the octets comes to
 whole_is : (setting : Setting) (given t : List ℕ) (r : Register) (d : Course) → Leads (started setting r) given d t → run None (t ++ []) d ≡ d → whole setting given r ≡ d

@@ -1,8 +1,8 @@
-pub mod Accepted
 pub mod Bytes
 pub mod Courses
 pub mod Ending
 pub mod Folding
+pub mod Phases
 pub mod Progress
 pub mod Reading
 pub mod Pumping

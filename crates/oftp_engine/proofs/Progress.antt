@@ -15,7 +15,7 @@ use Rattle.oftp_engine.specs.declared.serving.RunFault.TheVariants as fault
 use Rattle.oftp_engine.specs.Runs.{Course, Output, advance, run, is_stopped, octets_of, with_output, with_change, turned_in, came_in}
 use Rattle.oftp_engine.specs.Serving.{Allows, IsSaid, Leads, Reaches, Scene, Took, Went, Fails, Made, StepFails}
 use Rattle.oftp_engine.proofs.Bytes.{appends_none, appends_on, count_on}
-use Rattle.oftp_engine.proofs.Accepted.{turn_allowed}
+use Rattle.oftp_engine.proofs.Phases.{turn_allowed}
 use Rattle.oftp_engine.proofs.Courses.{grows_none, grows_on, grows_step, octets-append, stopped_before, run_turn, run_frame, run_bad, run_over}
 
 -- what the writer took

@@ -13,27 +13,14 @@ use Rattle.oftp_wire.specs.Stream.{Whole, Waits, Bad}
 use Rattle.oftp_register.specs.Offices.{Rest}
 use Rattle.oftp_session.specs.declared.session.Ending.{Ending}
 use Rattle.oftp_session.specs.declared.session.Ending.TheVariants.{Own}
-use Rattle.oftp_session.specs.Phases.{Phase, RespondOpening, InitiateOpening, AwaitSsid, ListenerIdle, SpeakerIdle, EndedHere, EndedThere, Step, fails}
+use Rattle.oftp_session.specs.Phases.{Step, fails}
 use Rattle.oftp_session.specs.Steps.{has_turn, is_over}
 use Rattle.oftp_session.specs.Calls.{Seen, ending_of}
 use Rattle.oftp_engine.specs.declared.serving.RunFault.{RunFault}
 use Rattle.oftp_engine.specs.Runs.{Course, advance, run, is_stopped, step_on}
 use Rattle.oftp_engine.specs.Serving.{Scene, Fails, Made, StepFails, Stepped, Settles, Comes, IsOver}
-use Rattle.oftp_engine.proofs.Accepted.{step_allowed}
+use Rattle.oftp_engine.proofs.Phases.{step_allowed}
 use Rattle.oftp_engine.proofs.Progress.{went_on, went_with, went_step, fails_step, fails_later, fails_with, leads_step, reaches_step, leads_frame, leads_bad}
-
--- a session that has not ended goes on
-pub live_from : (p : Phase) (e : Option Ending) → e ≡ ending_of p → e ≡ None → is_over p ≡ false
-live_from p e h none = at p (sym h ∙ none)
-  where
-    at : (q : Phase) → ending_of q ≡ None → is_over q ≡ false
-    at RespondOpening h = refl
-    at (InitiateOpening partner) h = refl
-    at AwaitSsid h = refl
-    at (ListenerIdle partner link) h = refl
-    at (SpeakerIdle partner link done) h = refl
-    at (EndedHere reason) h = absurd (let no : ⊥ = cc in no)
-    at (EndedThere reason) h = absurd (let no : ⊥ = cc in no)
 
 pub record IsSettled (c : Course) (s t : List ℕ) (seen : Seen) (old new : Scene) (left_old left_new : Rest) : Type 0 where
   pub come : Comes c s t seen old new left_old left_new

@@ -6,16 +6,13 @@ use Rattle.std.specs.Result.{OnOk}
 use Rattle.std.specs.Io.KnownBytes.{Consumes}
 use Rattle.oftp_wire.specs.Stream.{Stream}
 use Rattle.oftp_session.specs.declared.session.Ending.{Ending}
-use Rattle.oftp_engine.specs.declared.serving.End.TheVariants.{Input}
-use Rattle.oftp_session.specs.Phases.{Phase, RespondOpening, InitiateOpening, AwaitSsid, ListenerIdle, SpeakerIdle, EndedHere, EndedThere}
-use Rattle.oftp_session.specs.Steps.{is_over}
 use Rattle.oftp_session.specs.Settings.{Setting}
-use Rattle.oftp_session.specs.Calls.{Seen, ending_of}
+use Rattle.oftp_session.specs.Calls.{Seen}
 use Rattle.oftp_engine.specs.declared.port.Port.{Port}
 use Rattle.oftp_engine.specs.Ports.{Gives, GivesNothing}
-use Rattle.oftp_engine.specs.Runs.{Course, started, run, is_stopped, ending}
+use Rattle.oftp_engine.specs.Runs.{Course, started, run, is_stopped}
 use Rattle.oftp_engine.specs.Serving.{Leads, Scene, Comes, IsOver, IsWaiting, IsPumping, IsShort}
-use Rattle.oftp_engine.specs.Served.{Gave, IsReading, ended_as}
+use Rattle.oftp_engine.specs.Served.{Gave, IsReading}
 use Rattle.oftp_engine.proofs.Bytes.{consumes_on, keeps_consumes}
 use Rattle.oftp_register.specs.Offices.{Rest}
 use Rattle.oftp_engine.proofs.Courses.{grows_none}
@@ -101,29 +98,6 @@ short_on k s t x seen a z la lz h = record {
   where
     leads_at : (more : List ℕ) (limit : Option ℕ) → is_stopped limit h.at ≡ false → run limit ((s ++ x) ++ more) k ≡ run limit ((t ++ x) ++ more) h.at
     leads_at more limit stopped = (leads_more k h.at s t x h.went.leads).same more limit stopped
-
-some_same : {A : Type 0} {x y : A} → Some x ≡ Some y → x ≡ y
-some_same e = cc
-
--- how a session that is over has ended
-pub ending_from : (p : Phase) (e : Ending) → Some e ≡ ending_of p → ended_as e ≡ ending p
-ending_from RespondOpening e h = absurd (let no : ⊥ = cc in no)
-ending_from (InitiateOpening partner) e h = absurd (let no : ⊥ = cc in no)
-ending_from AwaitSsid e h = absurd (let no : ⊥ = cc in no)
-ending_from (ListenerIdle partner link) e h = absurd (let no : ⊥ = cc in no)
-ending_from (SpeakerIdle partner link done) e h = absurd (let no : ⊥ = cc in no)
-ending_from (EndedHere reason) e h = ap ended_as (some_same h)
-ending_from (EndedThere reason) e h = ap ended_as (some_same h)
-
--- where octets are awaited, the end of the input is how the session ends
-pub input_ending : (p : Phase) → is_over p ≡ false → Input ≡ ending p
-input_ending RespondOpening h = refl
-input_ending (InitiateOpening partner) h = refl
-input_ending AwaitSsid h = refl
-input_ending (ListenerIdle partner link) h = refl
-input_ending (SpeakerIdle partner link done) h = refl
-input_ending (EndedHere reason) h = absurd (false≢true (sym h))
-input_ending (EndedThere reason) h = absurd (false≢true (sym h))
 
 -- what feeding left, where it was no error
 pub fed_from : {T E : Type 0} (r : Result T E) (P : Type 0) → is_ok r ≡ true → OnOk r P → P

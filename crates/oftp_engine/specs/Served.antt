@@ -10,9 +10,7 @@ use Rattle.oftp_partners.specs.Book.{BookData}
 use Rattle.oftp_partners.specs.declared.partner.Partner.{Partner as Entry}
 use Rattle.oftp_engine.specs.declared.serving.Role.{Role}
 use Rattle.oftp_engine.specs.declared.serving.Role.TheVariants.{Responder, Initiator}
-use Rattle.oftp_engine.specs.declared.serving.End.TheVariants.{Own, Partner, Input}
-use Rattle.oftp_session.specs.declared.session.Ending.{Ending}
-use Rattle.oftp_session.specs.declared.session.Ending.TheVariants as own
+use Rattle.oftp_engine.specs.declared.serving.End.TheVariants.{Input}
 use Rattle.oftp_engine.specs.declared.port.Port.{Port}
 use Rattle.oftp_engine.specs.declared.serving.RunFault.{RunFault}
 use Rattle.oftp_engine.specs.declared.serving.RunFault.TheVariants as fault
@@ -138,11 +136,6 @@ pub record IsReading {R : Type 0} (remaining : R → Option (List ℕ)) (before 
   pub gave : Gave remaining before now given
   pub faults : now.faults ≡ before.faults
   pub pumping : Clean → Stood → IsPumping (started setting old.register) given stream seen old new rest_old rest_new
-
--- how a session ended, as the end of a served one
-abbrev pub ended_as : Ending → End
-ended_as (own.Own reason) = Own reason
-ended_as (own.Partner reason) = Partner reason
 
 -- whom a session calls
 abbrev pub called_in : Role → Option Entry

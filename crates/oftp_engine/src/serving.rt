@@ -8,8 +8,8 @@ ghost use Rattle.oftp_session.specs.Steps.{came, has_turn, is_over, opening, tur
 ghost use Rattle.oftp_session.specs.Calls.{Stands, is_due, said, turns_left};
 ghost use Rattle.oftp_session.specs.declared.session.State.TheVariants as state;
 ghost use Rattle.oftp_engine.specs.Ports.{Sent, Puts};
-ghost use Rattle.oftp_engine.specs.Runs.{Course, step_on};
-ghost use Rattle.oftp_engine.specs.Served.{Gave, InputEnded, ReaderTold, Serves, ended_as, setting_of};
+ghost use Rattle.oftp_engine.specs.Runs.{Course, ended_as, step_on};
+ghost use Rattle.oftp_engine.specs.Served.{Gave, InputEnded, ReaderTold, Serves, setting_of};
 ghost use Rattle.oftp_engine.specs.Serving.{IsAt, IsOwn, LastWords, Pumped, Stepped, TurnsTaken, scene};
 
 use crate::port::{Port, read, send};

@@ -13,7 +13,8 @@ use Rattle.oftp_engine.specs.declared.serving.RunFault.{RunFault}
 use Rattle.oftp_engine.specs.Serving.{scene, Pumped, IsPumping, IsWaiting, IsOver}
 use Rattle.oftp_engine.proofs.Progress.{went_none}
 use Rattle.oftp_engine.proofs.Stepping.{stepped_refuse}
-use Rattle.oftp_engine.proofs.Pumping.{settle_on, settle_fails, live_from, seen_some, seen_none, limit_front, frame_on, frame_fails, bad_on, bad_fails, ok_at, err_at}
+use Rattle.oftp_engine.proofs.Phases.{live_from}
+use Rattle.oftp_engine.proofs.Pumping.{settle_on, settle_fails, seen_some, seen_none, limit_front, frame_on, frame_fails, bad_on, bad_fails, ok_at, err_at}
 use Rattle.oftp_engine.proofs.serving.pump.Goals as goal
 
 pub frames-init : goal.frames-init

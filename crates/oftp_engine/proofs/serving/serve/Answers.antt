@@ -11,7 +11,8 @@ use Rattle.oftp_engine.specs.Served.{setting_of, Serves}
 use Rattle.oftp_engine.proofs.Bytes.{consumes_none}
 use Rattle.oftp_engine.proofs.Progress.{went_none, fails_later}
 use Rattle.oftp_engine.proofs.Ending.{whole_over, whole_waits, is_whole, is_out_of_memory, serves_from}
-use Rattle.oftp_engine.proofs.Reading.{wait_on, over_on, gave_on, gave_zero, gave_kept, read_on, short_on, ending_from, input_ending, fed_from}
+use Rattle.oftp_engine.proofs.Phases.{ending_from, input_ending}
+use Rattle.oftp_engine.proofs.Reading.{wait_on, over_on, gave_on, gave_zero, gave_kept, read_on, short_on, fed_from}
 use Rattle.oftp_session.specs.Steps.{opening}
 use Rattle.oftp_session.proofs.Phases.{holds_all}
 use Rattle.oftp_engine.proofs.serving.serve.Goals as goal

@@ -1,5 +1,6 @@
--- Each change of a session's step is one that the register takes.
-use Rattle.std.proofs.Common.{◌≡◌, Bool, true, false, cond, Option, None, Some, Result, Ok, Err, refl, is_ok}
+-- What a run needs of the session's steps, by cases of phase: each change is one that the register takes, and a phase that has ended
+-- says how.
+use Rattle.std.proofs.Common.{◌≡◌, Bool, true, false, cond, Option, None, Some, Result, Ok, Err, refl, sym, ap, ◌∙◌, is_ok, is_some}
 use Rattle.std.proofs.lemmas.Bool.{false≢true}
 use Rattle.oftp_wire.specs.declared.command.Command.{Command}
 use Rattle.oftp_wire.specs.declared.command.Command.TheVariants as command
@@ -19,9 +20,12 @@ use Rattle.oftp_session.specs.Phases.{Phase, RespondOpening, InitiateOpening, Aw
 use Rattle.oftp_session.specs.Opening.{Agreement, came_respond_opening, came_initiate_opening, came_await_ssid, opened_step, open_step, ssid_verdict}
 use Rattle.oftp_session.specs.Listener.{came_listener_idle, end_response, negative_end_response, response_step, filing, file_of, is_between}
 use Rattle.oftp_session.specs.Speaker.{came_speaker_idle}
-use Rattle.oftp_session.specs.Steps.{came, turned}
+use Rattle.oftp_session.specs.Steps.{came, turned, is_over}
+use Rattle.oftp_session.specs.Calls.{ending_of}
+use Rattle.oftp_session.specs.declared.session.Ending.{Ending}
 use Rattle.oftp_session.proofs.Filing.{files_new}
-use Rattle.oftp_engine.specs.Runs.{step_on, refusal}
+use Rattle.oftp_engine.specs.declared.serving.End.TheVariants.{Input}
+use Rattle.oftp_engine.specs.Runs.{step_on, refusal, ended_as, end_of, ending}
 use Rattle.oftp_engine.specs.Serving.{Allows}
 
 allowed : (result : Result Register Cause) (r : Register) → is_ok result ≡ true → result ≡ Ok (or_else result r)
@@ -110,3 +114,31 @@ turn_allowed setting (SpeakerIdle partner link ChangeDirection) r = refl
 turn_allowed setting (SpeakerIdle partner link EndSession) r = refl
 turn_allowed setting (EndedHere reason) r = refl
 turn_allowed setting (EndedThere reason) r = refl
+
+-- a phase has ended where it says how
+over_told : (p : Phase) → is_some (ending_of p) ≡ is_over p
+over_told RespondOpening = refl
+over_told (InitiateOpening partner) = refl
+over_told AwaitSsid = refl
+over_told (ListenerIdle partner link) = refl
+over_told (SpeakerIdle partner link done) = refl
+over_told (EndedHere reason) = refl
+over_told (EndedThere reason) = refl
+
+pub over_from : (p : Phase) (e : Ending) → Some e ≡ ending_of p → is_over p ≡ true
+over_from p e h = sym (over_told p) ∙ ap is_some (sym h)
+
+pub live_from : (p : Phase) (e : Option Ending) → e ≡ ending_of p → e ≡ None → is_over p ≡ false
+live_from p e h none = sym (over_told p) ∙ ap is_some (sym h ∙ none)
+
+-- where octets are awaited, the end of the input is how the session ends
+pub input_ending : (p : Phase) → is_over p ≡ false → Input ≡ ending p
+input_ending p h = at (ending_of p) (over_told p ∙ h)
+  where
+    at : (e : Option Ending) → is_some e ≡ false → Input ≡ end_of e
+    at None live = refl
+    at (Some e) live = absurd (false≢true (sym live))
+
+-- how a session that is over has ended
+pub ending_from : (p : Phase) (e : Ending) → Some e ≡ ending_of p → ended_as e ≡ ending p
+ending_from p e h = ap end_of h
