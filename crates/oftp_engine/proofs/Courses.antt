@@ -2,7 +2,7 @@
 use Rattle.oftp_wire.specs.declared.reason.SessionReason.TheVariants.{ProtocolViolation}
 use Rattle.std.proofs.Common.{◌≡◌, ℕ, zero, suc, ◌+◌, ◌≤◌, ◌<◌, Bool, true, false, cond, not, ◌&&◌, ◌||◌, List, [], ◌∷◌, ◌++◌, length, drop, Option, None, Some, Ok, refl, sym, ap, ◌∙◌, subst, arith, append_assoc, length-append, length-drop}
 use Rattle.std.proofs.lemmas.List.{append-nil}
-use Rattle.std.proofs.lemmas.Bool.{ltb-false, le-ltb, and_parts}
+use Rattle.std.proofs.lemmas.Bool.{ltb-false, le-ltb, and_parts, and_right, or_right}
 use Rattle.oftp_register.specs.Register.{Register}
 use Rattle.oftp_register.specs.Changes.{apply_all}
 use Rattle.oftp_register.specs.declared.change.Change.{Change}
@@ -31,6 +31,10 @@ grows_on c d e g h = record {
   changes = h.changes ∙ ap (λ (x : List Change). x ++ h.later_changes) g.changes ∙ append_assoc c.changes g.later_changes h.later_changes;
   sound = λ r x. h.sound r (g.sound r x);
 }
+
+grows_either : (c d e : Course) (b : Bool) → Grows c d → Grows c e → Grows c (cond b d e)
+grows_either c d e true g h = g
+grows_either c d e false g h = h
 
 output_later : (outputs : List Output) (o : List ℕ) (n : ℕ) → (later : List Output) × (with_output outputs o n ≡ outputs ++ later)
 output_later outputs [] n = ([], sym (append-nil outputs))
@@ -100,6 +104,10 @@ same_else : {A : Type 0} (b : Bool) (x y z : A) → (b ≡ false → x ≡ y) �
 same_else true x y z h = refl
 same_else false x y z h = h refl
 
+cond_same : {A : Type 0} (b : Bool) (x : A) → cond b x x ≡ x
+cond_same true x = refl
+cond_same false x = refl
+
 then_at : {A : Type 0} (b : Bool) (x z : A) → b ≡ true → cond b x z ≡ x
 then_at b x z h = ap (λ (t : Bool). cond t x z) h
 
@@ -115,15 +123,7 @@ turns_enough : (n m : ℕ) (limit : Option ℕ) (c : Course) → turns_due c.pha
 unfolding turns
 turns_enough zero zero limit c p q = refl
 turns_enough zero (suc m) limit c p q = sym (same_then (has_turn c.phase && not (is_stopped limit c)) (turns m limit (turned_in c)) c c (λ t. let h = due_at_turn c (and_parts _ _ t).0 in absurd (omega arith)) ∙ cond_same (has_turn c.phase && not (is_stopped limit c)) c)
-  where
-    cond_same : {A : Type 0} (b : Bool) (x : A) → cond b x x ≡ x
-    cond_same true x = refl
-    cond_same false x = refl
 turns_enough (suc n) zero limit c p q = same_then (has_turn c.phase && not (is_stopped limit c)) (turns n limit (turned_in c)) c c (λ t. let h = due_at_turn c (and_parts _ _ t).0 in absurd (omega arith)) ∙ cond_same (has_turn c.phase && not (is_stopped limit c)) c
-  where
-    cond_same : {A : Type 0} (b : Bool) (x : A) → cond b x x ≡ x
-    cond_same true x = refl
-    cond_same false x = refl
 turns_enough (suc n) (suc m) limit c p q = same_then (has_turn c.phase && not (is_stopped limit c)) (turns n limit (turned_in c)) (turns m limit (turned_in c)) c (λ t. let h = due_at_turn c (and_parts _ _ t).0 in turns_enough n m limit (turned_in c) (omega arith) (omega arith))
 
 -- a due turn is taken first
@@ -146,20 +146,12 @@ settle_none limit c h = quiet_turns (turns_due c.phase) limit c (rw h refl)
 
 pub settle_stopped : (limit : Option ℕ) (c : Course) → is_stopped limit c ≡ true → settled limit c ≡ c
 unfolding settled
-settle_stopped limit c h = quiet_turns (turns_due c.phase) limit c (stops (has_turn c.phase) (is_stopped limit c) h)
-  where
-    stops : (a b : Bool) → b ≡ true → (a && not b) ≡ false
-    stops true b h = ap not h
-    stops false b h = refl
+settle_stopped limit c h = quiet_turns (turns_due c.phase) limit c (and_right (has_turn c.phase) (not (is_stopped limit c)) (ap not h))
 
 turns_grow : (n : ℕ) (limit : Option ℕ) (c : Course) → Grows c (turns n limit c)
 unfolding turns
 turns_grow zero limit c = grows_none c
-turns_grow (suc n) limit c = either (has_turn c.phase && not (is_stopped limit c)) (turns n limit (turned_in c)) (grows_on c (turned_in c) _ (grows_step c (turned c.setting c.phase c.register) (turn_allowed c.setting c.phase c.register)) (turns_grow n limit (turned_in c)))
-  where
-    either : (b : Bool) (d : Course) → Grows c d → Grows c (cond b d c)
-    either true d g = g
-    either false d g = grows_none c
+turns_grow (suc n) limit c = grows_either c (turns n limit (turned_in c)) c (has_turn c.phase && not (is_stopped limit c)) (grows_on c (turned_in c) _ (grows_step c (turned c.setting c.phase c.register) (turn_allowed c.setting c.phase c.register)) (turns_grow n limit (turned_in c))) (grows_none c)
 
 settled_grows : (limit : Option ℕ) (c : Course) → Grows c (settled limit c)
 unfolding settled
@@ -217,11 +209,7 @@ unfolding next_in on_front
 run_waits limit s c turn waits =
     at_settled limit s c (settle_none limit c turn)
     ∙ ap (λ (f : Head). cond (is_over c.phase || is_stopped limit c) c (on_front (run_by (length s) limit) s c f)) waits
-    ∙ both (is_over c.phase || is_stopped limit c)
-  where
-    both : (b : Bool) → cond b c c ≡ c
-    both true = refl
-    both false = refl
+    ∙ cond_same (is_over c.phase || is_stopped limit c) c
 
 -- a session that is over
 pub run_over : (limit : Option ℕ) (s : List ℕ) (c : Course) → is_over c.phase ≡ true → run limit s c ≡ c
@@ -235,15 +223,7 @@ pub run_stopped : (limit : Option ℕ) (s : List ℕ) (c : Course) → is_stoppe
 unfolding next_in
 run_stopped limit s c stopped =
     at_settled limit s c (settle_stopped limit c stopped)
-    ∙ then_at (is_over c.phase || is_stopped limit c) c (on_front (run_by (length s) limit) s c (front 100003 s)) (or_right' (is_over c.phase) (is_stopped limit c) stopped)
-  where
-    or_right' : (a b : Bool) → b ≡ true → (a || b) ≡ true
-    or_right' true b h = refl
-    or_right' false b h = h
-
-grows_either : (d : Course) (b : Bool) (e : Course) → Grows d e → Grows d (cond b d e)
-grows_either d true e g = grows_none d
-grows_either d false e g = g
+    ∙ then_at (is_over c.phase || is_stopped limit c) c (on_front (run_by (length s) limit) s c (front 100003 s)) (or_right (is_over c.phase) (is_stopped limit c) stopped)
 
 front_grows : (go_on : List ℕ → Course → Course) (s : List ℕ) (d : Course) (f : Head) → ((t : List ℕ) (e : Course) → Grows e (go_on t e)) → Grows d (on_front go_on s d f)
 unfolding on_front
@@ -256,7 +236,7 @@ unfolding run_by next_in
 run_by_grows zero limit s c = grows_none c
 run_by_grows (suc n) limit s c =
     let d = settled limit c in
-    grows_on c d _ (settled_grows limit c) (grows_either d (is_over d.phase || is_stopped limit d) _ (front_grows (run_by n limit) s d (front 100003 s) (λ t e. run_by_grows n limit t e)))
+    grows_on c d _ (settled_grows limit c) (grows_either d d _ (is_over d.phase || is_stopped limit d) (grows_none d) (front_grows (run_by n limit) s d (front 100003 s) (λ t e. run_by_grows n limit t e)))
 
 -- what went out stays out
 pub run_grows : (limit : Option ℕ) (s : List ℕ) (c : Course) → Grows c (run limit s c)

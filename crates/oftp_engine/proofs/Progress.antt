@@ -26,7 +26,7 @@ took_none s = record { contents = appends_none s.contents; taken = omega arith }
 pub took_on : (a b c : Scene) (xs ys : List ℕ) → Took a b xs → Took b c ys → Took a c (xs ++ ys)
 took_on a b c xs ys p q = record {
   contents = appends_on a.contents b.contents c.contents xs ys p.contents q.contents;
-  taken = count_on a.taken b.taken c.taken (length xs) (length ys) p.taken q.taken ∙ ap (λ (n : ℕ). (a.taken + n) % 2 ^ 64) (sym (length-append xs ys));
+  taken = count_on a.taken b.taken c.taken (length xs) (length ys) (length (xs ++ ys)) p.taken q.taken (length-append xs ys);
 }
 
 output_octets : (outputs : List Output) (o : List ℕ) (n : ℕ) → octets_of (with_output outputs o n) ≡ octets_of outputs ++ o
@@ -181,7 +181,7 @@ fails_later c d s t a b z la lb lz fault.Office w h = record {
   took = took_later a b z w.between h.between _ w.took h.took;
   said = said_later a b z h.count w.told h.said;
   allows = h.allows;
-  cases = elim h.cases [ inl x ↦ inl (record { same = x.same; left = x.left }) | inr x ↦ inr (record { same = x.same; left = x.left }) ];
+  cases = h.cases;
   faults = h.faults ∙ ap next_count w.faults;
 }
 fails_later c d s t a b z la lb lz fault.Memory w h = record {
@@ -208,7 +208,7 @@ reaches_turn c s h = reaches_step c (turned c.setting c.phase c.register) s s (�
 
 -- a whole frame, and octets that begin none
 
-command_more : (n : ℕ) (s more : List ℕ) → 5 ≤ n → n ≤ length s → command_in n (s ++ more) ≡ command_in n s
+pub command_more : (n : ℕ) (s more : List ℕ) → 5 ≤ n → n ≤ length s → command_in n (s ++ more) ≡ command_in n s
 command_more n s more five there =
     ap (λ (x : List ℕ). take (n - 4) x) (drop-append-le 4 s more (omega arith)) ∙ take-append-le (n - 4) (drop 4 s) more (omega (arith, length-drop 4 s))
 

@@ -22,6 +22,12 @@ use Rattle.oftp_engine.specs.Serving.{Scene, Fails, Made, StepFails, Stepped, Se
 use Rattle.oftp_engine.proofs.Phases.{step_allowed}
 use Rattle.oftp_engine.proofs.Progress.{went_on, went_with, went_step, fails_step, fails_later, fails_with, leads_step, reaches_step, leads_frame, leads_bad}
 
+-- while it pumps: how far it came, and that the stream told no fault
+pub record IsPumping (c : Course) (s : List ℕ) (stream : Stream) (seen : Seen) (old new : Scene) (rest_old rest_new : Rest) : Type 0 where
+  pub come : Comes c s stream.rest seen old new rest_old rest_new
+  pub limit : stream.limit ≡ 100003
+  pub told : stream.told ≡ None
+
 pub record IsSettled (c : Course) (s t : List ℕ) (seen : Seen) (old new : Scene) (left_old left_new : Rest) : Type 0 where
   pub come : Comes c s t seen old new left_old left_new
   pub done : has_turn come.at.phase ≡ false

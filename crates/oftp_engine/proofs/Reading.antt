@@ -11,12 +11,20 @@ use Rattle.oftp_session.specs.Calls.{Seen}
 use Rattle.oftp_engine.specs.declared.port.Port.{Port}
 use Rattle.oftp_engine.specs.Ports.{Gives, GivesNothing}
 use Rattle.oftp_engine.specs.Runs.{Course, started, run, is_stopped}
-use Rattle.oftp_engine.specs.Serving.{Leads, Scene, Comes, IsOver, IsWaiting, IsPumping, IsShort}
-use Rattle.oftp_engine.specs.Served.{Gave, IsReading}
+use Rattle.oftp_engine.specs.Serving.{Leads, Scene, Comes, IsOver, IsWaiting, IsShort}
+use Rattle.oftp_engine.proofs.Pumping.{IsPumping}
+use Rattle.oftp_engine.specs.Served.{Gave}
 use Rattle.oftp_engine.proofs.Bytes.{consumes_on, keeps_consumes}
 use Rattle.oftp_register.specs.Offices.{Rest}
 use Rattle.oftp_engine.proofs.Courses.{grows_none}
 use Rattle.oftp_engine.proofs.Progress.{went_on}
+
+-- while it reads: how far it came where the office is clean and stood
+pub record IsReading {R : Type 0} (remaining : R → Option (List ℕ)) (before now : Port R) (Clean Stood : Type 0) (setting : Setting) (stream : Stream) (seen : Seen) (old new : Scene) (rest_old rest_new : Rest) : Type 0 where
+  pub given : List ℕ
+  pub gave : Gave remaining before now given
+  pub faults : now.faults ≡ before.faults
+  pub pumping : Clean → Stood → IsPumping (started setting old.register) given stream seen old new rest_old rest_new
 
 pub wait_on : (k : Course) (s : List ℕ) (before stream : Stream) (seen0 seen1 : Seen) (a b z : Scene) (la lb lz : Rest) (p : Comes k s before.rest seen0 a b la lb) → IsWaiting p.at before.rest stream seen1 b z lb lz → IsWaiting k s stream seen1 a z la lz
 wait_on k s before stream seen0 seen1 a b z la lb lz p w = record {

@@ -43,14 +43,6 @@ made_register (Some k) r new h = sym (ap (λ (x : Result Register Cause). or_els
 abbrev pub at_desk : Desk → Option (List ℕ) → ℕ → ℕ → Scene
 at_desk d contents taken told = record { register = d.register; faults = d.faults; contents = contents; taken = taken; told = told }
 
-advance_register : (c : Course) (s : Step) → (advance c s).register ≡ register_after c.register s.change
-unfolding advance
-advance_register c s = refl
-
-advance_phase : (c : Course) (s : Step) → (advance c s).phase ≡ s.phase
-unfolding advance
-advance_phase c s = refl
-
 -- a call that did its step, and the write of what it said
 pub stepped_ok : {T W : Type 0} (contents : W → Option (List ℕ)) (a d : Port W) (x y : Desk) (left_old left_new : Rest) (c : Course) (step : Step) (seen : Seen) (said : List ℕ) (result : Result T RunFault) →
     seen.setting ≡ c.setting → IsMade step.change step.output x y left_new said → x.register ≡ c.register → Holds step.phase (register_after c.register step.change) → Stands step.phase seen → Sent contents a d said (is_ok result) → IfErr result (λ f. f ≡ fault.Write) →
@@ -109,13 +101,13 @@ pub at_course : (P : Setting → Register → Type 0) (c : Course) (seen : Seen)
 at_course P c seen scene at h = subst (λ (r : Register). P c.setting r) at.register (subst (λ (setting : Setting). P setting scene.register) at.setting h)
 
 -- a call that the office broke off, and the last words
-broken_cases : (x y : Desk) (lo ln : Rest) (c : Course) (step : Step) → x.register ≡ c.register → IsBefore step.change x y ln ⊎ IsAfter step.change x y ln → StaysBefore c c step y.register lo ln ⊎ StaysAfter c c step y.register lo ln
+broken_cases : (x y : Desk) (ln : Rest) (c : Course) (step : Step) → x.register ≡ c.register → IsBefore step.change x y ln ⊎ IsAfter step.change x y ln → StaysBefore c step y.register ln ⊎ StaysAfter c step y.register ln
 unfolding advance
-broken_cases x y lo ln c step same (inl h) = inl (record {
+broken_cases x y ln c step same (inl h) = inl (record {
   same = λ s. h.register s ∙ same;
   left = subst (λ (r : Register). WithOrWithout step.change r ln) same h.left;
 })
-broken_cases x y lo ln c step same (inr h) =
+broken_cases x y ln c step same (inr h) =
     let makes : Makes step.change c.register h.after = subst (λ (r : Register). Makes step.change r h.after) same h.made in
     let now : h.after ≡ register_after c.register step.change = made_register step.change c.register h.after makes in
     inr (record { same = λ s. h.register s ∙ now; left = subst (λ (r : Register). Only r ln) now h.left })
@@ -133,14 +125,14 @@ stepped_office contents a d x y lo ln c step broken same last = at last.0 last.1
       count = length last_frame;
       took = subst (Took (at_desk x (contents a.inner) a.moved a.faults) (at_desk y (contents d.inner) d.moved d.faults)) (sym whole) (record { contents = s.wrote.contents; taken = s.wrote.moved });
       said = inl (refl, s.faults);
-      cases = broken_cases x y lo ln c step same broken.cases;
+      cases = broken_cases x y ln c step same broken.cases;
       faults = broken.faults;
     }
     at false s = record {
       count = s.count;
       took = record { contents = s.wrote.contents; taken = s.wrote.moved };
       said = inr (s.short, s.faults);
-      cases = broken_cases x y lo ln c step same broken.cases;
+      cases = broken_cases x y ln c step same broken.cases;
       faults = broken.faults;
     }
 

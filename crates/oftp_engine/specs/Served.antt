@@ -16,9 +16,7 @@ use Rattle.oftp_engine.specs.declared.serving.RunFault.{RunFault}
 use Rattle.oftp_engine.specs.declared.serving.RunFault.TheVariants as fault
 use Rattle.oftp_engine.specs.Ports.{IsDone}
 use Rattle.oftp_engine.specs.Runs.{Course, Output, run, started, octets_of, ending, answered}
-use Rattle.oftp_wire.specs.Stream.{Stream}
-use Rattle.oftp_session.specs.Calls.{Seen}
-use Rattle.oftp_engine.specs.Serving.{Scene, Took, IsPumping, IsSaid, last_frame}
+use Rattle.oftp_engine.specs.Serving.{Scene, Took, IsSaid, last_frame}
 
 -- the octets that a reader gave in a call: as many as its port counts, at most as many as the port's limit left, and the next
 -- ones that it had, where these are known
@@ -32,7 +30,7 @@ pub record Gave {R : Type 0} (remaining : R → Option (List ℕ)) (old new : Po
 abbrev pub whole : Setting → List ℕ → Register → Course
 whole setting given r = run None given (started setting r)
 
--- .. whose writer had taken so many octets when it told a fault
+-- the session over these octets, from a register, whose writer had taken so many octets when it told a fault
 abbrev pub broken_off : Setting → ℕ → List ℕ → Register → Course
 broken_off setting taken given r = run (Some taken) given (started setting r)
 
@@ -129,13 +127,6 @@ ReaderTold old new (Err fault) = ReaderErr old new fault
 abbrev pub InputEnded : {R : Type 0} → (R → Option (List ℕ)) → Port R → Result End RunFault → Type 0
 InputEnded remaining now (Ok end) = end ≡ Input → IsDone remaining now
 InputEnded remaining now (Err fault) = ⊤
-
--- while it reads: how far it came where the office is clean and stood
-pub record IsReading {R : Type 0} (remaining : R → Option (List ℕ)) (before now : Port R) (Clean Stood : Type 0) (setting : Setting) (stream : Stream) (seen : Seen) (old new : Scene) (rest_old rest_new : Rest) : Type 0 where
-  pub given : List ℕ
-  pub gave : Gave remaining before now given
-  pub faults : now.faults ≡ before.faults
-  pub pumping : Clean → Stood → IsPumping (started setting old.register) given stream seen old new rest_old rest_new
 
 -- whom a session calls
 abbrev pub called_in : Role → Option Entry

@@ -49,7 +49,7 @@ pub record Leads (c : Course) (s : List ℕ) (d : Course) (t : List ℕ) : Type 
   pub grows : Grows c d
   pub same : (more : List ℕ) (limit : Option ℕ) → is_stopped limit d ≡ false → run limit (s ++ more) c ≡ run limit (t ++ more) d
 
--- .. comes to d, which it leaves for e
+-- the run that comes from c with the octets s comes to d, which it leaves for e
 pub record Reaches (c : Course) (s : List ℕ) (d e : Course) : Type 0 where
   pub grows : Grows c d
   pub same : (more : List ℕ) (limit : Option ℕ) → is_stopped limit d ≡ false → (u : List ℕ) × (run limit (s ++ more) c ≡ run limit u e)
@@ -106,13 +106,13 @@ pub record BreaksOff (c : Course) (s : List ℕ) (old new : Scene) (rest_old res
 
 -- the office told a fault within a step: the register is the one before it, and a stop may leave either; or it is the one
 -- after it, and nothing else is left
-pub record StaysBefore (c at : Course) (step : Step) (register : Register) (rest_old rest_new : Rest) : Type 0 where
-  pub same : rest_new.stands → register ≡ at.register
-  pub left : WithOrWithout step.change at.register rest_new
+pub record StaysBefore (at : Course) (step : Step) (register : Register) (rest : Rest) : Type 0 where
+  pub same : rest.stands → register ≡ at.register
+  pub left : WithOrWithout step.change at.register rest
 
-pub record StaysAfter (c at : Course) (step : Step) (register : Register) (rest_old rest_new : Rest) : Type 0 where
-  pub same : rest_new.stands → register ≡ (advance at step).register
-  pub left : Only (advance at step).register rest_new
+pub record StaysAfter (at : Course) (step : Step) (register : Register) (rest : Rest) : Type 0 where
+  pub same : rest.stands → register ≡ (advance at step).register
+  pub left : Only (advance at step).register rest
 
 -- the office told a fault within a step
 pub record IsRefused (c : Course) (s : List ℕ) (old new : Scene) (rest_old rest_new : Rest) : Type 0 where
@@ -125,7 +125,7 @@ pub record IsRefused (c : Course) (s : List ℕ) (old new : Scene) (rest_old res
   pub took : Took old new (between ++ take count last_frame)
   pub said : IsSaid old new count
   pub allows : Allows at.register step.change
-  pub cases : StaysBefore c at step new.register rest_old rest_new ⊎ StaysAfter c at step new.register rest_old rest_new
+  pub cases : StaysBefore at step new.register rest_new ⊎ StaysAfter at step new.register rest_new
   pub faults : new.faults ≡ next_count old.faults
 
 -- memory ran out, where the run had come or after the change of its next step
@@ -157,7 +157,7 @@ pub record Made (c : Course) (step : Step) (seen : Seen) (old new : Scene) (rest
   pub faults : new.faults ≡ old.faults
   pub told : new.told ≡ old.told
 
--- .. it is made, and the writer told a fault within its output
+-- one step at a course: it is made, and the writer told a fault within its output
 pub record MadePart (c : Course) (step : Step) (old new : Scene) (rest_old rest_new : Rest) : Type 0 where
   pub count : ℕ
   pub short : count < length step.output
@@ -167,15 +167,15 @@ pub record MadePart (c : Course) (step : Step) (old new : Scene) (rest_old rest_
   pub faults : new.faults ≡ old.faults
   pub told : new.told ≡ next_count old.told
 
--- .. the office told a fault
+-- one step at a course: the office told a fault
 pub record NotMade (c : Course) (step : Step) (old new : Scene) (rest_old rest_new : Rest) : Type 0 where
   pub count : ℕ
   pub took : Took old new (take count last_frame)
   pub said : IsSaid old new count
-  pub cases : StaysBefore c c step new.register rest_old rest_new ⊎ StaysAfter c c step new.register rest_old rest_new
+  pub cases : StaysBefore c step new.register rest_new ⊎ StaysAfter c step new.register rest_new
   pub faults : new.faults ≡ next_count old.faults
 
--- .. memory ran out
+-- one step at a course: memory ran out
 pub record NoMemory (c : Course) (step : Step) (old new : Scene) (rest_old rest_new : Rest) : Type 0 where
   pub took : Took old new []
   pub register : (new.register ≡ c.register) ⊎ (new.register ≡ (advance c step).register)
@@ -197,7 +197,7 @@ Stepped c step seen old new rest_old rest_new (Err fault) = StepFails c step old
 abbrev pub LastWords : {W : Type 0} → (W → Option (List ℕ)) → Port W → Port W → Type 0
 LastWords contents old new = (all : Bool) × Sent contents old new last_frame all
 
--- .. of an office and a writer's port, by what they tell
+-- the scene of an office and a writer's port, by what they tell
 abbrev pub scene : {O W : Type 0} → (O → Register) → (O → ℕ) → (W → Option (List ℕ)) → O → Port W → Scene
 scene register faults contents office port = record { register = register office; faults = faults office; contents = contents port.inner; taken = port.moved; told = port.faults }
 
@@ -236,12 +236,6 @@ abbrev pub Pumped : Course → List ℕ → Stream → Seen → Scene → Scene 
 Pumped c s stream seen old new rest_old rest_new (Ok (Some end)) = IsOver c s stream.rest seen old new rest_old rest_new end
 Pumped c s stream seen old new rest_old rest_new (Ok None) = IsWaiting c s stream seen old new rest_old rest_new
 Pumped c s stream seen old new rest_old rest_new (Err fault) = Fails c s old new rest_old rest_new fault
-
--- while it pumps
-pub record IsPumping (c : Course) (s : List ℕ) (stream : Stream) (seen : Seen) (old new : Scene) (rest_old rest_new : Rest) : Type 0 where
-  pub come : Comes c s stream.rest seen old new rest_old rest_new
-  pub limit : stream.limit ≡ 100003
-  pub told : stream.told ≡ None
 
 -- a fault that isn't the reader's
 abbrev pub IsOwn : RunFault → Type 0

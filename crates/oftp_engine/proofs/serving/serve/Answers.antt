@@ -6,7 +6,8 @@ use Rattle.oftp_wire.specs.Stream.{Stream}
 use Rattle.oftp_session.specs.declared.session.Ending.{Ending}
 use Rattle.oftp_engine.specs.declared.serving.RunFault.{RunFault}
 use Rattle.oftp_engine.specs.Runs.{Course, started, ending}
-use Rattle.oftp_engine.specs.Serving.{scene, Pumped, IsPumping}
+use Rattle.oftp_engine.specs.Serving.{scene, Pumped}
+use Rattle.oftp_engine.proofs.Pumping.{IsPumping}
 use Rattle.oftp_engine.specs.Served.{setting_of, Serves}
 use Rattle.oftp_engine.proofs.Bytes.{consumes_none}
 use Rattle.oftp_engine.proofs.Progress.{went_none, fails_later}
