@@ -1,6 +1,6 @@
 -- A run is the fold over the frames.
-use Rattle.std.proofs.Common.{◌≡◌, ℕ, suc, ◌-◌, ◌≤◌, Bool, cond, ◌||◌, List, [], ◌∷◌, ◌++◌, length, take, drop, Option, refl, sym, ap, ◌∙◌, subst, arith, append_assoc, length-append, length-drop}
-use Rattle.std.proofs.lemmas.List.{drop_at, drop-append-le, take-append-le, take_all}
+use Rattle.std.proofs.Common.{◌≡◌, ℕ, suc, ◌-◌, ◌≤◌, Bool, cond, ◌||◌, List, [], ◌∷◌, ◌++◌, length, drop, Option, refl, sym, ap, ◌∙◌, subst, arith, append_assoc, length-append, length-drop}
+use Rattle.std.proofs.lemmas.List.{drop_at, take_all}
 use Rattle.std.specs.List.{AllByRecursion, flat_map}
 use Rattle.oftp_wire.specs.Stream.{front, command_in, IsWithin}
 use Rattle.oftp_wire.specs.Stream.{Head, Whole, Waits, Bad}

@@ -11,7 +11,6 @@ use Rattle.oftp_wire.specs.Stream.{Stream, front, command_in, next_of, left_of, 
 use Rattle.oftp_wire.specs.declared.frame_fault.FrameFault.{FrameFault}
 use Rattle.oftp_wire.specs.Stream.{Whole, Waits, Bad}
 use Rattle.oftp_register.specs.Offices.{Rest}
-use Rattle.oftp_session.specs.declared.session.Ending.{Ending}
 use Rattle.oftp_session.specs.declared.session.Ending.TheVariants.{Own}
 use Rattle.oftp_session.specs.Phases.{Step, fails}
 use Rattle.oftp_session.specs.Steps.{has_turn, is_over}
