@@ -1,11 +1,13 @@
 -- What a run does, one event at a time.
 use Rattle.oftp_wire.specs.declared.reason.SessionReason.TheVariants.{ProtocolViolation}
-use Rattle.std.proofs.Common.{◌≡◌, ℕ, zero, suc, ◌+◌, ◌≤◌, ◌<◌, Bool, true, false, cond, not, ◌&&◌, ◌||◌, List, [], ◌∷◌, ◌++◌, length, drop, Option, None, Some, refl, sym, ap, ◌∙◌, subst, arith, append_assoc, length-append, length-drop}
+use Rattle.std.proofs.Common.{◌≡◌, ℕ, zero, suc, ◌+◌, ◌≤◌, ◌<◌, Bool, true, false, cond, not, ◌&&◌, ◌||◌, List, [], ◌∷◌, ◌++◌, length, drop, Option, None, Some, Ok, refl, sym, ap, ◌∙◌, subst, arith, append_assoc, length-append, length-drop}
 use Rattle.std.proofs.lemmas.List.{append-nil}
-use Rattle.std.proofs.lemmas.Bool.{ltb-false, le-ltb, and_parts}
+use Rattle.std.proofs.lemmas.Bool.{ltb-false, le-ltb, and_parts, and_right, or_right}
 use Rattle.oftp_register.specs.Register.{Register}
-use Rattle.oftp_register.specs.Changes.{apply, or_else, after_all}
+use Rattle.oftp_register.specs.Changes.{apply_all}
 use Rattle.oftp_register.specs.declared.change.Change.{Change}
+use Rattle.oftp_register.proofs.PrefixLemmas.{made_on}
+use Rattle.oftp_wire.specs.Kinds.{command_of}
 use Rattle.oftp_wire.specs.Stream.{front, command_in, IsWithin}
 use Rattle.oftp_wire.specs.Stream.{Head, Whole, Waits, Bad}
 use Rattle.oftp_wire.proofs.Streams.{front_within}
@@ -13,7 +15,8 @@ use Rattle.oftp_session.specs.Phases.{Phase, Step, register_after, fails}
 use Rattle.oftp_session.specs.Steps.{has_turn, turned, turns_due, is_over}
 use Rattle.oftp_session.proofs.Phases.{turn_falls, over_no_turn}
 use Rattle.oftp_engine.specs.Runs.{Course, Output, octets_of, with_change, with_output, advance, came_in, turned_in, is_stopped, turns, settled, on_front, next_in, run_by, run}
-use Rattle.oftp_engine.specs.Serving.{Grows, Sound, Counted}
+use Rattle.oftp_engine.specs.Serving.{Allows, Grows, Sound, Counted}
+use Rattle.oftp_engine.proofs.Phases.{step_allowed, turn_allowed}
 
 -- a course that grows
 
@@ -29,6 +32,10 @@ grows_on c d e g h = record {
   sound = λ r x. h.sound r (g.sound r x);
 }
 
+grows_either : (c d e : Course) (b : Bool) → Grows c d → Grows c e → Grows c (cond b d e)
+grows_either c d e true g h = g
+grows_either c d e false g h = h
+
 output_later : (outputs : List Output) (o : List ℕ) (n : ℕ) → (later : List Output) × (with_output outputs o n ≡ outputs ++ later)
 output_later outputs [] n = ([], sym (append-nil outputs))
 output_later outputs (x ∷ xs) n = (record { octets = x ∷ xs; after = n } ∷ [], refl)
@@ -37,13 +44,9 @@ change_later : (changes : List Change) (k : Option Change) → (later : List Cha
 change_later changes None = ([], sym (append-nil changes))
 change_later changes (Some k) = (k ∷ [], refl)
 
-after_all_push : (r : Register) (ks : List Change) (k : Change) → after_all r (ks ++ k ∷ []) ≡ or_else (apply (after_all r ks) k) (after_all r ks)
-after_all_push r [] k = refl
-after_all_push r (x ∷ ks) k = after_all_push (or_else (apply r x) r) ks k
-
-replay_step : (r x : Register) (ks : List Change) (k : Option Change) → x ≡ after_all r ks → register_after x k ≡ after_all r (with_change ks k)
-replay_step r x ks None h = h
-replay_step r x ks (Some k) h = ap (λ (y : Register). or_else (apply y k) y) h ∙ sym (after_all_push r ks k)
+replay_step : (r x : Register) (ks : List Change) (k : Option Change) → apply_all r ks ≡ Ok x → Allows x k → apply_all r (with_change ks k) ≡ Ok (register_after x k)
+replay_step r x ks None h allows = h
+replay_step r x ks (Some k) h allows = made_on r x (register_after x (Some k)) ks k h allows
 
 counted_more : (m n : ℕ) (outputs : List Output) → m ≤ n → Counted m outputs → Counted n outputs
 counted_more m n [] le h = tt
@@ -61,19 +64,19 @@ more_changes : (ks : List Change) (k : Option Change) → length ks ≤ length (
 more_changes ks None = omega arith
 more_changes ks (Some k) = omega (arith, length-append ks (k ∷ []))
 
-sound_step : (r : Register) (c : Course) (s : Step) → Sound r c → Sound r (advance c s)
+sound_step : (r : Register) (c : Course) (s : Step) → Allows c.register s.change → Sound r c → Sound r (advance c s)
 unfolding advance
-sound_step r c s h = record {
-  replay = replay_step r c.register c.changes s.change h.replay;
+sound_step r c s allows h = record {
+  replay = replay_step r c.register c.changes s.change h.replay allows;
   counted = counted_output (length (with_change c.changes s.change)) c.outputs s.output (counted_more (length c.changes) (length (with_change c.changes s.change)) c.outputs (more_changes c.changes s.change) h.counted);
 }
 
-pub grows_step : (c : Course) (s : Step) → Grows c (advance c s)
+pub grows_step : (c : Course) (s : Step) → Allows c.register s.change → Grows c (advance c s)
 unfolding advance
-grows_step c s =
+grows_step c s allows =
     let o = output_later c.outputs s.output (length (with_change c.changes s.change)) in
     let k = change_later c.changes s.change in
-    record { later_outputs = o.0; outputs = o.1; later_changes = k.0; changes = k.1; sound = λ r h. sound_step r c s h }
+    record { later_outputs = o.0; outputs = o.1; later_changes = k.0; changes = k.1; sound = λ r h. sound_step r c s allows h }
 
 pub phase_step : (c : Course) (s : Step) → (advance c s).phase ≡ s.phase
 unfolding advance
@@ -101,6 +104,10 @@ same_else : {A : Type 0} (b : Bool) (x y z : A) → (b ≡ false → x ≡ y) �
 same_else true x y z h = refl
 same_else false x y z h = h refl
 
+cond_same : {A : Type 0} (b : Bool) (x : A) → cond b x x ≡ x
+cond_same true x = refl
+cond_same false x = refl
+
 then_at : {A : Type 0} (b : Bool) (x z : A) → b ≡ true → cond b x z ≡ x
 then_at b x z h = ap (λ (t : Bool). cond t x z) h
 
@@ -116,15 +123,7 @@ turns_enough : (n m : ℕ) (limit : Option ℕ) (c : Course) → turns_due c.pha
 unfolding turns
 turns_enough zero zero limit c p q = refl
 turns_enough zero (suc m) limit c p q = sym (same_then (has_turn c.phase && not (is_stopped limit c)) (turns m limit (turned_in c)) c c (λ t. let h = due_at_turn c (and_parts _ _ t).0 in absurd (omega arith)) ∙ cond_same (has_turn c.phase && not (is_stopped limit c)) c)
-  where
-    cond_same : {A : Type 0} (b : Bool) (x : A) → cond b x x ≡ x
-    cond_same true x = refl
-    cond_same false x = refl
 turns_enough (suc n) zero limit c p q = same_then (has_turn c.phase && not (is_stopped limit c)) (turns n limit (turned_in c)) c c (λ t. let h = due_at_turn c (and_parts _ _ t).0 in absurd (omega arith)) ∙ cond_same (has_turn c.phase && not (is_stopped limit c)) c
-  where
-    cond_same : {A : Type 0} (b : Bool) (x : A) → cond b x x ≡ x
-    cond_same true x = refl
-    cond_same false x = refl
 turns_enough (suc n) (suc m) limit c p q = same_then (has_turn c.phase && not (is_stopped limit c)) (turns n limit (turned_in c)) (turns m limit (turned_in c)) c (λ t. let h = due_at_turn c (and_parts _ _ t).0 in turns_enough n m limit (turned_in c) (omega arith) (omega arith))
 
 -- a due turn is taken first
@@ -147,20 +146,12 @@ settle_none limit c h = quiet_turns (turns_due c.phase) limit c (rw h refl)
 
 pub settle_stopped : (limit : Option ℕ) (c : Course) → is_stopped limit c ≡ true → settled limit c ≡ c
 unfolding settled
-settle_stopped limit c h = quiet_turns (turns_due c.phase) limit c (stops (has_turn c.phase) (is_stopped limit c) h)
-  where
-    stops : (a b : Bool) → b ≡ true → (a && not b) ≡ false
-    stops true b h = ap not h
-    stops false b h = refl
+settle_stopped limit c h = quiet_turns (turns_due c.phase) limit c (and_right (has_turn c.phase) (not (is_stopped limit c)) (ap not h))
 
 turns_grow : (n : ℕ) (limit : Option ℕ) (c : Course) → Grows c (turns n limit c)
 unfolding turns
 turns_grow zero limit c = grows_none c
-turns_grow (suc n) limit c = either (has_turn c.phase && not (is_stopped limit c)) (turns n limit (turned_in c)) (grows_on c (turned_in c) _ (grows_step c (turned c.setting c.phase c.register)) (turns_grow n limit (turned_in c)))
-  where
-    either : (b : Bool) (d : Course) → Grows c d → Grows c (cond b d c)
-    either true d g = g
-    either false d g = grows_none c
+turns_grow (suc n) limit c = grows_either c (turns n limit (turned_in c)) c (has_turn c.phase && not (is_stopped limit c)) (grows_on c (turned_in c) _ (grows_step c (turned c.setting c.phase c.register) (turn_allowed c.setting c.phase c.register)) (turns_grow n limit (turned_in c))) (grows_none c)
 
 settled_grows : (limit : Option ℕ) (c : Course) → Grows c (settled limit c)
 unfolding settled
@@ -218,11 +209,7 @@ unfolding next_in on_front
 run_waits limit s c turn waits =
     at_settled limit s c (settle_none limit c turn)
     ∙ ap (λ (f : Head). cond (is_over c.phase || is_stopped limit c) c (on_front (run_by (length s) limit) s c f)) waits
-    ∙ both (is_over c.phase || is_stopped limit c)
-  where
-    both : (b : Bool) → cond b c c ≡ c
-    both true = refl
-    both false = refl
+    ∙ cond_same (is_over c.phase || is_stopped limit c) c
 
 -- a session that is over
 pub run_over : (limit : Option ℕ) (s : List ℕ) (c : Course) → is_over c.phase ≡ true → run limit s c ≡ c
@@ -236,28 +223,20 @@ pub run_stopped : (limit : Option ℕ) (s : List ℕ) (c : Course) → is_stoppe
 unfolding next_in
 run_stopped limit s c stopped =
     at_settled limit s c (settle_stopped limit c stopped)
-    ∙ then_at (is_over c.phase || is_stopped limit c) c (on_front (run_by (length s) limit) s c (front 100003 s)) (or_right' (is_over c.phase) (is_stopped limit c) stopped)
-  where
-    or_right' : (a b : Bool) → b ≡ true → (a || b) ≡ true
-    or_right' true b h = refl
-    or_right' false b h = h
-
-grows_either : (d : Course) (b : Bool) (e : Course) → Grows d e → Grows d (cond b d e)
-grows_either d true e g = grows_none d
-grows_either d false e g = g
+    ∙ then_at (is_over c.phase || is_stopped limit c) c (on_front (run_by (length s) limit) s c (front 100003 s)) (or_right (is_over c.phase) (is_stopped limit c) stopped)
 
 front_grows : (go_on : List ℕ → Course → Course) (s : List ℕ) (d : Course) (f : Head) → ((t : List ℕ) (e : Course) → Grows e (go_on t e)) → Grows d (on_front go_on s d f)
 unfolding on_front
-front_grows go_on s d (Whole k) h = grows_on d (came_in d (command_in k s)) _ (grows_step d _) (h (drop k s) (came_in d (command_in k s)))
+front_grows go_on s d (Whole k) h = grows_on d (came_in d (command_in k s)) _ (grows_step d _ (step_allowed d.setting d.phase d.register (command_of (command_in k s)))) (h (drop k s) (came_in d (command_in k s)))
 front_grows go_on s d Waits h = grows_none d
-front_grows go_on s d (Bad fault) h = grows_step d (fails ProtocolViolation)
+front_grows go_on s d (Bad fault) h = grows_step d (fails ProtocolViolation) refl
 
 run_by_grows : (n : ℕ) (limit : Option ℕ) (s : List ℕ) (c : Course) → Grows c (run_by n limit s c)
 unfolding run_by next_in
 run_by_grows zero limit s c = grows_none c
 run_by_grows (suc n) limit s c =
     let d = settled limit c in
-    grows_on c d _ (settled_grows limit c) (grows_either d (is_over d.phase || is_stopped limit d) _ (front_grows (run_by n limit) s d (front 100003 s) (λ t e. run_by_grows n limit t e)))
+    grows_on c d _ (settled_grows limit c) (grows_either d d _ (is_over d.phase || is_stopped limit d) (grows_none d) (front_grows (run_by n limit) s d (front 100003 s) (λ t e. run_by_grows n limit t e)))
 
 -- what went out stays out
 pub run_grows : (limit : Option ℕ) (s : List ℕ) (c : Course) → Grows c (run limit s c)

@@ -1,30 +1,28 @@
 -- What a served session leaves, from how far it came.
-use Rattle.std.proofs.Common.{◌≡◌, ℕ, zero, suc, ◌+◌, ◌-◌, ◌≤◌, ◌<◌, true, false, List, [], ◌∷◌, ◌++◌, length, take, drop, Option, None, Some, Result, Ok, refl, sym, ap, ◌∙◌, subst, arith, length-append, inl, inr}
+use Rattle.std.proofs.Common.{◌≡◌, ℕ, zero, suc, ◌+◌, ◌-◌, ◌≤◌, ◌<◌, true, false, List, [], ◌∷◌, ◌++◌, length, take, drop, Option, None, Some, Ok, refl, sym, ap, ◌∙◌, subst, arith, length-append, inl, inr}
 use Rattle.std.proofs.Math.Seq.{take-add}
 use Rattle.std.proofs.lemmas.List.{append-nil, take_at, drop_at}
 use Rattle.std.proofs.lemmas.Bool.{le-ltb, lt-ltb}
-use Rattle.oftp_session.specs.Phases.{frame_of}
 use Rattle.oftp_wire.specs.Stream.{front}
-use Rattle.oftp_session.specs.Phases.{esid_of}
-use Rattle.oftp_wire.specs.declared.reason.SessionReason.TheVariants.{ResourcesNotAvailable}
 use Rattle.oftp_wire.specs.Stream.{Waits}
 use Rattle.oftp_register.specs.declared.change.Change.{Change}
 use Rattle.oftp_register.specs.Register.{Register}
-use Rattle.oftp_register.specs.Changes.{apply, or_else, after_all}
+use Rattle.oftp_register.specs.Changes.{apply_all}
 use Rattle.oftp_register.specs.Offices.{Rest, Only, WithOrWithout}
-use Rattle.oftp_session.specs.Phases.{Phase, ResponderOpening, InitiatorOpening, AwaitingSsid, ListenerIdle, SpeakerIdle, EndedHere, EndedThere, Step, register_after}
-use Rattle.oftp_session.specs.Steps.{has_turn, is_over}
+use Rattle.oftp_session.specs.Phases.{Step, register_after}
+use Rattle.oftp_session.specs.Steps.{has_turn}
 use Rattle.oftp_session.specs.Settings.{Setting}
 use Rattle.oftp_session.specs.declared.session.Ending.{Ending}
-use Rattle.oftp_session.specs.Calls.{Seen, ending_of}
-use Rattle.oftp_register.specs.declared.change.Cause.{Cause}
+use Rattle.oftp_session.specs.Calls.{Seen}
 use Rattle.oftp_engine.specs.declared.serving.RunFault.{RunFault}
 use Rattle.oftp_engine.specs.declared.serving.RunFault.TheVariants as fault
 use Rattle.oftp_engine.specs.Runs.{Course, Output, run, started, octets_of, answered, advance, is_stopped, with_change}
-use Rattle.oftp_engine.specs.Serving.{Grows, Leads, Reaches, Scene, Took, BreaksOff, IsRefused, IsShort, Fails, Comes, IsOver, Sound, Counted}
+use Rattle.oftp_engine.specs.Serving.{Grows, Leads, Reaches, Scene, Took, BreaksOff, IsRefused, IsShort, Fails, Comes, IsOver, Sound, Counted, last_frame}
 use Rattle.oftp_engine.specs.Served.{whole, broken_off, LeavesPrefix, IsWhole, IsBrokenOff, IsRefusedService, IsOutOfMemory, ServesErr}
 use Rattle.oftp_engine.proofs.Courses.{grows_on, grows_step, run_grows, run_over, run_waits, run_stopped}
+use Rattle.oftp_engine.proofs.Phases.{over_from}
 use Rattle.oftp_engine.proofs.Progress.{octets_step}
+use Rattle.oftp_engine.proofs.Stepping.{made_register}
 
 answered_most : (outputs : List Output) (n most : ℕ) → Counted most outputs → answered outputs n ≤ most
 answered_most [] n most h = omega arith
@@ -34,14 +32,12 @@ answered_most (o ∷ outputs) (suc n) most h = let p = answered_most outputs (su
 sound_start : (setting : Setting) (r : Register) → Sound r (started setting r)
 sound_start setting r = record { replay = refl; counted = tt }
 
-over_from : (p : Phase) (e : Ending) → Some e ≡ ending_of p → is_over p ≡ true
-over_from ResponderOpening e h = absurd (let no : ⊥ = cc in no)
-over_from (InitiatorOpening partner) e h = absurd (let no : ⊥ = cc in no)
-over_from AwaitingSsid e h = absurd (let no : ⊥ = cc in no)
-over_from (ListenerIdle partner link) e h = absurd (let no : ⊥ = cc in no)
-over_from (SpeakerIdle partner link done) e h = absurd (let no : ⊥ = cc in no)
-over_from (EndedHere reason) e h = refl
-over_from (EndedThere reason) e h = refl
+run_sound : (limit : Option ℕ) (setting : Setting) (given : List ℕ) (r : Register) → Sound r (run limit given (started setting r))
+run_sound limit setting given r = (run_grows limit given (started setting r)).sound r (sound_start setting r)
+
+-- the register is the one after all the run's changes
+replay_all : (limit : Option ℕ) (setting : Setting) (given : List ℕ) (r now : Register) → now ≡ (run limit given (started setting r)).register → apply_all r (run limit given (started setting r)).changes ≡ Ok now
+replay_all limit setting given r now same = (run_sound limit setting given r).replay ∙ ap Ok (sym same)
 
 -- what the run over all the octets comes to
 whole_is : (setting : Setting) (given t : List ℕ) (r : Register) (d : Course) → Leads (started setting r) given d t → run None (t ++ []) d ≡ d → whole setting given r ≡ d
@@ -58,6 +54,7 @@ pub is_whole : (setting : Setting) (given t : List ℕ) (seen : Seen) (old new :
 is_whole setting given t seen old new lo ln fine alone h e = record {
   out = subst (λ (x : List ℕ). Took old new x) (sym h.went.outputs ∙ ap (λ (c : Course). octets_of c.outputs) (sym e)) h.went.took;
   register = h.now.register ∙ ap (λ (c : Course). c.register) (sym e);
+  replay = replay_all None setting given old.register new.register (h.now.register ∙ ap (λ (c : Course). c.register) (sym e));
   stands = h.went.stands fine;
   left = alone (h.went.stands fine);
   faults = h.went.faults;
@@ -90,6 +87,7 @@ is_broken_off setting given old new lo ln fine alone h =
       short = subst (λ (x : List ℕ). taken < length x) (sym octets) (rw length-append (omega (arith, h.short)));
       out = subst (λ (x : List ℕ). Took old new x) (ap (λ (x : List ℕ). x ++ take h.count h.step.output) (sym h.outputs) ∙ sym (take_past before h.step.output h.count) ∙ ap (λ (x : List ℕ). take taken x) (sym octets)) h.took;
       register = h.register ∙ ap (λ (c : Course). c.register) (sym e);
+      replay = replay_all (Some taken) setting given old.register new.register (h.register ∙ ap (λ (c : Course). c.register) (sym e));
       stands = h.stands fine;
       left = alone (h.stands fine);
       faults = h.faults;
@@ -118,11 +116,8 @@ few d w g = omega (arith, ap (λ (x : List Change). length x) g.changes, length-
 front_changes : (d w : Course) → Grows d w → take (length d.changes) w.changes ≡ d.changes
 front_changes d w g = ap (take (length d.changes)) g.changes ∙ take_at d.changes g.later_changes (length d.changes) refl
 
-replayed : (r : Register) (d w : Course) → Grows d w → Sound r d → d.register ≡ after_all r (take (length d.changes) w.changes)
-replayed r d w g s = s.replay ∙ ap (after_all r) (sym (front_changes d w g))
-
-accepted : (r : Register) (k : Change) (s : Register) → apply r k ≡ Ok s → s ≡ or_else (apply r k) r
-accepted r k s e = sym (ap (λ (x : Result Register Cause). or_else x r) e)
+replayed : (r : Register) (d w : Course) → Grows d w → Sound r d → apply_all r (take (length d.changes) w.changes) ≡ Ok d.register
+replayed r d w g s = ap (apply_all r) (front_changes d w g) ∙ s.replay
 
 changes_step : (d : Course) (step : Step) → (advance d step).changes ≡ with_change d.changes step.change
 unfolding advance
@@ -133,10 +128,10 @@ unfolding advance
 register_step d step = refl
 
 leaves_prefix : (r : Register) (d w : Course) (step : Step) (change : Option Change) (least : ℕ) (rest : Rest) → step.change ≡ change → Grows d w → Grows (advance d step) w → Sound r d → Sound r (advance d step) → least ≤ length d.changes → WithOrWithout change d.register rest → LeavesPrefix w r least (length d.changes) rest
-leaves_prefix r d w step None least rest e g h sd se le only = λ k l. record { count = length d.changes; least = le; most = few d w g; near = inl refl; holds = subst (rest.holds k) (replayed r d w g sd) (only k l) }
+leaves_prefix r d w step None least rest e g h sd se le only = λ k l. record { count = length d.changes; least = le; most = few d w g; near = inl refl; register = d.register; replay = replayed r d w g sd; holds = only k l }
 leaves_prefix r d w step (Some change) least rest e g h sd se le only = λ k l.
     elim (only k l) [
-      | inl same ↦ record { count = length d.changes; least = le; most = few d w g; near = inl refl; holds = subst (rest.holds k) (replayed r d w g sd) same }
+      | inl same ↦ record { count = length d.changes; least = le; most = few d w g; near = inl refl; register = d.register; replay = replayed r d w g sd; holds = same }
       | inr made ↦
           let long : length (advance d step).changes ≡ length d.changes + 1 = ap (λ (x : List Change). length x) (changes_step d step ∙ ap (with_change d.changes) e) ∙ length-append d.changes (change ∷ []) in
           record {
@@ -144,25 +139,24 @@ leaves_prefix r d w step (Some change) least rest e g h sd se le only = λ k l.
             least = omega arith;
             most = few (advance d step) w h;
             near = inr (sym long);
-            holds = subst (rest.holds k) (accepted d.register change made.0 made.1 ∙ sym (register_step d step ∙ ap (register_after d.register) e) ∙ replayed r (advance d step) w h se) made.2;
+            register = (advance d step).register;
+            replay = replayed r (advance d step) w h se;
+            holds = subst (rest.holds k) (made_register (Some change) d.register made.0 made.1 ∙ sym (register_step d step ∙ ap (register_after d.register) e)) made.2;
           }
     ]
-
-more_changes : (d : Course) (step : Step) → length d.changes ≤ length (advance d step).changes
-more_changes d step = let g = grows_step d step in few d (advance d step) g
 
 pub is_refused : (setting : Setting) (given : List ℕ) (old new : Scene) (lo ln : Rest) → IsRefused (started setting old.register) given old new lo ln → IsRefusedService setting given old new ln
 is_refused setting given old new lo ln h =
     let r : Register = old.register in
     let w : Course = whole setting given r in
     let sd : Sound r h.at = h.reaches.grows.sound r (sound_start setting r) in
-    let step : Grows h.at (advance h.at h.step) = grows_step h.at h.step in
+    let step : Grows h.at (advance h.at h.step) = grows_step h.at h.step h.allows in
     let se : Sound r (advance h.at h.step) = step.sound r sd in
     let g : Grows h.at w = goes_on setting given r h.at (advance h.at h.step) h.reaches step in
     let ge : Grows (advance h.at h.step) w = goes_past setting given r h.at (advance h.at h.step) h.reaches in
-    let out : Took old new (octets_of h.at.outputs ++ take h.count (frame_of (esid_of ResourcesNotAvailable))) = subst (λ (x : List ℕ). Took old new (x ++ take h.count (frame_of (esid_of ResourcesNotAvailable)))) (sym h.outputs) h.took in
+    let out : Took old new (octets_of h.at.outputs ++ take h.count last_frame) = subst (λ (x : List ℕ). Took old new (x ++ take h.count last_frame)) (sym h.outputs) h.took in
     let kept : answered h.at.outputs (length (octets_of h.at.outputs)) ≤ length h.at.changes = answered_most h.at.outputs (length (octets_of h.at.outputs)) (length h.at.changes) sd.counted in
-    let more : length h.at.changes ≤ length (advance h.at h.step).changes = more_changes h.at h.step in
+    let more : length h.at.changes ≤ length (advance h.at h.step).changes = few h.at (advance h.at h.step) step in
     elim h.cases [
       | inl x ↦ record {
         outs = h.at.outputs;
@@ -170,10 +164,11 @@ is_refused setting given old new lo ln h =
         outputs = g.outputs;
         count = h.count;
         out = out;
+        said = h.said;
         made = length h.at.changes;
         kept = kept;
         few = few h.at w g;
-        register = λ s. x.same s ∙ replayed r h.at w g sd;
+        register = λ s. replayed r h.at w g sd ∙ ap Ok (sym (x.same s));
         left = leaves_prefix r h.at w h.step h.step.change (answered h.at.outputs (length (octets_of h.at.outputs))) ln refl g ge sd se kept x.left;
         faults = h.faults;
       }
@@ -183,11 +178,12 @@ is_refused setting given old new lo ln h =
         outputs = g.outputs;
         count = h.count;
         out = out;
+        said = h.said;
         made = length (advance h.at h.step).changes;
         kept = omega arith;
         few = few (advance h.at h.step) w ge;
-        register = λ s. x.same s ∙ replayed r (advance h.at h.step) w ge se;
-        left = λ k l. record { count = length (advance h.at h.step).changes; least = omega arith; most = few (advance h.at h.step) w ge; near = inl refl; holds = subst (ln.holds k) (replayed r (advance h.at h.step) w ge se) (x.left k l) };
+        register = λ s. replayed r (advance h.at h.step) w ge se ∙ ap Ok (sym (x.same s));
+        left = λ k l. record { count = length (advance h.at h.step).changes; least = omega arith; most = few (advance h.at h.step) w ge; near = inl refl; register = (advance h.at h.step).register; replay = replayed r (advance h.at h.step) w ge se; holds = x.left k l };
         faults = h.faults;
       }
     ]
@@ -212,7 +208,7 @@ is_out_of_memory setting given old new lo ln fine alone h =
         made = length h.at.changes;
         kept = kept;
         few = few h.at w g;
-        register = same ∙ replayed r h.at w g sd;
+        register = replayed r h.at w g sd ∙ ap Ok (sym same);
         stands = h.stands fine;
         left = alone (h.stands fine);
         faults = h.faults;
@@ -226,7 +222,7 @@ is_out_of_memory setting given old new lo ln fine alone h =
         made = length h.next.changes;
         kept = omega arith;
         few = few h.next w ge;
-        register = same ∙ replayed r h.next w ge se;
+        register = replayed r h.next w ge se ∙ ap Ok (sym same);
         stands = h.stands fine;
         left = alone (h.stands fine);
         faults = h.faults;

@@ -1,6 +1,6 @@
 -- A run is the fold over the frames.
-use Rattle.std.proofs.Common.{◌≡◌, ℕ, suc, ◌-◌, ◌≤◌, Bool, cond, ◌||◌, List, [], ◌∷◌, ◌++◌, length, take, drop, Option, refl, sym, ap, ◌∙◌, subst, arith, append_assoc, length-append, length-drop}
-use Rattle.std.proofs.lemmas.List.{drop_at, drop-append-le, take-append-le, take_all}
+use Rattle.std.proofs.Common.{◌≡◌, ℕ, suc, ◌-◌, ◌≤◌, Bool, cond, ◌||◌, List, [], ◌∷◌, ◌++◌, length, drop, Option, refl, sym, ap, ◌∙◌, subst, arith, append_assoc, length-append, length-drop}
+use Rattle.std.proofs.lemmas.List.{drop_at, take_all}
 use Rattle.std.specs.List.{AllByRecursion, flat_map}
 use Rattle.oftp_wire.specs.Stream.{front, command_in, IsWithin}
 use Rattle.oftp_wire.specs.Stream.{Head, Whole, Waits, Bad}
@@ -9,6 +9,7 @@ use Rattle.oftp_session.specs.Steps.{is_over}
 use Rattle.oftp_engine.specs.Runs.{Course, came_in, is_stopped, settled, on_front, next_in, run_by, run}
 use Rattle.oftp_engine.specs.Frames.{IsFrame, IsNoFrame, Splits, at_rest, over_frames}
 use Rattle.oftp_engine.proofs.Courses.{run_enough}
+use Rattle.oftp_engine.proofs.Progress.{command_more}
 
 cond_else : (b : Bool) (d x y : Course) → x ≡ y → cond b d x ≡ cond b d y
 cond_else b d x y e = ap (λ (z : Course). cond b d z) e
@@ -21,8 +22,7 @@ at_end go_on s d (Bad fault) h = refl
 
 command_of : (f more : List ℕ) → 5 ≤ length f → command_in (length f) (f ++ more) ≡ drop 4 f
 command_of f more five =
-    ap (λ (x : List ℕ). take (length f - 4) x) (drop-append-le 4 f more (omega arith))
-    ∙ take-append-le (length f - 4) (drop 4 f) more (omega (arith, length-drop 4 f))
+    command_more (length f) f more five (omega arith)
     ∙ take_all (length f - 4) (drop 4 f) (omega (arith, length-drop 4 f))
 
 pub folds : (limit : Option ℕ) (frames : List (List ℕ)) (rest : List ℕ) (c : Course) → AllByRecursion IsFrame frames → IsNoFrame (front 100003 rest) → run limit (flat_map (λ f. f) frames ++ rest) c ≡ over_frames limit frames rest c

@@ -1,6 +1,6 @@
 -- How far the engine has come, one part after another.
 use Rattle.oftp_wire.specs.declared.reason.SessionReason.TheVariants.{ProtocolViolation}
-use Rattle.std.proofs.Common.{◌≡◌, ℕ, ◌+◌, ◌-◌, ◌≤◌, ◌%◌, ◌^◌, true, false, List, [], ◌∷◌, ◌++◌, length, take, drop, Option, refl, sym, ap, ◌∙◌, subst, arith, append_assoc, length-append, length-drop, inl, inr}
+use Rattle.std.proofs.Common.{◌≡◌, ℕ, ◌-◌, ◌≤◌, true, false, List, [], ◌∷◌, ◌++◌, length, take, drop, Option, refl, sym, ap, ◌∙◌, subst, arith, append_assoc, length-append, length-drop, inl, inr}
 use Rattle.std.proofs.lemmas.List.{append-nil, take-append-le, drop-append-le}
 use Rattle.oftp_wire.specs.Stream.{front, command_in, IsWithin}
 use Rattle.oftp_wire.specs.Stream.{Whole, Bad}
@@ -13,8 +13,9 @@ use Rattle.oftp_session.specs.Calls.{Seen}
 use Rattle.oftp_engine.specs.declared.serving.RunFault.{RunFault}
 use Rattle.oftp_engine.specs.declared.serving.RunFault.TheVariants as fault
 use Rattle.oftp_engine.specs.Runs.{Course, Output, advance, run, is_stopped, octets_of, with_output, with_change, turned_in, came_in}
-use Rattle.oftp_engine.specs.Serving.{Leads, Reaches, Scene, Took, Went, Fails, Made, StepFails}
+use Rattle.oftp_engine.specs.Serving.{Allows, IsSaid, Leads, Reaches, Scene, Took, Went, Fails, Made, StepFails}
 use Rattle.oftp_engine.proofs.Bytes.{appends_none, appends_on, count_on}
+use Rattle.oftp_engine.proofs.Phases.{turn_allowed}
 use Rattle.oftp_engine.proofs.Courses.{grows_none, grows_on, grows_step, octets-append, stopped_before, run_turn, run_frame, run_bad, run_over}
 
 -- what the writer took
@@ -25,7 +26,7 @@ took_none s = record { contents = appends_none s.contents; taken = omega arith }
 pub took_on : (a b c : Scene) (xs ys : List ℕ) → Took a b xs → Took b c ys → Took a c (xs ++ ys)
 took_on a b c xs ys p q = record {
   contents = appends_on a.contents b.contents c.contents xs ys p.contents q.contents;
-  taken = count_on a.taken b.taken c.taken (length xs) (length ys) p.taken q.taken ∙ ap (λ (n : ℕ). (a.taken + n) % 2 ^ 64) (sym (length-append xs ys));
+  taken = count_on a.taken b.taken c.taken (length xs) (length ys) (length (xs ++ ys)) p.taken q.taken (length-append xs ys);
 }
 
 output_octets : (outputs : List Output) (o : List ℕ) (n : ℕ) → octets_of (with_output outputs o n) ≡ octets_of outputs ++ o
@@ -59,8 +60,10 @@ pub reaches_itself : (c : Course) (s : List ℕ) → Reaches c s c c
 reaches_itself c s = record { grows = grows_none c; same = λ more limit h. (s ++ more, refl) }
 
 -- what led to a step leads past it
-pub leads_step : (c : Course) (step : Step) (s t : List ℕ) → ((more : List ℕ) (limit : Option ℕ) → is_stopped limit c ≡ false → run limit (s ++ more) c ≡ run limit (t ++ more) (advance c step)) → Leads c s (advance c step) t
-leads_step c step s t h = record { grows = grows_step c step; same = λ more limit stopped. h more limit (stopped_before limit c (advance c step) (grows_step c step) stopped) }
+pub leads_step : (c : Course) (step : Step) (s t : List ℕ) → Allows c.register step.change → ((more : List ℕ) (limit : Option ℕ) → is_stopped limit c ≡ false → run limit (s ++ more) c ≡ run limit (t ++ more) (advance c step)) → Leads c s (advance c step) t
+leads_step c step s t allows h =
+    let grows = grows_step c step allows in
+    record { grows = grows; same = λ more limit stopped. h more limit (stopped_before limit c (advance c step) grows stopped) }
 
 pub reaches_step : (c : Course) (step : Step) (s t : List ℕ) → ((more : List ℕ) (limit : Option ℕ) → is_stopped limit c ≡ false → run limit (s ++ more) c ≡ run limit (t ++ more) (advance c step)) → Reaches c s c (advance c step)
 reaches_step c step s t h = record { grows = grows_none c; same = λ more limit stopped. (t ++ more, h more limit stopped) }
@@ -100,9 +103,9 @@ went_step c step s t seen a b la lb leads made = record {
   told = made.told;
 }
 
-pub fails_step : (c : Course) (step : Step) (s : List ℕ) (a b : Scene) (la lb : Rest) (f : RunFault) → Reaches c s c (advance c step) → StepFails c step a b la lb f → Fails c s a b la lb f
-fails_step c step s a b la lb fault.Read r h = absurd h
-fails_step c step s a b la lb fault.Write r h = record {
+pub fails_step : (c : Course) (step : Step) (s : List ℕ) (a b : Scene) (la lb : Rest) (f : RunFault) → Allows c.register step.change → Reaches c s c (advance c step) → StepFails c step a b la lb f → Fails c s a b la lb f
+fails_step c step s a b la lb fault.Read allows r h = absurd h
+fails_step c step s a b la lb fault.Write allows r h = record {
   at = c;
   step = step;
   count = h.count;
@@ -116,7 +119,7 @@ fails_step c step s a b la lb fault.Write r h = record {
   faults = h.faults;
   told = h.told;
 }
-fails_step c step s a b la lb fault.Office r h = record {
+fails_step c step s a b la lb fault.Office allows r h = record {
   at = c;
   step = step;
   count = h.count;
@@ -124,14 +127,16 @@ fails_step c step s a b la lb fault.Office r h = record {
   between = [];
   outputs = sym (append-nil (octets_of c.outputs));
   took = h.took;
+  said = h.said;
+  allows = allows;
   cases = h.cases;
   faults = h.faults;
 }
-fails_step c step s a b la lb fault.Memory r h = record {
+fails_step c step s a b la lb fault.Memory allows r h = record {
   at = c;
   next = advance c step;
   reaches = r;
-  later = grows_step c step;
+  later = grows_step c step allows;
   between = [];
   outputs = sym (append-nil (octets_of c.outputs));
   took = h.took;
@@ -146,6 +151,9 @@ outputs_later c d at xs ys p q = q ∙ ap (λ (x : List ℕ). x ++ ys) p ∙ app
 
 took_later : (a b z : Scene) (xs ys zs : List ℕ) → Took a b xs → Took b z (ys ++ zs) → Took a z ((xs ++ ys) ++ zs)
 took_later a b z xs ys zs p q = subst (Took a z) (sym (append_assoc xs ys zs)) (took_on a b z xs (ys ++ zs) p q)
+
+said_later : (a b z : Scene) (count : ℕ) → b.told ≡ a.told → IsSaid b z count → IsSaid a z count
+said_later a b z count same h = elim h [ inl all ↦ inl (all.0, all.1 ∙ same) | inr part ↦ inr (part.0, part.1 ∙ ap next_count same) ]
 
 pub fails_later : (c d : Course) (s t : List ℕ) (a b z : Scene) (la lb lz : Rest) (f : RunFault) → Went c s d t a b la lb → Fails d t b z lb lz f → Fails c s a z la lz f
 fails_later c d s t a b z la lb lz fault.Read w h = absurd h
@@ -171,7 +179,9 @@ fails_later c d s t a b z la lb lz fault.Office w h = record {
   between = w.between ++ h.between;
   outputs = outputs_later c d _ w.between h.between w.outputs h.outputs;
   took = took_later a b z w.between h.between _ w.took h.took;
-  cases = elim h.cases [ inl x ↦ inl (record { same = x.same; left = x.left }) | inr x ↦ inr (record { same = x.same; left = x.left }) ];
+  said = said_later a b z h.count w.told h.said;
+  allows = h.allows;
+  cases = h.cases;
   faults = h.faults ∙ ap next_count w.faults;
 }
 fails_later c d s t a b z la lb lz fault.Memory w h = record {
@@ -191,14 +201,14 @@ fails_later c d s t a b z la lb lz fault.Memory w h = record {
 -- a due turn, whatever is there to be read
 
 pub leads_turn : (c : Course) (s : List ℕ) → has_turn c.phase ≡ true → Leads c s (turned_in c) s
-leads_turn c s h = leads_step c (turned c.setting c.phase c.register) s s (λ more limit stopped. run_turn limit (s ++ more) c h stopped)
+leads_turn c s h = leads_step c (turned c.setting c.phase c.register) s s (turn_allowed c.setting c.phase c.register) (λ more limit stopped. run_turn limit (s ++ more) c h stopped)
 
 pub reaches_turn : (c : Course) (s : List ℕ) → has_turn c.phase ≡ true → Reaches c s c (turned_in c)
 reaches_turn c s h = reaches_step c (turned c.setting c.phase c.register) s s (λ more limit stopped. run_turn limit (s ++ more) c h stopped)
 
 -- a whole frame, and octets that begin none
 
-command_more : (n : ℕ) (s more : List ℕ) → 5 ≤ n → n ≤ length s → command_in n (s ++ more) ≡ command_in n s
+pub command_more : (n : ℕ) (s more : List ℕ) → 5 ≤ n → n ≤ length s → command_in n (s ++ more) ≡ command_in n s
 command_more n s more five there =
     ap (λ (x : List ℕ). take (n - 4) x) (drop-append-le 4 s more (omega arith)) ∙ take-append-le (n - 4) (drop 4 s) more (omega (arith, length-drop 4 s))
 
@@ -260,6 +270,8 @@ fails_with c s a b la lb fault.Office h = record {
   between = h.between;
   outputs = h.outputs;
   took = h.took;
+  said = h.said;
+  allows = h.allows;
   cases = h.cases;
   faults = h.faults;
 }

@@ -1,11 +1,8 @@
 -- What a writer took, whatever the office did.
-use Rattle.std.proofs.Common.{◌≡◌, ℕ, ◌+◌, ◌%◌, ◌^◌, Bool, true, false, List, [], ◌++◌, length, take, Option, arith, length-append}
+use Rattle.std.proofs.Common.{ℕ, Bool, true, false, List, [], ◌++◌, length, take, Option, arith, length-append}
 use Rattle.oftp_engine.specs.declared.port.Port.{Port}
 use Rattle.oftp_engine.specs.Ports.{Sent, Puts}
-use Rattle.oftp_engine.proofs.Bytes.{appends_none, appends_on}
-
-wrote_count : (a b d m n k : ℕ) → b % 2 ^ 64 ≡ (a + m) % 2 ^ 64 → d % 2 ^ 64 ≡ (b + n) % 2 ^ 64 → k ≡ m + n → d % 2 ^ 64 ≡ (a + k) % 2 ^ 64
-wrote_count a b d m n k p q r = omega arith
+use Rattle.oftp_engine.proofs.Bytes.{appends_none, appends_on, count_on}
 
 pub puts_none : {X : Type 0} (contents : X → Option (List ℕ)) (a : Port X) → Puts contents a a
 puts_none contents a = ([], record { contents = appends_none (contents a.inner); moved = omega arith })
@@ -15,7 +12,7 @@ puts_on contents a b d p q = (
   p.0 ++ q.0,
   record {
     contents = appends_on (contents a.inner) (contents b.inner) (contents d.inner) p.0 q.0 p.1.contents q.1.contents;
-    moved = wrote_count a.moved b.moved d.moved (length p.0) (length q.0) (length (p.0 ++ q.0)) p.1.moved q.1.moved (length-append p.0 q.0);
+    moved = count_on a.moved b.moved d.moved (length p.0) (length q.0) (length (p.0 ++ q.0)) p.1.moved q.1.moved (length-append p.0 q.0);
   },
 )
 

@@ -1,25 +1,30 @@
 -- The loop over the pieces, one part after another.
-use Rattle.std.proofs.Common.{◌≡◌, ℕ, List, [], ◌++◌, take, Option, Some, Result, Ok, Err, refl, sym, ap, ◌∙◌, subst, arith, append_assoc, length-append, false, true, is_ok, inl}
+use Rattle.std.proofs.Common.{◌≡◌, ℕ, List, [], ◌++◌, take, Option, Result, Ok, Err, sym, ap, ◌∙◌, subst, arith, append_assoc, length-append, false, true, is_ok, inl}
 use Rattle.std.proofs.lemmas.List.{append-nil, length-take-le}
 use Rattle.std.proofs.lemmas.Bool.{false≢true}
 use Rattle.std.specs.Result.{OnOk}
 use Rattle.std.specs.Io.KnownBytes.{Consumes}
 use Rattle.oftp_wire.specs.Stream.{Stream}
 use Rattle.oftp_session.specs.declared.session.Ending.{Ending}
-use Rattle.oftp_engine.specs.declared.serving.End.TheVariants.{Input}
-use Rattle.oftp_session.specs.Phases.{Phase, ResponderOpening, InitiatorOpening, AwaitingSsid, ListenerIdle, SpeakerIdle, EndedHere, EndedThere}
-use Rattle.oftp_session.specs.Steps.{is_over}
 use Rattle.oftp_session.specs.Settings.{Setting}
-use Rattle.oftp_session.specs.Calls.{Seen, ending_of}
+use Rattle.oftp_session.specs.Calls.{Seen}
 use Rattle.oftp_engine.specs.declared.port.Port.{Port}
 use Rattle.oftp_engine.specs.Ports.{Gives, GivesNothing}
-use Rattle.oftp_engine.specs.Runs.{Course, started, run, is_stopped, ending}
-use Rattle.oftp_engine.specs.Serving.{Leads, Scene, Comes, IsOver, IsWaiting, IsPumping, IsShort}
-use Rattle.oftp_engine.specs.Served.{Gave, IsReading, ended_as}
+use Rattle.oftp_engine.specs.Runs.{Course, started, run, is_stopped}
+use Rattle.oftp_engine.specs.Serving.{Leads, Scene, Comes, IsOver, IsWaiting, IsShort}
+use Rattle.oftp_engine.proofs.Pumping.{IsPumping}
+use Rattle.oftp_engine.specs.Served.{Gave}
 use Rattle.oftp_engine.proofs.Bytes.{consumes_on, keeps_consumes}
 use Rattle.oftp_register.specs.Offices.{Rest}
 use Rattle.oftp_engine.proofs.Courses.{grows_none}
 use Rattle.oftp_engine.proofs.Progress.{went_on}
+
+-- while it reads: how far it came where the office is clean and stood
+pub record IsReading {R : Type 0} (remaining : R → Option (List ℕ)) (before now : Port R) (Clean Stood : Type 0) (setting : Setting) (stream : Stream) (seen : Seen) (old new : Scene) (rest_old rest_new : Rest) : Type 0 where
+  pub given : List ℕ
+  pub gave : Gave remaining before now given
+  pub faults : now.faults ≡ before.faults
+  pub pumping : Clean → Stood → IsPumping (started setting old.register) given stream seen old new rest_old rest_new
 
 pub wait_on : (k : Course) (s : List ℕ) (before stream : Stream) (seen0 seen1 : Seen) (a b z : Scene) (la lb lz : Rest) (p : Comes k s before.rest seen0 a b la lb) → IsWaiting p.at before.rest stream seen1 b z lb lz → IsWaiting k s stream seen1 a z la lz
 wait_on k s before stream seen0 seen1 a b z la lb lz p w = record {
@@ -56,6 +61,8 @@ pub gave_on : {R : Type 0} (remaining : R → Option (List ℕ)) (before now nex
 gave_on remaining before now next given piece n g h = record {
   bytes = consumes_on (remaining before.inner) (remaining now.inner) (remaining next.inner) given (take n piece) g.bytes h.bytes;
   count = omega (arith, g.count, h.moved, length-append given (take n piece), length-take-le n piece h.fits);
+  within = omega (arith, g.count, g.within, g.most, h.within, length-append given (take n piece), length-take-le n piece h.fits);
+  most = h.most ∙ g.most;
 }
 
 pub gave_zero : {R : Type 0} (remaining : R → Option (List ℕ)) (before now next : Port R) (given piece : List ℕ) (n : ℕ) → Gave remaining before now given → Gives remaining now next piece n → n ≡ 0 → Gave remaining before next given
@@ -65,6 +72,8 @@ pub gave_kept : {R : Type 0} (remaining : R → Option (List ℕ)) (before now n
 gave_kept remaining before now next given g h = record {
   bytes = subst (λ (x : List ℕ). Consumes (remaining before.inner) (remaining next.inner) x) (append-nil given) (consumes_on (remaining before.inner) (remaining now.inner) (remaining next.inner) given [] g.bytes (keeps_consumes (remaining now.inner) (remaining next.inner) h.bytes));
   count = omega (arith, g.count, h.moved);
+  within = g.within;
+  most = h.most ∙ g.most;
 }
 
 pub read_on : {R : Type 0} (remaining : R → Option (List ℕ)) (before now next : Port R) (given piece : List ℕ) (n : ℕ) (Clean Stood : Type 0) (setting : Setting) (stream fed : Stream) (seen : Seen) (a z : Scene) (la lz : Rest) → Gave remaining before now given → now.faults ≡ before.faults → Gives remaining now next piece n → (Clean → Stood → IsWaiting (started setting a.register) given stream seen a z la lz) → fed ≡ record stream { rest = stream.rest ++ take n piece } → IsReading remaining before next Clean Stood setting fed seen a z la lz
@@ -97,29 +106,6 @@ short_on k s t x seen a z la lz h = record {
   where
     leads_at : (more : List ℕ) (limit : Option ℕ) → is_stopped limit h.at ≡ false → run limit ((s ++ x) ++ more) k ≡ run limit ((t ++ x) ++ more) h.at
     leads_at more limit stopped = (leads_more k h.at s t x h.went.leads).same more limit stopped
-
-some_same : {A : Type 0} {x y : A} → Some x ≡ Some y → x ≡ y
-some_same e = cc
-
--- how a session that is over has ended
-pub ending_from : (p : Phase) (e : Ending) → Some e ≡ ending_of p → ended_as e ≡ ending p
-ending_from ResponderOpening e h = absurd (let no : ⊥ = cc in no)
-ending_from (InitiatorOpening partner) e h = absurd (let no : ⊥ = cc in no)
-ending_from AwaitingSsid e h = absurd (let no : ⊥ = cc in no)
-ending_from (ListenerIdle partner link) e h = absurd (let no : ⊥ = cc in no)
-ending_from (SpeakerIdle partner link done) e h = absurd (let no : ⊥ = cc in no)
-ending_from (EndedHere reason) e h = ap ended_as (some_same h)
-ending_from (EndedThere reason) e h = ap ended_as (some_same h)
-
--- where octets are awaited, the end of the input is how the session ends
-pub input_ending : (p : Phase) → is_over p ≡ false → Input ≡ ending p
-input_ending ResponderOpening h = refl
-input_ending (InitiatorOpening partner) h = refl
-input_ending AwaitingSsid h = refl
-input_ending (ListenerIdle partner link) h = refl
-input_ending (SpeakerIdle partner link done) h = refl
-input_ending (EndedHere reason) h = absurd (false≢true (sym h))
-input_ending (EndedThere reason) h = absurd (false≢true (sym h))
 
 -- what feeding left, where it was no error
 pub fed_from : {T E : Type 0} (r : Result T E) (P : Type 0) → is_ok r ≡ true → OnOk r P → P

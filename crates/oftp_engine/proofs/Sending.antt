@@ -1,14 +1,11 @@
 -- One write after another.
-use Rattle.std.proofs.Common.{◌≡◌, ℕ, ◌+◌, ◌-◌, ◌≤◌, ◌%◌, ◌^◌, List, ◌++◌, length, take, drop, Option, sym, ap, ◌∙◌, subst, arith, length-drop}
+use Rattle.std.proofs.Common.{◌≡◌, ℕ, ◌+◌, ◌-◌, ◌≤◌, List, ◌++◌, length, take, drop, Option, sym, ap, ◌∙◌, subst, arith, length-drop}
 use Rattle.std.proofs.lemmas.List.{take_rest, length-take-le}
 use Rattle.std.proofs.Math.Seq.{take-add}
 use Rattle.std.specs.Io.KnownBytes.{Appends}
 use Rattle.oftp_engine.specs.declared.port.Port.{Port}
 use Rattle.oftp_engine.specs.Ports.{SentAll, Takes}
-use Rattle.oftp_engine.proofs.Bytes.{appends_on}
-
-moved_on : (a b d m n k : ℕ) → b % 2 ^ 64 ≡ (a + m) % 2 ^ 64 → d ≡ (b + n) % 2 ^ 64 → k ≡ m + n → d % 2 ^ 64 ≡ (a + k) % 2 ^ 64
-moved_on a b d m n k p q r = omega arith
+use Rattle.oftp_engine.proofs.Bytes.{appends_on, count_on}
 
 pub sent_on : {X : Type 0} (contents : X → Option (List ℕ)) (a b d : Port X) (octets : List ℕ) (at n : ℕ) → SentAll contents a b (take at octets) → Takes contents b d (take (length octets - at) (drop at octets)) n → at ≤ length octets → SentAll contents a d (take (at + n) octets)
 sent_on contents a b d octets at n s t le =
@@ -19,7 +16,7 @@ sent_on contents a b d octets at n s t le =
     record {
       wrote = record {
         contents = subst (λ (z : List ℕ). Appends (contents a.inner) (contents d.inner) z) joined (appends_on (contents a.inner) (contents b.inner) (contents d.inner) (take at octets) _ s.wrote.contents t.bytes);
-        moved = moved_on a.moved b.moved d.moved (length (take at octets)) n (length (take (at + n) octets)) s.wrote.moved t.moved long;
+        moved = count_on a.moved b.moved d.moved (length (take at octets)) n (length (take (at + n) octets)) s.wrote.moved (omega (arith, t.moved)) long;
       };
       faults = t.faults ∙ s.faults;
     }

@@ -6,7 +6,6 @@ use Rattle.oftp_wire.specs.declared.reason.SessionReason.{SessionReason}
 use Rattle.oftp_register.specs.declared.change.Cause.{Cause}
 use Rattle.oftp_session.specs.Phases.{frame_of}
 use Rattle.oftp_session.specs.Phases.{esid_of}
-use Rattle.oftp_wire.specs.declared.reason.SessionReason.TheVariants.{ResourcesNotAvailable}
 use Rattle.oftp_register.specs.declared.change.Change.{Change}
 use Rattle.oftp_register.specs.Register.{Register}
 use Rattle.oftp_register.specs.Changes.{or_else}
@@ -20,13 +19,12 @@ use Rattle.oftp_engine.proofs.Bytes.{appends_none}
 use Rattle.oftp_engine.specs.declared.port.Port.{Port}
 use Rattle.oftp_engine.specs.declared.serving.RunFault.{RunFault}
 use Rattle.oftp_engine.specs.declared.serving.RunFault.TheVariants as fault
-use Rattle.oftp_engine.specs.Ports.{Sent, Wrote}
+use Rattle.oftp_engine.specs.Ports.{Sent}
 use Rattle.oftp_engine.specs.Runs.{Course, advance}
-use Rattle.oftp_engine.specs.Serving.{LastWords, NotMade, NoMemory, Stepped, StepFails, Scene, Took, IsAt, StaysBefore, StaysAfter}
+use Rattle.oftp_engine.specs.Serving.{LastWords, last_frame, NotMade, NoMemory, Stepped, StepFails, Scene, Took, IsAt, StaysBefore, StaysAfter}
 
-pub last_from : {W : Type 0} (contents : W → Option (List ℕ)) (a d : Port W) (said : List ℕ) (b : Bool) → said ≡ frame_of (esid_of ResourcesNotAvailable) → Sent contents a d said b → LastWords contents a d
-last_from contents a d said true e s = record { count = length said; wrote = subst (λ (x : List ℕ). Wrote contents a d (take (length said) x)) e (subst (λ (x : List ℕ). Wrote contents a d x) (sym (take_all (length said) said (omega arith))) s.wrote) }
-last_from contents a d said false e s = record { count = s.count; wrote = subst (λ (x : List ℕ). Wrote contents a d (take s.count x)) e s.wrote }
+pub last_from : {W : Type 0} (contents : W → Option (List ℕ)) (a d : Port W) (said : List ℕ) (all : Bool) → said ≡ last_frame → Sent contents a d said all → LastWords contents a d
+last_from contents a d said all e s = (all, subst (λ (x : List ℕ). Sent contents a d x all) e s)
 
 ok_of : Result (List ℕ) SessionFault → List ℕ
 ok_of (Ok x) = x
@@ -37,21 +35,13 @@ unfolding ok_of
 ok_same x y e = ap ok_of e
 
 -- the register and what a stop leaves, after a step that was made
-made_register : (change : Option Change) (r new : Register) → Makes change r new → new ≡ register_after r change
+pub made_register : (change : Option Change) (r new : Register) → Makes change r new → new ≡ register_after r change
 made_register None r new h = h
 made_register (Some k) r new h = sym (ap (λ (x : Result Register Cause). or_else x r) h)
 
 -- a scene from its parts
 abbrev pub at_desk : Desk → Option (List ℕ) → ℕ → ℕ → Scene
 at_desk d contents taken told = record { register = d.register; faults = d.faults; contents = contents; taken = taken; told = told }
-
-advance_register : (c : Course) (s : Step) → (advance c s).register ≡ register_after c.register s.change
-unfolding advance
-advance_register c s = refl
-
-advance_phase : (c : Course) (s : Step) → (advance c s).phase ≡ s.phase
-unfolding advance
-advance_phase c s = refl
 
 -- a call that did its step, and the write of what it said
 pub stepped_ok : {T W : Type 0} (contents : W → Option (List ℕ)) (a d : Port W) (x y : Desk) (left_old left_new : Rest) (c : Course) (step : Step) (seen : Seen) (said : List ℕ) (result : Result T RunFault) →
@@ -111,13 +101,13 @@ pub at_course : (P : Setting → Register → Type 0) (c : Course) (seen : Seen)
 at_course P c seen scene at h = subst (λ (r : Register). P c.setting r) at.register (subst (λ (setting : Setting). P setting scene.register) at.setting h)
 
 -- a call that the office broke off, and the last words
-broken_cases : (x y : Desk) (lo ln : Rest) (c : Course) (step : Step) → x.register ≡ c.register → IsBefore step.change x y ln ⊎ IsAfter step.change x y ln → StaysBefore c c step y.register lo ln ⊎ StaysAfter c c step y.register lo ln
+broken_cases : (x y : Desk) (ln : Rest) (c : Course) (step : Step) → x.register ≡ c.register → IsBefore step.change x y ln ⊎ IsAfter step.change x y ln → StaysBefore c step y.register ln ⊎ StaysAfter c step y.register ln
 unfolding advance
-broken_cases x y lo ln c step same (inl h) = inl (record {
+broken_cases x y ln c step same (inl h) = inl (record {
   same = λ s. h.register s ∙ same;
   left = subst (λ (r : Register). WithOrWithout step.change r ln) same h.left;
 })
-broken_cases x y lo ln c step same (inr h) =
+broken_cases x y ln c step same (inr h) =
     let makes : Makes step.change c.register h.after = subst (λ (r : Register). Makes step.change r h.after) same h.made in
     let now : h.after ≡ register_after c.register step.change = made_register step.change c.register h.after makes in
     inr (record { same = λ s. h.register s ∙ now; left = subst (λ (r : Register). Only r ln) now h.left })
@@ -125,12 +115,26 @@ broken_cases x y lo ln c step same (inr h) =
 pub stepped_office : {W : Type 0} (contents : W → Option (List ℕ)) (a d : Port W) (x y : Desk) (lo ln : Rest) (c : Course) (step : Step) →
     IsBroken step.change x y ln → x.register ≡ c.register → LastWords contents a d →
     NotMade c step (at_desk x (contents a.inner) a.moved a.faults) (at_desk y (contents d.inner) d.moved d.faults) lo ln
-stepped_office contents a d x y lo ln c step broken same last = record {
-  count = last.count;
-  took = record { contents = last.wrote.contents; taken = last.wrote.moved };
-  cases = broken_cases x y lo ln c step same broken.cases;
-  faults = broken.faults;
-}
+stepped_office contents a d x y lo ln c step broken same last = at last.0 last.1
+  where
+    whole : take (length last_frame) last_frame ≡ last_frame
+    whole = take_all (length last_frame) last_frame (omega arith)
+
+    at : (all : Bool) → Sent contents a d last_frame all → NotMade c step (at_desk x (contents a.inner) a.moved a.faults) (at_desk y (contents d.inner) d.moved d.faults) lo ln
+    at true s = record {
+      count = length last_frame;
+      took = subst (Took (at_desk x (contents a.inner) a.moved a.faults) (at_desk y (contents d.inner) d.moved d.faults)) (sym whole) (record { contents = s.wrote.contents; taken = s.wrote.moved });
+      said = inl (refl, s.faults);
+      cases = broken_cases x y ln c step same broken.cases;
+      faults = broken.faults;
+    }
+    at false s = record {
+      count = s.count;
+      took = record { contents = s.wrote.contents; taken = s.wrote.moved };
+      said = inr (s.short, s.faults);
+      cases = broken_cases x y ln c step same broken.cases;
+      faults = broken.faults;
+    }
 
 -- a call that ran out of memory
 pub stepped_memory : {W : Type 0} (contents : W → Option (List ℕ)) (a : Port W) (x y : Desk) (lo ln : Rest) (c : Course) (step : Step) →

@@ -1,17 +1,23 @@
 -- What a port knows of the reader or the writer in it.
-use Rattle.std.specs.Prelude.{◌≡◌, ℕ, ◌+◌, ◌-◌, ◌<◌, ◌≤◌, ◌%◌, ◌^◌, Bool, true, false, List, length, take, Option, None, Some}
-use Rattle.std.specs.Io.KnownBytes.{Appends, Keeps, Consumes}
+use Rattle.std.specs.Prelude.{◌≡◌, ℕ, ◌+◌, ◌-◌, ◌<◌, ◌≤◌, ◌%◌, ◌^◌, ◌⊎◌, Bool, true, false, List, length, take, Option, None, Some}
+use Rattle.std.specs.Io.KnownBytes.{Appends, Keeps, Consumes, IsAtEnd}
 use Rattle.oftp_register.specs.Offices.{next_count}
 use Rattle.oftp_engine.specs.declared.port.Port.{Port}
 
 module _ {X : Type 0} where
+  -- no more is to come: the reader has no octet left, or the port has given as many as it may
+  pub record IsDone (remaining : X → Option (List ℕ)) (port : Port X) : Type 0 where
+    pub ended : port.ended ≡ true
+    pub cause : (port.most ≤ port.moved) ⊎ IsAtEnd (remaining port.inner)
+
   -- a read that gave n octets at the front of the piece, none only at the end
   pub record Gives (remaining : X → Option (List ℕ)) (old new : Port X) (piece : List ℕ) (n : ℕ) : Type 0 where
     pub fits : n ≤ length piece
     pub bytes : Consumes (remaining old.inner) (remaining new.inner) (take n piece)
     pub moved : new.moved ≡ old.moved + n
     pub within : n ≤ old.most - old.moved
-    pub end : n ≡ 0 → new.ended ≡ true
+    pub end : n ≡ 0 → IsDone remaining new
+    pub on : 0 < n → new.ended ≡ old.ended
     pub faults : new.faults ≡ old.faults
     pub most : new.most ≡ old.most
 
@@ -20,6 +26,8 @@ module _ {X : Type 0} where
     pub bytes : Keeps (remaining old.inner) (remaining new.inner)
     pub moved : new.moved ≡ old.moved
     pub faults : new.faults ≡ next_count old.faults
+    pub most : new.most ≡ old.most
+    pub on : new.ended ≡ old.ended
 
   abbrev pub Reads : (X → Option (List ℕ)) → Port X → Port X → List ℕ → Option ℕ → Type 0
   Reads remaining old new piece None = GivesNothing remaining old new

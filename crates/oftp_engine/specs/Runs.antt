@@ -11,8 +11,11 @@ use Rattle.oftp_wire.specs.declared.reason.SessionReason.TheVariants.{CommandNot
 use Rattle.oftp_register.specs.declared.change.Change.{Change}
 use Rattle.oftp_register.specs.Register.{Register}
 use Rattle.oftp_session.specs.Settings.{Setting}
-use Rattle.oftp_session.specs.Phases.{Phase, ResponderOpening, InitiatorOpening, AwaitingSsid, ListenerIdle, SpeakerIdle, EndedHere, EndedThere, Step, register_after, fails}
+use Rattle.oftp_session.specs.Phases.{Phase, Step, register_after, fails}
 use Rattle.oftp_session.specs.Steps.{has_turn, turned, turns_due, came, is_over, opening}
+use Rattle.oftp_session.specs.Calls.{ending_of}
+use Rattle.oftp_session.specs.declared.session.Ending.{Ending}
+use Rattle.oftp_session.specs.declared.session.Ending.TheVariants as ended
 use Rattle.oftp_engine.specs.declared.serving.End.{End}
 use Rattle.oftp_engine.specs.declared.serving.End.TheVariants.{Own, Partner, Input}
 
@@ -21,19 +24,17 @@ pub record Output : Type 0 where
   pub octets : List ℕ
   pub after : ℕ
 
--- a session so far: its book, its phase, the register, the changes that were accepted, the frames that went out and the phases
--- that it came to, in order
+-- a session so far: its book, its phase, the register, the changes that were made and the frames that went out, in order
 pub record Course : Type 0 where
   pub setting : Setting
   pub phase : Phase
   pub register : Register
   pub changes : List Change
   pub outputs : List Output
-  pub phases : List Phase
 
 -- a session before its first step
 abbrev pub started : Setting → Register → Course
-started setting r = record { setting = setting; phase = opening setting.called; register = r; changes = []; outputs = []; phases = [] }
+started setting r = record { setting = setting; phase = opening setting.called; register = r; changes = []; outputs = [] }
 
 abbrev pub octets_of : List Output → List ℕ
 octets_of outputs = flat_map (λ o. o.octets) outputs
@@ -54,7 +55,6 @@ advance c s = record {
   register = register_after c.register s.change;
   changes = with_change c.changes s.change;
   outputs = with_output c.outputs s.output (length (with_change c.changes s.change));
-  phases = c.phases ++ s.phase ∷ [];
 }
 
 -- octets that spell no command end the session, for the reason that their fault has
@@ -104,15 +104,18 @@ run_by (suc n) limit s c = next_in limit (run_by n limit) s (settled limit c)
 unfoldable pub run : Option ℕ → List ℕ → Course → Course
 run limit s c = run_by (suc (length s)) limit s c
 
--- how a session ends that read all there is
+-- how a session ended, as the end of a served one
+abbrev pub ended_as : Ending → End
+ended_as (ended.Own reason) = Own reason
+ended_as (ended.Partner reason) = Partner reason
+
+abbrev pub end_of : Option Ending → End
+end_of None = Input
+end_of (Some ending) = ended_as ending
+
+-- how a session ends that read all there is: as its phase says, else by the end of the input
 abbrev pub ending : Phase → End
-ending ResponderOpening = Input
-ending (InitiatorOpening partner) = Input
-ending AwaitingSsid = Input
-ending (ListenerIdle partner link) = Input
-ending (SpeakerIdle partner link done) = Input
-ending (EndedHere reason) = Own reason
-ending (EndedThere reason) = Partner reason
+ending p = end_of (ending_of p)
 
 -- the largest number of changes that stands with an output of which one of the first n octets is
 abbrev pub answered : List Output → ℕ → ℕ

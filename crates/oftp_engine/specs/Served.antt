@@ -1,10 +1,8 @@
 -- What a served session leaves, and what it has out: the whole run over the octets that the reader gave.
-use Rattle.std.specs.Prelude.{◌≡◌, ℕ, ◌+◌, ◌<◌, ◌≤◌, ◌⊎◌, ⊤, true, List, ◌++◌, length, take, Option, None, Some, Result, Ok, Err}
+use Rattle.std.specs.Prelude.{◌≡◌, ℕ, ◌+◌, ◌-◌, ◌<◌, ◌≤◌, ◌⊎◌, ⊤, List, ◌++◌, length, take, Option, None, Some, Result, Ok, Err}
 use Rattle.std.specs.Io.KnownBytes.{Consumes}
-use Rattle.oftp_session.specs.Phases.{frame_of, esid_of}
-use Rattle.oftp_wire.specs.declared.reason.SessionReason.TheVariants.{ResourcesNotAvailable}
 use Rattle.oftp_register.specs.Register.{Register}
-use Rattle.oftp_register.specs.Changes.{after_all}
+use Rattle.oftp_register.specs.Changes.{apply_all}
 use Rattle.oftp_register.specs.Offices.{Rest, Only, next_count}
 use Rattle.oftp_engine.specs.declared.serving.End.{End}
 use Rattle.oftp_session.specs.Settings.{Setting}
@@ -12,38 +10,40 @@ use Rattle.oftp_partners.specs.Book.{BookData}
 use Rattle.oftp_partners.specs.declared.partner.Partner.{Partner as Entry}
 use Rattle.oftp_engine.specs.declared.serving.Role.{Role}
 use Rattle.oftp_engine.specs.declared.serving.Role.TheVariants.{Responder, Initiator}
-use Rattle.oftp_engine.specs.declared.serving.End.TheVariants.{Own, Partner, Input}
-use Rattle.oftp_session.specs.declared.session.Ending.{Ending}
-use Rattle.oftp_session.specs.declared.session.Ending.TheVariants as own
+use Rattle.oftp_engine.specs.declared.serving.End.TheVariants.{Input}
 use Rattle.oftp_engine.specs.declared.port.Port.{Port}
 use Rattle.oftp_engine.specs.declared.serving.RunFault.{RunFault}
 use Rattle.oftp_engine.specs.declared.serving.RunFault.TheVariants as fault
+use Rattle.oftp_engine.specs.Ports.{IsDone}
 use Rattle.oftp_engine.specs.Runs.{Course, Output, run, started, octets_of, ending, answered}
-use Rattle.oftp_wire.specs.Stream.{Stream}
-use Rattle.oftp_session.specs.Calls.{Seen}
-use Rattle.oftp_engine.specs.Serving.{Scene, Took, IsPumping}
+use Rattle.oftp_engine.specs.Serving.{Scene, Took, IsSaid, last_frame}
 
--- the octets that a reader gave in a call: as many as its port counts, and the next ones that it had, where these are known
+-- the octets that a reader gave in a call: as many as its port counts, at most as many as the port's limit left, and the next
+-- ones that it had, where these are known
 pub record Gave {R : Type 0} (remaining : R → Option (List ℕ)) (old new : Port R) (given : List ℕ) : Type 0 where
   pub bytes : Consumes (remaining old.inner) (remaining new.inner) given
   pub count : new.moved ≡ old.moved + length given
+  pub within : length given ≤ old.most - old.moved
+  pub most : new.most ≡ old.most
 
 -- the session over these octets, from a register
 abbrev pub whole : Setting → List ℕ → Register → Course
 whole setting given r = run None given (started setting r)
 
--- .. whose writer had taken so many octets when it told a fault
+-- the session over these octets, from a register, whose writer had taken so many octets when it told a fault
 abbrev pub broken_off : Setting → ℕ → List ℕ → Register → Course
 broken_off setting taken given r = run (Some taken) given (started setting r)
 
--- what a stop leaves holds the register after n of the run's changes, from so many on, where the office's register is the
--- one after n or n - 1 of them
+-- what a stop leaves holds the register after n of the run's changes, all made, from so many on, where the office's register is
+-- the one after n or n - 1 of them
 pub record IsPrefix {C : Type 0} (holds' : C → Register → Type 0) (c : Course) (r : Register) (low made : ℕ) (content : C) : Type 0 where
   pub count : ℕ
   pub least : low ≤ count
   pub most : count ≤ length c.changes
   pub near : (made ≡ count) ⊎ (made + 1 ≡ count)
-  pub holds : holds' content (after_all r (take count c.changes))
+  pub register : Register
+  pub replay : apply_all r (take count c.changes) ≡ Ok register
+  pub holds : holds' content register
 
 abbrev pub LeavesPrefix : Course → Register → ℕ → ℕ → Rest → Type 0
 LeavesPrefix c r least made rest = (content : rest.Content) → rest.may_leave content → IsPrefix rest.holds c r least made content
@@ -52,6 +52,7 @@ LeavesPrefix c r least made rest = (content : rest.Content) → rest.may_leave c
 pub record IsWhole (setting : Setting) (given : List ℕ) (old new : Scene) (rest : Rest) : Type 0 where
   pub out : Took old new (octets_of (whole setting given old.register).outputs)
   pub register : new.register ≡ (whole setting given old.register).register
+  pub replay : apply_all old.register (whole setting given old.register).changes ≡ Ok new.register
   pub stands : rest.stands
   pub left : Only new.register rest
   pub faults : new.faults ≡ old.faults
@@ -63,23 +64,25 @@ pub record IsBrokenOff (setting : Setting) (given : List ℕ) (old new : Scene) 
   pub short : taken < length (octets_of (broken_off setting taken given old.register).outputs)
   pub out : Took old new (take taken (octets_of (broken_off setting taken given old.register).outputs))
   pub register : new.register ≡ (broken_off setting taken given old.register).register
+  pub replay : apply_all old.register (broken_off setting taken given old.register).changes ≡ Ok new.register
   pub stands : rest.stands
   pub left : Only new.register rest
   pub faults : new.faults ≡ old.faults
   pub told : new.told ≡ next_count old.told
 
--- the office told a fault: whole outputs are out and a beginning of ESID 08, and the register is the one after some
--- changes, at least those that were answered
+-- the office told a fault: whole outputs are out, and after them ESID 08 or as much of it as the writer took before it told a fault.
+-- The register is the one after some changes, at least those that were answered
 pub record IsRefusedService (setting : Setting) (given : List ℕ) (old new : Scene) (rest : Rest) : Type 0 where
   pub outs : List Output
   pub later : List Output
   pub outputs : (whole setting given old.register).outputs ≡ outs ++ later
   pub count : ℕ
-  pub out : Took old new (octets_of outs ++ take count (frame_of (esid_of ResourcesNotAvailable)))
+  pub out : Took old new (octets_of outs ++ take count last_frame)
+  pub said : IsSaid old new count
   pub made : ℕ
   pub kept : answered outs (length (octets_of outs)) ≤ made
   pub few : made ≤ length (whole setting given old.register).changes
-  pub register : rest.stands → new.register ≡ after_all old.register (take made (whole setting given old.register).changes)
+  pub register : rest.stands → apply_all old.register (take made (whole setting given old.register).changes) ≡ Ok new.register
   pub left : LeavesPrefix (whole setting given old.register) old.register (answered outs (length (octets_of outs))) made rest
   pub faults : new.faults ≡ next_count old.faults
 
@@ -92,7 +95,7 @@ pub record IsOutOfMemory (setting : Setting) (given : List ℕ) (old new : Scene
   pub made : ℕ
   pub kept : answered outs (length (octets_of outs)) ≤ made
   pub few : made ≤ length (whole setting given old.register).changes
-  pub register : new.register ≡ after_all old.register (take made (whole setting given old.register).changes)
+  pub register : apply_all old.register (take made (whole setting given old.register).changes) ≡ Ok new.register
   pub stands : rest.stands
   pub left : Only new.register rest
   pub faults : new.faults ≡ old.faults
@@ -120,22 +123,10 @@ abbrev pub ReaderTold : {R : Type 0} → Port R → Port R → Result End RunFau
 ReaderTold old new (Ok end) = new.faults ≡ old.faults
 ReaderTold old new (Err fault) = ReaderErr old new fault
 
--- a session ends by its input only where the reader told the end
-abbrev pub InputEnded : {R : Type 0} → Port R → Result End RunFault → Type 0
-InputEnded now (Ok end) = end ≡ Input → now.ended ≡ true
-InputEnded now (Err fault) = ⊤
-
--- while it reads: how far it came where the office is clean and stood
-pub record IsReading {R : Type 0} (remaining : R → Option (List ℕ)) (before now : Port R) (Clean Stood : Type 0) (setting : Setting) (stream : Stream) (seen : Seen) (old new : Scene) (rest_old rest_new : Rest) : Type 0 where
-  pub given : List ℕ
-  pub gave : Gave remaining before now given
-  pub faults : now.faults ≡ before.faults
-  pub pumping : Clean → Stood → IsPumping (started setting old.register) given stream seen old new rest_old rest_new
-
--- how a session ended, as the end of a served one
-abbrev pub ended_as : Ending → End
-ended_as (own.Own reason) = Own reason
-ended_as (own.Partner reason) = Partner reason
+-- a session ends by its input only where no more is to come
+abbrev pub InputEnded : {R : Type 0} → (R → Option (List ℕ)) → Port R → Result End RunFault → Type 0
+InputEnded remaining now (Ok end) = end ≡ Input → IsDone remaining now
+InputEnded remaining now (Err fault) = ⊤
 
 -- whom a session calls
 abbrev pub called_in : Role → Option Entry

@@ -1,20 +1,20 @@
 -- How far the engine has come in a run, for its own functions.
-use Rattle.std.specs.Prelude.{◌≡◌, ℕ, ◌+◌, ◌<◌, ◌%◌, ◌^◌, ◌⊎◌, ⊤, false, ◌≤◌, List, [], ◌∷◌, ◌++◌, length, take, Option, None, Some, Result, Ok, Err}
+use Rattle.std.specs.Prelude.{◌≡◌, ℕ, ◌+◌, ◌<◌, ◌%◌, ◌^◌, ◌⊎◌, ⊤, Bool, false, ◌≤◌, List, [], ◌∷◌, ◌++◌, length, take, Option, None, Some, Result, Ok, Err}
 use Rattle.std.specs.Io.KnownBytes.{Appends}
 use Rattle.oftp_wire.specs.Stream.{Stream, front}
 use Rattle.oftp_wire.specs.Stream.{Waits}
 use Rattle.oftp_wire.specs.declared.reason.SessionReason.TheVariants.{ResourcesNotAvailable}
 use Rattle.oftp_register.specs.declared.change.Change.{Change}
 use Rattle.oftp_register.specs.Register.{Register}
-use Rattle.oftp_register.specs.Changes.{after_all}
+use Rattle.oftp_register.specs.Changes.{apply_all}
 use Rattle.oftp_register.specs.Offices.{Rest, Only, WithOrWithout, next_count}
-use Rattle.oftp_session.specs.Phases.{Step, frame_of, esid_of}
+use Rattle.oftp_session.specs.Phases.{Step, register_after, frame_of, esid_of}
 use Rattle.oftp_session.specs.Steps.{has_turn, is_over, Holds}
-use Rattle.oftp_session.specs.Calls.{Seen, Stands, ending_of}
+use Rattle.oftp_session.specs.Calls.{Makes, Seen, Stands, ending_of}
 use Rattle.oftp_session.specs.declared.session.Ending.{Ending}
 use Rattle.oftp_engine.specs.Runs.{Course, Output, run, is_stopped, advance, octets_of}
 use Rattle.oftp_engine.specs.declared.port.Port.{Port}
-use Rattle.oftp_engine.specs.Ports.{Wrote}
+use Rattle.oftp_engine.specs.Ports.{Sent}
 use Rattle.oftp_engine.specs.declared.serving.RunFault.{RunFault}
 use Rattle.oftp_engine.specs.declared.serving.RunFault.TheVariants as fault
 
@@ -23,10 +23,18 @@ abbrev pub Counted : ℕ → List Output → Type 0
 Counted most [] = Unit {0}
 Counted most (o ∷ outputs) = (o.after ≤ most) × Counted most outputs
 
--- the register is the one after the changes, from r on
+-- the change of a step, if it makes one, is one that the register takes
+abbrev pub Allows : Register → Option Change → Type 0
+Allows r change = Makes change r (register_after r change)
+
+-- the register is the one after the changes, from r on, all of them made
 pub record Sound (r : Register) (c : Course) : Type 0 where
-  pub replay : c.register ≡ after_all r c.changes
+  pub replay : apply_all r c.changes ≡ Ok c.register
   pub counted : Counted (length c.changes) c.outputs
+
+-- what is said last after a fault of the office
+abbrev pub last_frame : List ℕ
+last_frame = frame_of (esid_of ResourcesNotAvailable)
 
 -- d comes later in a run than c
 pub record Grows (c d : Course) : Type 0 where
@@ -41,7 +49,7 @@ pub record Leads (c : Course) (s : List ℕ) (d : Course) (t : List ℕ) : Type 
   pub grows : Grows c d
   pub same : (more : List ℕ) (limit : Option ℕ) → is_stopped limit d ≡ false → run limit (s ++ more) c ≡ run limit (t ++ more) d
 
--- .. comes to d, which it leaves for e
+-- the run that comes from c with the octets s comes to d, which it leaves for e
 pub record Reaches (c : Course) (s : List ℕ) (d e : Course) : Type 0 where
   pub grows : Grows c d
   pub same : (more : List ℕ) (limit : Option ℕ) → is_stopped limit d ≡ false → (u : List ℕ) × (run limit (s ++ more) c ≡ run limit u e)
@@ -59,6 +67,10 @@ pub record Scene : Type 0 where
 pub record Took (old new : Scene) (octets : List ℕ) : Type 0 where
   pub contents : Appends old.contents new.contents octets
   pub taken : new.taken % 2 ^ 64 ≡ (old.taken + length octets) % 2 ^ 64
+
+-- so many octets of the last frame are out: all, or fewer where the writer told a fault
+abbrev pub IsSaid : Scene → Scene → ℕ → Type 0
+IsSaid old new count = ((count ≡ length last_frame) × (new.told ≡ old.told)) ⊎ ((count < length last_frame) × (new.told ≡ next_count old.told))
 
 -- a session stands where a course stands
 pub record IsAt (c : Course) (seen : Seen) (scene : Scene) : Type 0 where
@@ -94,13 +106,13 @@ pub record BreaksOff (c : Course) (s : List ℕ) (old new : Scene) (rest_old res
 
 -- the office told a fault within a step: the register is the one before it, and a stop may leave either; or it is the one
 -- after it, and nothing else is left
-pub record StaysBefore (c at : Course) (step : Step) (register : Register) (rest_old rest_new : Rest) : Type 0 where
-  pub same : rest_new.stands → register ≡ at.register
-  pub left : WithOrWithout step.change at.register rest_new
+pub record StaysBefore (at : Course) (step : Step) (register : Register) (rest : Rest) : Type 0 where
+  pub same : rest.stands → register ≡ at.register
+  pub left : WithOrWithout step.change at.register rest
 
-pub record StaysAfter (c at : Course) (step : Step) (register : Register) (rest_old rest_new : Rest) : Type 0 where
-  pub same : rest_new.stands → register ≡ (advance at step).register
-  pub left : Only (advance at step).register rest_new
+pub record StaysAfter (at : Course) (step : Step) (register : Register) (rest : Rest) : Type 0 where
+  pub same : rest.stands → register ≡ (advance at step).register
+  pub left : Only (advance at step).register rest
 
 -- the office told a fault within a step
 pub record IsRefused (c : Course) (s : List ℕ) (old new : Scene) (rest_old rest_new : Rest) : Type 0 where
@@ -110,8 +122,10 @@ pub record IsRefused (c : Course) (s : List ℕ) (old new : Scene) (rest_old res
   pub reaches : Reaches c s at (advance at step)
   pub between : List ℕ
   pub outputs : octets_of at.outputs ≡ octets_of c.outputs ++ between
-  pub took : Took old new (between ++ take count (frame_of (esid_of ResourcesNotAvailable)))
-  pub cases : StaysBefore c at step new.register rest_old rest_new ⊎ StaysAfter c at step new.register rest_old rest_new
+  pub took : Took old new (between ++ take count last_frame)
+  pub said : IsSaid old new count
+  pub allows : Allows at.register step.change
+  pub cases : StaysBefore at step new.register rest_new ⊎ StaysAfter at step new.register rest_new
   pub faults : new.faults ≡ next_count old.faults
 
 -- memory ran out, where the run had come or after the change of its next step
@@ -143,7 +157,7 @@ pub record Made (c : Course) (step : Step) (seen : Seen) (old new : Scene) (rest
   pub faults : new.faults ≡ old.faults
   pub told : new.told ≡ old.told
 
--- .. it is made, and the writer told a fault within its output
+-- one step at a course: it is made, and the writer told a fault within its output
 pub record MadePart (c : Course) (step : Step) (old new : Scene) (rest_old rest_new : Rest) : Type 0 where
   pub count : ℕ
   pub short : count < length step.output
@@ -153,14 +167,15 @@ pub record MadePart (c : Course) (step : Step) (old new : Scene) (rest_old rest_
   pub faults : new.faults ≡ old.faults
   pub told : new.told ≡ next_count old.told
 
--- .. the office told a fault
+-- one step at a course: the office told a fault
 pub record NotMade (c : Course) (step : Step) (old new : Scene) (rest_old rest_new : Rest) : Type 0 where
   pub count : ℕ
-  pub took : Took old new (take count (frame_of (esid_of ResourcesNotAvailable)))
-  pub cases : StaysBefore c c step new.register rest_old rest_new ⊎ StaysAfter c c step new.register rest_old rest_new
+  pub took : Took old new (take count last_frame)
+  pub said : IsSaid old new count
+  pub cases : StaysBefore c step new.register rest_new ⊎ StaysAfter c step new.register rest_new
   pub faults : new.faults ≡ next_count old.faults
 
--- .. memory ran out
+-- one step at a course: memory ran out
 pub record NoMemory (c : Course) (step : Step) (old new : Scene) (rest_old rest_new : Rest) : Type 0 where
   pub took : Took old new []
   pub register : (new.register ≡ c.register) ⊎ (new.register ≡ (advance c step).register)
@@ -178,12 +193,11 @@ abbrev pub Stepped : {T : Type 0} → Course → Step → Seen → Scene → Sce
 Stepped c step seen old new rest_old rest_new (Ok x) = Made c step seen old new rest_old rest_new
 Stepped c step seen old new rest_old rest_new (Err fault) = StepFails c step old new rest_old rest_new fault
 
--- a beginning of ESID 08 is out
-pub record LastWords {W : Type 0} (contents : W → Option (List ℕ)) (old new : Port W) : Type 0 where
-  pub count : ℕ
-  pub wrote : Wrote contents old new (take count (frame_of (esid_of ResourcesNotAvailable)))
+-- the last frame is out, or the writer told a fault within it
+abbrev pub LastWords : {W : Type 0} → (W → Option (List ℕ)) → Port W → Port W → Type 0
+LastWords contents old new = (all : Bool) × Sent contents old new last_frame all
 
--- .. of an office and a writer's port, by what they tell
+-- the scene of an office and a writer's port, by what they tell
 abbrev pub scene : {O W : Type 0} → (O → Register) → (O → ℕ) → (W → Option (List ℕ)) → O → Port W → Scene
 scene register faults contents office port = record { register = register office; faults = faults office; contents = contents port.inner; taken = port.moved; told = port.faults }
 
@@ -222,12 +236,6 @@ abbrev pub Pumped : Course → List ℕ → Stream → Seen → Scene → Scene 
 Pumped c s stream seen old new rest_old rest_new (Ok (Some end)) = IsOver c s stream.rest seen old new rest_old rest_new end
 Pumped c s stream seen old new rest_old rest_new (Ok None) = IsWaiting c s stream seen old new rest_old rest_new
 Pumped c s stream seen old new rest_old rest_new (Err fault) = Fails c s old new rest_old rest_new fault
-
--- while it pumps
-pub record IsPumping (c : Course) (s : List ℕ) (stream : Stream) (seen : Seen) (old new : Scene) (rest_old rest_new : Rest) : Type 0 where
-  pub come : Comes c s stream.rest seen old new rest_old rest_new
-  pub limit : stream.limit ≡ 100003
-  pub told : stream.told ≡ None
 
 -- a fault that isn't the reader's
 abbrev pub IsOwn : RunFault → Type 0

@@ -43,7 +43,7 @@ impl<X> Port<X> {
         self.faults
     }
 
-    /// Whether the end of what it reads came.
+    /// Whether the end of what it reads came: the end of the reader, or the limit.
     pub fn has_ended(&self) -> bool
         ensures { result ≡ self.now.ended }
     {

@@ -8,8 +8,8 @@ ghost use Rattle.oftp_session.specs.Steps.{came, has_turn, is_over, opening, tur
 ghost use Rattle.oftp_session.specs.Calls.{Stands, is_due, said, turns_left};
 ghost use Rattle.oftp_session.specs.declared.session.State.TheVariants as state;
 ghost use Rattle.oftp_engine.specs.Ports.{Sent, Puts};
-ghost use Rattle.oftp_engine.specs.Runs.{Course, step_on};
-ghost use Rattle.oftp_engine.specs.Served.{Gave, InputEnded, ReaderTold, Serves, ended_as, setting_of};
+ghost use Rattle.oftp_engine.specs.Runs.{Course, ended_as, step_on};
+ghost use Rattle.oftp_engine.specs.Served.{Gave, InputEnded, ReaderTold, Serves, setting_of};
 ghost use Rattle.oftp_engine.specs.Serving.{IsAt, IsOwn, LastWords, Pumped, Stepped, TurnsTaken, scene};
 
 use crate::port::{Port, read, send};
@@ -278,9 +278,11 @@ fn opened<'b>(book: &'b Book, role: Role<'b>) -> Session<'b>
 ///
 /// # Errors
 ///
-/// [`RunFault::Read`] and [`RunFault::Write`] only where that port told a fault; the register is then that of all that was
-/// answered. [`RunFault::Office`] where the office told a fault: an ESID 08 was written if the writer took it, and the register
-/// is the one after a prefix of the session's changes, with each that was answered. [`RunFault::Memory`] where a growth was refused.
+/// [`RunFault::Read`] only where the reader told a fault: all that came before it is answered and made. [`RunFault::Write`] only
+/// where the writer told one: the register then has each change that was answered, and that one too whose answer was being
+/// written. [`RunFault::Office`] where the office told a fault: an ESID 08 was written as far as the writer took it, and the
+/// register is the one after a prefix of the session's changes, with each that was answered. [`RunFault::Memory`] where a growth
+/// was refused: the register is such a one too.
 pub fn serve<O: Office, R: Read, W: Write>(
     alloc: Global,
     office: &mut O,
@@ -296,7 +298,7 @@ pub fn serve<O: Office, R: Read, W: Write>(
         (rest_of O.holds O.may_leave O.stands office.new) result) }
     ensures clean { O.is_clean office.new → O.is_clean office.old }
     ensures told { ReaderTold reader.old reader.new result }
-    ensures ends { InputEnded reader.new result }
+    ensures ends { InputEnded R.remaining reader.new result }
     ensures out { Puts W.contents writer.old writer.new }
 {
     let mut session = opened(book, role);

@@ -220,8 +220,3 @@ apply_all r changes = fold go_on_by (Ok r) changes
 abbrev pub or_else : Result Register Cause → Register → Register
 or_else (Ok after) r = after
 or_else (Err cause) r = r
-
--- the register after changes, of which a refused one does nothing
-abbrev pub after_all : Register → List Change → Register
-after_all r [] = r
-after_all r (k ∷ ks) = after_all (or_else (apply r k) r) ks

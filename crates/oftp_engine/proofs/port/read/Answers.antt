@@ -1,4 +1,4 @@
-use Rattle.std.proofs.Common.{refl, arith}
+use Rattle.std.proofs.Common.{refl, arith, inl}
 use Rattle.oftp_engine.proofs.Bytes.{consumes_none}
 use Rattle.oftp_engine.proofs.port.read.Goals as goal
 
@@ -8,7 +8,8 @@ returns-then-port g c = record {
   bytes = consumes_none (g.R.Read.remaining c.args.port.now.inner) c.args.piece.now;
   moved = omega arith;
   within = omega arith;
-  end = λ e. refl;
+  end = λ e. record { ended = refl; cause = inl (omega arith) };
+  on = λ some. absurd (omega arith);
   faults = refl;
   most = refl;
 }

@@ -10,10 +10,11 @@ use Rattle.oftp_wire.proofs.Streams.{next_err, past_shorter}
 use Rattle.oftp_session.specs.Calls.{desk}
 use Rattle.oftp_session.specs.Phases.{fails}
 use Rattle.oftp_engine.specs.declared.serving.RunFault.{RunFault}
-use Rattle.oftp_engine.specs.Serving.{scene, Pumped, IsPumping, IsWaiting, IsOver}
+use Rattle.oftp_engine.specs.Serving.{scene, Pumped, IsWaiting, IsOver}
 use Rattle.oftp_engine.proofs.Progress.{went_none}
 use Rattle.oftp_engine.proofs.Stepping.{stepped_refuse}
-use Rattle.oftp_engine.proofs.Pumping.{settle_on, settle_fails, live_from, seen_some, seen_none, limit_front, frame_on, frame_fails, bad_on, bad_fails, ok_at, err_at}
+use Rattle.oftp_engine.proofs.Phases.{live_from}
+use Rattle.oftp_engine.proofs.Pumping.{IsPumping, settle_on, settle_fails, seen_some, seen_none, limit_front, frame_on, frame_fails, bad_on, bad_fails, ok_at, err_at}
 use Rattle.oftp_engine.proofs.serving.pump.Goals as goal
 
 pub frames-init : goal.frames-init

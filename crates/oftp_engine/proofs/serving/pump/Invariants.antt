@@ -2,7 +2,8 @@ use Rattle.std.proofs.Common.{◌≡◌, None, length}
 use Rattle.oftp_register.specs.Offices.{rest_of}
 use Rattle.oftp_engine.specs.Ports.{Puts}
 use Rattle.oftp_engine.specs.Runs.{Course}
-use Rattle.oftp_engine.specs.Serving.{scene, IsAt, IsPumping}
+use Rattle.oftp_engine.specs.Serving.{scene, IsAt}
+use Rattle.oftp_engine.proofs.Pumping.{IsPumping}
 use Rattle.oftp_engine.proofs.serving.pump.Given as goal
 
 abbrev pub invariant-frames : goal.invariant-frames

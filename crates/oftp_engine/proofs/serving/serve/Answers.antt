@@ -6,12 +6,14 @@ use Rattle.oftp_wire.specs.Stream.{Stream}
 use Rattle.oftp_session.specs.declared.session.Ending.{Ending}
 use Rattle.oftp_engine.specs.declared.serving.RunFault.{RunFault}
 use Rattle.oftp_engine.specs.Runs.{Course, started, ending}
-use Rattle.oftp_engine.specs.Serving.{scene, Pumped, IsPumping}
+use Rattle.oftp_engine.specs.Serving.{scene, Pumped}
+use Rattle.oftp_engine.proofs.Pumping.{IsPumping}
 use Rattle.oftp_engine.specs.Served.{setting_of, Serves}
 use Rattle.oftp_engine.proofs.Bytes.{consumes_none}
 use Rattle.oftp_engine.proofs.Progress.{went_none, fails_later}
 use Rattle.oftp_engine.proofs.Ending.{whole_over, whole_waits, is_whole, is_out_of_memory, serves_from}
-use Rattle.oftp_engine.proofs.Reading.{wait_on, over_on, gave_on, gave_zero, gave_kept, read_on, short_on, ending_from, input_ending, fed_from}
+use Rattle.oftp_engine.proofs.Phases.{ending_from, input_ending}
+use Rattle.oftp_engine.proofs.Reading.{wait_on, over_on, gave_on, gave_zero, gave_kept, read_on, short_on, fed_from}
 use Rattle.oftp_session.specs.Steps.{opening}
 use Rattle.oftp_session.proofs.Phases.{holds_all}
 use Rattle.oftp_engine.proofs.serving.serve.Goals as goal
@@ -28,7 +30,7 @@ pieces-init g c =
       clean = λ h. h;
       reads = record {
         given = [];
-        gave = record { bytes = consumes_none (g.R.Read.remaining c.args.reader.now.inner) []; count = omega arith };
+        gave = record { bytes = consumes_none (g.R.Read.remaining c.args.reader.now.inner) []; count = omega arith; within = omega arith; most = refl };
         faults = refl;
         pumping = λ clean stood. subst (λ (x : Stream). IsPumping k [] x c.opened-session.result first first lf lf) (sym c.new-stream.ensures) (record {
           come = record { at = k; went = went_none k [] first lf; now = record { setting = c.opened-session.ensures.setting; stands = c.opened-session.ensures.stands; register = refl; holds = holds_all (opening setting.called) (g.O.Office.register c.args.office.now) } };

@@ -3,7 +3,7 @@ use Rattle.std.proofs.Common.{◌-◌}
 use Rattle.oftp_register.specs.Offices.{rest_of}
 use Rattle.oftp_engine.specs.Ports.{Puts}
 use Rattle.oftp_engine.specs.Serving.{scene}
-use Rattle.oftp_engine.specs.Served.{IsReading}
+use Rattle.oftp_engine.proofs.Reading.{IsReading}
 use Rattle.oftp_engine.proofs.serving.serve.Given as goal
 
 abbrev pub invariant-pieces : goal.invariant-pieces
