@@ -12,7 +12,8 @@ use Rattle.oftp_wire.specs.Reasons.{reason_of}
 use Rattle.oftp_partners.specs.declared.partner.Partner.{Partner}
 use Rattle.oftp_register.specs.declared.change.Cause.{Cause}
 use Rattle.oftp_register.specs.Register.{Register, Received, has_received}
-use Rattle.oftp_register.specs.Changes.{apply, or_else}
+use Rattle.std.specs.Result.{result_unwrap_or}
+use Rattle.oftp_register.specs.Changes.{apply}
 use Rattle.oftp_session.specs.declared.link.Link.{Link}
 use Rattle.oftp_session.specs.declared.link.WhenDone.TheVariants.{ChangeDirection, EndSession}
 use Rattle.oftp_session.specs.Settings.{Setting}
@@ -28,7 +29,7 @@ use Rattle.oftp_engine.specs.declared.serving.End.TheVariants.{Input}
 use Rattle.oftp_engine.specs.Runs.{step_on, refusal, ended_as, end_of, ending}
 use Rattle.oftp_engine.specs.Serving.{Allows}
 
-allowed : (result : Result Register Cause) (r : Register) → is_ok result ≡ true → result ≡ Ok (or_else result r)
+allowed : (result : Result Register Cause) (r : Register) → is_ok result ≡ true → result ≡ Ok (result_unwrap_or result r)
 allowed (Ok after) r h = refl
 allowed (Err cause) r h = absurd (false≢true h)
 

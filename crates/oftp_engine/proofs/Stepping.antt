@@ -8,7 +8,7 @@ use Rattle.oftp_session.specs.Phases.{frame_of}
 use Rattle.oftp_session.specs.Phases.{esid_of}
 use Rattle.oftp_register.specs.declared.change.Change.{Change}
 use Rattle.oftp_register.specs.Register.{Register}
-use Rattle.oftp_register.specs.Changes.{or_else}
+use Rattle.std.specs.Result.{result_unwrap_or}
 use Rattle.oftp_register.specs.Offices.{Rest, Only, WithOrWithout}
 use Rattle.oftp_session.specs.declared.session.SessionFault.{SessionFault}
 use Rattle.oftp_session.specs.Phases.{Step, EndedHere, fails, register_after}
@@ -37,7 +37,7 @@ ok_same x y e = ap ok_of e
 -- the register and what a stop leaves, after a step that was made
 pub made_register : (change : Option Change) (r new : Register) → Makes change r new → new ≡ register_after r change
 made_register None r new h = h
-made_register (Some k) r new h = sym (ap (λ (x : Result Register Cause). or_else x r) h)
+made_register (Some k) r new h = sym (ap (λ (x : Result Register Cause). result_unwrap_or x r) h)
 
 -- a scene from its parts
 abbrev pub at_desk : Desk → Option (List ℕ) → ℕ → ℕ → Scene

@@ -215,8 +215,3 @@ go_on_by (Err cause) change = Err cause
 -- the register after changes in turn; the first refusal ends them
 abbrev pub apply_all : Register → List Change → Result Register Cause
 apply_all r changes = fold go_on_by (Ok r) changes
-
--- the register after a change that may be refused
-abbrev pub or_else : Result Register Cause → Register → Register
-or_else (Ok after) r = after
-or_else (Err cause) r = r

@@ -35,7 +35,7 @@ pub struct PlainOffice {
 }
 
 impl PlainOffice {
-    ghost use Rattle.oftp_register.specs.Plain.{register_of};
+    ghost use Rattle.oftp_register.specs.Plain.{faults_of, register_of};
 
     /// An office with an empty register. [`are_limits`](crate::are_limits) tests the limits. It takes no memory.
     pub fn new(alloc: Global, limits: Limits) -> PlainOffice
@@ -53,7 +53,7 @@ impl PlainOffice {
     fn counted<T>(&mut self, found: Result<T, AllocError>) -> Result<T, OfficeFault>
         ensures answer { MatchResult found (λ x. result ≡ Ok x) (λ _. result ≡ Err OfficeFault.Memory) }
         ensures same { register_of self.new ≡ register_of self.old }
-        ensures counts { Counts self.old.faults self.new.faults result }
+        ensures counts { Counts (faults_of self.old) (faults_of self.new) result }
     {
         match found {
             Ok(x) => Ok(x),
@@ -80,7 +80,7 @@ impl PlainOffice {
 }
 
 impl Office for PlainOffice {
-    ghost use Rattle.oftp_register.specs.Plain.{register_of};
+    ghost use Rattle.oftp_register.specs.Plain.{faults_of, register_of};
 
     ghost Content = { Register };
 
@@ -94,7 +94,7 @@ impl Office for PlainOffice {
 
     ghost is_clean = { λ _. ⊤ };
 
-    ghost told = { λ o. o.faults };
+    ghost told = { faults_of };
 
     fn limits(&self) -> Limits {
         self.lists.limits
@@ -104,7 +104,7 @@ impl Office for PlainOffice {
         ensures answer { IfOk result (λ found. found ≡ look_in (register_of self.old) identity.now) }
         ensures same { register_of self.new ≡ register_of self.old }
         ensures plain { IfErr result (λ fault. fault ≡ OfficeFault.Memory) }
-        ensures counts { Counts self.old.faults self.new.faults result }
+        ensures counts { Counts (faults_of self.old) (faults_of self.new) result }
         ensures within { IfOk result (λ found. IfSome found IsIncomingWithin) }
     {
         let found = self.lists.look_in(identity);
@@ -115,7 +115,7 @@ impl Office for PlainOffice {
         ensures answer { IfOk result (λ found. found ≡ look_out (register_of self.old) identity.now) }
         ensures same { register_of self.new ≡ register_of self.old }
         ensures plain { IfErr result (λ fault. fault ≡ OfficeFault.Memory) }
-        ensures counts { Counts self.old.faults self.new.faults result }
+        ensures counts { Counts (faults_of self.old) (faults_of self.new) result }
         ensures within { IfOk result (λ found. IfSome found IsOutgoingWithin) }
     {
         let found = self.lists.look_out(identity);
@@ -126,7 +126,7 @@ impl Office for PlainOffice {
         ensures answer { IfOk result (λ found. found ≡ in_by_no (register_of self.old) no) }
         ensures same { register_of self.new ≡ register_of self.old }
         ensures plain { IfErr result (λ fault. fault ≡ OfficeFault.Memory) }
-        ensures counts { Counts self.old.faults self.new.faults result }
+        ensures counts { Counts (faults_of self.old) (faults_of self.new) result }
         ensures within { IfOk result (λ found. IfSome found IsIncomingWithin) }
     {
         let found = self.lists.in_by_no(no);
@@ -137,7 +137,7 @@ impl Office for PlainOffice {
         ensures answer { IfOk result (λ found. found ≡ out_by_no (register_of self.old) no) }
         ensures same { register_of self.new ≡ register_of self.old }
         ensures plain { IfErr result (λ fault. fault ≡ OfficeFault.Memory) }
-        ensures counts { Counts self.old.faults self.new.faults result }
+        ensures counts { Counts (faults_of self.old) (faults_of self.new) result }
         ensures within { IfOk result (λ found. IfSome found IsOutgoingWithin) }
     {
         let found = self.lists.out_by_no(no);
@@ -167,7 +167,7 @@ impl Office for PlainOffice {
         ensures answer { IfOk result (λ item. item ≡ next_item (register_of self.old) partner.now cursor files) }
         ensures same { register_of self.new ≡ register_of self.old }
         ensures plain { IfErr result (λ fault. fault ≡ OfficeFault.Memory) }
-        ensures counts { Counts self.old.faults self.new.faults result }
+        ensures counts { Counts (faults_of self.old) (faults_of self.new) result }
         ensures within { IfOk result (λ found. IfSome found IsItemWithin) }
     {
         let found = self.lists.next_item(partner, cursor, files);
@@ -178,7 +178,7 @@ impl Office for PlainOffice {
         ensures answer { IfOk result (λ rows. rows ≡ rows_of (register_of self.old) side no from most) }
         ensures same { register_of self.new ≡ register_of self.old }
         ensures plain { IfErr result (λ fault. fault ≡ OfficeFault.Memory) }
-        ensures counts { Counts self.old.faults self.new.faults result }
+        ensures counts { Counts (faults_of self.old) (faults_of self.new) result }
         ensures within { IfOk result (AreRowsWithin from most) }
     {
         let found = self.lists.rows_of(side, no, from, most);
@@ -189,7 +189,7 @@ impl Office for PlainOffice {
         ensures answer { IfOk result (λ entries. entries.items ≡ list_in (register_of self.old)) }
         ensures same { register_of self.new ≡ register_of self.old }
         ensures plain { IfErr result (λ fault. fault ≡ OfficeFault.Memory) }
-        ensures counts { Counts self.old.faults self.new.faults result }
+        ensures counts { Counts (faults_of self.old) (faults_of self.new) result }
     {
         let found = self.lists.list_in();
         self.counted(found)
@@ -199,7 +199,7 @@ impl Office for PlainOffice {
         ensures answer { IfOk result (λ entries. entries.items ≡ list_out (register_of self.old)) }
         ensures same { register_of self.new ≡ register_of self.old }
         ensures plain { IfErr result (λ fault. fault ≡ OfficeFault.Memory) }
-        ensures counts { Counts self.old.faults self.new.faults result }
+        ensures counts { Counts (faults_of self.old) (faults_of self.new) result }
     {
         let found = self.lists.list_out();
         self.counted(found)
@@ -209,7 +209,7 @@ impl Office for PlainOffice {
         ensures answer { IfOk result (λ entries. entries.items ≡ list_issued (register_of self.old)) }
         ensures same { register_of self.new ≡ register_of self.old }
         ensures plain { IfErr result (λ fault. fault ≡ OfficeFault.Memory) }
-        ensures counts { Counts self.old.faults self.new.faults result }
+        ensures counts { Counts (faults_of self.old) (faults_of self.new) result }
     {
         let found = self.lists.list_issued();
         self.counted(found)
@@ -219,7 +219,7 @@ impl Office for PlainOffice {
         ensures answer { IfOk result (λ entries. entries.items ≡ list_received (register_of self.old)) }
         ensures same { register_of self.new ≡ register_of self.old }
         ensures plain { IfErr result (λ fault. fault ≡ OfficeFault.Memory) }
-        ensures counts { Counts self.old.faults self.new.faults result }
+        ensures counts { Counts (faults_of self.old) (faults_of self.new) result }
     {
         let found = self.lists.list_received();
         self.counted(found)
@@ -229,7 +229,7 @@ impl Office for PlainOffice {
     fn commit(&mut self, change: Change<'_>) -> Result<(), OfficeFault>
         requires { IsFit (register_of self.old) change }
         ensures made { Makes register_of (apply (register_of self.old) change.entry) self.old self.new result }
-        ensures counts { Counts self.old.faults self.new.faults result }
+        ensures counts { Counts (faults_of self.old) (faults_of self.new) result }
     {
         let made = self.lists.commit(change);
         if let Err(OfficeFault::Memory) = made {

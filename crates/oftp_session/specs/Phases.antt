@@ -1,5 +1,6 @@
 -- Where a session stands, and what one step of it does.
 use Rattle.std.specs.Prelude.{ℕ, List, [], Option, None, Some}
+use Rattle.std.specs.Result.{result_unwrap_or}
 use Rattle.oftp_wire.specs.Header.{frame}
 use Rattle.oftp_wire.specs.Spelling.{Canon}
 use Rattle.oftp_wire.specs.Reasons.{session_number}
@@ -8,7 +9,7 @@ use Rattle.oftp_wire.specs.declared.command.Command.TheVariants.{Esid}
 use Rattle.oftp_wire.specs.declared.reason.SessionReason.{SessionReason}
 use Rattle.oftp_register.specs.declared.change.Change.{Change}
 use Rattle.oftp_register.specs.Register.{Register}
-use Rattle.oftp_register.specs.Changes.{apply, or_else}
+use Rattle.oftp_register.specs.Changes.{apply}
 use Rattle.oftp_session.specs.declared.link.Link.{Link}
 use Rattle.oftp_session.specs.declared.link.WhenDone.{WhenDone}
 use Rattle.oftp_partners.specs.declared.partner.Partner.{Partner}
@@ -29,10 +30,10 @@ pub record Step : Type 0 where
   pub change : Option Change
   pub output : List ℕ
 
--- the register after a step's change
+-- the register after a step's change; a change that is refused leaves it as it was
 abbrev pub register_after : Register → Option Change → Register
 register_after r None = r
-register_after r (Some change) = or_else (apply r change) r
+register_after r (Some change) = result_unwrap_or (apply r change) r
 
 -- a command on the stream, in its canonical spelling (RFC 5024, section 8)
 unfoldable pub frame_of : Command → List ℕ
