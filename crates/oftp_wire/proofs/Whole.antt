@@ -7,7 +7,6 @@ use Rattle.oftp_wire.specs.declared.command.Command.{Command}
 use Rattle.oftp_wire.specs.declared.command.Command.TheVariants as commands
 use Rattle.oftp_wire.specs.Octets.{part}
 use Rattle.oftp_wire.specs.Form.{OneOf}
-use Rattle.oftp_wire.specs.Reading.{◌>>=◌}
 use Rattle.oftp_wire.specs.Kinds.{by_letter, command_of}
 use Rattle.oftp_wire.specs.Spelling.{Spells, Fault, fault_by}
 use Rattle.std.proofs.lemmas.Slice.Eq.{bytes_eq-Decides}
