@@ -17,7 +17,7 @@ use Rattle.oftp_wire.specs.declared.command.Layout.{Layout}
 use Rattle.oftp_wire.specs.declared.command.Mode.TheVariants as modes
 use Rattle.oftp_wire.specs.declared.command.Layout.TheVariants.{Fixed, Variable, Unstructured, Text}
 use Rattle.oftp_wire.specs.Octets.{part, number, decimal}
-use Rattle.oftp_wire.specs.Form.{same_octets}
+use Rattle.std.specs.Str.{bytes_eq}
 use Rattle.oftp_wire.specs.Reading.{layout_from}
 use Rattle.oftp_wire.specs.Tables.{mode_of, format_of, has_records}
 use Rattle.oftp_wire.specs.Row.{IsSpelled, fault_in}
@@ -30,12 +30,12 @@ use Rattle.oftp_wire.proofs.Spelled.{Contiguous, no_fault, each_same, EachSame}
 
 -- ---- letters say one value
 
-flag_back : (b : Bool) → same_octets (flag_octets b) (codes "Y") ≡ b
+flag_back : (b : Bool) → bytes_eq (flag_octets b) (codes "Y") ≡ b
 flag_back true = refl
 flag_back false = refl
 
 flag_one : (a b : Bool) → flag_octets a ≡ flag_octets b → a ≡ b
-flag_one a b e = sym (flag_back a) ∙ ap (λ w. same_octets w (codes "Y")) e ∙ flag_back b
+flag_one a b e = sym (flag_back a) ∙ ap (λ w. bytes_eq w (codes "Y")) e ∙ flag_back b
 
 -- the value that a letter says, found again
 mode_back : (m : Mode) → mode_of (mode_octets m) ≡ m

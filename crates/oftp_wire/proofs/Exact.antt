@@ -45,3 +45,14 @@ only_by (Err e) fault P h none one x p = absurd (none_some (sym h ∙ none)) whe
 -- where nothing is at fault, the one value of which P holds is read
 pub only : {B : Type 0} {r : Result B WireFault} {fault : Option WireFault} {P : B → Type 0} → Exact r fault P → fault ≡ None → ((x y : B) → P x → P y → x ≡ y) → (x : B) → P x → r ≡ Ok x
 only {B} {r} {fault} {P} h none one x p = only_by r fault P h.met none one x p
+
+-- a value read under another name
+named_by : {A B : Type 0} (r : Result A WireFault) (g : A → B) (fault : Option WireFault) (P : A → Type 0) (Q : B → Type 0)
+    → MatchResult r P (λ e. fault ≡ Some e) → ((x : A) → P x → Q (g x)) → MatchResult (r >>= λ x. Ok (g x)) Q (λ e. fault ≡ Some e)
+named_by (Ok x) g fault P Q h all = all x h
+named_by (Err e) g fault P Q h all = h
+
+-- the same of what is exact
+pub named : {A B : Type 0} (r : Result A WireFault) (g : A → B) (fault : Option WireFault) (P : A → Type 0) (Q : B → Type 0)
+    → Exact r fault P → ((x : A) → P x → Q (g x)) → Exact (r >>= λ x. Ok (g x)) fault Q
+named r g fault P Q h all = record { met = named_by r g fault P Q h.met all }

@@ -1,25 +1,26 @@
 -- What each form allows is what its values are spelled with.
 use Rattle.std.proofs.Common.{◌≡◌, ℕ, zero, suc, ◌+◌, ◌-◌, ◌*◌, ◌/◌, ◌%◌, ◌^◌, ◌<◌, ◌≤◌, Bool, true, false, ◌&&◌, ◌||◌, cond, eqb, ltb, leb, List, [], ◌∷◌, ◌++◌, length, get_or, take, drop, Some, None, refl, sym, ap, subst, ◌∙◌, arith, inl, inr}
-use Rattle.std.specs.Prelude.{◌⊎◌}
+use Rattle.std.specs.Prelude.{◌⊎◌, codes}
 use Rattle.std.specs.List.{list_all, list_any, prefix_len}
-use Rattle.std.specs.Str.{IsUtf8}
+use Rattle.std.specs.Str.{IsUtf8, bytes_eq}
 use Rattle.std.proofs.Math.Numerals.{one-add}
-use Rattle.std.proofs.lemmas.Bool.{eqb-true, eq-eqb, ltb-false, le-ltb, and_parts, and_from, or_cases, le-leb}
+use Rattle.std.proofs.lemmas.Bool.{eqb-true, ltb-false, le-ltb, and_parts, and_from, or_cases, le-leb}
 use Rattle.std.proofs.lemmas.List.{length-take, length-drop, length-append, length-replicate, take-append-drop, take_at, drop_at, take_more, take_all, nil_from_length}
 use Rattle.std.proofs.lemmas.List.Sums.{fold-append}
 use Rattle.std.proofs.lemmas.List.Folds.{list_all-append}
 use Rattle.std.proofs.lemmas.Str.{IsUtf8-from_is_utf8}
+use Rattle.std.proofs.lemmas.Slice.Eq.{bytes_eq-Decides}
 use Rattle.oftp_wire.specs.declared.fault.WireFault.{WireFault}
 use Rattle.oftp_wire.specs.declared.fault.WireFault.TheVariants.{WrongLength}
-use Rattle.oftp_wire.specs.Octets.{part, is_digit, is_allowed, spaces, padded, front, is_padded, decimal, number, IsName, IsDigits}
-use Rattle.oftp_wire.specs.Form.{Form, Name, Digits, OneOf, DigitsIf, Return, Utf8, size, same_octets, allows, complaint, fault_of}
+use Rattle.oftp_wire.specs.Octets.{part, is_digit, is_allowed, spaces, padded, value_of, is_padded, decimal, number, IsName, IsDigits}
+use Rattle.oftp_wire.specs.Form.{Form, Name, Digits, OneOf, DigitsIf, Return, Utf8, size, allows, complaint, fault_of}
 use Rattle.oftp_wire.specs.Reading.{layout_from, flag_form, mode_form, format_form}
 use Rattle.oftp_wire.specs.Tables.{mode_of, format_of, has_records}
 use Rattle.oftp_wire.specs.Tables.{flag_words, flag_octets, mode_words, mode_octets, format_words, format_octets, longest_of, is_recorded}
 use Rattle.oftp_wire.specs.declared.command.Format.{Format}
 use Rattle.oftp_wire.specs.declared.command.Format.TheVariants.{Fixed, Variable, Unstructured, Text}
 use Rattle.oftp_wire.proofs.Numbers.{digit_at}
-use Rattle.oftp_wire.proofs.Scans.{front_allowed}
+use Rattle.oftp_wire.proofs.Scans.{value_allowed}
 
 -- ---- a field without fault
 
@@ -69,8 +70,8 @@ spaces_all : (n : ℕ) → list_all (λ c. eqb c 32) (spaces n) ≡ true
 spaces_all zero = refl
 spaces_all (suc n) = spaces_all n
 
--- what is padded is its front, padded
-pub padded_is : (w : List ℕ) → is_padded w ≡ true → w ≡ padded (length w) (front w)
+-- what is padded is its value, padded
+pub padded_is : (w : List ℕ) → is_padded w ≡ true → w ≡ padded (length w) (value_of w)
 padded_is w h =
     let k = prefix_len is_allowed w in
     let rest = all_spaces (drop k w) h in
@@ -83,16 +84,16 @@ unfolding is_allowed
 front_spaces zero = refl
 front_spaces (suc m) = refl
 
--- a padded value's front is as long as the value
+-- as many allowed octets stand first in a padded value as it has
 prefix_len-padded : (v : List ℕ) (m : ℕ) → list_all is_allowed v ≡ true → prefix_len is_allowed (v ++ spaces m) ≡ length v
 prefix_len-padded [] m h = front_spaces m
 prefix_len-padded (c ∷ cs) m h =
     let p = and_parts (is_allowed c) (list_all is_allowed cs) h in
     rw p.0 (one-add (prefix_len is_allowed (cs ++ spaces m)) ∙ ap suc (prefix_len-padded cs m p.1))
 
--- the front of a padded value is the value
-pub front-padded : (n : ℕ) (v : List ℕ) → list_all is_allowed v ≡ true → front (padded n v) ≡ v
-front-padded n v h = rw (prefix_len-padded v (n - length v) h) (take_at v (spaces (n - length v)) (length v) refl)
+-- the value of a padded value is the value
+pub value_of-padded : (n : ℕ) (v : List ℕ) → list_all is_allowed v ≡ true → value_of (padded n v) ≡ v
+value_of-padded n v h = rw (prefix_len-padded v (n - length v) h) (take_at v (spaces (n - length v)) (length v) refl)
 
 -- a padded value is padded
 pub is_padded-padded : (n : ℕ) (v : List ℕ) → list_all is_allowed v ≡ true → is_padded (padded n v) ≡ true
@@ -163,33 +164,15 @@ number_is (suc n) w len h =
       small = omega (arith, ih.small);
     }
 
--- ---- words
-
--- what is found the same is the same
-pub same_is : (v w : List ℕ) → same_octets v w ≡ true → v ≡ w
-same_is [] [] h = refl
-same_is [] (y ∷ ys) h = absurd cc
-same_is (x ∷ xs) [] h = absurd cc
-same_is (x ∷ xs) (y ∷ ys) h =
-    let p = and_parts (eqb x y) (same_octets xs ys) h in
-    let a : x ≡ y = eqb-true x y p.0 in
-    let b : xs ≡ ys = same_is xs ys p.1 in
-    cc
-
--- octets are the same as themselves
-pub same_self : (v : List ℕ) → same_octets v v ≡ true
-same_self [] = refl
-same_self (x ∷ xs) = and_from (eqb x x) (same_octets xs xs) (eq-eqb x x refl) (same_self xs)
-
 -- ---- what a fine field says
 
--- a field X(n) without fault says its front
-pub name_ok : {n at : ℕ} {o : List ℕ} → IsFine (Name n) at o → IsName n (front (part at n o)) × (part at n o ≡ padded n (front (part at n o)))
+-- a field X(n) without fault says its value
+pub name_ok : {n at : ℕ} {o : List ℕ} → IsFine (Name n) at o → IsName n (value_of (part at n o)) × (part at n o ≡ padded n (value_of (part at n o)))
 name_ok {n} {at} {o} h =
     let f = found h in
     let w = part at n o in
     let len : length w ≡ n = length-part at n o f.within in
-    ((omega (arith, len, length-take (prefix_len is_allowed w) w), front_allowed w), padded_is w f.allowed ∙ ap (λ (k : ℕ). padded k (front w)) len)
+    ((omega (arith, len, length-take (prefix_len is_allowed w) w), value_allowed w), padded_is w f.allowed ∙ ap (λ (k : ℕ). padded k (value_of w)) len)
 
 -- a field 9(n) without fault says its digits
 pub digits_ok : {n at : ℕ} {o : List ℕ} → IsFine (Digits n) at o → IsDigits n (part at n o) × (part at n o ≡ part at n o)
@@ -210,13 +193,13 @@ length_ok {n} {at} {o} m h e = subst (λ (x : ℕ). (x < 10 ^ n) × (part at n o
 pub word_ok : {v : List ℕ} {n at : ℕ} {o : List ℕ} → IsFine (OneOf n (v ∷ [])) at o → Unit {0} × (part at n o ≡ v)
 word_ok {v} {n} {at} {o} h =
     let f = found h in
-    (tt, elim (or_cases (same_octets (part at n o) v) false f.allowed) [ inl e ↦ same_is (part at n o) v e | inr e ↦ absurd cc ])
+    (tt, elim (or_cases (bytes_eq (part at n o) v) false f.allowed) [ inl e ↦ (bytes_eq-Decides (part at n o) v).0 e | inr e ↦ absurd cc ])
 
 -- a carriage return without fault is 0D or 8D
 pub return_ok : {at : ℕ} {o : List ℕ} → IsFine Return at o → Unit {0} × ((part at 1 o ≡ 13 ∷ []) ⊎ (part at 1 o ≡ 141 ∷ []))
 return_ok {at} {o} h =
     let w = part at 1 o in
-    (tt, elim (or_cases (same_octets w (13 ∷ [])) (same_octets w (141 ∷ [])) (found h).allowed) [ inl e ↦ inl (same_is w (13 ∷ []) e) | inr e ↦ inr (same_is w (141 ∷ []) e) ])
+    (tt, elim (or_cases (bytes_eq w (13 ∷ [])) (bytes_eq w (141 ∷ [])) (found h).allowed) [ inl e ↦ inl ((bytes_eq-Decides w (13 ∷ [])).0 e) | inr e ↦ inr ((bytes_eq-Decides w (141 ∷ [])).0 e) ])
 
 -- a text without fault is in its range
 pub text_ok : {n at : ℕ} {o : List ℕ} → n ≤ 999 → IsFine (Utf8 n) at o → ((length (part at n o) ≡ n) × (n ≤ 999) × IsUtf8 (part at n o)) × (part at n o ≡ part at n o)
@@ -225,12 +208,12 @@ text_ok {n} {at} {o} le h = let f = found h in ((length-part at n o f.within, le
 -- ---- fields with few values
 
 -- one of the words, or another
-among : (w v : List ℕ) (vs : List (List ℕ)) → list_any (same_octets w) (v ∷ vs) ≡ true → (w ≡ v) ⊎ (list_any (same_octets w) vs ≡ true)
-among w v vs h = elim (or_cases (same_octets w v) (list_any (same_octets w) vs) h) [ inl e ↦ inl (same_is w v e) | inr e ↦ inr e ]
+among : (w v : List ℕ) (vs : List (List ℕ)) → list_any (bytes_eq w) (v ∷ vs) ≡ true → (w ≡ v) ⊎ (list_any (bytes_eq w) vs ≡ true)
+among w v vs h = elim (or_cases (bytes_eq w v) (list_any (bytes_eq w) vs) h) [ inl e ↦ inl ((bytes_eq-Decides w v).0 e) | inr e ↦ inr e ]
 
 -- octets say the value f of one of some words
 abbrev IsChoice : (List ℕ → List ℕ) → List (List ℕ) → ℕ → List ℕ → Type 0
-IsChoice f ws n w = ((length (f w) ≡ n) × (list_any (same_octets (f w)) ws ≡ true)) × (w ≡ f w)
+IsChoice f ws n w = ((length (f w) ≡ n) × (list_any (bytes_eq (f w)) ws ≡ true)) × (w ≡ f w)
 
 -- P holds of each word
 abbrev OfEach : (List ℕ → Type 0) → List (List ℕ) → Type 0
@@ -238,14 +221,14 @@ OfEach P [] = Unit {0}
 OfEach P (v ∷ vs) = P v × OfEach P vs
 
 -- what holds of each word holds of the one that was found
-chosen : (P : List ℕ → Type 0) (ws : List (List ℕ)) (w : List ℕ) → list_any (same_octets w) ws ≡ true → OfEach P ws → P w
+chosen : (P : List ℕ → Type 0) (ws : List (List ℕ)) (w : List ℕ) → list_any (bytes_eq w) ws ≡ true → OfEach P ws → P w
 chosen P [] w h each = absurd cc
 chosen P (v ∷ vs) w h each = elim (among w v vs h) [ inl e ↦ subst P (sym e) each.0 | inr e ↦ chosen P vs w e each.1 ]
 
 -- a flag without fault says Y or N
-pub flag_ok : {at : ℕ} {o : List ℕ} → IsFine flag_form at o → IsChoice (λ w. flag_octets (same_octets w (89 ∷ []))) flag_words 1 (part at 1 o)
+pub flag_ok : {at : ℕ} {o : List ℕ} → IsFine flag_form at o → IsChoice (λ w. flag_octets (bytes_eq w (codes "Y"))) flag_words 1 (part at 1 o)
 flag_ok {at} {o} h =
-    chosen (IsChoice (λ w. flag_octets (same_octets w (89 ∷ []))) flag_words 1) flag_words (part at 1 o) (found h).allowed
+    chosen (IsChoice (λ w. flag_octets (bytes_eq w (codes "Y"))) flag_words 1) flag_words (part at 1 o) (found h).allowed
     (((refl, refl), refl), (((refl, refl), refl), tt))
 
 -- a mode without fault says its letter

@@ -10,7 +10,7 @@ use Rattle.std.proofs.lemmas.List.Elements.{All-tail, All-drop}
 use Rattle.std.proofs.lemmas.Bool.{ltb-false, ltb-true, eqb-true, eqb-false, le-ltb, false≢true, or_parts, or_cases, or_from}
 use Rattle.oftp_wire.specs.declared.frame_fault.FrameFault.TheVariants.{BadHeader, BadLength}
 use Rattle.oftp_wire.specs.Header.{frame, header_of, IsCommand}
-use Rattle.oftp_wire.specs.Stream.{Head, Whole, Waits, Bad, front, sized, len_of, command_in, NoFrame, length_fault, fault_of, Front, Finds, head_of, IsRest, joined, Reads}
+use Rattle.oftp_wire.specs.Stream.{Head, Whole, Waits, Bad, front, sized, len_of, command_in, NoFrame, length_fault, rest_fault, Front, Finds, head_of, IsRest, joined, Reads}
 
 same_number : (n m : ℕ) → n / 65536 ≡ m / 65536 → n / 256 % 256 ≡ m / 256 % 256 → n % 256 ≡ m % 256 → n ≡ m
 same_number n m a b c = omega arith
@@ -126,13 +126,13 @@ front_frame limit m more small =
     let far : ltb (length (m ++ more) + 4) n ≡ false = le-ltb (length (m ++ more) + 4) n (omega (arith, length-append m more)) in
     front_frame_by (ltb n 5 || ltb limit n) (ltb (length (m ++ more) + 4) n) n out far ∙ ap (λ (x : ℕ). Whole x) same
 
-front_rest_by : (limit : ℕ) (r : List ℕ) (h : Head) → NoFrame limit r → Finds limit r (len_of h) → h ≡ head_of (fault_of limit r)
+front_rest_by : (limit : ℕ) (r : List ℕ) (h : Head) → NoFrame limit r → Finds limit r (len_of h) → h ≡ head_of (rest_fault limit r)
 front_rest_by limit r (Whole n) none cut = absurd (none (command_in n r) (drop n r) cut.2 cut.3)
 front_rest_by limit r Waits none cut = ap head_of (sym cut.1)
 front_rest_by limit r (Bad fault) none cut = ap head_of (sym cut.1)
 
 -- at the front of a rest with no whole frame stands its fault, or it waits
-pub front_rest : (limit : ℕ) (r : List ℕ) → All (λ c. c < 256) r → NoFrame limit r → front limit r ≡ head_of (fault_of limit r)
+pub front_rest : (limit : ℕ) (r : List ℕ) → All (λ c. c < 256) r → NoFrame limit r → front limit r ≡ head_of (rest_fault limit r)
 front_rest limit r small none = front_rest_by limit r (front limit r) none (front_finds limit r small)
 
 record HasFront (limit : ℕ) (stream : List ℕ) : Type 0 where
@@ -192,7 +192,7 @@ rest_more_by true limit first t more f is e =
 rest_more_by false limit first t more f is e = (λ m after c found. let same : first ≡ 16 = cc in eqb-false first 16 is same, e)
 
 -- a rest that stands for a fault does so with more behind it
-pub rest_more : (limit : ℕ) (s more : List ℕ) (f : FrameFault) → fault_of limit s ≡ Some f → IsRest limit (s ++ more) (Some f)
+pub rest_more : (limit : ℕ) (s more : List ℕ) (f : FrameFault) → rest_fault limit s ≡ Some f → IsRest limit (s ++ more) (Some f)
 rest_more limit [] more f e = absurd (let h : ⊥ = cc in h)
 rest_more limit (first ∷ t) more f e = rest_more_by (first == 16) limit first t more f refl e
 

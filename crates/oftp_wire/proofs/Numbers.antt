@@ -1,6 +1,7 @@
 -- The number that digits stand for fits 64 bits.
-use Rattle.std.proofs.Common.{◌≡◌, ℕ, zero, suc, ◌+◌, ◌*◌, ◌^◌, ◌<◌, ◌≤◌, Bool, true, false, ◌&&◌, List, [], ◌∷◌, length, get_or, leb, arith}
+use Rattle.std.proofs.Common.{◌≡◌, ℕ, zero, suc, ◌+◌, ◌*◌, ◌^◌, ◌<◌, ◌≤◌, true, List, [], ◌∷◌, length, get_or, leb, arith}
 use Rattle.std.specs.List.{list_all}
+use Rattle.std.proofs.lemmas.Bool.{and_parts}
 use Rattle.std.proofs.lemmas.Bool.Decides.{nat_tests}
 use Rattle.std.proofs.Math.Nat.{pow-le-pow_right}
 use Rattle.oftp_wire.specs.Octets.{is_digit}
@@ -9,18 +10,12 @@ use Rattle.oftp_wire.specs.Octets.{is_digit}
 pub room : (n i : ℕ) → n < 10 ^ i → i ≤ 18 → n * 10 + 9 < 2 ^ 64
 room n i h le = let p : 10 ^ i ≤ 10 ^ 18 = pow-le-pow_right (omega arith) le in omega arith
 
--- both of two tests
-and_true : (p q : Bool) → (p && q) ≡ true → (p ≡ true) × (q ≡ true)
-and_true true true e = (e, e)
-and_true true false e = absurd cc
-and_true false q e = absurd cc
-
 -- a digit's code
 pub digit_is : (c : ℕ) → is_digit c ≡ true → (48 ≤ c) × (c ≤ 57)
-digit_is c h = let p = and_true (leb 48 c) (leb c 57) h in (grind (arith, nat_tests), grind (arith, nat_tests))
+digit_is c h = let p = and_parts (leb 48 c) (leb c 57) h in (grind (arith, nat_tests), grind (arith, nat_tests))
 
 -- each octet of digits is one
 pub digit_at : (w : List ℕ) (i : ℕ) → list_all is_digit w ≡ true → i < length w → (48 ≤ get_or w i 0) × (get_or w i 0 ≤ 57)
 digit_at [] i h lt = absurd (omega arith)
-digit_at (c ∷ cs) zero h lt = digit_is c (and_true (is_digit c) (list_all is_digit cs) h).0
-digit_at (c ∷ cs) (suc i) h lt = digit_at cs i (and_true (is_digit c) (list_all is_digit cs) h).1 (omega arith)
+digit_at (c ∷ cs) zero h lt = digit_is c (and_parts (is_digit c) (list_all is_digit cs) h).0
+digit_at (c ∷ cs) (suc i) h lt = digit_at cs i (and_parts (is_digit c) (list_all is_digit cs) h).1 (omega arith)

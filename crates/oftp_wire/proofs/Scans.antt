@@ -17,9 +17,9 @@ front_passes : (p : ℕ → Bool) (w : List ℕ) → list_all p (take (prefix_le
 front_passes p [] = refl
 front_passes p (c ∷ cs) = front_step p c cs (p c) refl (front_passes p cs)
 
--- the front has allowed characters alone
-pub front_allowed : (w : List ℕ) → list_all is_allowed (take (prefix_len is_allowed w) w) ≡ true
-front_allowed w = front_passes is_allowed w
+-- the value has allowed characters alone
+pub value_allowed : (w : List ℕ) → list_all is_allowed (take (prefix_len is_allowed w) w) ≡ true
+value_allowed w = front_passes is_allowed w
 
 -- by what the test says
 not_by : (w : List ℕ) (b : Bool) → is_utf8 w ≡ b → (IsUtf8 w → ⊥) → is_utf8 w ≡ false
@@ -30,9 +30,8 @@ not_by w false e h = e
 pub not_utf8 : (w : List ℕ) → (IsUtf8 w → ⊥) → is_utf8 w ≡ false
 not_utf8 w h = not_by w (is_utf8 w) refl h
 
--- the test says yes where they are
-pub passed_utf8 : (w : List ℕ) → IsUtf8 w → is_utf8 w ≡ true
-passed_utf8 w h = is_utf8-from_IsUtf8 w h
+-- what the test says, either way
+pub ruleset utf8_test = (is_utf8-from_IsUtf8, not_utf8)
 
 -- ---- names and digits are text
 

@@ -4,10 +4,11 @@ use Rattle.std.specs.List.{list_all}
 use Rattle.std.proofs.lemmas.Bool.{eq-eqb, and_from}
 use Rattle.std.proofs.lemmas.List.{length-append, length-replicate, take_at, drop_at, drop-drop}
 use Rattle.std.proofs.lemmas.Str.{is_utf8-from_IsUtf8}
-use Rattle.oftp_wire.specs.Octets.{part, is_digit, front, number}
+use Rattle.std.proofs.lemmas.Slice.Eq.{bytes_eq-Decides}
+use Rattle.oftp_wire.specs.Octets.{part, is_digit, value_of, number}
 use Rattle.oftp_wire.specs.Form.{size, allows, fault_of, end_fault}
 use Rattle.oftp_wire.specs.Row.{Row, word, name, digits, count, choice, longest, reserved, return, payload, text, at_of, form_of, spelled, Fits, Says, Table, EachSays, EachFits, IsSpelled, canon_of, first_fault, fault_in}
-use Rattle.oftp_wire.proofs.Forms.{fine_from, front-padded, is_padded-padded, length-padded, length-decimal, decimal_digits, number-decimal, same_self}
+use Rattle.oftp_wire.proofs.Forms.{fine_from, value_of-padded, is_padded-padded, length-padded, length-decimal, decimal_digits, number-decimal}
 
 -- each row begins where the one before it ends
 abbrev pub Contiguous : {S : Type 0} → ℕ → List (Row S) → ℕ → Type 0
@@ -23,7 +24,7 @@ contiguous_le k (r ∷ rs) end h = let ih = contiguous_le (k + size (form_of r))
 
 -- octets that say a value are allowed
 says_allowed : {S : Type 0} (r : Row S) (s : S) (w : List ℕ) → Fits r s → Says r s w → allows (form_of r) w ≡ true
-says_allowed (word k v) s w f e = rw (e, same_self v) refl
+says_allowed (word k v) s w f e = rw (e, (bytes_eq-Decides v v).1 refl) refl
 says_allowed (name k n a) s w f e = rw e (is_padded-padded n (a s) f.1)
 says_allowed (digits k n a) s w f e = rw e f.1
 says_allowed (count k n a) s w f e = rw e (decimal_digits n (a s))
@@ -73,7 +74,7 @@ SameAt (text k n f) s t = f s ≡ f t
 -- octets say one value
 same_at : {S : Type 0} (r : Row S) (s t : S) (w : List ℕ) → Fits r s → Says r s w → Fits r t → Says r t w → SameAt r s t
 same_at (word k w) s t o f e g d = tt
-same_at (name k n a) s t o f e g d = sym (front-padded n (a s) f.1) ∙ ap front (sym e ∙ d) ∙ front-padded n (a t) g.1
+same_at (name k n a) s t o f e g d = sym (value_of-padded n (a s) f.1) ∙ ap value_of (sym e ∙ d) ∙ value_of-padded n (a t) g.1
 same_at (digits k n a) s t o f e g d = sym e ∙ d
 same_at (count k n a) s t o f e g d = sym (number-decimal n (a s) f) ∙ ap number (sym e ∙ d) ∙ number-decimal n (a t) g
 same_at (choice k n ws a) s t o f e g d = sym e ∙ d

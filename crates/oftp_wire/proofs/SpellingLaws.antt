@@ -9,7 +9,6 @@ use Rattle.oftp_wire.specs.Spelling.{Spells, IsFit, Canon, Fault, fault_by}
 use Rattle.oftp_wire.proofs.Spelled.{canon_spelled, no_fault}
 use Rattle.oftp_wire.proofs.Again.{ssid_parts, sfid_parts, sfpa_parts, sfna_parts, data_parts, efid_parts, efpa_parts, efna_parts, esid_parts, eerp_parts, nerp_parts, sfid_fine, sfna_fine, data_fine, efna_fine, esid_fine, nerp_fine}
 use Rattle.oftp_wire.specs.Kinds.{command_of}
-use Rattle.oftp_wire.proofs.Exact.{Exact}
 use Rattle.oftp_wire.proofs.Whole.{command_exact, command_again, begins}
 
 -- the canonical octets of a command spell it

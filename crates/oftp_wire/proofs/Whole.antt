@@ -7,30 +7,19 @@ use Rattle.oftp_wire.specs.declared.command.Command.{Command}
 use Rattle.oftp_wire.specs.declared.command.Command.TheVariants as commands
 use Rattle.oftp_wire.specs.Octets.{part}
 use Rattle.oftp_wire.specs.Form.{OneOf}
-use Rattle.oftp_wire.specs.Reading.{◌>>=◌}
 use Rattle.oftp_wire.specs.Kinds.{by_letter, command_of}
 use Rattle.oftp_wire.specs.Spelling.{Spells, Fault, fault_by}
-use Rattle.oftp_wire.proofs.Forms.{fine_from, same_self}
+use Rattle.std.proofs.lemmas.Slice.Eq.{bytes_eq-Decides}
+use Rattle.oftp_wire.proofs.Forms.{fine_from}
 use Rattle.oftp_wire.specs.Reasons.{reason_of}
-use Rattle.oftp_wire.proofs.Exact.{Exact}
+use Rattle.oftp_wire.proofs.Exact.{Exact, named}
 use Rattle.oftp_wire.proofs.FaultReasons.{fault_reason}
 use Rattle.oftp_wire.proofs.EachKind.{IsKind, ssrm_exact, ssid_exact, sfid_exact, sfpa_exact, sfna_exact, data_exact, cdt_exact, efid_exact, efpa_exact, efna_exact, esid_exact, eerp_exact, nerp_exact, single_exact}
 use Rattle.oftp_wire.proofs.Again.{ssrm_again, ssid_again, sfid_again, sfpa_again, sfna_again, data_again, cdt_again, efid_again, efpa_again, efna_again, esid_again, eerp_again, nerp_again, single_again}
 
 -- the first octet names the kind
 kind_is : (c k : ℕ) (cs : List ℕ) → c ≡ k → IsKind (k ∷ []) (c ∷ cs)
-kind_is c k cs e = record { fine = fine_from (OneOf 1 ((k ∷ []) ∷ [])) 0 (c ∷ cs) (omega arith) (rw (e, same_self (k ∷ [])) refl) }
-
--- a value read under another name
-named_by : {A B : Type 0} (r : Result A WireFault) (g : A → B) (fault : Option WireFault) (P : A → Type 0) (Q : B → Type 0)
-    → MatchResult r P (λ e. fault ≡ Some e) → ((x : A) → P x → Q (g x)) → MatchResult (r >>= λ x. Ok (g x)) Q (λ e. fault ≡ Some e)
-named_by (Ok x) g fault P Q h all = all x h
-named_by (Err e) g fault P Q h all = h
-
--- the same of exact readers
-named : {A B : Type 0} (r : Result A WireFault) (g : A → B) (fault : Option WireFault) (P : A → Type 0) (Q : B → Type 0)
-    → Exact r fault P → ((x : A) → P x → Q (g x)) → Exact (r >>= λ x. Ok (g x)) fault Q
-named r g fault P Q h all = record { met = named_by r g fault P Q h.met all }
+kind_is c k cs e = record { fine = fine_from (OneOf 1 ((k ∷ []) ∷ [])) 0 (c ∷ cs) (omega arith) (rw (e, (bytes_eq-Decides (k ∷ []) (k ∷ [])).1 refl) refl) }
 
 -- one letter, or the next
 letter_by : {B : Type 0} (b : Bool) (x y : Result B WireFault) (f g : Option WireFault) (P : B → Type 0)

@@ -1,7 +1,7 @@
 -- The forms of fields (RFC 5024, section 5.3): how long one is, which octets it allows, and the fault where it has others.
-use Rattle.std.specs.Prelude.{ℕ, ◌+◌, Bool, true, false, ◌&&◌, ◌||◌, List, [], ◌∷◌, length, nat_lt, ◌==◌, if◌then◌else◌, Option, Some, None}
+use Rattle.std.specs.Prelude.{ℕ, ◌+◌, Bool, true, ◌&&◌, ◌||◌, List, [], ◌∷◌, length, nat_lt, ◌==◌, if◌then◌else◌, Option, Some, None}
 use Rattle.std.specs.List.{list_all, list_any}
-use Rattle.std.specs.Str.{is_utf8}
+use Rattle.std.specs.Str.{is_utf8, bytes_eq}
 use Rattle.oftp_wire.specs.declared.fault.WireFault.{WireFault}
 use Rattle.oftp_wire.specs.declared.fault.WireFault.TheVariants.{WrongLength, BadField, BadText}
 use Rattle.oftp_wire.specs.Octets.{part, is_digit, is_padded, number}
@@ -28,21 +28,14 @@ size Return = 1
 size (Any n) = n
 size (Utf8 n) = n
 
--- whether two lists of octets are the same
-abbrev pub same_octets : List ℕ → List ℕ → Bool
-same_octets [] [] = true
-same_octets (x ∷ xs) (y ∷ ys) = x == y && same_octets xs ys
-same_octets [] (y ∷ ys) = false
-same_octets (x ∷ xs) [] = false
-
 -- whether octets are a field of the form
 abbrev pub allows : Form → List ℕ → Bool
 allows (Name n) w = is_padded w
 allows (Digits n) w = list_all is_digit w
-allows (OneOf n ws) w = list_any (same_octets w) ws
+allows (OneOf n ws) w = list_any (bytes_eq w) ws
 allows (DigitsIf b n) w = list_all is_digit w && (b || number w == 0)
 allows (Reserved n) w = true
-allows Return w = same_octets w (13 ∷ []) || same_octets w (141 ∷ [])
+allows Return w = bytes_eq w (13 ∷ []) || bytes_eq w (141 ∷ [])
 allows (Any n) w = true
 allows (Utf8 n) w = is_utf8 w
 

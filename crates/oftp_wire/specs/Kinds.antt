@@ -1,6 +1,6 @@
 -- Each kind of command, read from left to right. `command_of` is what `parse` answers; by the law `one_spelling` it reads what
 -- octets spell, and refuses the others by their first fault.
-use Rattle.std.specs.Prelude.{ℕ, ◌+◌, List, [], ◌∷◌, Result, Ok, Err, ◌==◌, if◌then◌else◌}
+use Rattle.std.specs.Prelude.{ℕ, ◌+◌, List, [], ◌∷◌, codes, Result, Ok, Err, ◌==◌, if◌then◌else◌}
 use Rattle.oftp_wire.specs.declared.fault.WireFault.{WireFault}
 use Rattle.oftp_wire.specs.declared.command.Esid.{Esid}
 use Rattle.oftp_wire.specs.declared.command.Sfpa.{Sfpa}
@@ -15,8 +15,9 @@ use Rattle.oftp_wire.specs.declared.command.Efna.{Efna}
 use Rattle.oftp_wire.specs.declared.command.Command.{Command}
 use Rattle.oftp_wire.specs.declared.command.Command.TheVariants as commands
 use Rattle.oftp_wire.specs.declared.fault.WireFault.TheVariants.{UnknownCommand}
+use Rattle.oftp_wire.specs.Octets.{letter}
 use Rattle.oftp_wire.specs.Form.{Reserved, Return}
-use Rattle.oftp_wire.specs.Reading.{◌>>=◌, name_at, digits_at, count_at, text_at, skipped_at, ends_at, flag_at, mode_at, format_at, layout_at, rest_at, zero16_form, ready_form}
+use Rattle.oftp_wire.specs.Reading.{◌>>=◌, name_at, digits_at, count_at, text_at, last_text_at, skipped_at, ends_at, flag_at, mode_at, format_at, layout_at, rest_at, zero16_form, ready_form}
 
 -- SSRM
 unfoldable pub ssrm_of : List ℕ → Result (Unit {0}) WireFault
@@ -65,9 +66,7 @@ sfid_of o = do
   compression ← count_at 1 159 o
   enveloping ← count_at 1 160 o
   signed_response ← flag_at 161 o
-  n ← count_at 3 162 o
-  description ← text_at n 165 o
-  end ← ends_at (165 + n) o
+  description ← last_text_at 162 o
   Ok (record { dataset = dataset; date = date; time = time; user = user; destination = destination; originator = originator; layout = layout; size = size; original_size = original_size; restart = restart; security = security; cipher = cipher; compression = compression; enveloping = enveloping; signed_response = signed_response; description = description })
 
 -- SFPA
@@ -82,9 +81,7 @@ unfoldable pub sfna_of : List ℕ → Result Sfna WireFault
 sfna_of o = do
   reason ← count_at 2 1 o
   retry ← flag_at 3 o
-  n ← count_at 3 4 o
-  text ← text_at n 7 o
-  end ← ends_at (7 + n) o
+  text ← last_text_at 4 o
   Ok (record { reason = reason; retry = retry; text = text })
 
 -- DATA
@@ -119,9 +116,7 @@ efpa_of o = do
 unfoldable pub efna_of : List ℕ → Result Efna WireFault
 efna_of o = do
   reason ← count_at 2 1 o
-  n ← count_at 3 3 o
-  text ← text_at n 6 o
-  end ← ends_at (6 + n) o
+  text ← last_text_at 3 o
   Ok (record { reason = reason; text = text })
 
 -- ESID
@@ -176,21 +171,21 @@ nerp_of o = do
 -- the command of the kind that a letter names
 unfoldable pub by_letter : ℕ → List ℕ → Result Command WireFault
 by_letter c o =
-    if c == 73 then (ssrm_of o >>= λ x. Ok commands.Ssrm) else (
-    if c == 88 then (ssid_of o >>= λ x. Ok (commands.Ssid x)) else (
-    if c == 72 then (sfid_of o >>= λ x. Ok (commands.Sfid x)) else (
-    if c == 50 then (sfpa_of o >>= λ x. Ok (commands.Sfpa x)) else (
-    if c == 51 then (sfna_of o >>= λ x. Ok (commands.Sfna x)) else (
-    if c == 68 then (data_of o >>= λ x. Ok (commands.Data x)) else (
-    if c == 67 then (cdt_of o >>= λ x. Ok commands.Cdt) else (
-    if c == 84 then (efid_of o >>= λ x. Ok (commands.Efid x)) else (
-    if c == 52 then (efpa_of o >>= λ x. Ok (commands.Efpa x)) else (
-    if c == 53 then (efna_of o >>= λ x. Ok (commands.Efna x)) else (
-    if c == 70 then (esid_of o >>= λ x. Ok (commands.Esid x)) else (
-    if c == 82 then (single_of o >>= λ x. Ok commands.Cd) else (
-    if c == 69 then (eerp_of o >>= λ x. Ok (commands.Eerp x)) else (
-    if c == 78 then (nerp_of o >>= λ x. Ok (commands.Nerp x)) else (
-    if c == 80 then (single_of o >>= λ x. Ok commands.Rtr) else (
+    if c == letter (codes "I") then (ssrm_of o >>= λ x. Ok commands.Ssrm) else (
+    if c == letter (codes "X") then (ssid_of o >>= λ x. Ok (commands.Ssid x)) else (
+    if c == letter (codes "H") then (sfid_of o >>= λ x. Ok (commands.Sfid x)) else (
+    if c == letter (codes "2") then (sfpa_of o >>= λ x. Ok (commands.Sfpa x)) else (
+    if c == letter (codes "3") then (sfna_of o >>= λ x. Ok (commands.Sfna x)) else (
+    if c == letter (codes "D") then (data_of o >>= λ x. Ok (commands.Data x)) else (
+    if c == letter (codes "C") then (cdt_of o >>= λ x. Ok commands.Cdt) else (
+    if c == letter (codes "T") then (efid_of o >>= λ x. Ok (commands.Efid x)) else (
+    if c == letter (codes "4") then (efpa_of o >>= λ x. Ok (commands.Efpa x)) else (
+    if c == letter (codes "5") then (efna_of o >>= λ x. Ok (commands.Efna x)) else (
+    if c == letter (codes "F") then (esid_of o >>= λ x. Ok (commands.Esid x)) else (
+    if c == letter (codes "R") then (single_of o >>= λ x. Ok commands.Cd) else (
+    if c == letter (codes "E") then (eerp_of o >>= λ x. Ok (commands.Eerp x)) else (
+    if c == letter (codes "N") then (nerp_of o >>= λ x. Ok (commands.Nerp x)) else (
+    if c == letter (codes "P") then (single_of o >>= λ x. Ok commands.Rtr) else (
     Err UnknownCommand)))))))))))))))
 
 -- the command that octets are

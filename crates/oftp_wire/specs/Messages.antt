@@ -1,5 +1,5 @@
 -- What an operator reads.
-use Rattle.std.specs.Prelude.{ℕ, ◌/◌, ◌%◌, List, [], ◌∷◌, ◌++◌, length, codes, encode_utf8, if◌then◌else◌}
+use Rattle.std.specs.Prelude.{ℕ, List, [], ◌∷◌, ◌++◌, length, codes, encode_utf8, if◌then◌else◌}
 use Rattle.std.specs.List.{flat_map}
 use Rattle.std.specs.Char.{is_control}
 use Rattle.std.specs.Str.{chars}
@@ -13,7 +13,7 @@ use Rattle.oftp_wire.specs.declared.command.Eerp.{Eerp}
 use Rattle.oftp_wire.specs.declared.command.Nerp.{Nerp}
 use Rattle.oftp_wire.specs.declared.command.Command.{Command}
 use Rattle.oftp_wire.specs.declared.command.Command.TheVariants as commands
-use Rattle.oftp_wire.specs.Reasons.{start_reason, start_text, end_reason, end_text, session_reason, session_text}
+use Rattle.oftp_wire.specs.Reasons.{two_digits, start_reason, start_text, end_reason, end_text, session_reason, session_text}
 
 -- what is wrong with octets
 abbrev pub fault_text : WireFault → List ℕ
@@ -35,10 +35,6 @@ shown_text bs = flat_map (λ c. encode_utf8 (printable c)) (chars bs)
 abbrev pub text_after_colon : List ℕ → List ℕ
 text_after_colon [] = []
 text_after_colon (b ∷ bs) = codes ": " ++ shown_text (b ∷ bs)
-
--- a number below 100 in two digits
-abbrev pub two_digits : ℕ → List ℕ
-two_digits n = decimal (n / 10) ++ decimal (n % 10)
 
 -- a number of SFNA, with its words where it is listed
 abbrev pub start_words : ℕ → List ℕ

@@ -2,6 +2,11 @@
 use Rattle.std.specs.Prelude.{◌≡◌, ℕ, zero, suc, ◌+◌, ◌-◌, ◌*◌, ◌/◌, ◌%◌, ◌≤◌, Bool, true, ◌&&◌, ◌||◌, List, [], ◌∷◌, ◌++◌, length, take, drop, replicate, nat_le, ◌==◌, fold}
 use Rattle.std.specs.List.{list_all, prefix_len, take_while}
 
+-- the octet of a letter or a digit
+abbrev pub letter : List ℕ → ℕ
+letter [] = 0
+letter (c ∷ cs) = c
+
 -- n octets from an offset on
 abbrev pub part : ℕ → ℕ → List ℕ → List ℕ
 part at n o = take n (drop at o)
@@ -22,9 +27,9 @@ spaces n = replicate n 32
 abbrev pub padded : ℕ → List ℕ → List ℕ
 padded n v = v ++ spaces (n - length v)
 
--- the octets before the first that isn't allowed
-abbrev pub front : List ℕ → List ℕ
-front w = take_while is_allowed w
+-- the value in a field X(n): the octets before the first that isn't allowed
+abbrev pub value_of : List ℕ → List ℕ
+value_of w = take_while is_allowed w
 
 -- whether spaces alone stand behind the allowed octets at the front
 abbrev pub is_padded : List ℕ → Bool

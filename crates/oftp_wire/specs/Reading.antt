@@ -1,14 +1,15 @@
 -- Reading one field after the other: the value, or the fault. The kinds' readers are made of it, and with them `command_of`.
-use Rattle.std.specs.Prelude.{ℕ, ◌-◌, Bool, List, [], ◌∷◌, length, codes, Option, Some, None, Result, Ok, Err}
+use Rattle.std.specs.Prelude.{ℕ, ◌+◌, ◌-◌, Bool, List, [], ◌∷◌, length, codes, Option, Some, None, Result, Ok, Err}
+use Rattle.std.specs.Str.{bytes_eq}
 use Rattle.oftp_wire.specs.declared.fault.WireFault.{WireFault}
 use Rattle.oftp_wire.specs.declared.command.Mode.{Mode}
 use Rattle.oftp_wire.specs.declared.command.Format.{Format}
 use Rattle.oftp_wire.specs.declared.command.Format.TheVariants.{Fixed as FixedFormat, Variable as VariableFormat, Unstructured as UnstructuredFormat, Text as TextFormat}
 use Rattle.oftp_wire.specs.declared.command.Layout.{Layout}
 use Rattle.oftp_wire.specs.declared.command.Layout.TheVariants.{Fixed, Variable, Unstructured, Text}
-use Rattle.oftp_wire.specs.Octets.{part, front, number}
+use Rattle.oftp_wire.specs.Octets.{part, value_of, number}
 use Rattle.oftp_wire.specs.Tables.{flag_words, mode_words, mode_of, format_words, format_of, has_records, zero16}
-use Rattle.oftp_wire.specs.Form.{Form, Name, Digits, OneOf, DigitsIf, Any, Utf8, fault_of, end_fault, same_octets}
+use Rattle.oftp_wire.specs.Form.{Form, Name, Digits, OneOf, DigitsIf, Any, Utf8, fault_of, end_fault}
 
 -- what follows a value; a fault ends the reading
 infixl 10 ◌>>=◌
@@ -47,7 +48,7 @@ ready_form = OneOf 17 (codes "ODETTE FTP READY " ∷ [])
 
 -- the value of a field X(n)
 unfoldable pub name_at : ℕ → ℕ → List ℕ → Result (List ℕ) WireFault
-name_at n at o = unless (fault_of (Name n) at o) (front (part at n o))
+name_at n at o = unless (fault_of (Name n) at o) (value_of (part at n o))
 
 -- the digits of a field 9(n)
 unfoldable pub digits_at : ℕ → ℕ → List ℕ → Result (List ℕ) WireFault
@@ -61,17 +62,25 @@ count_at n at o = unless (fault_of (Digits n) at o) (number (part at n o))
 unfoldable pub text_at : ℕ → ℕ → List ℕ → Result (List ℕ) WireFault
 text_at n at o = unless (fault_of (Utf8 n) at o) (part at n o)
 
--- a field whose content isn't kept
-unfoldable pub skipped_at : Form → ℕ → List ℕ → Result (Unit {0}) WireFault
-skipped_at form at o = unless (fault_of form at o) tt
-
 -- no octet stands behind the last field
 unfoldable pub ends_at : ℕ → List ℕ → Result (Unit {0}) WireFault
 ends_at at o = unless (end_fault at o) tt
 
+-- a text behind its length field, which ends the command
+unfoldable pub last_text_at : ℕ → List ℕ → Result (List ℕ) WireFault
+last_text_at at o = do
+  n ← count_at 3 at o
+  text ← text_at n (at + 3) o
+  end ← ends_at (at + 3 + n) o
+  Ok text
+
+-- a field whose content isn't kept
+unfoldable pub skipped_at : Form → ℕ → List ℕ → Result (Unit {0}) WireFault
+skipped_at form at o = unless (fault_of form at o) tt
+
 -- whether a letter is Y
 unfoldable pub flag_at : ℕ → List ℕ → Result Bool WireFault
-flag_at at o = unless (fault_of flag_form at o) (same_octets (part at 1 o) (89 ∷ []))
+flag_at at o = unless (fault_of flag_form at o) (bytes_eq (part at 1 o) (codes "Y"))
 
 -- the mode that a letter names
 unfoldable pub mode_at : ℕ → List ℕ → Result Mode WireFault

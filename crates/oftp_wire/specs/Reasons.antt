@@ -1,5 +1,6 @@
 -- The numbers of the reasons, and the words that an operator reads.
-use Rattle.std.specs.Prelude.{ℕ, ◌==◌, List, [], ◌∷◌, find, codes, Option, Some, None}
+use Rattle.std.specs.Prelude.{ℕ, ◌/◌, ◌%◌, ◌==◌, List, [], ◌∷◌, ◌++◌, find, codes, Option, Some, None}
+use Rattle.std.specs.Fmt.{decimal}
 use Rattle.oftp_wire.specs.declared.fault.WireFault.{WireFault}
 use Rattle.oftp_wire.specs.declared.fault.WireFault.TheVariants.{UnknownCommand, WrongLength, BadField, BadText, NoRoom}
 use Rattle.oftp_wire.specs.declared.reason.StartReason.{StartReason}
@@ -58,31 +59,47 @@ reason_of (BadField at) = Some InvalidData
 reason_of BadText = Some InvalidData
 reason_of NoRoom = None
 
+-- a number below 100 in two digits
+abbrev pub two_digits : ℕ → List ℕ
+two_digits n = decimal (n / 10) ++ decimal (n % 10)
+
+-- what a reason of SFNA says behind its number
+abbrev pub start_phrase : StartReason → List ℕ
+start_phrase InvalidFilename = codes " invalid filename"
+start_phrase InvalidDestination = codes " invalid destination"
+start_phrase InvalidOrigin = codes " invalid origin"
+start_phrase MaximumRecordLengthNotSupported = codes " maximum record length not supported"
+start_phrase FileSizeTooBig = codes " file size too big"
+start_phrase DuplicateFile = codes " duplicate file"
+start_phrase FileDirectionRefused = codes " file direction refused"
+start_phrase Unspecified = codes " unspecified"
+
 -- a reason of SFNA, for the operator
-abbrev pub start_text : StartReason → List ℕ
-start_text InvalidFilename = codes "01 invalid filename"
-start_text InvalidDestination = codes "02 invalid destination"
-start_text InvalidOrigin = codes "03 invalid origin"
-start_text MaximumRecordLengthNotSupported = codes "05 maximum record length not supported"
-start_text FileSizeTooBig = codes "06 file size too big"
-start_text DuplicateFile = codes "13 duplicate file"
-start_text FileDirectionRefused = codes "14 file direction refused"
-start_text Unspecified = codes "99 unspecified"
+unfoldable pub start_text : StartReason → List ℕ
+start_text r = two_digits (start_number r) ++ start_phrase r
+
+-- what a reason of EFNA says behind its number
+abbrev pub end_phrase : EndReason → List ℕ
+end_phrase InvalidRecordCount = codes " invalid record count"
+end_phrase InvalidByteCount = codes " invalid byte count"
 
 -- a reason of EFNA, for the operator
-abbrev pub end_text : EndReason → List ℕ
-end_text InvalidRecordCount = codes "10 invalid record count"
-end_text InvalidByteCount = codes "11 invalid byte count"
+unfoldable pub end_text : EndReason → List ℕ
+end_text r = two_digits (end_number r) ++ end_phrase r
+
+-- what a reason of ESID says behind its number
+abbrev pub session_phrase : SessionReason → List ℕ
+session_phrase Normal = codes " normal"
+session_phrase CommandNotRecognised = codes " command not recognised"
+session_phrase ProtocolViolation = codes " protocol violation"
+session_phrase UserCodeNotKnown = codes " user code not known"
+session_phrase InvalidPassword = codes " invalid password"
+session_phrase InvalidData = codes " invalid data"
+session_phrase BufferSizeError = codes " buffer size error"
+session_phrase ResourcesNotAvailable = codes " resources not available"
+session_phrase ModeIncompatible = codes " mode or capabilities incompatible"
+session_phrase AuthenticationIncompatible = codes " secure authentication requirements incompatible"
 
 -- a reason of ESID, for the operator
-abbrev pub session_text : SessionReason → List ℕ
-session_text Normal = codes "00 normal"
-session_text CommandNotRecognised = codes "01 command not recognised"
-session_text ProtocolViolation = codes "02 protocol violation"
-session_text UserCodeNotKnown = codes "03 user code not known"
-session_text InvalidPassword = codes "04 invalid password"
-session_text InvalidData = codes "06 invalid data"
-session_text BufferSizeError = codes "07 buffer size error"
-session_text ResourcesNotAvailable = codes "08 resources not available"
-session_text ModeIncompatible = codes "10 mode or capabilities incompatible"
-session_text AuthenticationIncompatible = codes "12 secure authentication requirements incompatible"
+unfoldable pub session_text : SessionReason → List ℕ
+session_text r = two_digits (session_number r) ++ session_phrase r

@@ -1,10 +1,10 @@
 -- The table of a kind: each field's offset, its form, and the part of the command that it says.
 use Rattle.std.specs.Prelude.{◌≡◌, ℕ, ◌^◌, ◌<◌, ◌≤◌, ◌⊎◌, Bool, true, false, List, [], ◌∷◌, ◌++◌, length, Option, Some, None}
 use Rattle.std.specs.List.{list_any}
-use Rattle.std.specs.Str.{IsUtf8}
+use Rattle.std.specs.Str.{IsUtf8, bytes_eq}
 use Rattle.oftp_wire.specs.declared.fault.WireFault.{WireFault}
 use Rattle.oftp_wire.specs.Octets.{part, padded, decimal, spaces, IsName, IsDigits}
-use Rattle.oftp_wire.specs.Form.{Form, Name, Digits, OneOf, DigitsIf, Any, Reserved, Return, Utf8, size, same_octets, fault_of, end_fault}
+use Rattle.oftp_wire.specs.Form.{Form, Name, Digits, OneOf, DigitsIf, Any, Reserved, Return, Utf8, size, fault_of, end_fault}
 
 -- a field of the commands of S: its offset, its length and what of the command it says
 pub data Row (S : Type 0) : Type 0 where
@@ -60,7 +60,7 @@ spelled (text k n f) s = f s
 
 -- the octets are one of some words of n octets
 abbrev pub IsWord : ℕ → List (List ℕ) → List ℕ → Type 0
-IsWord n ws w = (length w ≡ n) × (list_any (same_octets w) ws ≡ true)
+IsWord n ws w = (length w ≡ n) × (list_any (bytes_eq w) ws ≡ true)
 
 -- the value is in the field's range
 abbrev pub Fits : {S : Type 0} → Row S → S → Type 0

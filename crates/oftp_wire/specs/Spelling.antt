@@ -4,7 +4,7 @@ use Rattle.oftp_wire.specs.declared.fault.WireFault.{WireFault}
 use Rattle.oftp_wire.specs.declared.fault.WireFault.TheVariants.{UnknownCommand, NoRoom}
 use Rattle.oftp_wire.specs.declared.command.Command.{Command}
 use Rattle.oftp_wire.specs.declared.command.Command.TheVariants as commands
-use Rattle.oftp_wire.specs.Octets.{part, number}
+use Rattle.oftp_wire.specs.Octets.{letter, part, number}
 use Rattle.oftp_wire.specs.Row.{IsSpelled, EachFits, canon_of, fault_in}
 use Rattle.oftp_wire.specs.Tables.{ssrm_table, ssid_table, sfid_table, sfpa_table, sfna_table, data_table, cdt_table, efid_table, efpa_table, efna_table, esid_table, eerp_table, nerp_table, single_table, sfid_table_of, format_of, has_records}
 
@@ -65,21 +65,21 @@ Canon commands.Rtr = canon_of (single_table (codes "P")).rows tt
 -- the first fault of octets whose first one is c
 unfoldable pub fault_by : ℕ → List ℕ → Option WireFault
 fault_by c o =
-    if c == 73 then fault_in ssrm_table o else (
-    if c == 88 then fault_in ssid_table o else (
-    if c == 72 then fault_in (sfid_table (has_records (format_of (part 106 1 o))) (number (part 162 3 o))) o else (
-    if c == 50 then fault_in sfpa_table o else (
-    if c == 51 then fault_in (sfna_table (number (part 4 3 o))) o else (
-    if c == 68 then fault_in (data_table (length o - 1)) o else (
-    if c == 67 then fault_in cdt_table o else (
-    if c == 84 then fault_in efid_table o else (
-    if c == 52 then fault_in efpa_table o else (
-    if c == 53 then fault_in (efna_table (number (part 3 3 o))) o else (
-    if c == 70 then fault_in (esid_table (number (part 3 3 o))) o else (
-    if c == 82 then fault_in (single_table (codes "R")) o else (
-    if c == 69 then fault_in eerp_table o else (
-    if c == 78 then fault_in (nerp_table (number (part 128 3 o))) o else (
-    if c == 80 then fault_in (single_table (codes "P")) o else (
+    if c == letter (codes "I") then fault_in ssrm_table o else (
+    if c == letter (codes "X") then fault_in ssid_table o else (
+    if c == letter (codes "H") then fault_in (sfid_table (has_records (format_of (part 106 1 o))) (number (part 162 3 o))) o else (
+    if c == letter (codes "2") then fault_in sfpa_table o else (
+    if c == letter (codes "3") then fault_in (sfna_table (number (part 4 3 o))) o else (
+    if c == letter (codes "D") then fault_in (data_table (length o - 1)) o else (
+    if c == letter (codes "C") then fault_in cdt_table o else (
+    if c == letter (codes "T") then fault_in efid_table o else (
+    if c == letter (codes "4") then fault_in efpa_table o else (
+    if c == letter (codes "5") then fault_in (efna_table (number (part 3 3 o))) o else (
+    if c == letter (codes "F") then fault_in (esid_table (number (part 3 3 o))) o else (
+    if c == letter (codes "R") then fault_in (single_table (codes "R")) o else (
+    if c == letter (codes "E") then fault_in eerp_table o else (
+    if c == letter (codes "N") then fault_in (nerp_table (number (part 128 3 o))) o else (
+    if c == letter (codes "P") then fault_in (single_table (codes "P")) o else (
     Some UnknownCommand)))))))))))))))
 
 -- the first fault of octets from the left, if there is one; a text is as long as the length field before it says

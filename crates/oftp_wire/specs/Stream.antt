@@ -99,9 +99,9 @@ length_fault limit (a ∷ b ∷ c ∷ rest) =
     if nat_lt (a * 65536 + b * 256 + c) 5 || nat_lt limit (a * 65536 + b * 256 + c) then Some BadLength else None
 
 -- the fault that octets stand for, at whose front is no whole frame
-abbrev pub fault_of : ℕ → List ℕ → Option FrameFault
-fault_of limit [] = None
-fault_of limit (first ∷ rest) = if first == 16 then length_fault limit rest else Some BadHeader
+abbrev pub rest_fault : ℕ → List ℕ → Option FrameFault
+rest_fault limit [] = None
+rest_fault limit (first ∷ rest) = if first == 16 then length_fault limit rest else Some BadHeader
 
 -- a whole frame stands at the front, and m is its command
 abbrev pub BeginsWith : ℕ → List ℕ → List ℕ → Type 0
@@ -109,7 +109,7 @@ BeginsWith limit s m = IsCommand limit m × (s ≡ frame m ++ drop (length m + 4
 
 -- no whole frame stands at the front, and the octets stand for this fault, or for none
 abbrev pub IsRest : ℕ → List ℕ → Option FrameFault → Type 0
-IsRest limit s fault = NoFrame limit s × (fault_of limit s ≡ fault)
+IsRest limit s fault = NoFrame limit s × (rest_fault limit s ≡ fault)
 
 -- the stream is the frames of these commands, and then a rest with no whole frame at its front
 pub record Front (limit : ℕ) (stream : List ℕ) (commands : List (List ℕ)) (rest : List ℕ) : Type 0 where
@@ -140,4 +140,4 @@ joined pieces = flat_map (λ p. p.now) pieces
 pub record Reads (limit : ℕ) (stream : List ℕ) (commands : List (List ℕ)) (fault : Option FrameFault) : Type 0 where
   pub rest : List ℕ
   pub front : Front limit stream commands rest
-  pub fault_is : fault_of limit rest ≡ fault
+  pub fault_is : rest_fault limit rest ≡ fault

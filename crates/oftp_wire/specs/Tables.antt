@@ -1,5 +1,6 @@
 -- The table of each kind: its fields from left to right, with offsets and lengths (RFC 5024, section 5.3).
 use Rattle.std.specs.Prelude.{ℕ, ◌+◌, Bool, true, false, List, [], ◌∷◌, length, codes, if◌then◌else◌}
+use Rattle.std.specs.Str.{bytes_eq}
 use Rattle.oftp_wire.specs.declared.command.Esid.{Esid}
 use Rattle.oftp_wire.specs.declared.command.Sfpa.{Sfpa}
 use Rattle.oftp_wire.specs.declared.command.Eerp.{Eerp}
@@ -16,7 +17,6 @@ use Rattle.oftp_wire.specs.declared.command.Format.{Format}
 use Rattle.oftp_wire.specs.declared.command.Format.TheVariants.{Fixed as FixedFormat, Variable as VariableFormat, Unstructured as UnstructuredFormat, Text as TextFormat}
 use Rattle.oftp_wire.specs.declared.command.Layout.{Layout}
 use Rattle.oftp_wire.specs.declared.command.Layout.TheVariants.{Fixed, Variable, Unstructured, Text}
-use Rattle.oftp_wire.specs.Form.{same_octets}
 use Rattle.oftp_wire.specs.Row.{word, name, digits, count, choice, longest, reserved, return, payload, text, Table}
 
 -- ---- the words of fields that take few values
@@ -42,7 +42,7 @@ mode_octets Both = codes "B"
 
 -- the mode of a letter
 abbrev pub mode_of : List ℕ → Mode
-mode_of w = if same_octets w (83 ∷ []) then Send else (if same_octets w (82 ∷ []) then Receive else Both)
+mode_of w = if bytes_eq w (codes "S") then Send else (if bytes_eq w (codes "R") then Receive else Both)
 
 -- F, V, U or T
 abbrev pub format_words : List (List ℕ)
@@ -57,7 +57,7 @@ format_octets Text = codes "T"
 
 -- the format of a letter
 abbrev pub format_of : List ℕ → Format
-format_of w = if same_octets w (70 ∷ []) then FixedFormat else (if same_octets w (86 ∷ []) then VariableFormat else (if same_octets w (85 ∷ []) then UnstructuredFormat else TextFormat))
+format_of w = if bytes_eq w (codes "F") then FixedFormat else (if bytes_eq w (codes "V") then VariableFormat else (if bytes_eq w (codes "U") then UnstructuredFormat else TextFormat))
 
 -- whether a file of the format has records
 abbrev pub has_records : Format → Bool

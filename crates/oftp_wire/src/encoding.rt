@@ -2,8 +2,7 @@
 
 ghost use Rattle.std.specs.Prelude.{◌≡◌, ◌<◌, ◌≤◌, ◌^◌, length, true, false};
 ghost use Rattle.std.specs.List.{list_any};
-ghost use Rattle.std.specs.Str.{IsUtf8};
-ghost use Rattle.oftp_wire.specs.Form.{same_octets};
+ghost use Rattle.std.specs.Str.{IsUtf8, bytes_eq};
 ghost use Rattle.oftp_wire.specs.Octets.{padded, decimal, IsName, IsDigits};
 ghost use Rattle.oftp_wire.specs.Piece.{octets_of, IsRight, Writes};
 ghost use Rattle.oftp_wire.specs.Row.{IsWord, EachFits};
@@ -114,7 +113,8 @@ fn format_piece(layout: Layout) -> Piece<'static>
 fn longest_piece(layout: Layout) -> Piece<'static>
     ensures right { IsRight result }
     ensures octets { octets_of result ≡ decimal 5 (longest_of layout) }
-    ensures fit { (longest_of layout < 10 ^ 5) × (is_recorded layout ≡ false → longest_of layout ≡ 0) }
+    ensures fit { (longest_of layout < 10 ^ 5)
+        × (is_recorded layout ≡ false → longest_of layout ≡ 0) }
 {
     match layout {
         Layout::Fixed(longest) | Layout::Variable(longest) => longest.piece(),

@@ -2,7 +2,7 @@
 
 ghost use Rattle.std.specs.Prelude.{◌≡◌, ◌+◌, ◌<◌, ◌≤◌, ◌++◌, ℕ, List, length, All};
 ghost use Rattle.oftp_wire.specs.Header.{frame, IsCommand};
-ghost use Rattle.oftp_wire.specs.Stream.{Whole, front, head_of, NoFrame, fault_of, Front};
+ghost use Rattle.oftp_wire.specs.Stream.{Whole, front, head_of, NoFrame, rest_fault, Front};
 
 /// Every stream of octets is read in one way, and `front` finds at its front what this reading has there.
 pub fn one_front()
@@ -13,5 +13,5 @@ pub fn one_front()
     ensures frame { (limit : ℕ) (m more : List ℕ) → IsCommand limit m
         → front limit (frame m ++ more) ≡ Whole (length m + 4) }
     ensures rest { (limit : ℕ) (r : List ℕ) → All (λ c. c < 256) r → NoFrame limit r
-        → front limit r ≡ head_of (fault_of limit r) }
+        → front limit r ≡ head_of (rest_fault limit r) }
 {}

@@ -1,6 +1,6 @@
 //! What holds of Spelling, for the crates above.
 
-ghost use Rattle.std.specs.Prelude.{◌≡◌, ◌↔◌, ◌≤◌, ℕ, List, ◌∷◌, length, Some, None, Ok, Err, false};
+ghost use Rattle.std.specs.Prelude.{◌≡◌, ◌↔◌, ◌≤◌, ℕ, List, ◌++◌, codes, length, Some, None, Ok, Err, false};
 ghost use Rattle.oftp_wire.specs.declared.command.Command.{Command};
 ghost use Rattle.oftp_wire.specs.declared.command.Command.TheVariants as commands;
 ghost use Rattle.oftp_wire.specs.declared.fault.WireFault.{WireFault};
@@ -25,5 +25,5 @@ pub fn one_spelling()
     // Without a payload it has no more than SFID with the longest description.
     ensures room { (c : Command) → IsFit c → is_data c ≡ false → length (Canon c) ≤ 1164 }
     // With a payload it is the letter and the payload.
-    ensures payload { (octets : List ℕ) → Canon (commands.Data octets) ≡ 68 ∷ octets }
+    ensures payload { (octets : List ℕ) → Canon (commands.Data octets) ≡ codes "D" ++ octets }
 {}

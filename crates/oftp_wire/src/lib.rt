@@ -5,9 +5,9 @@
 //! (`specs/Spelling.antt`), which has a table for each kind: what octets spell a command, which of them
 //! are canonical, and what is wrong with others. Neither takes memory.
 //!
-//! A `Deframer` takes a stream in pieces and hands out the commands of its frames; `header` is what stands
-//! before a command. Both are proved against Front (`specs/Stream.antt`): the commands hang on the stream
-//! alone, and not on how it is cut.
+//! A `Deframer` takes a stream in pieces and hands out the commands of its frames; `header` makes what stands
+//! before a command. The deframer is proved against Front (`specs/Stream.antt`): its commands depend on the
+//! stream alone, and not on how it is cut.
 #![tactic(auto)]
 
 mod command;

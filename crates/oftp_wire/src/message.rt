@@ -2,11 +2,11 @@
 
 ghost use Rattle.std.specs.Prelude.{◌≡◌, Some};
 ghost use Rattle.std.specs.Fmt.{DisplaysOnOk, decimal};
-ghost use Rattle.oftp_wire.specs.Messages.{printable, shown_text, text_after_colon, two_digits, start_words, end_words, session_words, sfid_text, sfna_text, eerp_text, nerp_text, command_text};
+ghost use Rattle.oftp_wire.specs.Messages.{printable, shown_text, text_after_colon, start_words, end_words, session_words, sfid_text, sfna_text, eerp_text, nerp_text, command_text};
 
 use crate::command::{Command, Eerp, Nerp, Sfid, Sfna};
 use crate::field::{Count, Digits, Text, X};
-use crate::reason::{EndReason, SessionReason, StartReason};
+use crate::reason::{EndReason, SessionReason, StartReason, write_two_digits};
 use std::fmt;
 
 impl<const N: usize> fmt::Display for X<'_, N> {
@@ -60,14 +60,6 @@ fn write_text<W: fmt::Write>(f: &mut fmt::Formatter<W>, text: &Text) -> fmt::Res
         return Ok(());
     }
     write!(f, ": {text}")
-}
-
-/// Writes a number in two digits.
-fn write_two_digits<W: fmt::Write>(f: &mut fmt::Formatter<W>, number: Count<2>) -> fmt::Result
-    ensures { DisplaysOnOk W.write_str_gives f.old result (Some (two_digits number)) f.new }
-{
-    let number = number.get();
-    write!(f, "{}{}", number / 10, number % 10)
 }
 
 /// Writes a reason of SFNA.

@@ -12,8 +12,8 @@ use crate::command::{Command, Eerp, Efid, Efna, Efpa, Esid, Nerp, Sfid, Sfna, Sf
 use crate::fault::WireFault;
 use crate::field::Octets;
 use crate::read::{
-    count_at, digits_at, ends_at, flag_at, format_at, layout_at, mode_at, name_at, ready_at,
-    reserved_at, rest_at, return_at, text_at, zero_at,
+    count_at, digits_at, ends_at, flag_at, format_at, last_text_at, layout_at, mode_at, name_at,
+    ready_at, reserved_at, rest_at, return_at, text_at, zero_at,
 };
 
 /// SSRM, which has no field of its own.
@@ -82,9 +82,7 @@ fn sfid(frame: &[u8]) -> Result<Sfid<'_>, WireFault>
     let compression = count_at::<1>(frame, 159)?;
     let enveloping = count_at::<1>(frame, 160)?;
     let signed_response = flag_at(frame, 161)?;
-    let len = count_at::<3>(frame, 162)?;
-    let description = text_at(frame, 165, len)?;
-    ends_at(frame, 165 + len.get() as usize)?;
+    let description = last_text_at(frame, 162)?;
     Ok(Sfid {
         dataset,
         date,
@@ -122,9 +120,7 @@ fn sfna(frame: &[u8]) -> Result<Sfna<'_>, WireFault>
 {
     let reason = count_at::<2>(frame, 1)?;
     let retry = flag_at(frame, 3)?;
-    let len = count_at::<3>(frame, 4)?;
-    let text = text_at(frame, 7, len)?;
-    ends_at(frame, 7 + len.get() as usize)?;
+    let text = last_text_at(frame, 4)?;
     Ok(Sfna {
         reason,
         retry,
@@ -178,9 +174,7 @@ fn efna(frame: &[u8]) -> Result<Efna<'_>, WireFault>
     ensures { result ≡ efna_of frame.now }
 {
     let reason = count_at::<2>(frame, 1)?;
-    let len = count_at::<3>(frame, 3)?;
-    let text = text_at(frame, 6, len)?;
-    ends_at(frame, 6 + len.get() as usize)?;
+    let text = last_text_at(frame, 3)?;
     Ok(Efna { reason, text })
 }
 

@@ -2,9 +2,9 @@
 
 ghost use Rattle.std.specs.Prelude.{◌≡◌, ℕ, ◌+◌, ◌*◌, ◌^◌, ◌<◌, ◌≤◌, ◌==◌, length, true, false, [], ◌∷◌, Some, None, IfOk, IfErr};
 ghost use Rattle.std.specs.List.{list_all};
-ghost use Rattle.oftp_wire.specs.Octets.{part, is_digit, is_padded, front, number};
+ghost use Rattle.oftp_wire.specs.Octets.{part, is_digit, is_padded, value_of, number};
 ghost use Rattle.oftp_wire.specs.Form.{fault_of, Digits as digit_field, Return, Reserved};
-ghost use Rattle.oftp_wire.specs.Reading.{name_at, digits_at, count_at, text_at, skipped_at, ends_at, flag_at, mode_at, format_at, layout_at, rest_at, zero16_form, ready_form};
+ghost use Rattle.oftp_wire.specs.Reading.{name_at, digits_at, count_at, text_at, last_text_at, skipped_at, ends_at, flag_at, mode_at, format_at, layout_at, rest_at, zero16_form, ready_form};
 
 use crate::command::{Format, Layout, Mode};
 use crate::fault::WireFault;
@@ -67,7 +67,7 @@ pub(crate) fn count_at<const N: usize>(frame: &[u8], at: usize) -> Result<Count<
 }
 
 /// A text of as many octets as the field before it says.
-#[tactic(auto, using(crate::proofs::Scans::passed_utf8, crate::proofs::Scans::not_utf8), unfolding(crate::specs::Reading::text_at, crate::specs::Form::fault_of))]
+#[tactic(auto, using(crate::proofs::Scans::utf8_test), unfolding(crate::specs::Reading::text_at, crate::specs::Form::fault_of))]
 pub(crate) fn text_at(frame: &[u8], at: usize, len: Count<3>) -> Result<Text<'_>, WireFault>
     requires { at < 2 ^ 62 }
     ensures { result ≡ text_at len at frame.now }
@@ -77,6 +77,18 @@ pub(crate) fn text_at(frame: &[u8], at: usize, len: Count<3>) -> Result<Text<'_>
         Ok(text) => Ok(Text { text }),
         Err(_) => Err(WireFault::BadText),
     }
+}
+
+/// A text behind its length field, which ends the command.
+#[tactic(auto, unfolding(crate::specs::Reading::last_text_at))]
+pub(crate) fn last_text_at(frame: &[u8], at: usize) -> Result<Text<'_>, WireFault>
+    requires { at < 2 ^ 61 }
+    ensures { result ≡ last_text_at at frame.now }
+{
+    let len = count_at::<3>(frame, at)?;
+    let text = text_at(frame, at + 3, len)?;
+    ends_at(frame, at + 3 + len.get() as usize)?;
+    Ok(text)
 }
 
 /// A reserved field, whose octets may be any.
@@ -167,15 +179,12 @@ pub(crate) fn format_at(frame: &[u8], at: usize) -> Result<Format, WireFault>
 }
 
 /// The longest record of a format, which is 0 in a format without records.
-#[tactic(auto, unfolding(crate::specs::Reading::layout_at, crate::specs::Form::fault_of))]
+#[tactic(auto, unfolding(crate::specs::Reading::layout_at, crate::specs::Reading::count_at, crate::specs::Form::fault_of))]
 pub(crate) fn layout_at(frame: &[u8], at: usize, format: Format) -> Result<Layout, WireFault>
     requires { at < 2 ^ 62 }
     ensures { result ≡ layout_at format at frame.now }
 {
-    let field = digits_of(frame, at, 5)?;
-    let longest = Count::<5> {
-        value: number_of(field),
-    };
+    let longest = count_at::<5>(frame, at)?;
     match format {
         Format::Fixed => Ok(Layout::Fixed(longest)),
         Format::Variable => Ok(Layout::Variable(longest)),

@@ -1,7 +1,8 @@
 //! The reasons that stations give for a refusal or an end.
 
-ghost use Rattle.std.specs.Prelude.{◌≡◌, ◌≢◌, IfSome, IfNone};
-ghost use Rattle.oftp_wire.specs.Reasons.{start_number, start_reason, end_number, end_reason, session_number, session_reason, reason_of};
+ghost use Rattle.std.specs.Prelude.{◌≡◌, ◌≢◌, IfSome, IfNone, Some};
+ghost use Rattle.std.specs.Fmt.{DisplaysOnOk};
+ghost use Rattle.oftp_wire.specs.Reasons.{two_digits, start_number, start_reason, start_phrase, end_number, end_reason, end_phrase, session_number, session_reason, session_phrase, reason_of};
 
 use crate::fault::WireFault;
 use crate::field::Count;
@@ -97,6 +98,24 @@ impl StartReason {
             _ => None,
         }
     }
+
+    /// What an operator reads behind the number.
+    fn phrase(self) -> &'static str
+        ensures { result.now ≡ start_phrase self }
+    {
+        match self {
+            StartReason::InvalidFilename => " invalid filename",
+            StartReason::InvalidDestination => " invalid destination",
+            StartReason::InvalidOrigin => " invalid origin",
+            StartReason::MaximumRecordLengthNotSupported => {
+                " maximum record length not supported"
+            }
+            StartReason::FileSizeTooBig => " file size too big",
+            StartReason::DuplicateFile => " duplicate file",
+            StartReason::FileDirectionRefused => " file direction refused",
+            StartReason::Unspecified => " unspecified",
+        }
+    }
 }
 
 impl EndReason {
@@ -120,6 +139,16 @@ impl EndReason {
             10 => Some(EndReason::InvalidRecordCount),
             11 => Some(EndReason::InvalidByteCount),
             _ => None,
+        }
+    }
+
+    /// What an operator reads behind the number.
+    fn phrase(self) -> &'static str
+        ensures { result.now ≡ end_phrase self }
+    {
+        match self {
+            EndReason::InvalidRecordCount => " invalid record count",
+            EndReason::InvalidByteCount => " invalid byte count",
         }
     }
 }
@@ -163,6 +192,26 @@ impl SessionReason {
             _ => None,
         }
     }
+
+    /// What an operator reads behind the number.
+    fn phrase(self) -> &'static str
+        ensures { result.now ≡ session_phrase self }
+    {
+        match self {
+            SessionReason::Normal => " normal",
+            SessionReason::CommandNotRecognised => " command not recognised",
+            SessionReason::ProtocolViolation => " protocol violation",
+            SessionReason::UserCodeNotKnown => " user code not known",
+            SessionReason::InvalidPassword => " invalid password",
+            SessionReason::InvalidData => " invalid data",
+            SessionReason::BufferSizeError => " buffer size error",
+            SessionReason::ResourcesNotAvailable => " resources not available",
+            SessionReason::ModeIncompatible => " mode or capabilities incompatible",
+            SessionReason::AuthenticationIncompatible => {
+                " secure authentication requirements incompatible"
+            }
+        }
+    }
 }
 
 impl WireFault {
@@ -180,25 +229,27 @@ impl WireFault {
     }
 }
 
+/// Writes a number in two digits.
+pub(crate) fn write_two_digits<W: fmt::Write>(
+    f: &mut fmt::Formatter<W>,
+    number: Count<2>,
+) -> fmt::Result
+    ensures { DisplaysOnOk W.write_str_gives f.old result (Some (two_digits number)) f.new }
+{
+    let number = number.get();
+    write!(f, "{}{}", number / 10, number % 10)
+}
+
 impl fmt::Display for StartReason {
     ghost use Rattle.std.specs.Prelude.{Some};
     ghost use Rattle.oftp_wire.specs.Reasons.{start_text};
 
     ghost output = { λ r. Some (start_text r) };
 
+    #[tactic(auto, unfolding(crate::specs::Reasons::start_text))]
     fn fmt<W: fmt::Write>(&self, f: &mut fmt::Formatter<W>) -> fmt::Result {
-        f.write_str(match self {
-            StartReason::InvalidFilename => "01 invalid filename",
-            StartReason::InvalidDestination => "02 invalid destination",
-            StartReason::InvalidOrigin => "03 invalid origin",
-            StartReason::MaximumRecordLengthNotSupported => {
-                "05 maximum record length not supported"
-            }
-            StartReason::FileSizeTooBig => "06 file size too big",
-            StartReason::DuplicateFile => "13 duplicate file",
-            StartReason::FileDirectionRefused => "14 file direction refused",
-            StartReason::Unspecified => "99 unspecified",
-        })
+        write_two_digits(f, self.number())?;
+        f.write_str(self.phrase())
     }
 }
 
@@ -208,11 +259,10 @@ impl fmt::Display for EndReason {
 
     ghost output = { λ r. Some (end_text r) };
 
+    #[tactic(auto, unfolding(crate::specs::Reasons::end_text))]
     fn fmt<W: fmt::Write>(&self, f: &mut fmt::Formatter<W>) -> fmt::Result {
-        f.write_str(match self {
-            EndReason::InvalidRecordCount => "10 invalid record count",
-            EndReason::InvalidByteCount => "11 invalid byte count",
-        })
+        write_two_digits(f, self.number())?;
+        f.write_str(self.phrase())
     }
 }
 
@@ -222,20 +272,9 @@ impl fmt::Display for SessionReason {
 
     ghost output = { λ r. Some (session_text r) };
 
+    #[tactic(auto, unfolding(crate::specs::Reasons::session_text))]
     fn fmt<W: fmt::Write>(&self, f: &mut fmt::Formatter<W>) -> fmt::Result {
-        f.write_str(match self {
-            SessionReason::Normal => "00 normal",
-            SessionReason::CommandNotRecognised => "01 command not recognised",
-            SessionReason::ProtocolViolation => "02 protocol violation",
-            SessionReason::UserCodeNotKnown => "03 user code not known",
-            SessionReason::InvalidPassword => "04 invalid password",
-            SessionReason::InvalidData => "06 invalid data",
-            SessionReason::BufferSizeError => "07 buffer size error",
-            SessionReason::ResourcesNotAvailable => "08 resources not available",
-            SessionReason::ModeIncompatible => "10 mode or capabilities incompatible",
-            SessionReason::AuthenticationIncompatible => {
-                "12 secure authentication requirements incompatible"
-            }
-        })
+        write_two_digits(f, self.number())?;
+        f.write_str(self.phrase())
     }
 }

@@ -3,7 +3,7 @@
 ghost use Rattle.std.specs.Prelude.{◌≡◌, ℕ, ◌+◌, ◌*◌, ◌^◌, ◌<◌, ◌≤◌, ◌==◌, length, take, drop, true, false, IfOk, IfErr, MatchResult, IfSome, IfNone};
 ghost use Rattle.std.specs.List.{list_all, prefix_len};
 ghost use Rattle.std.specs.Str.{is_utf8};
-ghost use Rattle.oftp_wire.specs.Octets.{part, is_allowed, is_digit, is_padded, front, number, IsName};
+ghost use Rattle.oftp_wire.specs.Octets.{part, is_allowed, is_digit, is_padded, value_of, number, IsName};
 
 use crate::fault::WireFault;
 
@@ -58,10 +58,10 @@ pub(crate) fn all_digits(field: &[u8]) -> bool
 }
 
 /// The value of a padded field, or `None` where something else than spaces stands behind it.
-#[tactic(auto, using(crate::proofs::Scans::front_allowed))]
+#[tactic(auto, using(crate::proofs::Scans::value_allowed))]
 pub(crate) fn value_of(field: &[u8]) -> Option<&[u8]>
     ensures none { IfNone result (is_padded field.now ≡ false) }
-    ensures value { IfSome result (λ v. (is_padded field.now ≡ true) × (v.now ≡ front field.now)) }
+    ensures value { IfSome result (λ v. (is_padded field.now ≡ true) × (v.now ≡ value_of field.now)) }
     ensures name { IfSome result (λ v. IsName (length field.now) v.now) }
 {
     let (text, rest) = field.split_at(front_len(field));
