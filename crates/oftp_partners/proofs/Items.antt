@@ -14,6 +14,6 @@ count_of_view [] = refl
 count_of_view (v ∷ vs) = rw (count_of_view vs)
 
 -- one turn of the loop over the elements
-pub partners_of_step : (s : Station) (done : List Partner) (vs : List Value) (i : ℕ) (v : Value) → i < length vs → v ≡ get_or vs i v
-    → partners_of s done (items_view (drop i vs)) ≡ (partner_of s done (view v) >>= λ p. partners_of s (done ++ p ∷ []) (items_view (drop (i + 1) vs)))
-partners_of_step s done vs i v h same = rw (items_view-drop vs i v h, ← same)
+pub partners_of_step : (station : Station) (before : List Partner) (vs : List Value) (i : ℕ) (v : Value) → i < length vs → v ≡ get_or vs i v
+    → partners_of station before (items_view (drop i vs)) ≡ (partner_of station before (view v) >>= λ p. partners_of station (before ++ p ∷ []) (items_view (drop (i + 1) vs)))
+partners_of_step station before vs i v h same = rw (items_view-drop vs i v h, ← same)

@@ -1,6 +1,6 @@
 -- A look-up finds each partner, as long as each new code is none before.
 use Rattle.std.proofs.Common.{◌≡◌, ℕ, ◌≤◌, length, List, [], ◌∷◌, ◌++◌, Option, Some, None, is_some, Bool, true, false, ◌||◌, cond, refl, ◌∙◌, inl, inr, arith}
-use Rattle.std.proofs.lemmas.Bool.{cases_Bool}
+use Rattle.std.proofs.lemmas.Bool.{cases_Bool, or_parts}
 use Rattle.std.specs.List.{AllByRecursion}
 use Rattle.std.specs.Str.{bytes_eq}
 use Rattle.std.proofs.lemmas.Cmp.{nat_list_eq_equiv}
@@ -41,11 +41,6 @@ ranges_more (p ∷ ps) x h last = (h.0, ranges_more ps x h.1 last)
 none_from : {X : Type 0} (o : Option X) → is_some o ≡ false → o ≡ None
 none_from None h = refl
 none_from (Some x) h = absurd (cc)
-
--- neither of two tests
-or_parts : (a b : Bool) → (a || b) ≡ false → (a ≡ false) × (b ≡ false)
-or_parts false b h = (refl, h)
-or_parts true b h = absurd (cc)
 
 -- a code that isn't taken is no partner's
 pub free_code : (s : Station) (ps : List Partner) (code : List ℕ) → is_taken s ps code ≡ false → partner_at code ps ≡ None

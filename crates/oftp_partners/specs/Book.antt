@@ -9,7 +9,7 @@ use Rattle.oftp_partners.specs.declared.fault.BookFault.TheVariants.{NotToml, Wr
 use Rattle.oftp_partners.specs.declared.partner.Station.{Station}
 use Rattle.oftp_partners.specs.declared.partner.Partner.{Partner}
 use Rattle.oftp_partners.specs.Fields.{IsCode, IsPassword, IsAddress, IsBufferSize, IsCredit}
-use Rattle.oftp_partners.specs.Keys.{◌>>=◌, else_fault, if_so, code_at, password_at, mode_at, address_at, number_at, flag_at, table_at}
+use Rattle.oftp_partners.specs.Keys.{◌>>=◌, else_fault, if_so, code_at, password_at, mode_at, address_at, buffer_size_at, credit_at, flag_at, table_at}
 
 -- a book: the station, and the partners in the order of the text
 pub record BookData : Type 0 where
@@ -18,11 +18,11 @@ pub record BookData : Type 0 where
 
 -- the station of a table
 unfoldable pub station_of : Members → Result Station BookFault
-station_of ms = do
-  code ← code_at (codes "code") ms
-  buffer ← number_at 128 16384 (codes "buffer") ms
-  credit ← number_at 1 99 (codes "credit") ms
-  restart ← flag_at (codes "restart") ms
+station_of members = do
+  code ← code_at (codes "code") members
+  buffer ← buffer_size_at (codes "buffer") members
+  credit ← credit_at (codes "credit") members
+  restart ← flag_at (codes "restart") members
   Ok (record { code = code; buffer = buffer; credit = credit; restart = restart })
 
 -- the first partner of a code
@@ -32,61 +32,61 @@ partner_at code (p ∷ ps) = if bytes_eq p.code code then Some p else partner_at
 
 -- whether the station or an earlier partner has a code
 unfoldable pub is_taken : Station → List Partner → List ℕ → Bool
-is_taken s done code = bytes_eq s.code code || is_some (partner_at code done)
+is_taken station before code = bytes_eq station.code code || is_some (partner_at code before)
 
 -- the partner of a table, behind those before it
 unfoldable pub partner_in : Station → List Partner → Members → Result Partner BookFault
-partner_in s done ms = do
-  code ← code_at (codes "code") ms
-  new ← if_so (not (is_taken s done code)) DuplicateCode (tt {0})
-  expects ← password_at (codes "expects") ms
-  sends ← password_at (codes "sends") ms
-  mode ← mode_at (codes "mode") ms
-  address ← address_at (codes "address") ms
+partner_in station before members = do
+  code ← code_at (codes "code") members
+  new ← if_so (not (is_taken station before code)) DuplicateCode (tt {0})
+  expects ← password_at (codes "expects") members
+  sends ← password_at (codes "sends") members
+  mode ← mode_at (codes "mode") members
+  address ← address_at (codes "address") members
   Ok (record { code = code; expects = expects; sends = sends; mode = mode; address = address })
 
 -- the partner of an element, which is to be a table
 unfoldable pub partner_of : Station → List Partner → Data → Result Partner BookFault
-partner_of s done d = else_fault WrongKind (as_table d) >>= λ ms. partner_in s done ms
+partner_of station before value = else_fault WrongKind (as_table value) >>= λ members. partner_in station before members
 
 -- the partners of the elements in turn, behind those before them
 abbrev pub partners_of : Station → List Partner → Items → Result (List Partner) BookFault
-partners_of s done no_items = Ok done
-partners_of s done (item d ds) = partner_of s done d >>= λ p. partners_of s (done ++ p ∷ []) ds
+partners_of station before no_items = Ok before
+partners_of station before (item value values) = partner_of station before value >>= λ p. partners_of station (before ++ p ∷ []) values
 
 -- how many elements an array has
 abbrev pub count_of : Items → ℕ
 count_of no_items = zero
-count_of (item d ds) = suc (count_of ds)
+count_of (item value values) = suc (count_of values)
 
 -- the elements of the array, none where it is missing
 abbrev pub listed : Option Data → Result Items BookFault
 listed None = Ok no_items
-listed (Some d) = else_fault WrongKind (as_array d)
+listed (Some value) = else_fault WrongKind (as_array value)
 
 -- the elements at the key `partner`
 unfoldable pub partner_items : Members → Result Items BookFault
-partner_items ms = listed (get_member (codes "partner") ms)
+partner_items members = listed (get_member (codes "partner") members)
 
 -- the book of a document's tree
 unfoldable pub book_in : Members → Result BookData BookFault
-book_in ms = do
-  table ← table_at (codes "station") ms
+book_in members = do
+  table ← table_at (codes "station") members
   station ← station_of table
-  items ← partner_items ms
+  items ← partner_items members
   few ← if_so (nat_le (count_of items) 1000) TooMany (tt {0})
   partners ← partners_of station [] items
   Ok (record { station = station; partners = partners })
 
 -- BookOf: the book of a text, by the tree that it stands for in TOML, or the first fault
 unfoldable pub book_of : List ℕ → Result BookData BookFault
-book_of text = else_fault NotToml (parse_document text) >>= λ ms. book_in ms
+book_of text = else_fault NotToml (parse_document text) >>= λ members. book_in members
 
 -- a station in its ranges
-pub record IsStation (s : Station) : Type 0 where
-  pub code : IsCode s.code
-  pub buffer : IsBufferSize s.buffer
-  pub credit : IsCredit s.credit
+pub record IsStation (station : Station) : Type 0 where
+  pub code : IsCode station.code
+  pub buffer : IsBufferSize station.buffer
+  pub credit : IsCredit station.credit
 
 -- a partner in its ranges
 pub record IsPartner (p : Partner) : Type 0 where
@@ -96,10 +96,10 @@ pub record IsPartner (p : Partner) : Type 0 where
   pub address : IsAddress p.address
 
 -- partners in their ranges, each found by its code, and none by the station's
-pub record ArePartners (s : Station) (ps : List Partner) : Type 0 where
+pub record ArePartners (station : Station) (ps : List Partner) : Type 0 where
   pub ranges : AllByRecursion IsPartner ps
   pub found : AllByRecursion (λ p. partner_at p.code ps ≡ Some p) ps
-  pub own : partner_at s.code ps ≡ None
+  pub own : partner_at station.code ps ≡ None
 
 -- what holds of each book
 pub record IsBook (b : BookData) : Type 0 where

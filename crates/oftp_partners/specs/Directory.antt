@@ -14,7 +14,7 @@ place_at code (p ∷ ps) = if bytes_eq p.code code then Some 0 else option_map s
 
 -- what an index of octets has under a code
 abbrev pub indexed_at : BTreeMap (Vec ℕ Global) ℕ → List ℕ → Option ℕ
-indexed_at places code = get_by (λ k. slice_cmp nat_cmp code k.items) places
+indexed_at places code = get_by (λ key. slice_cmp nat_cmp code key.items) places
 
 -- under each code the place of its partner
 abbrev pub IsIndex : BTreeMap (Vec ℕ Global) ℕ → List Partner → Type 0

@@ -25,64 +25,76 @@ if_so b e x = if b then Ok x else Err e
 
 -- an answer, want of memory aside
 abbrev pub Answers : {A : Type 0} → Result A BookFault → Result A BookFault → Type 0
-Answers r s = MatchResult r (λ x. s ≡ Ok x) (λ e. (e ≡ Memory) ⊎ (s ≡ Err e))
+Answers result expected = MatchResult result (λ x. expected ≡ Ok x) (λ e. (e ≡ Memory) ⊎ (expected ≡ Err e))
 
 -- the code that a text is
 unfoldable pub code_of : List ℕ → Result (List ℕ) BookFault
-code_of t = if_so (is_code t) BadCode t
+code_of text = if_so (is_code text) BadCode text
 
 -- the password that a text is
 unfoldable pub password_of : List ℕ → Result (List ℕ) BookFault
-password_of t = if_so (is_name 8 t) BadCode t
+password_of text = if_so (is_name 8 text) BadCode text
 
 -- the address that a text is
 unfoldable pub address_of : List ℕ → Result (List ℕ) BookFault
-address_of t = if_so (is_address t) BadCode t
+address_of text = if_so (is_address text) BadCode text
 
 -- the mode of a letter
 unfoldable pub mode_of : List ℕ → Result Mode BookFault
-mode_of t = if bytes_eq t (codes "S") then Ok Send else (if bytes_eq t (codes "R") then Ok Receive else (if bytes_eq t (codes "B") then Ok Both else Err BadCode))
+mode_of text = if bytes_eq text (codes "S") then Ok Send else (if bytes_eq text (codes "R") then Ok Receive else (if bytes_eq text (codes "B") then Ok Both else Err BadCode))
 
 -- the number that an integer within two bounds is
 unfoldable pub number_within : ℕ → ℕ → ℤ → Result ℕ BookFault
-number_within low high z = if_so (int_le (pos low) z && int_le z (pos high)) BadNumber (nat_abs z)
+number_within low high number = if_so (int_le (pos low) number && int_le number (pos high)) BadNumber (nat_abs number)
+
+-- the size of a data exchange buffer that an integer is
+unfoldable pub buffer_size_of : ℤ → Result ℕ BookFault
+buffer_size_of number = number_within 128 16384 number
+
+-- the credit that an integer is
+unfoldable pub credit_of : ℤ → Result ℕ BookFault
+credit_of number = number_within 1 99 number
 
 -- the value at a key
 unfoldable pub data_at : List ℕ → Members → Result Data BookFault
-data_at k ms = else_fault MissingKey (get_member k ms)
+data_at key members = else_fault MissingKey (get_member key members)
 
 -- the text at a key
 unfoldable pub text_at : List ℕ → Members → Result (List ℕ) BookFault
-text_at k ms = data_at k ms >>= λ d. else_fault WrongKind (as_str d)
+text_at key members = data_at key members >>= λ value. else_fault WrongKind (as_str value)
 
 -- the integer at a key
 unfoldable pub integer_at : List ℕ → Members → Result ℤ BookFault
-integer_at k ms = data_at k ms >>= λ d. else_fault WrongKind (as_integer d)
+integer_at key members = data_at key members >>= λ value. else_fault WrongKind (as_integer value)
 
 -- true or false at a key
 unfoldable pub flag_at : List ℕ → Members → Result Bool BookFault
-flag_at k ms = data_at k ms >>= λ d. else_fault WrongKind (as_bool d)
+flag_at key members = data_at key members >>= λ value. else_fault WrongKind (as_bool value)
 
 -- the table at a key
 unfoldable pub table_at : List ℕ → Members → Result Members BookFault
-table_at k ms = data_at k ms >>= λ d. else_fault WrongKind (as_table d)
+table_at key members = data_at key members >>= λ value. else_fault WrongKind (as_table value)
 
 -- the code at a key
 unfoldable pub code_at : List ℕ → Members → Result (List ℕ) BookFault
-code_at k ms = text_at k ms >>= λ t. code_of t
+code_at key members = text_at key members >>= λ text. code_of text
 
 -- the password at a key
 unfoldable pub password_at : List ℕ → Members → Result (List ℕ) BookFault
-password_at k ms = text_at k ms >>= λ t. password_of t
+password_at key members = text_at key members >>= λ text. password_of text
 
 -- the mode at a key
 unfoldable pub mode_at : List ℕ → Members → Result Mode BookFault
-mode_at k ms = text_at k ms >>= λ t. mode_of t
+mode_at key members = text_at key members >>= λ text. mode_of text
 
 -- the address at a key
 unfoldable pub address_at : List ℕ → Members → Result (List ℕ) BookFault
-address_at k ms = text_at k ms >>= λ t. address_of t
+address_at key members = text_at key members >>= λ text. address_of text
 
--- the number at a key, which two bounds keep
-unfoldable pub number_at : ℕ → ℕ → List ℕ → Members → Result ℕ BookFault
-number_at low high k ms = integer_at k ms >>= λ z. number_within low high z
+-- the size of a data exchange buffer at a key
+unfoldable pub buffer_size_at : List ℕ → Members → Result ℕ BookFault
+buffer_size_at key members = integer_at key members >>= λ number. buffer_size_of number
+
+-- the credit at a key
+unfoldable pub credit_at : List ℕ → Members → Result ℕ BookFault
+credit_at key members = integer_at key members >>= λ number. credit_of number

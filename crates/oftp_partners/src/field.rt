@@ -2,17 +2,29 @@
 
 ghost use Rattle.std.specs.Prelude.{◌≡◌, string_bytes, IfOk};
 ghost use Rattle.oftp_partners.specs.Fields.{IsCode, IsPassword, IsAddress, IsBufferSize, IsCredit};
-ghost use Rattle.oftp_partners.specs.Keys.{Answers, code_of, password_of, address_of, number_within};
+ghost use Rattle.oftp_partners.specs.Keys.{Answers, code_of, password_of, address_of, buffer_size_of, credit_of};
 
 use crate::fault::BookFault;
 use oftp_wire::{Count, X};
 use std::alloc::Global;
 use std::marker::Model;
 
+/// How many octets the least data exchange buffer has (RFC 5024, section 5.3.2).
+const LEAST_BUFFER: i64 = 128;
+
+/// How many octets the greatest data exchange buffer of the station has.
+const GREATEST_BUFFER: i64 = 16_384;
+
+/// The least credit, in DATA commands.
+const LEAST_CREDIT: i64 = 1;
+
+/// The greatest credit of the station, in DATA commands.
+const GREATEST_CREDIT: i64 = 99;
+
 /// The identification code of a station: 1 to 25 allowed characters (RFC 5024, section 5.4).
 #[derive(Debug, Drop)]
 pub struct Code {
-    text: String,
+    characters: String,
 }
 
 impl Model for Code {
@@ -21,9 +33,9 @@ impl Model for Code {
 
     ghost Value = { List ℕ };
 
-    ghost view = { λ x. string_bytes x.text };
+    ghost view = { λ x. string_bytes x.characters };
 
-    ghost invariant = { λ x. IsCode (string_bytes x.text) };
+    ghost invariant = { λ x. IsCode (string_bytes x.characters) };
 }
 
 impl Code {
@@ -40,7 +52,7 @@ impl Code {
             return Err(BookFault::BadCode);
         }
         Ok(Code {
-            text: String::from_str(alloc, text)?,
+            characters: String::from_str(alloc, text)?,
         })
     }
 
@@ -49,7 +61,7 @@ impl Code {
         ensures value { result.now ≡ self.now }
         ensures code { IsCode self.now }
     {
-        self.text.as_str()
+        self.characters.as_str()
     }
 
     /// The code as a field of a command.
@@ -57,14 +69,14 @@ impl Code {
         ensures value { result ≡ self.now }
         ensures code { IsCode self.now }
     {
-        X::new(self.text.as_bytes()).unwrap()
+        X::new(self.characters.as_bytes()).unwrap()
     }
 }
 
 /// A password: 0 to 8 allowed characters (RFC 5024, section 5.3.2). It is never printed.
 #[derive(Drop)]
 pub struct Password {
-    text: String,
+    password: String,
 }
 
 impl Model for Password {
@@ -73,9 +85,9 @@ impl Model for Password {
 
     ghost Value = { List ℕ };
 
-    ghost view = { λ x. string_bytes x.text };
+    ghost view = { λ x. string_bytes x.password };
 
-    ghost invariant = { λ x. IsPassword (string_bytes x.text) };
+    ghost invariant = { λ x. IsPassword (string_bytes x.password) };
 }
 
 impl Password {
@@ -92,7 +104,7 @@ impl Password {
             return Err(BookFault::BadCode);
         }
         Ok(Password {
-            text: String::from_str(alloc, text)?,
+            password: String::from_str(alloc, text)?,
         })
     }
 
@@ -101,14 +113,14 @@ impl Password {
         ensures value { result ≡ self.now }
         ensures password { IsPassword self.now }
     {
-        X::new(self.text.as_bytes()).unwrap()
+        X::new(self.password.as_bytes()).unwrap()
     }
 }
 
 /// Where a partner is reached, as the program connects to it: 1 to 255 octets.
 #[derive(Debug, Drop)]
 pub struct Address {
-    text: String,
+    address: String,
 }
 
 impl Model for Address {
@@ -117,9 +129,9 @@ impl Model for Address {
 
     ghost Value = { List ℕ };
 
-    ghost view = { λ x. string_bytes x.text };
+    ghost view = { λ x. string_bytes x.address };
 
-    ghost invariant = { λ x. IsAddress (string_bytes x.text) };
+    ghost invariant = { λ x. IsAddress (string_bytes x.address) };
 }
 
 impl Address {
@@ -136,7 +148,7 @@ impl Address {
             return Err(BookFault::BadCode);
         }
         Ok(Address {
-            text: String::from_str(alloc, text)?,
+            address: String::from_str(alloc, text)?,
         })
     }
 
@@ -145,7 +157,7 @@ impl Address {
         ensures value { result.now ≡ self.now }
         ensures address { IsAddress self.now }
     {
-        self.text.as_str()
+        self.address.as_str()
     }
 }
 
@@ -173,12 +185,12 @@ impl BufferSize {
     ///
     /// # Errors
     /// `BadNumber` where it is none.
-    #[tactic(auto, unfolding(crate::specs::Keys::number_within))]
+    #[tactic(auto, unfolding(crate::specs::Keys::buffer_size_of, crate::specs::Keys::number_within))]
     pub fn new(octets: i64) -> Result<BufferSize, BookFault>
-        ensures value { result ≡ number_within 128 16384 octets }
+        ensures value { result ≡ buffer_size_of octets }
         ensures size { IfOk result IsBufferSize }
     {
-        if octets < 128 || 16384 < octets {
+        if octets < LEAST_BUFFER || GREATEST_BUFFER < octets {
             return Err(BookFault::BadNumber);
         }
         Ok(BufferSize {
@@ -227,12 +239,12 @@ impl Credit {
     ///
     /// # Errors
     /// `BadNumber` where it is none.
-    #[tactic(auto, unfolding(crate::specs::Keys::number_within))]
+    #[tactic(auto, unfolding(crate::specs::Keys::credit_of, crate::specs::Keys::number_within))]
     pub fn new(commands: i64) -> Result<Credit, BookFault>
-        ensures value { result ≡ number_within 1 99 commands }
+        ensures value { result ≡ credit_of commands }
         ensures credit { IfOk result IsCredit }
     {
-        if commands < 1 || 99 < commands {
+        if commands < LEAST_CREDIT || GREATEST_CREDIT < commands {
             return Err(BookFault::BadNumber);
         }
         Ok(Credit {

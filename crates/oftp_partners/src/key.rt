@@ -4,7 +4,7 @@ ghost use Rattle.std.specs.Prelude.{◌≡◌, Ok, Err, MatchResult, IfOk, optio
 ghost use Rattle.toml.specs.Data.{get_member};
 ghost use Rattle.toml.specs.View.{view, table_view};
 ghost use Rattle.oftp_partners.specs.Fields.{IsCode, IsPassword, IsAddress, IsBufferSize, IsCredit};
-ghost use Rattle.oftp_partners.specs.Keys.{Answers, mode_of, data_at, text_at, integer_at, flag_at, table_at, code_at, password_at, mode_at, address_at, number_at};
+ghost use Rattle.oftp_partners.specs.Keys.{Answers, mode_of, data_at, text_at, integer_at, flag_at, table_at, code_at, password_at, mode_at, address_at, buffer_size_at, credit_at};
 
 use crate::fault::BookFault;
 use crate::field::{Address, BufferSize, Code, Credit, Password};
@@ -92,18 +92,18 @@ pub(crate) fn address_at(alloc: Global, table: &Table, key: &str) -> Result<Addr
 }
 
 /// The buffer size at a key.
-#[tactic(auto, unfolding(crate::specs::Keys::number_at))]
+#[tactic(auto, unfolding(crate::specs::Keys::buffer_size_at))]
 pub(crate) fn buffer_at(table: &Table, key: &str) -> Result<BufferSize, BookFault>
-    ensures value { result ≡ number_at 128 16384 key.now (table_view table.now) }
+    ensures value { result ≡ buffer_size_at key.now (table_view table.now) }
     ensures size { IfOk result IsBufferSize }
 {
     BufferSize::new(integer_at(table, key)?)
 }
 
 /// The credit at a key.
-#[tactic(auto, unfolding(crate::specs::Keys::number_at))]
+#[tactic(auto, unfolding(crate::specs::Keys::credit_at))]
 pub(crate) fn credit_at(table: &Table, key: &str) -> Result<Credit, BookFault>
-    ensures value { result ≡ number_at 1 99 key.now (table_view table.now) }
+    ensures value { result ≡ credit_at key.now (table_view table.now) }
     ensures credit { IfOk result IsCredit }
 {
     Credit::new(integer_at(table, key)?)

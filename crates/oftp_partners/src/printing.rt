@@ -13,7 +13,8 @@ impl fmt::Display for Code {
     ghost output = { λ c. Some c };
 
     fn fmt<W: fmt::Write>(&self, f: &mut fmt::Formatter<W>) -> fmt::Result {
-        f.write_str(self.as_str())
+        let code = self.as_str();
+        f.write_str(code)
     }
 }
 
@@ -21,7 +22,8 @@ impl fmt::Display for Address {
     ghost output = { λ a. Some a };
 
     fn fmt<W: fmt::Write>(&self, f: &mut fmt::Formatter<W>) -> fmt::Result {
-        f.write_str(self.as_str())
+        let address = self.as_str();
+        f.write_str(address)
     }
 }
 

@@ -18,9 +18,13 @@ has_compression header = nat_le 64 (header % 128)
 abbrev pub count_in : ℕ → ℕ
 count_in header = header % 64
 
--- The header of a subrecord, without compression.
+-- The header without compression: the end flag, and how many octets follow.
+abbrev pub header_of : Bool → ℕ → ℕ
+header_of ends count = if ends then 128 + count else count
+
+-- The header of a subrecord.
 abbrev pub header : Subrecord → ℕ
-header s = if s.ends then 128 + length s.octets else length s.octets
+header s = header_of s.ends (length s.octets)
 
 -- The octets of a subrecord in a payload.
 abbrev pub spelled : Subrecord → List ℕ

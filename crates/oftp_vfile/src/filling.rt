@@ -98,7 +98,10 @@ impl Filler {
     /// Writes the next payload into `out`: what is to follow the `D` of a DATA command (RFC 5024,
     /// 5.3.6 and 7.3).
     ///
-    /// It is lent the rows from `row()` on, few or many, and told whether they reach the end.
+    /// It is lent the rows from `row()` on, few or many, and told whether they reach the end. Where
+    /// it is in the middle of a row, this row at least has to be lent; at the start of one, none
+    /// may be.
+    ///
     /// `More` asks for more rows: the payload isn't full, and rows are to come. `Done` says that
     /// nothing is left. Both leave the filler as it was; what `out` then holds is left open. It
     /// takes no memory.

@@ -53,14 +53,15 @@ fn payloads_of(
     Ok(payloads)
 }
 
-/// Sends records of V and compares the payloads, then takes these and compares the records.
+/// Sends records of V and compares the payloads, then takes these and compares the records. Gives
+/// the counts that the taker then tells.
 fn sends(
     rt: &impl Abort,
     alloc: Global,
     records: &[&[u8]],
     size: usize,
     expected: &[&[u8]],
-) -> Result<(), Fail> {
+) -> Result<(u64, u64), Fail> {
     let rows = rows_of(alloc, records)?;
     let payloads = payloads_of(rt, alloc, Format::Variable, &rows, size)?;
     assert_eq!(rt; payloads.len(), expected.len());
@@ -74,7 +75,7 @@ fn sends(
         assert_eq!(rt; row.octets(), *record);
     }
     assert!(rt; !taker.is_open());
-    Ok(())
+    Ok(taker.counts())
 }
 
 #[test]
@@ -84,30 +85,40 @@ fn record_of_130(rt: HostRuntime) -> Result<(), Fail> {
     first[64] = 0x3e;
     let record = [7u8; 130];
     let second = [0x85, 7, 7, 7, 7, 7];
-    sends(&rt, rt.alloc(), &[&record], 127, &[&first, &second])
+    let counts = sends(&rt, rt.alloc(), &[&record], 127, &[&first, &second])?;
+    assert_eq!(rt; counts, (1, 130));
+    Ok(())
 }
 
 #[test]
 fn empty_record(rt: HostRuntime) -> Result<(), Fail> {
-    sends(&rt, rt.alloc(), &[b""], 127, &[&[0x80]])
+    let counts = sends(&rt, rt.alloc(), &[b""], 127, &[&[0x80]])?;
+    assert_eq!(rt; counts, (1, 0));
+    Ok(())
 }
 
 #[test]
 fn empty_between(rt: HostRuntime) -> Result<(), Fail> {
     let payloads: [&[u8]; 2] = [&[0x83, 0x41, 0x42, 0x43, 0x80], &[0x81, 0x44]];
-    sends(&rt, rt.alloc(), &[b"ABC", b"", b"D"], 5, &payloads)
+    let counts = sends(&rt, rt.alloc(), &[b"ABC", b"", b"D"], 5, &payloads)?;
+    assert_eq!(rt; counts, (3, 4));
+    Ok(())
 }
 
 #[test]
 fn no_room_for_two(rt: HostRuntime) -> Result<(), Fail> {
     let payloads: [&[u8]; 2] = [&[0x83, 0x41, 0x42, 0x43], &[0x81, 0x44]];
-    sends(&rt, rt.alloc(), &[b"ABC", b"D"], 5, &payloads)
+    let counts = sends(&rt, rt.alloc(), &[b"ABC", b"D"], 5, &payloads)?;
+    assert_eq!(rt; counts, (2, 4));
+    Ok(())
 }
 
 #[test]
 fn record_cut_in_two(rt: HostRuntime) -> Result<(), Fail> {
     let payloads: [&[u8]; 2] = [&[0x03, 0x41, 0x42, 0x43], &[0x81, 0x44]];
-    sends(&rt, rt.alloc(), &[b"ABCD"], 4, &payloads)
+    let counts = sends(&rt, rt.alloc(), &[b"ABCD"], 4, &payloads)?;
+    assert_eq!(rt; counts, (1, 4));
+    Ok(())
 }
 
 #[test]
@@ -235,16 +246,19 @@ fn mark_of_a_short_block(rt: HostRuntime) -> Result<(), Fail> {
 
 #[test]
 fn local_form(rt: HostRuntime) -> Result<(), Fail> {
-    let cases: [(Format, u32, &[u8], usize); 4] = [
-        (Format::Variable, 3, b"00003ABC00000", 2),
-        (Format::Fixed, 3, b"ABCDEF", 2),
-        (Format::Unstructured, 0, b"ABC", 1),
-        (Format::Text, 0, b"", 0),
+    let cases: [(Format, u32, &[u8], &[&[u8]]); 4] = [
+        (Format::Variable, 3, b"00003ABC00000", &[b"ABC", b""]),
+        (Format::Fixed, 3, b"ABCDEF", &[b"ABC", b"DEF"]),
+        (Format::Unstructured, 0, b"ABC", &[b"ABC"]),
+        (Format::Text, 0, b"", &[]),
     ];
-    for (format, longest, content, count) in cases {
+    for (format, longest, content, rows) in cases {
         assert!(rt; format.allows_longest(longest));
         let file = VFile::from_local(rt.alloc(), format, longest, content)?;
-        assert_eq!(rt; file.rows.len(), count);
+        assert_eq!(rt; file.rows.len(), rows.len());
+        for (row, octets) in file.rows.as_slice().iter().zip(rows) {
+            assert_eq!(rt; row.octets(), *octets);
+        }
         assert_eq!(rt; file.to_local(rt.alloc())?.as_slice(), content);
     }
     let wrong: [(Format, &[u8]); 5] = [
@@ -285,7 +299,9 @@ fn whole_file(rt: HostRuntime) -> Result<(), Fail> {
     Ok(())
 }
 
-/// Where an allocation within `take` is refused, the same payload is taken afterwards.
+/// Where an allocation within `take` is refused, the taker is as it was, and then takes the same
+/// payload. This wants `rt try --test --fail-alloc N`, which refuses the Nth allocation (from 2 on:
+/// the first is the test's own); without it no payload is refused.
 #[test]
 fn refused_and_taken_again(rt: HostRuntime) -> Result<(), Fail> {
     let mut payload = Vec::with_capacity(rt.alloc(), 2048)?;
@@ -294,10 +310,13 @@ fn refused_and_taken_again(rt: HostRuntime) -> Result<(), Fail> {
         payload.extend_from_slice(&[1; 63])?;
     }
     let mut taker = taker(rt.alloc(), Format::Unstructured, 0);
-    for _ in 0..2 {
-        let before = (taker.whole_rows().len(), taker.counts());
-        if taker.take(&payload) == Err(TakeFault::Memory) {
-            assert_eq!(rt; (taker.whole_rows().len(), taker.counts()), before);
+    for (rows, tail, units) in [(0, 0, 0), (1, 236, 1260)] {
+        if let Err(fault) = taker.take(&payload) {
+            assert_eq!(rt; fault, TakeFault::Memory);
+            assert_eq!(rt; taker.whole_rows().len(), rows);
+            assert_eq!(rt; taker.open_tail().len(), tail);
+            assert_eq!(rt; taker.is_open(), rows > 0);
+            assert_eq!(rt; taker.counts(), (0, units));
             taker.take(&payload)?;
         }
     }

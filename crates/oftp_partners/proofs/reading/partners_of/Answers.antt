@@ -12,11 +12,11 @@ add-requires c = free_code c.args.station.now c.loop-value.directory c.in_ok-par
 pub loop-value-preserved : goal.loop-value-preserved
 loop-value-preserved c =
     let station = c.args.station.now in
-    let done = c.loop-value.directory in
-    let added : c.add.new.self ≡ done ++ c.in_ok-partner.partner ∷ [] = c.in_ok-add.ensures.ok in
-    let judged : partner_of station done (view c.value-item.result) ≡ Ok c.in_ok-partner.partner = c.in_ok-partner.ensures.value in
-    let step = partners_of_step station done c.args.values.now c.loop-value.value-index c.value-item.result c.loop-value-test.true c.value-item.is in
-    let after : partners_of station done (items_view (drop c.loop-value.value-index c.args.values.now)) ≡ partners_of station (done ++ c.in_ok-partner.partner ∷ []) (items_view (drop (c.loop-value.value-index + 1) c.args.values.now)) = rw judged at step in
+    let before = c.loop-value.directory in
+    let added : c.add.new.self ≡ before ++ c.in_ok-partner.partner ∷ [] = c.in_ok-add.ensures.ok in
+    let judged : partner_of station before (view c.value-item.result) ≡ Ok c.in_ok-partner.partner = c.in_ok-partner.ensures.value in
+    let step = partners_of_step station before c.args.values.now c.loop-value.value-index c.value-item.result c.loop-value-test.true c.value-item.is in
+    let after : partners_of station before (items_view (drop c.loop-value.value-index c.args.values.now)) ≡ partners_of station (before ++ c.in_ok-partner.partner ∷ []) (items_view (drop (c.loop-value.value-index + 1) c.args.values.now)) = rw judged at step in
     record {
       rest = rw added (c.loop-value.invariant.rest ∙ after);
       count = grind (arith, common_steps);
