@@ -8,3 +8,6 @@ mod serving;
 pub use laws::folds_over_frames;
 pub use port::Port;
 pub use serving::{End, Role, RunFault, serve};
+
+#[cfg(test)]
+mod tests;
