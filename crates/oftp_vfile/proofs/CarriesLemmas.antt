@@ -1,6 +1,6 @@
-use Rattle.std.proofs.Common.{◌≡◌, ◌≢◌, ℕ, suc, ◌+◌, ◌*◌, ◌/◌, ◌%◌, ◌<◌, ◌≤◌, Bool, true, false, cond, nat_le, eqb, ◌&&◌, ◌||◌, Some, None, List, [], ◌∷◌, ◌++◌, length, get_or, take, drop, map, refl, sym, ap, ◌∙◌, subst, arith, append_assoc, All, not}
+use Rattle.std.proofs.Common.{◌≡◌, ◌≢◌, ℕ, suc, ◌+◌, ◌*◌, ◌/◌, ◌%◌, ◌<◌, ◌≤◌, Bool, true, false, cond, nat_le, eqb, ◌&&◌, Some, None, List, [], ◌∷◌, ◌++◌, length, get_or, take, drop, map, refl, sym, ap, ◌∙◌, subst, arith, append_assoc, All, not}
 use Rattle.std.specs.List.{flat_map}
-use Rattle.std.proofs.lemmas.Bool.{eq-eqb, eqb-true, leb-false, leb-true, le-leb, le-ltb, lt-leb, ltb-false, false≢true}
+use Rattle.std.proofs.lemmas.Bool.{eq-eqb, eqb-true, leb-false, leb-true, le-leb, le-ltb, lt-leb, ltb-false, false≢true, not-false, not_from_true, or_from, or_parts}
 use Rattle.std.proofs.lemmas.List.{append-nil, length-append, length-drop, take-append-drop, same_from_push, length_push, map-append, length-take-le, get_or_at}
 use Rattle.std.proofs.lemmas.List.Elements.{All-push, All-nil}
 use Rattle.std.proofs.lemmas.List.Concat.{flat_map-append}
@@ -14,7 +14,7 @@ use Rattle.oftp_vfile.specs.Subrecord.{Subrecord, header, payload_of, octets_of,
 use Rattle.oftp_vfile.specs.Taking.{Taking, is_ended, added, added_all, new_rows, is_too_big, is_wrong_size, fault_at, fault_of, IsAllowed, AreAllowed, Walked, FirstFault, new_taking, CarriesWithin, IsSameFile, Holds, Took}
 use Rattle.oftp_vfile.specs.VirtualFile.{is_stream, octets_in}
 use Rattle.oftp_vfile.specs.Carries.{onto, pieces, IsStream, InBlocks, Carried, stage_of}
-use Rattle.oftp_vfile.proofs.TakingLemmas.{NoFault, no_fault, fault_none, not_too_big, added-rows_few, restored, restored-all}
+use Rattle.oftp_vfile.proofs.TakingLemmas.{NoFault, last_of, no_fault, fault_none, not_too_big, added-rows_few, restored, restored-all}
 
 -- there is a piece
 pub some_piece : (ss : List Subrecord) → (p : List ℕ) × (ps : List (List ℕ)) × (pieces ss ≡ p ∷ ps)
@@ -116,16 +116,8 @@ header_says s h =
     let both : (b : Bool) → P b = λ b. elim b as P [ true ↦ (omega arith, le-leb 128 (128 + n) (omega arith), omega arith) | false ↦ (omega arith, lt-leb 128 n (omega arith), omega arith) ] in
     both s.ends
 
-or_both : (a b : Bool) → (a || b) ≡ false → (a ≡ false) × (b ≡ false)
-or_both true b e = cc
-or_both false b e = (refl, e)
-
 and_left : (b : Bool) → (true && b) ≡ false → b ≡ false
 and_left b e = e
-
-not_false : (b : Bool) → not b ≡ false → b ≡ true
-not_false true e = refl
-not_false false e = cc
 
 abbrev all_after : Format → List (List ℕ) → List ℕ → Subrecord → List (List ℕ)
 all_after format all tail s = cond (is_stream format) (stream_rows all (tail ++ s.octets)) (cond s.ends (all ++ (tail ++ s.octets) ∷ []) all)
@@ -145,8 +137,8 @@ carried_record longest P ss s all tail c p h =
 pub carried_added : (format : Format) (longest : ℕ) (ss : List Subrecord) (s : Subrecord) (all : List (List ℕ)) (tail : List ℕ) → Carried format longest ss all tail → (is_stream format && is_ended (stage_of ss)) ≡ false
     → is_wrong_size format longest (length tail + length s.octets) s.ends ≡ false → length s.octets < 64 → Carried format longest (ss ++ s ∷ []) (all_after format all tail s) (tail_after format tail s)
 carried_added Fixed longest ss s all tail c e w h =
-    let b = or_both _ _ w in
-    let size : s.ends ≡ true → length (tail ++ s.octets) ≡ longest = λ t. length-append tail s.octets ∙ eqb-true _ _ (not_false _ (ap (λ (x : Bool). x && not (eqb (length tail + length s.octets) longest)) (sym t) ∙ b.1)) in
+    let b = or_parts _ _ w in
+    let size : s.ends ≡ true → length (tail ++ s.octets) ≡ longest = λ t. length-append tail s.octets ∙ eqb-true _ _ (not-false _ (ap (λ (x : Bool). x && not (eqb (length tail + length s.octets) longest)) (sym t) ∙ b.1)) in
     carried_record longest (λ (r : List ℕ). length r ≡ longest) ss s all tail c size (ltb-false _ _ b.0)
 carried_added Variable longest ss s all tail c e w h =
     let le : length tail + length s.octets ≤ longest = ltb-false _ _ w in
@@ -186,7 +178,7 @@ pub holds_all : (t : Taking) (gone : List (List ℕ)) (ss rs : List Subrecord) �
 holds_all t gone ss [] h a = subst (λ (x : List Subrecord). Holds t gone x) (sym (append-nil ss)) h
 holds_all t gone ss (r ∷ rs) h a = subst (λ (x : List Subrecord). Holds (added_all (added t r) rs) gone x) (append_assoc ss (r ∷ []) rs) (holds_all (added t r) gone (ss ++ r ∷ []) rs (holds_added t gone ss r h a.0) a.1)
 
-short-append : (xs ys : List Subrecord) → AreShort xs → AreShort ys → AreShort (xs ++ ys)
+pub short-append : (xs ys : List Subrecord) → AreShort xs → AreShort ys → AreShort (xs ++ ys)
 short-append [] ys h k = k
 short-append (x ∷ xs) ys h k = (h.0, short-append xs ys h.1 k)
 
@@ -360,10 +352,6 @@ first_piece s ys =
     ] in
     both s.ends
 
-pub last_piece : (p : List ℕ) (ps : List (List ℕ)) → (front : List (List ℕ)) × (last : List ℕ) × (p ∷ ps ≡ front ++ last ∷ [])
-last_piece p [] = ([], p, refl)
-last_piece p (q ∷ qs) = let r = last_piece q qs in (p ∷ r.0, r.1, ap (λ (x : List (List ℕ)). p ∷ x) r.2)
-
 -- A piece among rows and an open part is one of the rows, or the open part where nothing stands behind it.
 piece_among : (P : List ℕ → Type 0) (longest : ℕ) (rows all : List (List ℕ)) (tail p : List ℕ) (ps : List (List ℕ)) → rows ++ tail ∷ [] ≡ all ++ p ∷ ps → All P rows → ((r : List ℕ) → P r → length r ≤ longest) → length tail ≤ longest
     → (length p ≤ longest) × (0 < length ps → P p) × (length all + length ps ≡ length rows)
@@ -371,21 +359,13 @@ piece_among P longest rows all tail p [] e a b h =
     let s = same_from_push rows all tail p e in
     (subst (λ (x : List ℕ). length x ≤ longest) s.1 h, λ q. absurd (let z : 0 < 0 = q in omega arith), omega (arith, ap length s.0))
 piece_among P longest rows all tail p (q ∷ qs) e a b h =
-    let r = last_piece q qs in
+    let r = last_of q qs in
     let s = same_from_push rows (all ++ p ∷ r.0) tail r.1 (e ∙ ap (λ (x : List (List ℕ)). all ++ p ∷ x) r.2 ∙ sym (append_assoc all (p ∷ r.0) (r.1 ∷ []))) in
     let lt : length all < length rows = omega (arith, ap length s.0, length-append all (p ∷ r.0)) in
     let at : get_or rows (length all) [] ≡ p = ap (λ (x : List (List ℕ)). get_or x (length all) []) s.0 ∙ get_or_at all p r.0 [] (length all) refl in
     let has : P p = subst P at (a (length all) [] lt) in
     let n : suc (length qs) ≡ length r.0 + 1 = ap length r.2 ∙ length_push r.0 r.1 in
     (b p has, λ _. has, omega (arith, ap length s.0, length-append all (p ∷ r.0), n))
-
-none_or : (a b : Bool) → a ≡ false → b ≡ false → (a || b) ≡ false
-none_or true b e f = cc
-none_or false b e f = f
-
-eq_not : (b : Bool) → b ≡ true → not b ≡ false
-eq_not true e = refl
-eq_not false e = cc
 
 -- a stream's blocks are as many as its octets fill
 pub blocks_length : (octets : List ℕ) (rows : List (List ℕ)) (tail : List ℕ) → InBlocks octets rows tail → length octets ≡ 1024 * length rows + length tail
@@ -419,8 +399,8 @@ on_within : (format : Format) (longest : ℕ) (xs : List Subrecord) (s : Subreco
 on_within Fixed longest xs s ys all rows tail tail1 c d =
     let r = record_on longest (λ (r : List ℕ). length r ≡ longest) xs s ys all rows tail tail1 c.0 d.0 d.1 (λ r e. omega arith) d.2 in
     let Q : Bool → Type 0 = λ b. (b ≡ s.ends) → (b && not (eqb (length tail + length s.octets) longest)) ≡ false in
-    let both : (b : Bool) → Q b = λ b. elim b as Q [ true ↦ λ t. eq_not _ (eq-eqb _ _ (sym (length-append tail s.octets) ∙ r.1 (sym t))) | false ↦ λ t. refl ] in
-    (r.2, none_or _ _ (le-ltb longest (length tail + length s.octets) r.0) (both s.ends refl))
+    let both : (b : Bool) → Q b = λ b. elim b as Q [ true ↦ λ t. not_from_true _ (eq-eqb _ _ (sym (length-append tail s.octets) ∙ r.1 (sym t))) | false ↦ λ t. refl ] in
+    (r.2, or_from _ _ (le-ltb longest (length tail + length s.octets) r.0) (both s.ends refl))
 on_within Variable longest xs s ys all rows tail tail1 c d =
     let r = record_on longest (λ (r : List ℕ). length r ≤ longest) xs s ys all rows tail tail1 c.0 d.0 d.1 (λ r e. e) d.2 in
     (r.2, le-ltb longest (length tail + length s.octets) r.0)
@@ -444,7 +424,7 @@ no_fault_within t gone xs s ys rows tail h c n o r =
     let l : length (octets_of (xs ++ s ∷ ys)) ≡ length (octets_of xs) + (length s.octets + length (octets_of ys)) = ap length (flat_map-append (λ (x : Subrecord). x.octets) xs (s ∷ ys)) ∙ length-append (octets_of xs) (s.octets ++ octets_of ys) ∙ ap (λ n. length (octets_of xs) + n) (length-append s.octets (octets_of ys)) in
     let j : length (octets_of (xs ++ s ∷ ys)) ≡ length (octets_in rows ++ tail) = ap length (carried-joined t.format t.longest (xs ++ s ∷ ys) rows tail c) in
     let d = length-append gone t.rows in
-    let fits : is_too_big t s.ends (length s.octets) ≡ false = none_or _ _ (le-ltb t.limit (t.kept_units + t.units + length s.octets) (omega (arith, o, j, l, h.units)))
+    let fits : is_too_big t s.ends (length s.octets) ≡ false = or_from _ _ (le-ltb t.limit (t.kept_units + t.units + length s.octets) (omega (arith, o, j, l, h.units)))
     (le-ltb 1000000 (t.kept_rows + t.away + length t.rows + new_rows t s.ends (length s.octets)) (omega (arith, r, w.0, d, h.away))) in
     record {
       plain = omega (arith, says.2, n);

@@ -13,8 +13,9 @@ use Rattle.oftp_vfile.specs.Carries.{is_open, onto, pieces, IsStream, InBlocks, 
 use Rattle.oftp_vfile.specs.Fill.{payloads_of, next_count, next_of, behind, Packs, Fills, fill_from, weight}
 use Rattle.std.proofs.lemmas.List.Elements.{All-push, All-nil, All-cons}
 use Rattle.std.proofs.lemmas.List.Concat.{flat_map-append}
-use Rattle.oftp_vfile.proofs.CarriesLemmas.{octets_in-pieces, decode, nothing_more, short-left, short-right, same_lengths, some_piece, pieces_more}
-use Rattle.oftp_vfile.proofs.FillListLemmas.{fills_fill, packs_nothing}
+use Rattle.oftp_vfile.proofs.CarriesLemmas.{octets_in-pieces, decode, nothing_more, short-append, short-left, short-right, same_lengths, some_piece, pieces_more}
+use Rattle.oftp_vfile.proofs.FillerLemmas.{packs_nothing}
+use Rattle.oftp_vfile.proofs.FillListLemmas.{fills_fill}
 
 abbrev pub flat : List (List Subrecord) → List Subrecord
 flat subs = flat_map (λ (x : List Subrecord). x) subs
@@ -198,22 +199,22 @@ decode_all (x ∷ xs) (y ∷ ys) h k e =
     let same : y ≡ x = d.1 ∙ ap (λ (z : List Subrecord). x ++ z) (nothing_more d.0 d.2) ∙ append-nil x in
     ap (λ (z : List Subrecord). z ++ flat xs) (sym same) ∙ ap (λ (z : List Subrecord). y ++ z) (decode_all xs ys (short-right x (flat xs) h) (short-right y (flat ys) k) tl)
 
-one_blocks : (rows rows' : List (List ℕ)) (tail tail' : List ℕ) → All (λ (r : List ℕ). length r ≡ 1024) rows → All (λ (r : List ℕ). length r ≡ 1024) rows' → length tail < 1024 → length tail' < 1024 → octets_in rows ++ tail ≡ octets_in rows' ++ tail' → (rows ≡ rows') × (tail ≡ tail')
-one_blocks [] [] tail tail' a b h k e = (refl, e)
-one_blocks [] (r ∷ rs) tail tail' a b h k e = absurd (let n : length r ≡ 1024 = b 0 [] (omega arith) in omega (arith, ap length e, n, length-append (r ++ octets_in rs) tail', length-append r (octets_in rs)))
-one_blocks (r ∷ rs) [] tail tail' a b h k e = absurd (let n : length r ≡ 1024 = a 0 [] (omega arith) in omega (arith, ap length e, n, length-append (r ++ octets_in rs) tail, length-append r (octets_in rs)))
-one_blocks (r ∷ rs) (q ∷ qs) tail tail' a b h k e =
+one_full_blocks : (rows rows' : List (List ℕ)) (tail tail' : List ℕ) → All (λ (r : List ℕ). length r ≡ 1024) rows → All (λ (r : List ℕ). length r ≡ 1024) rows' → length tail < 1024 → length tail' < 1024 → octets_in rows ++ tail ≡ octets_in rows' ++ tail' → (rows ≡ rows') × (tail ≡ tail')
+one_full_blocks [] [] tail tail' a b h k e = (refl, e)
+one_full_blocks [] (r ∷ rs) tail tail' a b h k e = absurd (let n : length r ≡ 1024 = b 0 [] (omega arith) in omega (arith, ap length e, n, length-append (r ++ octets_in rs) tail', length-append r (octets_in rs)))
+one_full_blocks (r ∷ rs) [] tail tail' a b h k e = absurd (let n : length r ≡ 1024 = a 0 [] (omega arith) in omega (arith, ap length e, n, length-append (r ++ octets_in rs) tail, length-append r (octets_in rs)))
+one_full_blocks (r ∷ rs) (q ∷ qs) tail tail' a b h k e =
     let n : length r ≡ 1024 = a 0 [] (omega arith) in
     let m : length q ≡ 1024 = b 0 [] (omega arith) in
     let s = same_lengths r q (octets_in rs ++ tail) (octets_in qs ++ tail') (omega arith) (sym (append_assoc r (octets_in rs) tail) ∙ e ∙ append_assoc q (octets_in qs) tail') in
-    let t = one_blocks rs qs tail tail' (λ i d l. a (suc i) d (omega arith)) (λ i d l. b (suc i) d (omega arith)) h k s.1 in
+    let t = one_full_blocks rs qs tail tail' (λ i d l. a (suc i) d (omega arith)) (λ i d l. b (suc i) d (omega arith)) h k s.1 in
     (ap (λ (x : List ℕ). x ∷ rs) s.0 ∙ ap (λ (x : List (List ℕ)). q ∷ x) t.0, t.1)
 
 one_carried : (format : Format) (longest : ℕ) (ss : List Subrecord) (rows rows' : List (List ℕ)) (tail tail' : List ℕ) → Carried format longest ss rows tail → Carried format longest ss rows' tail' → (rows ≡ rows') × (tail ≡ tail')
 one_carried Fixed longest ss rows rows' tail tail' a b = same_from_push rows rows' tail tail' (sym a.0 ∙ b.0)
 one_carried Variable longest ss rows rows' tail tail' a b = same_from_push rows rows' tail tail' (sym a.0 ∙ b.0)
-one_carried Unstructured longest ss rows rows' tail tail' a b = one_blocks rows rows' tail tail' a.1.full b.1.full a.1.rest b.1.rest (sym a.1.joined ∙ b.1.joined)
-one_carried Text longest ss rows rows' tail tail' a b = one_blocks rows rows' tail tail' a.1.full b.1.full a.1.rest b.1.rest (sym a.1.joined ∙ b.1.joined)
+one_carried Unstructured longest ss rows rows' tail tail' a b = one_full_blocks rows rows' tail tail' a.1.full b.1.full a.1.rest b.1.rest (sym a.1.joined ∙ b.1.joined)
+one_carried Text longest ss rows rows' tail tail' a b = one_full_blocks rows rows' tail tail' a.1.full b.1.full a.1.rest b.1.rest (sym a.1.joined ∙ b.1.joined)
 
 -- Payloads carry one thing only.
 pub one_reading : (format : Format) (longest : ℕ) (payloads rows rows' : List (List ℕ)) (tail tail' : List ℕ) (stage stage' : Stage) → Carries format longest payloads rows tail stage → Carries format longest payloads rows' tail' stage'
@@ -235,15 +236,11 @@ taken_back t gone size rows h a k =
 pub flat-append : (xs ys : List (List Subrecord)) → flat (xs ++ ys) ≡ flat xs ++ flat ys
 flat-append xs ys = flat_map-append (λ (x : List Subrecord). x) xs ys
 
-pub short-join : (xs ys : List Subrecord) → AreShort xs → AreShort ys → AreShort (xs ++ ys)
-short-join [] ys h k = k
-short-join (x ∷ xs) ys h k = (h.0, short-join xs ys h.1 k)
-
 -- the records that are wholly sent are those that are gone from what is left
 pub sent_records : (size : ℕ) (records left : List (List ℕ)) (subs all rest : List (List Subrecord)) (found : List (List ℕ)) (tail : List ℕ) → Fills size records all → Fills size left rest → AreShort (flat subs)
     → map payload_of subs ++ map payload_of rest ≡ map payload_of all → pieces (flat subs) ≡ found ++ tail ∷ [] → length found + length left ≡ length records
 sent_records size records left subs all rest found tail a b s e p =
-    let short : AreShort (flat (subs ++ rest)) = subst AreShort (sym (flat-append subs rest)) (short-join (flat subs) (flat rest) s (fills_short size left rest b)) in
+    let short : AreShort (flat (subs ++ rest)) = subst AreShort (sym (flat-append subs rest)) (short-append (flat subs) (flat rest) s (fills_short size left rest b)) in
     let same : flat (subs ++ rest) ≡ flat all = decode_all (subs ++ rest) all short (fills_short size records all a) (map-append payload_of subs rest ∙ e) in
     let q = some_piece (flat rest) in
     let whole : records ++ [] ∷ [] ≡ found ++ (tail ++ q.0) ∷ q.1 = sym (fills_pieces size records all a) ∙ ap pieces (sym same ∙ flat-append subs rest) ∙ pieces_more (flat subs) (flat rest) q.0 q.1 q.2 found tail p in

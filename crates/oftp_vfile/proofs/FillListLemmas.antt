@@ -8,8 +8,8 @@ use Rattle.oftp_vfile.specs.Fill.{needs, next_count, next_of, behind, Packs, Fil
 use Rattle.oftp_vfile.specs.Packing.{PacksNext}
 use Rattle.oftp_vfile.specs.declared.format.Filled.{Filled}
 use Rattle.oftp_vfile.specs.declared.format.Filled.TheVariants.{Buffer, Done, More}
-use Rattle.oftp_vfile.proofs.PackingLemmas.{needs_some}
-use Rattle.oftp_vfile.proofs.FillerLemmas.{packs_one, needs_two}
+use Rattle.oftp_vfile.proofs.PackingLemmas.{needs_most, needs_some}
+use Rattle.oftp_vfile.proofs.FillerLemmas.{packs_nothing, packs_one}
 
 -- What is packed is a payload.
 pub packs_packed : (fuel free : ℕ) (records : List (List ℕ)) → free ≤ fuel → Packs free records (packed fuel free records).0 (packed fuel free records).1
@@ -47,7 +47,7 @@ weight_packs free [] (s ∷ ss) left p = absurd p
 weight_packs free (r ∷ rs) (s ∷ ss) left p = omega (arith, weight_behind r rs free p.0, weight_packs (free - (1 + length s.octets)) (behind r rs free) ss left p.2)
 
 some_packed : (free : ℕ) (r : List ℕ) (rs : List (List ℕ)) (ss : List Subrecord) (left : List (List ℕ)) → 2 ≤ free → Packs free (r ∷ rs) ss left → 0 < length ss
-some_packed free r rs [] left h p = absurd (let q : free < needs r = p.1 in let n = needs_two r in omega arith)
+some_packed free r rs [] left h p = absurd (let q : free < needs r = p.1 in let n = needs_most r in omega arith)
 some_packed free r rs (s ∷ ss) left h p = omega arith
 
 -- The payloads of fill are those of the rule.
@@ -62,10 +62,6 @@ fills_fill (suc k) size (r ∷ rs) h w =
     let some = some_packed size r rs p.0 p.1 h q in
     let less = weight_packs size (r ∷ rs) p.0 p.1 q in
     (some, p.1, q, fills_fill k size p.1 h (omega (arith, some, less, w)))
-
-pub packs_nothing : (size : ℕ) (ss : List Subrecord) (left : List (List ℕ)) → 0 < length ss → Packs size [] ss left → ⊥
-packs_nothing size [] left s p = omega arith
-packs_nothing size (x ∷ xs) left s p = p
 
 -- No other payloads are.
 pub fills_one : (size : ℕ) (records : List (List ℕ)) (a b : List (List Subrecord)) → Fills size records a → Fills size records b → a ≡ b

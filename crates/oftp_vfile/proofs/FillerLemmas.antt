@@ -1,5 +1,5 @@
 use Rattle.std.proofs.Common.{◌≡◌, ℕ, suc, zero, ◌+◌, ◌-◌, ◌<◌, ◌≤◌, Bool, true, false, cond, eqb, ◌&&◌, min, List, [], ◌∷◌, ◌++◌, length, get_or, drop, refl, sym, ap, ◌∙◌, subst, arith, inl, inr}
-use Rattle.std.proofs.lemmas.Bool.{cases_lt, eq-eqb, eqb-true, false≢true}
+use Rattle.std.proofs.lemmas.Bool.{and_parts, cases_lt, eq-eqb, eqb-true, false≢true}
 use Rattle.std.proofs.lemmas.List.{append-nil, length-append, length-drop, drop-append-le, drop_all, get_or-drop, nil_from_length}
 use Rattle.std.proofs.lemmas.List.Concat.{flat_map-append}
 use Rattle.oftp_vfile.specs.declared.format.Format.{Format}
@@ -9,7 +9,7 @@ use Rattle.oftp_vfile.specs.VirtualFile.{is_stream, octets_in}
 use Rattle.oftp_vfile.specs.Filling.{advanced, Filling, from_offset, left_of, AreBehind, nothing_left, least, Reaches, IsInRows}
 use Rattle.oftp_vfile.specs.Fill.{needs, next_count, next_of, behind, IsFull, Packs}
 use Rattle.oftp_vfile.specs.Packing.{HasPacked, rest_at, IsTail, HasStreamed, HasEnded, PacksNext}
-use Rattle.oftp_vfile.proofs.PackingLemmas.{from_offset-zero}
+use Rattle.oftp_vfile.proofs.PackingLemmas.{from_offset-zero, needs_most}
 
 -- a payload is one only
 pub packs_one : (free : ℕ) (records : List (List ℕ)) (ss tt' : List Subrecord) (l m : List (List ℕ)) → Packs free records ss l → Packs free records tt' m → (ss ≡ tt') × (l ≡ m)
@@ -117,13 +117,9 @@ from_offset-none : (offset : ℕ) (rows : List (List ℕ)) → from_offset offse
 from_offset-none offset [] e = refl
 from_offset-none offset (r ∷ rs) e = cc
 
-pub needs_two : (octets : List ℕ) → needs octets ≤ 2
-needs_two [] = omega arith
-needs_two (x ∷ xs) = omega arith
-
 pub full_none : (free : ℕ) (records : List (List ℕ)) → 2 ≤ free → IsFull free records → records ≡ []
 full_none free [] h f = refl
-full_none free (r ∷ rs) h f = absurd (let n = needs_two r in let q : free < needs r = f in omega arith)
+full_none free (r ∷ rs) h f = absurd (let n = needs_most r in let q : free < needs r = f in omega arith)
 
 no_subs : (ss : List Subrecord) → length (payload_of ss) ≡ 0 → ss ≡ []
 no_subs [] e = refl
@@ -139,24 +135,21 @@ records_done size offset free rows records' octets p n f h full =
     let none : Packs size (from_offset offset rows ++ []) [] [] = subst (λ (x : List Subrecord). Packs size (from_offset offset rows ++ []) (x ++ []) []) sofar all in
     from_offset-none offset rows (sym (append-nil (from_offset offset rows)) ∙ sym none.0)
 
+-- no subrecords are packed of no records
+pub packs_nothing : (free : ℕ) (ss : List Subrecord) (left : List (List ℕ)) → 0 < length ss → Packs free [] ss left → ⊥
+packs_nothing free [] left s p = omega arith
+packs_nothing free (x ∷ xs) left s p = p
+
 -- something was written only if something is left
 pub records_some : (size : ℕ) (f : Filling) (new : Filling) (rows : List (List ℕ)) (octets : List ℕ) (last : Bool) → is_stream f.format ≡ false → PacksNext size f new rows last octets → nothing_left f rows last ≡ true → ⊥
 records_some size f new rows octets last e n h =
     let t : (eqb (length rows) 0 && last) ≡ true = sym (ap (λ (b : Bool). cond b f.done (eqb (length rows) 0 && last)) e) ∙ h in
-    let both = and_true (eqb (length rows) 0) last t in
+    let both = and_parts (eqb (length rows) 0) last t in
     let none : rows ≡ [] = nil_from_length rows (eqb-true _ _ both.0) in
     let p = n [] (subst (λ (x : Bool). AreBehind f.format x []) (sym both.1) refl) in
     let a : Packs size (left_of f ([] ++ [])) p.0 (left_of new (drop (new.row - f.row) rows ++ [])) = subst (λ (x : List (List ℕ)). Packs size (left_of f (x ++ [])) p.0 (left_of new (drop (new.row - f.row) rows ++ []))) none p.3 in
     let b : Packs size [] p.0 (left_of new (drop (new.row - f.row) rows ++ [])) = subst (λ (x : List (List ℕ)). Packs size x p.0 (left_of new (drop (new.row - f.row) rows ++ []))) (left_records f [] e) a in
-    packs_none size p.0 (left_of new (drop (new.row - f.row) rows ++ [])) p.2 b
-  where
-    and_true : (a b : Bool) → (a && b) ≡ true → (a ≡ true) × (b ≡ true)
-    and_true true b q = (refl, q)
-    and_true false b q = cc
-
-    packs_none : (free : ℕ) (ss : List Subrecord) (left : List (List ℕ)) → 0 < length ss → Packs free [] ss left → ⊥
-    packs_none free [] left q p = omega arith
-    packs_none free (s ∷ ss) left q p = p
+    packs_nothing size p.0 (left_of new (drop (new.row - f.row) rows ++ [])) p.2 b
 
 pub nothing_records : (f : Filling) (rows : List (List ℕ)) (last : Bool) → is_stream f.format ≡ false → rows ≡ [] → last ≡ true → nothing_left f rows last ≡ true
 nothing_records f rows last e n t = ap (λ (b : Bool). cond b f.done (eqb (length rows) 0 && last)) e ∙ ap (λ (x : Bool). x && last) (eq-eqb (length rows) 0 (ap length n)) ∙ t
@@ -246,7 +239,7 @@ one_packs free cur h =
     let two : 2 ≤ free = omega arith in
     let c : next_count r free ≡ length r = omega (arith, n) in
     let b : eqb (next_count r free) (length r) ≡ true = eq-eqb _ _ c in
-    (omega (arith, needs_two r), refl, subst (λ (x : Bool). Packs (free - (1 + length (next_of r free).octets)) (cond x [] (drop (next_count r free) r ∷ [])) [] []) (sym b) (refl, tt))
+    (omega (arith, needs_most r), refl, subst (λ (x : Bool). Packs (free - (1 + length (next_of r free).octets)) (cond x [] (drop (next_count r free) r ∷ [])) [] []) (sym b) (refl, tt))
 
 pub stream_more : (size : ℕ) (f : Filling) (rows : List (List ℕ)) (row offset free : ℕ) (octets : List ℕ) (last : Bool) → is_stream f.format ≡ true → f.done ≡ false → IsInRows f rows
     → last ≡ false → length (rest_at rows row offset) < min 63 (free - 1) → HasStreamed last size (rest_at rows 0 f.offset) octets free (rest_at rows row offset) → Reaches size f rows

@@ -1,7 +1,7 @@
 use Rattle.std.proofs.Common.{◌≡◌, ℕ, suc, zero, ◌-◌, ◌<◌, ◌≤◌, Bool, true, false, List, [], ◌∷◌, length, take, drop, refl, sym, subst, arith, All}
 use Rattle.std.proofs.lemmas.Bool.{false≢true}
 use Rattle.std.proofs.lemmas.List.{length-drop, take-append-drop, drop_all, nil_from_length}
-use Rattle.std.proofs.lemmas.List.Elements.{All-cons, All-nil, All-drop}
+use Rattle.std.proofs.lemmas.List.Elements.{All-cons, All-nil, All-drop, All-take}
 use Rattle.oftp_vfile.specs.declared.format.Format.{Format}
 use Rattle.oftp_vfile.specs.declared.format.Format.TheVariants.{Fixed, Variable, Unstructured, Text}
 use Rattle.oftp_vfile.specs.VirtualFile.{is_stream, AreBlocks, AreRows, IsLongest}
@@ -43,11 +43,6 @@ some_behind Text longest (r ∷ rs) l a h = blocks_some 1024 (r ∷ rs) (omega a
 behind_lent : (format : Format) (longest : ℕ) (last : Bool) (more : List (List ℕ)) → IsLongest format longest → AreRows format longest more → (last ≡ true → length more ≡ 0) → (last ≡ false → 0 < length more) → AreBehind format last more
 behind_lent format longest true more l a e h = nil_from_length more (e refl)
 behind_lent format longest false more l a e h = some_behind format longest more l a (h refl)
-
-All-take : (P : List ℕ → Type 0) (n : ℕ) (rows : List (List ℕ)) → All P rows → All P (take n rows)
-All-take P zero rows a = All-nil P
-All-take P (suc n) [] a = All-nil P
-All-take P (suc n) (r ∷ rs) a = All-cons P r (take n rs) (a 0 [] (omega arith)) (All-take P n rs (λ k d h. a (suc k) d (omega arith)))
 
 first_lent : (f : Filling) (n : ℕ) (rest : List (List ℕ)) → 0 < n → IsInRows f rest → IsInRows f (take n rest)
 first_lent f zero rest h p = absurd (omega arith)

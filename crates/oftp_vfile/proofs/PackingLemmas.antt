@@ -1,7 +1,6 @@
 use Rattle.std.proofs.Common.{◌≡◌, ℕ, suc, zero, ◌+◌, ◌-◌, ◌<◌, ◌≤◌, Bool, true, false, cond, eqb, min, List, [], ◌∷◌, ◌++◌, length, get_or, set, take, drop, refl, sym, ap, ◌∙◌, subst, arith, append_assoc, ◌⊎◌, inl, inr, All}
-use Rattle.std.proofs.lemmas.Bool.{eq-eqb, eqb-false}
+use Rattle.std.proofs.lemmas.Bool.{eq-eqb, eqb-false, ne_eqb}
 use Rattle.std.proofs.lemmas.List.{append-nil, length-append, length-take-le, length-drop, drop-drop, drop_more, take_more_set, take-append-le, drop-append-le, length-set, drop-set-lt, drop_at, get_or_default}
-use Rattle.std.proofs.lemmas.Bool.Decides.{eqb_tells}
 use Rattle.std.proofs.lemmas.List.Concat.{flat_map-append}
 use Rattle.std.proofs.lemmas.Slice.{take-put_mid, take-put_mid_below}
 use Rattle.std.proofs.Math.Seq.{take-add}
@@ -130,9 +129,6 @@ pub needs_some : (octets : List ℕ) → 0 < needs octets
 needs_some [] = omega arith
 needs_some (x ∷ xs) = omega arith
 
-pub not_eqb : (a b : ℕ) → (a ≡ b → ⊥) → eqb a b ≡ false
-not_eqb a b n = elim (eqb_tells a b) [ inl h ↦ absurd (n h.1) | inr h ↦ h.0 ]
-
 -- a header before octets that were written
 pub header_step : (out new cur : List ℕ) (at count k h : ℕ) → at + 1 ≤ length out → count ≤ length new → take count new ≡ take count cur
     → take (at + (1 + count)) (set (put_mid (at + 1) k out new) at h) ≡ take at out ++ h ∷ take count cur
@@ -166,10 +162,8 @@ rest_some rows row offset h a p =
 pub false_row : (a b : ℕ) → eqb a b ≡ false → a ≤ b → a < b
 false_row a b e l = let n : a ≡ b → ⊥ = eqb-false a b e in omega arith
 
-take-front : (count : ℕ) (cur tail : List ℕ) → count ≤ length cur → take count (cur ++ tail) ≡ take count cur
-take-front count cur tail h = take-append-le count cur tail h
-
-needs_most : (octets : List ℕ) → needs octets ≤ 2
+-- two free octets are enough for a subrecord of any record
+pub needs_most : (octets : List ℕ) → needs octets ≤ 2
 needs_most [] = omega arith
 needs_most (x ∷ xs) = omega arith
 
@@ -178,8 +172,8 @@ tail_length true cur tail count want t e f = e ∙ ap (λ (x : List ℕ). min wa
 tail_length false cur tail count want t e f = let l = length-append cur tail in let g : want ≤ length cur = f refl in omega (arith, l, g, e)
 
 tail_some : (last : Bool) (cur tail : List ℕ) (count : ℕ) → IsTail last tail → count ≤ length cur → (last ≡ true → 0 < length (drop count cur)) → eqb count (length (cur ++ tail)) ≡ false
-tail_some true cur tail count t h f = let l = length-append cur tail in let d = length-drop count cur in let g : 0 < length (drop count cur) = f refl in not_eqb count (length (cur ++ tail)) (λ e. omega (arith, l, d, g, e))
-tail_some false cur tail count t h f = let l = length-append cur tail in let s : 0 < length tail = t in not_eqb count (length (cur ++ tail)) (λ e. omega (arith, l, s, h, e))
+tail_some true cur tail count t h f = let l = length-append cur tail in let d = length-drop count cur in let g : 0 < length (drop count cur) = f refl in ne_eqb count (length (cur ++ tail)) (λ e. omega (arith, l, d, g, e))
+tail_some false cur tail count t h f = let l = length-append cur tail in let s : 0 < length tail = t in ne_eqb count (length (cur ++ tail)) (λ e. omega (arith, l, s, h, e))
 
 -- one more subrecord of a stream was written, and it isn't the last
 pub streamed_more : (last : Bool) (size : ℕ) (start octets : List ℕ) (free : ℕ) (cur : List ℕ) (count : ℕ) → HasStreamed last size start octets free cur → 2 ≤ free
@@ -195,7 +189,7 @@ streamed_more last size start octets free cur count p f n m g =
           let long : count ≡ min (min 63 (free - 1)) (length all) = tail_length last cur tail count (min 63 (free - 1)) t n m in
           let counted : count ≡ next_count all free = omega (arith, long) in
           let b : eqb (next_count all free) (length all) ≡ false = ap (λ x. eqb x (length all)) (sym counted) ∙ tail_some last cur tail count t le g in
-          let o : take count cur ≡ take (next_count all free) all = sym (take-front count cur tail le) ∙ ap (λ x. take x all) counted in
+          let o : take count cur ≡ take (next_count all free) all = sym (take-append-le count cur tail le) ∙ ap (λ x. take x all) counted in
           let is : s ≡ next_of all free = ap (λ (x : List ℕ). record { ends = false; octets = x }) o ∙ ap (λ (x : Bool). record { ends = x; octets = take (next_count all free) all }) (sym b) in
           let rest : drop count cur ++ tail ≡ drop (next_count all free) all = sym (drop-append-le count cur tail le) ∙ ap (λ x. drop x all) counted in
           let is_behind : (drop count cur ++ tail) ∷ [] ≡ behind all [] free = ap (λ (x : List ℕ). x ∷ []) rest ∙ ap (λ (x : Bool). cond x [] (drop (next_count all free) all ∷ [])) (sym b) in

@@ -1,6 +1,6 @@
 use Rattle.std.proofs.Common.{◌≡◌, ℕ, suc, zero, ◌+◌, ◌-◌, ◌*◌, ◌/◌, ◌<◌, ◌≤◌, Bool, true, false, cond, eqb, ◌&&◌, List, [], ◌∷◌, ◌++◌, length, get_or, take, drop, map, count_by, refl, sym, ap, ◌∙◌, subst, arith, append_assoc, inl, inr}
 use Rattle.std.proofs.Math.Seq.{take-add}
-use Rattle.std.proofs.lemmas.Bool.{cases_lt, eq-eqb, eqb-true, false≢true}
+use Rattle.std.proofs.lemmas.Bool.{cases_lt, eq-eqb, eqb-true, false≢true, and_parts}
 use Rattle.std.proofs.lemmas.Bool.Decides.{eqb_tells}
 use Rattle.std.proofs.lemmas.List.{append-nil, length-append, length-drop, length-take-le, drop-append-le, drop-drop, drop_all, get_or-drop, take-append-drop, take-append-le, take_at, take-map, nil_from_length, length_push}
 use Rattle.std.proofs.lemmas.List.Sums.{sum_by-append, sum_by-cons}
@@ -18,8 +18,9 @@ use Rattle.oftp_vfile.specs.Filling.{Filling, new_filling, from_offset, left_of,
 use Rattle.oftp_vfile.proofs.PackingLemmas.{from_offset-zero}
 use Rattle.oftp_vfile.proofs.FillerLemmas.{left_records, left_stream, in_octets}
 use Rattle.oftp_vfile.proofs.FillListLemmas.{fills_fill}
-use Rattle.oftp_vfile.proofs.CarriesLemmas.{octets_in-pieces, octets_in-push, some_piece, last_piece, short-left, blocks_length}
-use Rattle.oftp_vfile.proofs.FillCarriesLemmas.{flat, flat-append, short-join, fills_pieces, fills_short, decode_all, sent_records}
+use Rattle.oftp_vfile.proofs.CarriesLemmas.{octets_in-pieces, octets_in-push, some_piece, short-append, short-left, blocks_length}
+use Rattle.oftp_vfile.proofs.TakingLemmas.{last_of}
+use Rattle.oftp_vfile.proofs.FillCarriesLemmas.{flat, flat-append, fills_pieces, fills_short, decode_all, sent_records}
 
 -- what a filler that begins at a row has left is all
 left_new : (format : Format) (from : ℕ) (rows : List (List ℕ)) → left_of (new_filling format from) rows ≡ records_of format rows
@@ -93,10 +94,6 @@ sent_if size old new from file lent payloads last out (Buffer n) s a f m = sent_
 sent_if size old new from file lent payloads last out Done s a f m = tt
 sent_if size old new from file lent payloads last out More s a f m = tt
 
-and_both : (a b : Bool) → (a && b) ≡ true → (a ≡ true) × (b ≡ true)
-and_both true b e = (refl, e)
-and_both false b e = cc
-
 nothing_filled : (size : ℕ) (f : Filling) (lent more : List (List ℕ)) (last : Bool) → nothing_left f lent last ≡ true → AreBehind f.format last more → fill size (left_of f (lent ++ more)) ≡ []
 unfolding fill_from
 nothing_filled size f lent more last n behind =
@@ -104,7 +101,7 @@ nothing_filled size f lent more last n behind =
     let P : Bool → Type 0 = λ b. cond b f.done (eqb (length lent) 0 && last) ≡ true → fill size (cond b (cond f.done [] (drop f.offset (octets_in rest) ∷ [])) (from_offset f.offset rest)) ≡ [] in
     let both : (b : Bool) → P b = λ b. elim b as P [
       | true ↦ λ d. ap (λ (x : Bool). fill size (cond x [] (drop f.offset (octets_in rest) ∷ []))) d
-      | false ↦ λ d. (let t = and_both _ _ d in let none : rest ≡ [] = ap (λ (x : List (List ℕ)). x ++ more) (nil_from_length lent (eqb-true _ _ t.0)) ∙ none_behind f.format last more t.1 behind in ap (λ (x : List (List ℕ)). fill size (from_offset f.offset x)) none)
+      | false ↦ λ d. (let t = and_parts _ _ d in let none : rest ≡ [] = ap (λ (x : List (List ℕ)). x ++ more) (nil_from_length lent (eqb-true _ _ t.0)) ∙ none_behind f.format last more t.1 behind in ap (λ (x : List (List ℕ)). fill size (from_offset f.offset x)) none)
     ] in
     both (is_stream f.format) n
 
@@ -159,7 +156,7 @@ octets_filled size records all f = sym (octets_in-pieces (flat all)) ∙ ap octe
 sent_octets : (size : ℕ) (records left : List (List ℕ)) (subs all rest : List (List Subrecord)) → Fills size records all → Fills size left rest → AreShort (flat subs)
     → map payload_of subs ++ map payload_of rest ≡ map payload_of all → length (octets_of (flat subs)) + length (octets_in left) ≡ length (octets_in records)
 sent_octets size records left subs all rest a b s e =
-    let short : AreShort (flat (subs ++ rest)) = subst AreShort (sym (flat-append subs rest)) (short-join (flat subs) (flat rest) s (fills_short size left rest b)) in
+    let short : AreShort (flat (subs ++ rest)) = subst AreShort (sym (flat-append subs rest)) (short-append (flat subs) (flat rest) s (fills_short size left rest b)) in
     let same : flat (subs ++ rest) ≡ flat all = decode_all (subs ++ rest) all short (fills_short size records all a) (map-append' subs rest ∙ e) in
     let whole : octets_of (flat subs) ++ octets_of (flat rest) ≡ octets_of (flat all) = sym (flat_map-append (λ (x : Subrecord). x.octets) (flat subs) (flat rest)) ∙ ap octets_of (sym (flat-append subs rest) ∙ same) in
     omega (arith, length-append (octets_of (flat subs)) (octets_of (flat rest)), ap length whole, ap length (octets_filled size left rest b), ap length (octets_filled size records all a))
@@ -260,7 +257,7 @@ records_mark f size from rows payloads subs all rest e s a b short j =
     let k : ℕ = f.row - from in
     let le : k ≤ length rows = omega (arith, s.within, s.began) in
     let r = some_piece (flat subs) in
-    let l = last_piece r.0 r.1 in
+    let l = last_of r.0 r.1 in
     let p : pieces (flat subs) ≡ l.0 ++ l.1 ∷ [] = r.2 ∙ l.2 in
     let n = sent_records size (records_of f.format rows) (left_of f (drop k rows)) subs all rest l.0 l.1 a b short j p in
     let l1 : length (left_of f (drop k rows)) ≡ length rows - k = ap length (left_records f (drop k rows) e) ∙ length-from_offset f.offset (drop k rows) ∙ length-drop k rows in

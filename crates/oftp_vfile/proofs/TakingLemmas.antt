@@ -1,5 +1,5 @@
-use Rattle.std.proofs.Common.{◌≡◌, ℕ, ◌+◌, ◌-◌, ◌<◌, ◌≤◌, ◌%◌, ◌/◌, Bool, true, false, cond, nat_le, ◌&&◌, ◌||◌, Option, Some, None, List, [], ◌∷◌, ◌++◌, length, take, drop, refl, sym, ap, ◌∙◌, subst, arith, append_assoc}
-use Rattle.std.proofs.lemmas.Bool.{leb-false, ltb-false, lt-leb, le-ltb, leb-true}
+use Rattle.std.proofs.Common.{◌≡◌, ℕ, ◌+◌, ◌-◌, ◌<◌, ◌≤◌, ◌%◌, ◌/◌, Bool, true, false, cond, nat_le, ◌&&◌, Option, Some, None, List, [], ◌∷◌, ◌++◌, length, take, drop, refl, sym, ap, ◌∙◌, subst, arith, append_assoc}
+use Rattle.std.proofs.lemmas.Bool.{leb-false, ltb-false, lt-leb, le-ltb, leb-true, or_parts}
 use Rattle.std.proofs.lemmas.List.{append-nil, length-append, length-take-le, length_push, same_from_push, length-drop, take-append-drop}
 use Rattle.std.proofs.lemmas.List.Concat.{flat_map-append}
 use Rattle.oftp_vfile.proofs.GrowthLemmas.{goes_on_same, goes_on_longer, goes_on_closed, filled_block}
@@ -12,10 +12,6 @@ use Rattle.oftp_vfile.specs.VirtualFile.{is_stream}
 no_first : {A : Type 0} (b : Bool) (x : A) (y : Option A) → cond b (Some x) y ≡ None → (b ≡ false) × (y ≡ None)
 no_first true x y e = cc
 no_first false x y e = (refl, e)
-
-or_false : (a b : Bool) → (a || b) ≡ false → (a ≡ false) × (b ≡ false)
-or_false true b e = cc
-or_false false b e = (refl, e)
 
 -- what a subrecord without a fault keeps
 pub record NoFault (t : Taking) (h room : ℕ) : Type 0 where
@@ -86,7 +82,7 @@ walked_more old mid new payload after h w e b n =
 -- what fits
 pub not_too_big : (t : Taking) (ends : Bool) (n : ℕ) → is_too_big t ends n ≡ false → (t.kept_units + t.units + n ≤ t.limit) × (t.kept_rows + t.away + length t.rows + new_rows t ends n ≤ 1000000)
 not_too_big t ends n e =
-    let b = or_false _ _ e in
+    let b = or_parts _ _ e in
     (ltb-false _ _ b.0, ltb-false _ _ b.1)
 
 pub stream_tail_short : (octets : List ℕ) → length octets < 2048 → length (stream_tail octets) < 1024
@@ -126,7 +122,8 @@ pub restored-all : (t : Taking) (ss : List Subrecord) → restored (added_all t 
 restored-all t [] = refl
 restored-all t (s ∷ ss) = ap (λ (x : Taking). restored x t) (restored-all (added t s) ss)
 
-last_of : {A : Type 0} (x : A) (xs : List A) → (front : List A) × (last : A) × (x ∷ xs ≡ front ++ last ∷ [])
+-- a list that isn't empty has a last element
+pub last_of : {A : Type 0} (x : A) (xs : List A) → (front : List A) × (last : A) × (x ∷ xs ≡ front ++ last ∷ [])
 last_of x [] = ([], x, refl)
 last_of x (y ∷ ys) = let r = last_of y ys in (x ∷ r.0, r.1, ap (λ zs. x ∷ zs) r.2)
 

@@ -27,9 +27,9 @@ abbrev pub IsFull : ℕ → List (List ℕ) → Type 0
 IsFull free [] = Unit {0}
 IsFull free (r ∷ rs) = free < needs r
 
--- The filling rule (a choice within RFC 5024, 7.3). With so much free, and these (rests of) records to send, a payload has these
--- subrecords, and leaves the other records: each subrecord takes as much as it can, and the payload ends only where the next
--- one doesn't fit.
+-- The filling rule (a choice within RFC 5024, section 7.3). With so much free, and these (rests of) records to send, a payload
+-- has these subrecords, and leaves the other records: each subrecord takes as much as it can, and the payload ends only where
+-- the next one doesn't fit.
 abbrev pub Packs : ℕ → List (List ℕ) → List Subrecord → List (List ℕ) → Type 0
 Packs free records [] left = (left ≡ records) × IsFull free records
 Packs free [] (s ∷ ss) left = ⊥
@@ -65,7 +65,7 @@ weight (r ∷ rs) = length r + 1 + weight rs
 abbrev pub fill : ℕ → List (List ℕ) → List (List ℕ)
 fill size records = map payload_of (fill_from (weight records) size records)
 
--- What a transfer of these rows sends, as records: a stream is one record (RFC 5024, 7.2).
+-- What a transfer of these rows sends, as records: a stream is one record (RFC 5024, section 7.2).
 abbrev pub records_of : Format → List (List ℕ) → List (List ℕ)
 records_of format rows = if is_stream format then octets_in rows ∷ [] else rows
 
@@ -78,7 +78,7 @@ abbrev pub rows_ended : Format → List Subrecord → ℕ
 rows_ended format subs = if is_stream format then length (octets_of subs) / 1024 else count_by (λ (s : Subrecord). s.ends) subs
 
 -- How many of these rows are wholly sent after k payloads, full blocks alone of a stream: where a transfer that breaks there is
--- taken up (RFC 5024, 1.5.4).
+-- taken up (RFC 5024, section 1.5.4).
 abbrev pub wholly_sent : Format → ℕ → List (List ℕ) → ℕ → ℕ
 wholly_sent format size rows k =
     rows_ended format (flat_map (λ ss. ss) (take k (fill_from (weight (records_of format rows)) size (records_of format rows))))

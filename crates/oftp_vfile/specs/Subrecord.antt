@@ -1,20 +1,20 @@
 use Rattle.std.specs.Prelude.{ℕ, Bool, List, [], ◌∷◌, ◌+◌, ◌%◌, ◌<◌, nat_le, length, if◌then◌else◌}
 use Rattle.std.specs.List.{flat_map}
 
--- A subrecord: whether it ends a record, and its octets (RFC 5024, 7.2).
+-- A subrecord: whether it ends a record, and its octets (RFC 5024, section 7.2).
 pub record Subrecord : Type 0 where
   pub ends : Bool
   pub octets : List ℕ
 
--- Whether a header has the end flag, its highest bit (RFC 5024, 7.2).
+-- Whether a header has the end flag, its highest bit (RFC 5024, section 7.2).
 abbrev pub has_end : ℕ → Bool
 has_end header = nat_le 128 header
 
--- Whether a header has the compression flag, its next bit (RFC 5024, 7.2).
+-- Whether a header has the compression flag, its next bit (RFC 5024, section 7.2).
 abbrev pub has_compression : ℕ → Bool
 has_compression header = nat_le 64 (header % 128)
 
--- How many octets follow a header: its low six bits (RFC 5024, 7.2).
+-- How many octets follow a header: its low six bits (RFC 5024, section 7.2).
 abbrev pub count_in : ℕ → ℕ
 count_in header = header % 64
 

@@ -40,7 +40,7 @@ new_taking format longest kept_rows kept_units limit = record {
   stage = Fresh;
 }
 
--- The record count and the unit count of the whole file so far (RFC 5024, 5.3.8).
+-- The record count and the unit count of the whole file so far (RFC 5024, section 5.3.8).
 abbrev pub counts_of : Taking → ℕ × ℕ
 counts_of t = (if is_stream t.format then 0 else t.kept_rows + t.away + length t.rows, t.kept_units + t.units)
 

@@ -3,7 +3,7 @@ use Rattle.std.specs.List.{flat_map}
 use Rattle.oftp_vfile.specs.declared.format.Format.{Format}
 use Rattle.oftp_vfile.specs.declared.format.Format.TheVariants.{Fixed, Variable, Unstructured, Text}
 
--- Whether a file is one stream of octets, and no list of records (RFC 5024, 1.5.3).
+-- Whether a file is one stream of octets, and no list of records (RFC 5024, section 1.5.3).
 abbrev pub is_stream : Format → Bool
 is_stream Fixed = false
 is_stream Variable = false
@@ -14,16 +14,16 @@ is_stream Text = true
 abbrev pub octets_in : List (List ℕ) → List ℕ
 octets_in rows = flat_map (λ r. r) rows
 
--- The unit count of a file: its octets (RFC 5024, 5.3.8).
+-- The unit count of a file: its octets (RFC 5024, section 5.3.8).
 abbrev pub units_in : List (List ℕ) → ℕ
 units_in rows = length (octets_in rows)
 
--- The record count of a file: its records in F and V, and 0 in U and T (RFC 5024, 5.3.8).
+-- The record count of a file: its records in F and V, and 0 in U and T (RFC 5024, section 5.3.8).
 abbrev pub records_in : Format → List (List ℕ) → ℕ
 records_in format rows = if is_stream format then 0 else length rows
 
 -- How many of these rows, wholly sent, count where a transfer is taken up: all records, and full blocks alone of a stream
--- (RFC 5024, 1.5.4).
+-- (RFC 5024, section 1.5.4).
 abbrev pub whole_count : Format → List (List ℕ) → ℕ
 whole_count format rows = if is_stream format then count_by (λ (r : List ℕ). length r == 1024) rows else length rows
 
@@ -41,8 +41,8 @@ AreBlocks size [] = Unit {0}
 AreBlocks size (r ∷ []) = (0 < length r) × (length r ≤ size)
 AreBlocks size (r ∷ q ∷ rs) = (length r ≡ size) × AreBlocks size (q ∷ rs)
 
--- The rows of a virtual file: records of exactly the longest length in F and of at most that in V (RFC 5024, 1.5.3), and in U
--- and T the octets in rows of 1024, the last of which may be shorter (RFC 5024, 1.5.4).
+-- The rows of a virtual file: records of exactly the longest length in F and of at most that in V (RFC 5024, section 1.5.3), and
+-- in U and T the octets in rows of 1024, the last of which may be shorter (RFC 5024, section 1.5.4).
 abbrev pub AreRows : Format → ℕ → List (List ℕ) → Type 0
 AreRows Fixed longest rows = All (λ (r : List ℕ). length r ≡ longest) rows
 AreRows Variable longest rows = All (λ (r : List ℕ). length r ≤ longest) rows

@@ -10,8 +10,8 @@ use crate::format::{BLOCK, Filled, Format};
 use crate::packing::{End, Place, pack_records, pack_stream};
 use std::marker::Model;
 
-/// Makes payloads of rows, by the buffer filling rules (RFC 5024, 7.3). It holds no row and takes
-/// no memory: each call is lent rows and writes from these straight into the buffer.
+/// Makes payloads of rows, by the buffer filling rules (RFC 5024, section 7.3). It holds no row and
+/// takes no memory: each call is lent rows and writes from these straight into the buffer.
 #[derive(Drop)]
 pub struct Filler {
     format: Format,
@@ -87,8 +87,8 @@ impl Filler {
     }
 
     /// How many rows of the file, from its start on, count as wholly sent: full blocks alone of a
-    /// stream, so never a last, shorter one. From there a transfer that breaks can be taken up (RFC
-    /// 5024, 1.5.4).
+    /// stream, so never a last, shorter one. From there a transfer that breaks can be taken up
+    /// (RFC 5024, section 1.5.4).
     pub fn mark(&self) -> usize
         ensures { result ≡ self.now.mark }
     {
@@ -96,7 +96,7 @@ impl Filler {
     }
 
     /// Writes the next payload into `out`: what is to follow the `D` of a DATA command (RFC 5024,
-    /// 5.3.6 and 7.3).
+    /// sections 5.3.6 and 7.3).
     ///
     /// It is lent the rows from `row()` on, few or many, and told whether they reach the end. Where
     /// it is in the middle of a row, this row at least has to be lent; at the start of one, none

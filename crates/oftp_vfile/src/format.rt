@@ -8,7 +8,7 @@ use std::alloc::{AllocError, AllocFailed};
 use std::error::Error;
 use std::fmt;
 
-/// How many octets a row of a stream has, the last row aside (RFC 5024, 1.5.4).
+/// How many octets a row of a stream has, the last row aside (RFC 5024, section 1.5.4).
 pub const BLOCK: usize = 1024;
 
 /// How many rows a file has at most.
@@ -17,7 +17,7 @@ pub const MOST_ROWS: usize = 1_000_000;
 /// How many octets the longest record of a file has at most.
 pub const LONGEST_RECORD: u32 = 16_384;
 
-/// The format of a virtual file (RFC 5024, 1.5.3).
+/// The format of a virtual file (RFC 5024, section 1.5.3).
 #[derive(Clone, Copy, Debug, PartialEq, Eq, Hash)]
 pub enum Format {
     /// F: records of one length.

@@ -1,4 +1,4 @@
-//! The header octet of a subrecord (RFC 5024, 7.2).
+//! The header octet of a subrecord (RFC 5024, section 7.2).
 ghost use Rattle.std.specs.Prelude.{◌≡◌, ◌<◌};
 ghost use Rattle.oftp_vfile.specs.Subrecord.{count_in, has_compression, has_end, header_of};
 

@@ -1,4 +1,4 @@
-//! Virtual files and the subrecords that carry them (RFC 5024, 1.5 and 7).
+//! Virtual files and the subrecords that carry them (RFC 5024, sections 1.5 and 7).
 #![tactic(auto)]
 
 mod content;

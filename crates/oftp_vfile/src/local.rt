@@ -10,7 +10,7 @@ use std::alloc::{AllocError, Global};
 /// How many digits tell the length of a record of V.
 const DIGITS: usize = 5;
 
-/// A virtual file, whole (RFC 5024, 1.5).
+/// A virtual file, whole (RFC 5024, section 1.5).
 #[derive(Drop)]
 pub struct VFile {
     /// How its rows are made up.

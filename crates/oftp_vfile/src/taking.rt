@@ -12,11 +12,11 @@ use std::alloc::Global;
 use std::marker::Model;
 use std::mem;
 
-/// Takes payloads, and makes rows of their subrecords (RFC 5024, 7.2).
+/// Takes payloads, and makes rows of their subrecords (RFC 5024, section 7.2).
 ///
 /// It holds the rows that were finished since they were last taken away, and the open tail behind
-/// them. An octet is copied once, into the tail, except while a record of V grows; a finished record
-/// or block is handed on as it is.
+/// them. An octet is copied once, into the tail, except while a record of V grows; a finished
+/// record or block is handed on as it is.
 #[derive(Drop)]
 pub struct Taker {
     alloc: Global,
@@ -112,8 +112,8 @@ impl Taker {
         }
     }
 
-    /// Takes the next payload: what follows the `D` of a DATA command (RFC 5024, 5.3.6). It may be
-    /// empty.
+    /// Takes the next payload: what follows the `D` of a DATA command (RFC 5024, section 5.3.6). It
+    /// may be empty.
     ///
     /// The first faulty subrecord decides the fault. Where two fit, `AfterEnd` comes before
     /// `Compressed`, then `Cut`, `TooBig` and `RecordSize`. An `Err` leaves the taker as it was.
@@ -185,7 +185,7 @@ impl Taker {
     }
 
     /// The record count and the unit count of the whole file so far, kept rows included, as an EFID
-    /// tells them (RFC 5024, 5.3.8).
+    /// tells them (RFC 5024, section 5.3.8).
     pub fn counts(&self) -> (u64, u64)
         ensures { result ≡ counts_of self.now }
     {

@@ -1,10 +1,10 @@
 use Rattle.std.proofs.Common.{ℕ, ◌≡◌, ◌+◌, ◌-◌, ◌<◌, ◌≤◌, List, [], ◌∷◌, ◌++◌, Bool, cond, eqb, min, take, drop, length, get_or, ap, sym, subst, ◌∙◌, arith, refl}
-use Rattle.std.proofs.lemmas.Bool.{eq-eqb}
+use Rattle.std.proofs.lemmas.Bool.{eq-eqb, ne_eqb}
 use Rattle.std.proofs.lemmas.List.{get_or_default, length-drop, drop-drop}
 use Rattle.oftp_vfile.specs.Subrecord.{spelled}
 use Rattle.oftp_vfile.specs.Filling.{from_offset}
 use Rattle.oftp_vfile.specs.Fill.{next_count, needs}
-use Rattle.oftp_vfile.proofs.PackingLemmas.{get_or_same, in_row, needs_some, not_eqb, packed_ends, packed_done, from_offset-zero, from_offset-drop}
+use Rattle.oftp_vfile.proofs.PackingLemmas.{get_or_same, in_row, needs_some, packed_ends, packed_done, from_offset-zero, from_offset-drop}
 use Rattle.oftp_vfile.proofs.packing.pack_records.Goals as goal
 
 pub loop-place-preserved-then-ends : goal.loop-place-preserved-then-ends
@@ -63,5 +63,5 @@ loop-place-preserved c =
       row = omega arith;
       offset = λ h. subst (λ (x : List ℕ). l.place.offset + count < length x) same (omega (arith, below, left, ne, counted));
       packed = packed_done size (length c.put.new.out) at count free _ _ _ _ new_size refl m
-          (ap (λ (b : Bool). cond b (drop (l.place.row + 1) rows) (drop count (drop l.place.offset r) ∷ drop (l.place.row + 1) rows)) (not_eqb count (length rest) ne) ∙ ap (λ (x : List ℕ). x ∷ drop (l.place.row + 1) rows) (drop-drop count l.place.offset r) ∙ sym (from_offset-drop rows l.place.row (l.place.offset + count) r lt row));
+          (ap (λ (b : Bool). cond b (drop (l.place.row + 1) rows) (drop count (drop l.place.offset r) ∷ drop (l.place.row + 1) rows)) (ne_eqb count (length rest) ne) ∙ ap (λ (x : List ℕ). x ∷ drop (l.place.row + 1) rows) (drop-drop count l.place.offset r) ∙ sym (from_offset-drop rows l.place.row (l.place.offset + count) r lt row));
     }

@@ -5,7 +5,8 @@ use Rattle.oftp_vfile.specs.declared.format.Format.{Format}
 use Rattle.oftp_vfile.specs.Filling.{advanced, Filling, from_offset, least}
 use Rattle.oftp_vfile.specs.Packing.{HasPacked, PacksNext}
 use Rattle.oftp_vfile.specs.Fill.{needs}
-use Rattle.oftp_vfile.proofs.FillerLemmas.{records_next, next_enough, records_left, records_more, records_done, records_some, nothing_records, full_all, row_left, full_none, needs_two}
+use Rattle.oftp_vfile.proofs.FillerLemmas.{records_next, next_enough, records_left, records_more, records_done, records_some, nothing_records, full_all, row_left, full_none}
+use Rattle.oftp_vfile.proofs.PackingLemmas.{needs_most}
 use Rattle.oftp_vfile.proofs.filling.Filler.next_of_records.Goals as goal
 use Rattle.oftp_vfile.proofs.filling.Filler.next_of_records.Goals.{else-place-rows-via-then-place-rows+then-not-last+else-out-at, else-place-rows-via-then-place-rows+else-not-last, else-place-rows-via-else-place-rows}
 
@@ -45,7 +46,7 @@ returns-then-at-eq0-clause-done c = (
       let none = records_done size f.offset free rows _ _ p written (omega arith) c.requires.room full in
       let zero : at ≡ 0 = c.if-at-eq0.true in
       let last : c.args.last ≡ true = elim c.else-place-rows.branch [
-        | else-place-rows-via-then-place-rows+then-not-last+else-out-at w ↦ absurd (omega (arith, w.least_need.ensures, w.if-out-at.false, long, needs_two (least c.self.inside.format), c.requires.room, zero))
+        | else-place-rows-via-then-place-rows+then-not-last+else-out-at w ↦ absurd (omega (arith, w.least_need.ensures, w.if-out-at.false, long, needs_most (least c.self.inside.format), c.requires.room, zero))
         | else-place-rows-via-then-place-rows+else-not-last w ↦ w.if-not-last.false
         | else-place-rows-via-else-place-rows w ↦ absurd (row_left rows place.row place.offset c.pack_records-at.ensures.row w.if-place-rows.false (full_none free _ (omega (arith, c.requires.room, zero)) full))
       ] in
