@@ -1,8 +1,10 @@
 #!/bin/bash
 # Runs the program, and the tests of refused growths, with each of their allocations refused in turn. No answer may differ: only a
 # fault may stand in its place. What the program wrote by then is a beginning of the whole answer; where the register was refused
-# memory, ESID 08 stands behind it. It wants a C compiler, and proves and builds what isn't built yet.
+# memory, ESID 08 stands behind it. It wants a C compiler. It proves and builds what isn't built yet; with the word `built` it takes the
+# program and the tests as the last `rt ci` left them.
 set -euo pipefail
+how=${1-}
 root=$(cd "$(dirname "$0")/.." && pwd)
 room=$(mktemp -d)
 trap 'rm -rf "$room"' EXIT
@@ -50,11 +52,11 @@ check_left() {
     fi
 }
 
-# Checks how a test ended: it passed, or its own words were refused memory.
+# Checks how a test ended: it passed, or its own growth was refused. `AllocError` is the test's, and no fault of the crate under test.
 check_passed() {
     case "$status $(head -n 1 err)" in
         '0 '*) ;;
-        '101 error: AllocError' | '101 error: Memory') told=$((told + 1)) ;;
+        '101 error: AllocError') told=$((told + 1)) ;;
         *) fail "status $status, $(cat out err)" ;;
     esac
 }
@@ -87,7 +89,7 @@ each_of_program() {
 each_of_test() {
     name="$1 $2"
     local tests=$root/crates/$1/out/$1_tests
-    if [ ! -x "$tests" ] || [ -n "$(find "$root/crates" -name out -prune -o -type f -newer "$tests" -print -quit)" ]; then
+    if [ "$how" != built ]; then
         (cd "$root/crates/$1" && rt test) > told_of_tests 2>&1 || { cat told_of_tests; exit 1; }
     fi
     if ! "$tests" --list | grep -qxF "$2: test"; then
@@ -98,7 +100,7 @@ each_of_test() {
 }
 
 book=$root/examples/supplier/book.toml
-"$root/oftp_station" check --book "$book" > /dev/null
+if [ "$how" != built ]; then "$root/oftp_station" check --book "$book" > /dev/null; fi
 program=$root/crates/oftp_station/out/oftp_station
 each_of_program check --book "$book"
 each_of_program feed --book "$book" "$root/examples/repeated_end_response.octets" answer

@@ -22,12 +22,14 @@ count = (64 * 1024 * 1024 - len(opening) - len(end)) // len(response)
 with open(sys.argv[2], "wb") as out:
     out.write(opening + response * count + end)
 PYTHON
-python3 - "$root/crates/oftp_station/out/oftp_station" feed --book "$book" input output <<'PYTHON'
-import resource, subprocess, sys, time
-
-begin = time.monotonic()
-subprocess.run(sys.argv[1:], check=True)
-took = time.monotonic() - begin
-most = resource.getrusage(resource.RUSAGE_CHILDREN).ru_maxrss
-print(f"64 MiB of frames: {took:.2f} s, at most {most / 1000:.1f} MB of memory")
-PYTHON
+begin=${EPOCHREALTIME/./}
+"$root/crates/oftp_station/out/oftp_station" feed --book "$book" input output &
+program=$!
+most=0
+# The last reading is that of the program's own greatest memory, in KiB.
+while read -r now < <(sed -n 's/^VmHWM:\s*\([0-9]*\) kB$/\1/p' "/proc/$program/status" 2> /dev/null); do
+    most=$now
+    sleep 0.01
+done
+wait "$program"
+echo "64 MiB of frames: $(((${EPOCHREALTIME/./} - begin) / 1000)) ms, at most $most KiB of memory"
