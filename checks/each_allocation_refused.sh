@@ -1,59 +1,108 @@
 #!/bin/bash
-# Runs the program with each of its allocations refused in turn: no answer may differ, only a fault may stand in its place. What was
-# written by then is a beginning of the whole answer; where the register was refused memory, ESID 08 stands behind it. It wants a C
-# compiler, and builds the program where it is needed.
+# Runs the program, and the tests of refused growths, with each of their allocations refused in turn. No answer may differ: only a
+# fault may stand in its place. What the program wrote by then is a beginning of the whole answer; where the register was refused
+# memory, ESID 08 stands behind it. It wants a C compiler. It proves and builds what isn't built yet; with the word `built` it takes the
+# program and the tests as the last `rt ci` left them.
 set -euo pipefail
+how=${1-}
 root=$(cd "$(dirname "$0")/.." && pwd)
-"$root/oftp_station" check --book "$root/examples/supplier/book.toml" > /dev/null
-program=$root/crates/oftp_station/out/oftp_station
 room=$(mktemp -d)
 trap 'rm -rf "$room"' EXIT
-cc -shared -fPIC -O1 -o "$room/refuse.so" "$root/checks/refuse_allocation.c" -ldl
+cc -shared -fPIC -O1 -o "$room/refuse.so" "$root/checks/refuse_allocation.c"
 cd "$room"
 
-# One command with its Nth allocation refused: 0 where it ran as with ample memory, 1 where it told want of memory.
-one() {
-    local number=$1 status=0
-    shift
-    rm -f answer
-    FAIL_ALLOC=$number LD_PRELOAD=$room/refuse.so "$program" "$@" > out 2> err || status=$?
-    if [ "$status" = 0 ]; then
-        cmp out whole_out && { [ ! -e whole ] || cmp answer whole; }
-        return 0
-    fi
+fail() {
+    echo "$name, allocation $number: $*"
+    exit 1
+}
+
+# Runs the words with the allocation of this number refused. It answers whether there was such an allocation.
+is_refused() {
+    rm -f reached answer
+    status=0
+    FAIL_ALLOC=$number FAIL_ALLOC_REACHED=$room/reached LD_PRELOAD=$room/refuse.so "$@" > out 2> err || status=$?
+    [ -e reached ]
+}
+
+check_whole() {
+    cmp out whole_out || fail 'another line'
+    if [ -e whole ]; then cmp answer whole || fail 'another answer'; fi
+}
+
+# Checks what the program left: the same as with ample memory, or a fault and a beginning of the same.
+check_left() {
     case "$status $(cat err)" in
+        '0 ')
+            check_whole
+            return
+            ;;
         '1 fault: 4 memory') ;;
         '1 fault: 3 office')
             if [ "$(tail -c 11 answer | od -An -tx1 | tr -d ' \n')" != 1000000b4630383030300d ]; then
-                echo "allocation $number: the answer doesn't end by ESID 08"
-                exit 1
+                fail "the answer doesn't end by ESID 08"
             fi
             truncate -s -11 answer
             ;;
-        *)
-            echo "allocation $number: status $status, $(cat out err)"
-            exit 1
-            ;;
+        *) fail "status $status, $(cat out err)" ;;
     esac
-    if [ -s out ]; then
-        echo "allocation $number: a line beside the fault"
-        exit 1
-    fi
+    told=$((told + 1))
+    if [ -s out ]; then fail 'a line beside the fault'; fi
     if [ -e answer ] && ! cmp -s -n "$(stat -c %s answer)" answer whole; then
-        echo "allocation $number: the answer is no beginning of the whole one"
-        exit 1
+        fail 'the answer is no beginning of the whole one'
     fi
-    return 1
 }
 
+# Checks how a test ended: it passed, or its own growth was refused. `AllocError` is the test's, and no fault of the crate under test.
+check_passed() {
+    case "$status $(head -n 1 err)" in
+        '0 '*) ;;
+        '101 error: AllocError') told=$((told + 1)) ;;
+        *) fail "status $status, $(cat out err)" ;;
+    esac
+}
+
+# Refuses one allocation after the other, up to the run that has no such allocation.
 each() {
-    local number=1
+    local check=$1
+    shift
+    number=1
+    told=0
+    while is_refused "$@"; do
+        "$check"
+        number=$((number + 1))
+    done
+    if [ "$status" != 0 ]; then fail "status $status, and none was refused"; fi
+    if [ "$number" = 1 ]; then fail 'there is none'; fi
+    echo "$name: $((number - 1)) allocations refused in turn, $told told"
+}
+
+each_of_program() {
+    name=$1
     rm -f whole answer
     "$program" "$@" > whole_out
     if [ -e answer ]; then mv answer whole; fi
-    while ! one "$number" "$@"; do number=$((number + 1)); done
-    echo "$1: $((number - 1)) allocations refused in turn"
+    each check_left "$program" "$@"
+    check_whole
+    if [ "$told" = 0 ]; then fail 'no refusal was told'; fi
 }
 
-each check --book "$root/examples/supplier/book.toml"
-each feed --book "$root/examples/supplier/book.toml" "$root/examples/repeated_end_response.octets" answer
+each_of_test() {
+    name="$1 $2"
+    local tests=$root/crates/$1/out/$1_tests
+    if [ "$how" != built ]; then
+        (cd "$root/crates/$1" && rt test) > told_of_tests 2>&1 || { cat told_of_tests; exit 1; }
+    fi
+    if ! "$tests" --list | grep -qxF "$2: test"; then
+        echo "$name: no such test"
+        exit 1
+    fi
+    each check_passed "$tests" "$2"
+}
+
+book=$root/examples/supplier/book.toml
+if [ "$how" != built ]; then "$root/oftp_station" check --book "$book" > /dev/null; fi
+program=$root/crates/oftp_station/out/oftp_station
+each_of_program check --book "$book"
+each_of_program feed --book "$book" "$root/examples/repeated_end_response.octets" answer
+each_of_test oftp_vfile tests::refused_and_taken_again
+each_of_test oftp_register tests::memory::each_allocation_refused

@@ -3,3 +3,4 @@ pub mod CheckLine
 pub mod Fault
 pub mod FeedLine
 pub mod Line
+pub mod Printed

@@ -7,11 +7,9 @@ mod perform;
 #[cfg(test)]
 mod tests;
 
-use outcome::Fault;
-use perform::perform;
-use std::env;
-use std::io::{self, Write};
+use perform::{perform, tell_unread};
 use std::process::ExitCode;
+use std::{env, io};
 
 /// The words after the program's name.
 fn words_of(rt: &HostRuntime) -> io::Result<Vec<String>> {
@@ -24,11 +22,8 @@ fn words_of(rt: &HostRuntime) -> io::Result<Vec<String>> {
 
 fn main(rt: HostRuntime) -> ExitCode {
     let mut err = rt.stderr();
-    match words_of(&rt) {
-        Ok(words) => ExitCode::from(perform(&rt, words.as_slice(), &mut rt.stdout(), &mut err)),
-        Err(_) => {
-            let _ = writeln!(err, "{}", Fault::MEMORY);
-            ExitCode::FAILURE
-        }
-    }
+    ExitCode::from(match words_of(&rt) {
+        Ok(words) => perform(&rt, words.as_slice(), &mut rt.stdout(), &mut err),
+        Err(error) => tell_unread(&error, &mut err),
+    })
 }

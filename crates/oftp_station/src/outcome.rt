@@ -1,4 +1,6 @@
 //! How a command comes out, as a person reads it.
+ghost use Rattle.std.specs.Prelude.{Some};
+ghost use Rattle.oftp_station.specs.Printed.{fault_line, outcome_line};
 
 use oftp_engine::{End, RunFault};
 use oftp_partners::BookFault;
@@ -21,6 +23,8 @@ impl Fault {
 }
 
 impl fmt::Display for Fault {
+    ghost output = { λ fault. Some (fault_line fault) };
+
     fn fmt<W: fmt::Write>(&self, f: &mut fmt::Formatter<W>) -> fmt::Result {
         match self {
             Fault::Run(RunFault::Read) => f.write_str("fault: 1 read"),
@@ -55,11 +59,19 @@ impl Outcome {
 }
 
 impl fmt::Display for Outcome {
+    ghost output = { λ outcome. Some (outcome_line outcome) };
+
     fn fmt<W: fmt::Write>(&self, f: &mut fmt::Formatter<W>) -> fmt::Result {
         match self {
             Outcome::Checked(count) => write!(f, "ok: {count} partners"),
-            Outcome::Ended(End::Own(reason)) => write!(f, "end: own {:02}", reason.number().get()),
-            Outcome::Ended(End::Partner(reason)) => write!(f, "end: partner {:02}", reason.get()),
+            Outcome::Ended(End::Own(reason)) => {
+                let number = reason.number().get();
+                write!(f, "end: own {}{}", number / 10, number % 10)
+            }
+            Outcome::Ended(End::Partner(reason)) => {
+                let number = reason.get();
+                write!(f, "end: partner {}{}", number / 10, number % 10)
+            }
             Outcome::Ended(End::Input) => f.write_str("end: input"),
             Outcome::Unknown => f.write_str("refused: 2 unknown"),
         }

@@ -6,8 +6,9 @@ use oftp_engine::{Port, Role, RunFault, serve};
 use oftp_partners::{self as partners, Book, BookFault, Partner};
 use oftp_register::PlainOffice;
 use oftp_vfile::Limits;
-use std::fs::{self, OpenFile};
+use std::fs::{self, Metadata, OpenFile};
 use std::io::{self, ErrorKind, Write};
+use std::os::unix::fs::MetadataExt;
 use std::rt::Files;
 
 /// How much a register may hold.
@@ -50,6 +51,16 @@ pub fn perform<R: Files + AllocGlobal>(
             FAILED
         }
     }
+}
+
+/// What is left to do where the words after the program's name can't be read: to say why. It answers the exit status.
+pub fn tell_unread(error: &io::Error, err: &mut impl Write) -> u8 {
+    if error.kind() == ErrorKind::OutOfMemory {
+        let _ = writeln!(err, "{}", Fault::MEMORY);
+        return FAILED;
+    }
+    let _ = err.write_all(b"error: a word of the command line isn't UTF-8\n");
+    BAD_LINE
 }
 
 /// Carries out a command, writes what it did, and answers the exit status.
@@ -106,10 +117,7 @@ fn feed<R: Files + AllocGlobal>(rt: &R, files: &Feed<'_>) -> Result<Outcome, Fau
         return Ok(Outcome::Unknown);
     };
     let input = open_input(rt, files.input)?;
-    // The output would take the input's octets away before they are read.
-    if files.input == files.output {
-        return Err(Fault::File);
-    }
+    check_output(rt, files, &input)?;
     let output = fs::create(rt, files.output).map_err(|error| file_fault(&error))?;
     let mut office = PlainOffice::new(rt.alloc(), LIMITS);
     let mut reader = Port::new(input, LONGEST_INPUT);
@@ -142,4 +150,24 @@ fn open_input<R: Files>(rt: &R, path: &str) -> Result<R::File, Fault> {
         return Err(Fault::File);
     }
     Ok(file)
+}
+
+/// Whether these are of one file, by whatever names it was found.
+fn are_of_one_file(one: &Metadata, other: &Metadata) -> bool {
+    one.dev() == other.dev() && one.ino() == other.ino()
+}
+
+/// Refuses an output that is the input or the book: making it would take away their octets.
+fn check_output<R: Files>(rt: &R, files: &Feed<'_>, input: &R::File) -> Result<(), Fault> {
+    let output = match fs::metadata(rt, files.output) {
+        Ok(output) => output,
+        Err(error) if error.kind() == ErrorKind::NotFound => return Ok(()),
+        Err(error) => return Err(file_fault(&error)),
+    };
+    let input = input.metadata().map_err(|error| file_fault(&error))?;
+    let book = fs::metadata(rt, files.book).map_err(|error| file_fault(&error))?;
+    if are_of_one_file(&output, &input) || are_of_one_file(&output, &book) {
+        return Err(Fault::File);
+    }
+    Ok(())
 }

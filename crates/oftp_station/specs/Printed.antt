@@ -1,0 +1,29 @@
+-- The lines that the program prints.
+use Rattle.std.specs.Prelude.{ℕ, List, ◌++◌, codes}
+use Rattle.std.specs.Fmt.{decimal}
+use Rattle.oftp_wire.specs.Messages.{two_digits}
+use Rattle.oftp_wire.specs.Reasons.{session_number}
+use Rattle.oftp_partners.specs.Faults.{number_of}
+use Rattle.oftp_engine.specs.declared.serving.End.TheVariants.{Own, Partner, Input}
+use Rattle.oftp_engine.specs.declared.serving.RunFault.TheVariants.{Read, Write, Office, Memory}
+use Rattle.oftp_station.specs.declared.outcome.Fault.{Fault}
+use Rattle.oftp_station.specs.declared.outcome.Fault.TheVariants.{Run, Book, File}
+use Rattle.oftp_station.specs.declared.outcome.Outcome.{Outcome}
+use Rattle.oftp_station.specs.declared.outcome.Outcome.TheVariants.{Checked, Ended, Unknown}
+
+-- the line on standard error
+abbrev pub fault_line : Fault → List ℕ
+fault_line (Run Read) = codes "fault: 1 read"
+fault_line (Run Write) = codes "fault: 2 write"
+fault_line (Run Office) = codes "fault: 3 office"
+fault_line (Run Memory) = codes "fault: 4 memory"
+fault_line (Book fault) = codes "fault: 5 book " ++ decimal (number_of fault)
+fault_line File = codes "fault: 7 file"
+
+-- the line on standard output
+abbrev pub outcome_line : Outcome → List ℕ
+outcome_line (Checked count) = codes "ok: " ++ (decimal count ++ codes " partners")
+outcome_line (Ended (Own reason)) = codes "end: own " ++ two_digits (session_number reason)
+outcome_line (Ended (Partner number)) = codes "end: partner " ++ two_digits number
+outcome_line (Ended Input) = codes "end: input"
+outcome_line Unknown = codes "refused: 2 unknown"
