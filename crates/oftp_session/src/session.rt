@@ -111,6 +111,7 @@ impl<'b> Session<'b> {
     pub fn responder(book: &'b Book) -> Session<'b>
         ensures setting { result.setting ≡ record { book = book.entry.now; called = None } }
         ensures stands { Stands Phase.ResponderOpening result }
+        ensures fresh { (result.partner ≡ None) × (result.spoken ≡ []) }
     {
         Session {
             book,
@@ -127,6 +128,7 @@ impl<'b> Session<'b> {
         ensures setting { result.setting
             ≡ record { book = book.entry.now; called = Some partner.entry.now } }
         ensures stands { Stands (Phase.InitiatorOpening partner.entry.now) result }
+        ensures fresh { (result.partner ≡ None) × (result.spoken ≡ []) }
     {
         Session {
             book,
