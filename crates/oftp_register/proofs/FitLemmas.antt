@@ -1,5 +1,5 @@
 -- Which changes are fit for a register in memory, and that it stays sound.
-use Rattle.std.proofs.Common.{◌≡◌, ◌↔◌, ◌<◌, ℕ, zero, suc, ◌&&◌, Bool, true, false, IsTrue, nat_lt, nat_le, List, [], ◌∷◌, length, take, map, get_or, All, Some, None, Result, Ok, Err, ap, sym, ◌∙◌, subst, arith, add-one}
+use Rattle.std.proofs.Common.{◌≡◌, ◌↔◌, ◌<◌, ℕ, zero, suc, ◌&&◌, Bool, false, IsTrue, nat_lt, nat_le, List, [], ◌∷◌, length, map, get_or, All, Some, None, Result, Ok, Err, ap, sym, ◌∙◌, subst, arith, add-one}
 use Rattle.std.specs.Vec.{vec_len}
 use Rattle.std.proofs.lemmas.List.{length-map}
 use Rattle.std.proofs.lemmas.List.Elements.{All-cons, All-head, All-map, All-nil, All-tail}
@@ -12,7 +12,7 @@ use Rattle.oftp_register.specs.declared.office.OfficeFault.{OfficeFault}
 use Rattle.oftp_register.specs.declared.office.OfficeFault.TheVariants.{Store, Memory, Refused}
 use Rattle.oftp_register.specs.declared.plain.incoming.IncomingFile.{IncomingFile}
 use Rattle.oftp_register.specs.declared.plain.lists.Lists.{Lists}
-use Rattle.oftp_register.specs.Register.{Register, Incoming, same_identity}
+use Rattle.oftp_register.specs.Register.{Register, Incoming}
 use Rattle.oftp_register.specs.Changes.{apply}
 use Rattle.oftp_register.specs.Soundness.{AtNumber, Ends, GoesOn, IfOpen, IsFit, IsSound, MayStart}
 use Rattle.oftp_register.specs.Lists.{IsPlace, Makes, incoming_of, register_in}

@@ -1,5 +1,5 @@
 -- Each change keeps a register sound.
-use Rattle.std.proofs.Common.{◌≡◌, ℕ, zero, suc, true, cond, nat_le, List, [], ◌∷◌, ◌++◌, length, map, take, All, None, Result, Ok, Err, refl, sym, ◌∙◌, subst, inl, inr, arith}
+use Rattle.std.proofs.Common.{◌≡◌, ℕ, zero, suc, cond, nat_le, List, [], ◌∷◌, ◌++◌, length, map, All, None, Result, Ok, Err, refl, sym, ◌∙◌, subst, inl, inr, arith}
 use Rattle.std.proofs.lemmas.Bool.{cases_Bool, cond-true, cond-false}
 use Rattle.std.proofs.lemmas.List.{map-append}
 use Rattle.std.proofs.lemmas.List.Elements.{All-push}
@@ -12,7 +12,7 @@ use Rattle.oftp_register.specs.declared.entry.OutgoingState.TheVariants.{Waiting
 use Rattle.oftp_register.specs.declared.entry.Dispatch.TheVariants.{Due}
 use Rattle.oftp_register.specs.Register.{Register, Incoming, Outgoing, Received, Issued, has_received, same_identity}
 use Rattle.oftp_register.specs.Changes.{apply, at_number, closed, closing, filed, given_up, handed, is_outgoing, issued, kept, marked, on_incoming, on_outgoing, refused, reopened, sent, settled, started, started_in, submitted}
-use Rattle.oftp_register.specs.Soundness.{AreNamedOnce, AtNumber, Ends, GoesOn, IfOpen, IsFit, IsResponse, IsSound, IsSoundIncoming, IsSoundOutgoing, IsSoundReceived, MayStart}
+use Rattle.oftp_register.specs.Soundness.{AreNamedOnce, AtNumber, Ends, GoesOn, IfOpen, IsFit, IsSound, IsSoundIncoming, IsSoundOutgoing, IsSoundReceived, MayStart}
 use Rattle.oftp_register.proofs.NameLemmas.{filed-append, list_any-map, once-append}
 use Rattle.oftp_register.proofs.NumberLemmas.{at_number_keeps, at_number_same, mapped_ok, not_both, one_result}
 use Rattle.oftp_register.proofs.IncomingLemmas.{Begins, closed_same, closed_sound, given_up_same, given_up_sound, issued_same, issued_sound, kept_same, kept_sound, sent_same, sent_sound, started_once, started_sound}

@@ -1,8 +1,7 @@
 -- The lines that the program prints.
-use Rattle.std.specs.Prelude.{ℕ, List, ◌++◌, codes}
+use Rattle.std.specs.Prelude.{ℕ, Bool, true, false, List, ◌++◌, codes}
 use Rattle.std.specs.Fmt.{decimal}
-use Rattle.oftp_wire.specs.Messages.{two_digits}
-use Rattle.oftp_wire.specs.Reasons.{session_number}
+use Rattle.oftp_wire.specs.Reasons.{session_number, two_digits}
 use Rattle.oftp_partners.specs.Faults.{number_of}
 use Rattle.oftp_engine.specs.declared.serving.End.TheVariants.{Own, Partner, Input}
 use Rattle.oftp_engine.specs.declared.serving.RunFault.TheVariants.{Read, Write, Office, Memory}
@@ -27,3 +26,9 @@ outcome_line (Ended (Own reason)) = codes "end: own " ++ two_digits (session_num
 outcome_line (Ended (Partner number)) = codes "end: partner " ++ two_digits number
 outcome_line (Ended Input) = codes "end: input"
 outcome_line Unknown = codes "refused: 2 unknown"
+
+-- the command was refused
+abbrev pub is_refusal : Outcome → Bool
+is_refusal (Checked count) = false
+is_refusal (Ended how) = false
+is_refusal Unknown = true

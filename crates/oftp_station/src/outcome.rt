@@ -1,6 +1,7 @@
 //! How a command comes out, as a person reads it.
-ghost use Rattle.std.specs.Prelude.{Some};
-ghost use Rattle.oftp_station.specs.Printed.{fault_line, outcome_line};
+
+ghost use Rattle.std.specs.Prelude.{◌≡◌, Some};
+ghost use Rattle.oftp_station.specs.Printed.{fault_line, is_refusal, outcome_line};
 
 use oftp_engine::{End, RunFault};
 use oftp_partners::BookFault;
@@ -50,7 +51,9 @@ pub enum Outcome {
 
 impl Outcome {
     /// Whether the command was refused.
-    pub fn is_refusal(&self) -> bool {
+    pub fn is_refusal(&self) -> bool
+        ensures { result ≡ is_refusal self.now }
+    {
         match self {
             Outcome::Checked(_) | Outcome::Ended(_) => false,
             Outcome::Unknown => true,
