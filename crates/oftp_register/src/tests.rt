@@ -92,10 +92,10 @@ fn start(dataset: &'static [u8], count: u64) -> Result<Change<'static>, OfficeFa
 }
 
 // The reason of a response, who gave it, and in which words: a negative one has each.
-fn words(kind: ResponseKind) -> (u64, &'static [u8], &'static str) {
+fn words(kind: ResponseKind) -> (Count<2>, &'static [u8], &'static str) {
     match kind {
-        ResponseKind::EndResponse => (0, b"", ""),
-        ResponseKind::NegativeEndResponse => (9, b"O2", "NO PLANT"),
+        ResponseKind::EndResponse => (Count::new(0), b"", ""),
+        ResponseKind::NegativeEndResponse => (Count::new(9), b"O2", "NO PLANT"),
     }
 }
 
@@ -107,7 +107,7 @@ fn file_response(
     Ok(Change::File {
         kind,
         identity: file(dataset)?,
-        reason: Count::new(reason),
+        reason,
         creator: code(creator)?,
         text: text(note)?,
     })
@@ -118,7 +118,7 @@ fn issue(no: u64, kind: ResponseKind) -> Result<Change<'static>, OfficeFault> {
     Ok(Change::Issue {
         no,
         kind,
-        reason: Count::new(reason),
+        reason,
         text: text(note)?,
     })
 }

@@ -89,25 +89,30 @@ fn the_first_row_decides(rt: HostRuntime) -> Result<(), Fail> {
     Ok(())
 }
 
+// What is answered to a new file of this layout.
+fn verdict_of(layout: Layout) -> Result<StartVerdict, OfficeFault> {
+    let mut sfid = offer()?;
+    sfid.layout = layout;
+    Ok(start_verdict(&sfid, None, false, &terms()?))
+}
+
 #[test]
 fn longest_records_are_limited(rt: HostRuntime) -> Result<(), Fail> {
     let too_long = refused(StartReason::MaximumRecordLengthNotSupported);
     let taken = StartVerdict::Accept(Count::new(0));
-    let terms = terms()?;
-    for (layout, verdict) in [
-        (Layout::Fixed(Count::new(0)), too_long),
-        (Layout::Fixed(Count::new(1)), taken),
-        (Layout::Fixed(Count::new(16_384)), taken),
-        (Layout::Variable(Count::new(0)), too_long),
-        (Layout::Variable(Count::new(16_384)), taken),
-        (Layout::Variable(Count::new(16_385)), too_long),
-        (Layout::Unstructured, taken),
-        (Layout::Text, taken),
+    for (longest, verdict) in [
+        (0, too_long),
+        (1, taken),
+        (16_384, taken),
+        (16_385, too_long),
     ] {
-        let mut sfid = offer()?;
-        sfid.layout = layout;
-        assert_eq!(rt; start_verdict(&sfid, None, false, &terms), verdict);
+        let fixed = verdict_of(Layout::Fixed(Count::new(longest)))?;
+        assert_eq!(rt; fixed, verdict, "F of {longest}");
+        let variable = verdict_of(Layout::Variable(Count::new(longest)))?;
+        assert_eq!(rt; variable, verdict, "V of {longest}");
     }
+    assert_eq!(rt; verdict_of(Layout::Unstructured)?, taken);
+    assert_eq!(rt; verdict_of(Layout::Text)?, taken);
     Ok(())
 }
 
@@ -131,8 +136,8 @@ fn protected_offers_are_refused(rt: HostRuntime) -> Result<(), Fail> {
 
 // What is answered where three rows are kept, and the rows that stay.
 fn goes_on(
-    restart: u64,
-    longest: u64,
+    restart: Count<17>,
+    layout: Layout,
     agreed: bool,
     alloc: Global,
 ) -> Result<(StartVerdict, String), OfficeFault> {
@@ -140,8 +145,8 @@ fn goes_on(
     let mut office = office_after(alloc, &kept)?;
     let found = office.look_in(&file(b"D")?)?;
     let mut sfid = offer()?;
-    sfid.layout = Layout::Variable(Count::new(longest));
-    sfid.restart = Count::new(restart);
+    sfid.layout = layout;
+    sfid.restart = restart;
     let mut terms = terms()?;
     terms.restart = agreed;
     let verdict = start_verdict(&sfid, found.as_ref(), true, &terms);
@@ -160,7 +165,8 @@ fn offered_above_and_below(rt: HostRuntime) -> Result<(), Fail> {
         (5, 3, false, 0, ""),
         (5, 4, true, 0, ""),
     ] {
-        let (verdict, kept) = goes_on(restart, longest, agreed, rt.alloc())?;
+        let layout = Layout::Variable(Count::new(longest));
+        let (verdict, kept) = goes_on(Count::new(restart), layout, agreed, rt.alloc())?;
         assert_eq!(rt; verdict, StartVerdict::Accept(Count::new(count)));
         assert_eq!(rt; kept.as_str(), rows);
     }
