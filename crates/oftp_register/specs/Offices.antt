@@ -1,5 +1,5 @@
 -- What the calls of an office do, and what a stop leaves.
-use Rattle.std.specs.Prelude.{◌≡◌, ℕ, ◌+◌, ◌%◌, ◌^◌, ◌<◌, ◌≤◌, ◌⊎◌, List, length, take, Result, Ok, Err, Option, None, Some, ⊤}
+use Rattle.std.specs.Prelude.{◌≡◌, ℕ, ◌+◌, ◌%◌, ◌^◌, ◌<◌, ◌≤◌, ◌⊎◌, List, length, take, Result, Ok, Err, IfErr, OnOk, Option, None, Some, ⊤}
 use Rattle.oftp_register.specs.Register.{Register}
 use Rattle.oftp_register.specs.Changes.{apply, apply_all}
 use Rattle.oftp_register.specs.declared.change.Cause.{Cause}
@@ -34,6 +34,18 @@ abbrev pub IsFailure : OfficeFault → Type 0
 IsFailure Store = ⊤
 IsFailure Memory = ⊤
 IsFailure (Refused cause) = ⊥
+
+-- What a look-up does, whatever it answers. Where what was read is what was written, an office that stands stays, but for a fault,
+-- and keeps its register; a stop leaves nothing that it didn't leave before; and an office that was shut stays shut. Over any
+-- store it refuses nothing and counts its faults.
+pub record Looks {O C T : Type 0} (is_clean stands : O → Type 0) (register' : O → Register) (may_leave : O → C → Type 0) (told : O → ℕ) (old new : O) (result : Result T OfficeFault) : Type 0 where
+  pub clean : is_clean new → is_clean old
+  pub stood : is_clean new → stands new → stands old
+  pub stays : is_clean new → stands old → OnOk result (stands new)
+  pub register : is_clean new → stands old → stands new → register' new ≡ register' old
+  pub left : is_clean new → stands old → (c : C) → may_leave new c → may_leave old c
+  pub unrefused : IfErr result IsFailure
+  pub counts : Counts (told old) (told new) result
 
 -- what an office leaves behind: what a stop may leave, the registers that it stands for, and whether the office stands
 pub record Rest : Type 1 where

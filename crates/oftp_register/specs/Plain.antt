@@ -1,7 +1,10 @@
 -- An office in memory.
-use Rattle.std.specs.Prelude.{ℕ}
+use Rattle.std.specs.Prelude.{◌≡◌, ℕ, Result, IfErr}
 use Rattle.oftp_register.specs.Register.{Register}
 use Rattle.oftp_register.specs.Lists.{register_in}
+use Rattle.oftp_register.specs.Offices.{Counts}
+use Rattle.oftp_register.specs.declared.office.OfficeFault.{OfficeFault}
+use Rattle.oftp_register.specs.declared.office.OfficeFault.TheVariants.{Memory}
 use Rattle.oftp_register.specs.declared.plain.PlainOffice.{PlainOffice}
 
 -- the register that an office in memory keeps
@@ -11,3 +14,9 @@ register_of o = register_in o.lists
 -- how many faults it told, modulo 2^64
 abbrev pub faults_of : PlainOffice → ℕ
 faults_of o = o.faults
+
+-- what a look-up does: the register stays, and only memory may run out, which is counted
+pub record LooksInMemory {T : Type 0} (old new : PlainOffice) (result : Result T OfficeFault) : Type 0 where
+  pub register : register_of new ≡ register_of old
+  pub plain : IfErr result (λ fault. fault ≡ Memory)
+  pub counts : Counts (faults_of old) (faults_of new) result

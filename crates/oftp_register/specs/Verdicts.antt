@@ -73,7 +73,7 @@ abbrev pub is_empty : List ℕ → Bool
 is_empty [] = true
 is_empty (x ∷ xs) = false
 
--- The answer to SFID (RFC 5024, sections 5.3.3 to 5.3.5). The first row that fits decides.
+-- The answer to SFID (RFC 5024, sections 5.3.3 to 5.3.5). The first test that holds decides.
 abbrev pub start_verdict : Sfid → Option IncomingEntry → Bool → Terms → StartVerdict
 start_verdict sfid found is_full terms =
     if not terms.receives then start.Refuse FileDirectionRefused false

@@ -1,11 +1,11 @@
 //! What keeps a register.
 
-ghost use Rattle.std.specs.Prelude.{◌≡◌, ◌≤◌, ◌⊎◌, ℕ, Ok, IfSome, IfOk, IfErr, OnOk, OnErr};
+ghost use Rattle.std.specs.Prelude.{◌≡◌, ◌≤◌, ◌⊎◌, ℕ, Ok, IfSome, IfOk, OnOk, OnErr};
 ghost use Rattle.oftp_register.specs.Register.{Register, has_received};
 ghost use Rattle.oftp_register.specs.Changes.{apply};
 ghost use Rattle.oftp_register.specs.Soundness.{IsFit, IsSound};
 ghost use Rattle.oftp_register.specs.LookUps.{AreRowsWithin, IsIncomingWithin, IsItemWithin, IsOutgoingWithin, files_full, in_by_no, list_in, list_issued, list_out, list_received, look_in, look_out, next_item, out_by_no, rows_of};
-ghost use Rattle.oftp_register.specs.Offices.{Counts, IsFailure, IsRefused};
+ghost use Rattle.oftp_register.specs.Offices.{Counts, IsRefused, Looks};
 
 use crate::change::{Cause, Change};
 use crate::entries::{
@@ -83,16 +83,9 @@ pub trait Office {
     ///
     /// [`OfficeFault::Store`] and [`OfficeFault::Memory`].
     fn look_in(&mut self, identity: &Identity) -> Result<Option<IncomingEntry>, OfficeFault>
-        ensures clean { is_clean self.new → is_clean self.old }
+        ensures looks { Looks is_clean stands register may_leave told self.old self.new result }
         ensures answer { is_clean self.new → stands self.old
             → IfOk result (λ found. found ≡ look_in (register self.old) identity.now) }
-        ensures stays { is_clean self.new → stands self.old → OnOk result (stands self.new) }
-        ensures same { is_clean self.new → stands self.old → stands self.new
-            → register self.new ≡ register self.old }
-        ensures left { is_clean self.new → stands self.old
-            → (c : Content) → may_leave self.new c → may_leave self.old c }
-        ensures unrefused { IfErr result IsFailure }
-        ensures counts { Counts (told self.old) (told self.new) result }
         // It holds of any store.
         ensures within { IfOk result (λ found. IfSome found IsIncomingWithin) };
 
@@ -102,16 +95,9 @@ pub trait Office {
     ///
     /// [`OfficeFault::Store`] and [`OfficeFault::Memory`].
     fn look_out(&mut self, identity: &Identity) -> Result<Option<OutgoingEntry>, OfficeFault>
-        ensures clean { is_clean self.new → is_clean self.old }
+        ensures looks { Looks is_clean stands register may_leave told self.old self.new result }
         ensures answer { is_clean self.new → stands self.old
             → IfOk result (λ found. found ≡ look_out (register self.old) identity.now) }
-        ensures stays { is_clean self.new → stands self.old → OnOk result (stands self.new) }
-        ensures same { is_clean self.new → stands self.old → stands self.new
-            → register self.new ≡ register self.old }
-        ensures left { is_clean self.new → stands self.old
-            → (c : Content) → may_leave self.new c → may_leave self.old c }
-        ensures unrefused { IfErr result IsFailure }
-        ensures counts { Counts (told self.old) (told self.new) result }
         // It holds of any store.
         ensures within { IfOk result (λ found. IfSome found IsOutgoingWithin) };
 
@@ -121,16 +107,9 @@ pub trait Office {
     ///
     /// [`OfficeFault::Store`] and [`OfficeFault::Memory`].
     fn in_by_no(&mut self, no: u64) -> Result<Option<IncomingEntry>, OfficeFault>
-        ensures clean { is_clean self.new → is_clean self.old }
+        ensures looks { Looks is_clean stands register may_leave told self.old self.new result }
         ensures answer { is_clean self.new → stands self.old
             → IfOk result (λ found. found ≡ in_by_no (register self.old) no) }
-        ensures stays { is_clean self.new → stands self.old → OnOk result (stands self.new) }
-        ensures same { is_clean self.new → stands self.old → stands self.new
-            → register self.new ≡ register self.old }
-        ensures left { is_clean self.new → stands self.old
-            → (c : Content) → may_leave self.new c → may_leave self.old c }
-        ensures unrefused { IfErr result IsFailure }
-        ensures counts { Counts (told self.old) (told self.new) result }
         // It holds of any store.
         ensures within { IfOk result (λ found. IfSome found IsIncomingWithin) };
 
@@ -140,16 +119,9 @@ pub trait Office {
     ///
     /// [`OfficeFault::Store`] and [`OfficeFault::Memory`].
     fn out_by_no(&mut self, no: u64) -> Result<Option<OutgoingEntry>, OfficeFault>
-        ensures clean { is_clean self.new → is_clean self.old }
+        ensures looks { Looks is_clean stands register may_leave told self.old self.new result }
         ensures answer { is_clean self.new → stands self.old
             → IfOk result (λ found. found ≡ out_by_no (register self.old) no) }
-        ensures stays { is_clean self.new → stands self.old → OnOk result (stands self.new) }
-        ensures same { is_clean self.new → stands self.old → stands self.new
-            → register self.new ≡ register self.old }
-        ensures left { is_clean self.new → stands self.old
-            → (c : Content) → may_leave self.new c → may_leave self.old c }
-        ensures unrefused { IfErr result IsFailure }
-        ensures counts { Counts (told self.old) (told self.new) result }
         // It holds of any store.
         ensures within { IfOk result (λ found. IfSome found IsOutgoingWithin) };
 
@@ -159,16 +131,9 @@ pub trait Office {
     ///
     /// [`OfficeFault::Store`] and [`OfficeFault::Memory`].
     fn files_full(&mut self, side: Side) -> Result<bool, OfficeFault>
-        ensures clean { is_clean self.new → is_clean self.old }
+        ensures looks { Looks is_clean stands register may_leave told self.old self.new result }
         ensures answer { is_clean self.new → stands self.old
-            → IfOk result (λ full. full ≡ files_full (register self.old) side) }
-        ensures stays { is_clean self.new → stands self.old → OnOk result (stands self.new) }
-        ensures same { is_clean self.new → stands self.old → stands self.new
-            → register self.new ≡ register self.old }
-        ensures left { is_clean self.new → stands self.old
-            → (c : Content) → may_leave self.new c → may_leave self.old c }
-        ensures unrefused { IfErr result IsFailure }
-        ensures counts { Counts (told self.old) (told self.new) result };
+            → IfOk result (λ full. full ≡ files_full (register self.old) side) };
 
     /// Whether a response of this kind came for the file of this identity. The register stays as it was.
     ///
@@ -176,16 +141,9 @@ pub trait Office {
     ///
     /// [`OfficeFault::Store`] and [`OfficeFault::Memory`].
     fn has_received(&mut self, kind: ResponseKind, identity: &Identity) -> Result<bool, OfficeFault>
-        ensures clean { is_clean self.new → is_clean self.old }
+        ensures looks { Looks is_clean stands register may_leave told self.old self.new result }
         ensures answer { is_clean self.new → stands self.old
-            → IfOk result (λ there. there ≡ has_received (register self.old) kind identity.now) }
-        ensures stays { is_clean self.new → stands self.old → OnOk result (stands self.new) }
-        ensures same { is_clean self.new → stands self.old → stands self.new
-            → register self.new ≡ register self.old }
-        ensures left { is_clean self.new → stands self.old
-            → (c : Content) → may_leave self.new c → may_leave self.old c }
-        ensures unrefused { IfErr result IsFailure }
-        ensures counts { Counts (told self.old) (told self.new) result };
+            → IfOk result (λ there. there ≡ has_received (register self.old) kind identity.now) };
 
     /// What a session sends next to a partner: the first response that is due and wasn't tried, or where there is none and `files`
     /// is true, the first file that is waiting or closing and wasn't tried. The register stays as it was.
@@ -199,16 +157,9 @@ pub trait Office {
         cursor: Cursor,
         files: bool,
     ) -> Result<Option<Item>, OfficeFault>
-        ensures clean { is_clean self.new → is_clean self.old }
+        ensures looks { Looks is_clean stands register may_leave told self.old self.new result }
         ensures answer { is_clean self.new → stands self.old
             → IfOk result (λ item. item ≡ next_item (register self.old) partner.now cursor files) }
-        ensures stays { is_clean self.new → stands self.old → OnOk result (stands self.new) }
-        ensures same { is_clean self.new → stands self.old → stands self.new
-            → register self.new ≡ register self.old }
-        ensures left { is_clean self.new → stands self.old
-            → (c : Content) → may_leave self.new c → may_leave self.old c }
-        ensures unrefused { IfErr result IsFailure }
-        ensures counts { Counts (told self.old) (told self.new) result }
         // It holds of any store.
         ensures within { IfOk result (λ found. IfSome found IsItemWithin) };
 
@@ -218,16 +169,9 @@ pub trait Office {
     ///
     /// [`OfficeFault::Store`] and [`OfficeFault::Memory`].
     fn rows_of(&mut self, side: Side, no: u64, from: u64, most: u64) -> Result<Rows, OfficeFault>
-        ensures clean { is_clean self.new → is_clean self.old }
+        ensures looks { Looks is_clean stands register may_leave told self.old self.new result }
         ensures answer { is_clean self.new → stands self.old
             → IfOk result (λ rows. rows ≡ rows_of (register self.old) side no from most) }
-        ensures stays { is_clean self.new → stands self.old → OnOk result (stands self.new) }
-        ensures same { is_clean self.new → stands self.old → stands self.new
-            → register self.new ≡ register self.old }
-        ensures left { is_clean self.new → stands self.old
-            → (c : Content) → may_leave self.new c → may_leave self.old c }
-        ensures unrefused { IfErr result IsFailure }
-        ensures counts { Counts (told self.old) (told self.new) result }
         // It holds of any store.
         ensures within { IfOk result (AreRowsWithin from most) };
 
@@ -237,16 +181,9 @@ pub trait Office {
     ///
     /// [`OfficeFault::Store`] and [`OfficeFault::Memory`].
     fn list_in(&mut self) -> Result<Vec<IncomingEntry>, OfficeFault>
-        ensures clean { is_clean self.new → is_clean self.old }
+        ensures looks { Looks is_clean stands register may_leave told self.old self.new result }
         ensures answer { is_clean self.new → stands self.old
-            → IfOk result (λ entries. entries.items ≡ list_in (register self.old)) }
-        ensures stays { is_clean self.new → stands self.old → OnOk result (stands self.new) }
-        ensures same { is_clean self.new → stands self.old → stands self.new
-            → register self.new ≡ register self.old }
-        ensures left { is_clean self.new → stands self.old
-            → (c : Content) → may_leave self.new c → may_leave self.old c }
-        ensures unrefused { IfErr result IsFailure }
-        ensures counts { Counts (told self.old) (told self.new) result };
+            → IfOk result (λ entries. entries.items ≡ list_in (register self.old)) };
 
     /// All outgoing files, in order of number. The register stays as it was.
     ///
@@ -254,16 +191,9 @@ pub trait Office {
     ///
     /// [`OfficeFault::Store`] and [`OfficeFault::Memory`].
     fn list_out(&mut self) -> Result<Vec<OutgoingEntry>, OfficeFault>
-        ensures clean { is_clean self.new → is_clean self.old }
+        ensures looks { Looks is_clean stands register may_leave told self.old self.new result }
         ensures answer { is_clean self.new → stands self.old
-            → IfOk result (λ entries. entries.items ≡ list_out (register self.old)) }
-        ensures stays { is_clean self.new → stands self.old → OnOk result (stands self.new) }
-        ensures same { is_clean self.new → stands self.old → stands self.new
-            → register self.new ≡ register self.old }
-        ensures left { is_clean self.new → stands self.old
-            → (c : Content) → may_leave self.new c → may_leave self.old c }
-        ensures unrefused { IfErr result IsFailure }
-        ensures counts { Counts (told self.old) (told self.new) result };
+            → IfOk result (λ entries. entries.items ≡ list_out (register self.old)) };
 
     /// All issued responses, in order of their files' numbers. The register stays as it was.
     ///
@@ -271,16 +201,9 @@ pub trait Office {
     ///
     /// [`OfficeFault::Store`] and [`OfficeFault::Memory`].
     fn list_issued(&mut self) -> Result<Vec<IssuedEntry>, OfficeFault>
-        ensures clean { is_clean self.new → is_clean self.old }
+        ensures looks { Looks is_clean stands register may_leave told self.old self.new result }
         ensures answer { is_clean self.new → stands self.old
-            → IfOk result (λ entries. entries.items ≡ list_issued (register self.old)) }
-        ensures stays { is_clean self.new → stands self.old → OnOk result (stands self.new) }
-        ensures same { is_clean self.new → stands self.old → stands self.new
-            → register self.new ≡ register self.old }
-        ensures left { is_clean self.new → stands self.old
-            → (c : Content) → may_leave self.new c → may_leave self.old c }
-        ensures unrefused { IfErr result IsFailure }
-        ensures counts { Counts (told self.old) (told self.new) result };
+            → IfOk result (λ entries. entries.items ≡ list_issued (register self.old)) };
 
     /// All responses that came, in order of number. The register stays as it was.
     ///
@@ -288,16 +211,9 @@ pub trait Office {
     ///
     /// [`OfficeFault::Store`] and [`OfficeFault::Memory`].
     fn list_received(&mut self) -> Result<Vec<ReceivedEntry>, OfficeFault>
-        ensures clean { is_clean self.new → is_clean self.old }
+        ensures looks { Looks is_clean stands register may_leave told self.old self.new result }
         ensures answer { is_clean self.new → stands self.old
-            → IfOk result (λ entries. entries.items ≡ list_received (register self.old)) }
-        ensures stays { is_clean self.new → stands self.old → OnOk result (stands self.new) }
-        ensures same { is_clean self.new → stands self.old → stands self.new
-            → register self.new ≡ register self.old }
-        ensures left { is_clean self.new → stands self.old
-            → (c : Content) → may_leave self.new c → may_leave self.old c }
-        ensures unrefused { IfErr result IsFailure }
-        ensures counts { Counts (told self.old) (told self.new) result };
+            → IfOk result (λ entries. entries.items ≡ list_received (register self.old)) };
 
     /// Makes a change. When it returns `Ok`, a stop leaves the change made.
     ///

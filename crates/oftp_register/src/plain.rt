@@ -1,6 +1,6 @@
 //! A register in memory.
 
-ghost use Rattle.std.specs.Prelude.{◌≡◌, ◌↔◌, ◌≤◌, ⊤, ℕ, Ok, Err, IfSome, IfOk, IfErr, IsTrue, MatchResult, map};
+ghost use Rattle.std.specs.Prelude.{◌≡◌, ◌↔◌, ◌≤◌, ⊤, ℕ, Ok, Err, IfSome, IfOk, IsTrue, MatchResult, map};
 ghost use Rattle.oftp_register.specs.Register.{Register, empty, has_received};
 ghost use Rattle.oftp_register.specs.Changes.{apply};
 ghost use Rattle.oftp_register.specs.Offices.{Counts};
@@ -35,7 +35,7 @@ pub struct PlainOffice {
 }
 
 impl PlainOffice {
-    ghost use Rattle.oftp_register.specs.Plain.{faults_of, register_of};
+    ghost use Rattle.oftp_register.specs.Plain.{LooksInMemory, register_of};
 
     /// An office with an empty register. [`are_limits`](crate::are_limits) tests the limits. It takes no memory.
     pub fn new(alloc: Global, limits: Limits) -> PlainOffice
@@ -51,9 +51,8 @@ impl PlainOffice {
 
     // Counts a growth that was refused.
     fn counted<T>(&mut self, found: Result<T, AllocError>) -> Result<T, OfficeFault>
+        ensures looks { LooksInMemory self.old self.new result }
         ensures answer { MatchResult found (λ x. result ≡ Ok x) (λ _. result ≡ Err OfficeFault.Memory) }
-        ensures same { register_of self.new ≡ register_of self.old }
-        ensures counts { Counts (faults_of self.old) (faults_of self.new) result }
     {
         match found {
             Ok(x) => Ok(x),
@@ -80,7 +79,7 @@ impl PlainOffice {
 }
 
 impl Office for PlainOffice {
-    ghost use Rattle.oftp_register.specs.Plain.{faults_of, register_of};
+    ghost use Rattle.oftp_register.specs.Plain.{LooksInMemory, faults_of, register_of};
 
     ghost Content = { Register };
 
@@ -101,10 +100,8 @@ impl Office for PlainOffice {
     }
 
     fn look_in(&mut self, identity: &Identity) -> Result<Option<IncomingEntry>, OfficeFault>
+        ensures looks { LooksInMemory self.old self.new result }
         ensures answer { IfOk result (λ found. found ≡ look_in (register_of self.old) identity.now) }
-        ensures same { register_of self.new ≡ register_of self.old }
-        ensures plain { IfErr result (λ fault. fault ≡ OfficeFault.Memory) }
-        ensures counts { Counts (faults_of self.old) (faults_of self.new) result }
         ensures within { IfOk result (λ found. IfSome found IsIncomingWithin) }
     {
         let found = self.lists.look_in(identity);
@@ -112,10 +109,8 @@ impl Office for PlainOffice {
     }
 
     fn look_out(&mut self, identity: &Identity) -> Result<Option<OutgoingEntry>, OfficeFault>
+        ensures looks { LooksInMemory self.old self.new result }
         ensures answer { IfOk result (λ found. found ≡ look_out (register_of self.old) identity.now) }
-        ensures same { register_of self.new ≡ register_of self.old }
-        ensures plain { IfErr result (λ fault. fault ≡ OfficeFault.Memory) }
-        ensures counts { Counts (faults_of self.old) (faults_of self.new) result }
         ensures within { IfOk result (λ found. IfSome found IsOutgoingWithin) }
     {
         let found = self.lists.look_out(identity);
@@ -123,10 +118,8 @@ impl Office for PlainOffice {
     }
 
     fn in_by_no(&mut self, no: u64) -> Result<Option<IncomingEntry>, OfficeFault>
+        ensures looks { LooksInMemory self.old self.new result }
         ensures answer { IfOk result (λ found. found ≡ in_by_no (register_of self.old) no) }
-        ensures same { register_of self.new ≡ register_of self.old }
-        ensures plain { IfErr result (λ fault. fault ≡ OfficeFault.Memory) }
-        ensures counts { Counts (faults_of self.old) (faults_of self.new) result }
         ensures within { IfOk result (λ found. IfSome found IsIncomingWithin) }
     {
         let found = self.lists.in_by_no(no);
@@ -134,10 +127,8 @@ impl Office for PlainOffice {
     }
 
     fn out_by_no(&mut self, no: u64) -> Result<Option<OutgoingEntry>, OfficeFault>
+        ensures looks { LooksInMemory self.old self.new result }
         ensures answer { IfOk result (λ found. found ≡ out_by_no (register_of self.old) no) }
-        ensures same { register_of self.new ≡ register_of self.old }
-        ensures plain { IfErr result (λ fault. fault ≡ OfficeFault.Memory) }
-        ensures counts { Counts (faults_of self.old) (faults_of self.new) result }
         ensures within { IfOk result (λ found. IfSome found IsOutgoingWithin) }
     {
         let found = self.lists.out_by_no(no);
@@ -164,10 +155,8 @@ impl Office for PlainOffice {
         cursor: Cursor,
         files: bool,
     ) -> Result<Option<Item>, OfficeFault>
+        ensures looks { LooksInMemory self.old self.new result }
         ensures answer { IfOk result (λ item. item ≡ next_item (register_of self.old) partner.now cursor files) }
-        ensures same { register_of self.new ≡ register_of self.old }
-        ensures plain { IfErr result (λ fault. fault ≡ OfficeFault.Memory) }
-        ensures counts { Counts (faults_of self.old) (faults_of self.new) result }
         ensures within { IfOk result (λ found. IfSome found IsItemWithin) }
     {
         let found = self.lists.next_item(partner, cursor, files);
@@ -175,10 +164,8 @@ impl Office for PlainOffice {
     }
 
     fn rows_of(&mut self, side: Side, no: u64, from: u64, most: u64) -> Result<Rows, OfficeFault>
+        ensures looks { LooksInMemory self.old self.new result }
         ensures answer { IfOk result (λ rows. rows ≡ rows_of (register_of self.old) side no from most) }
-        ensures same { register_of self.new ≡ register_of self.old }
-        ensures plain { IfErr result (λ fault. fault ≡ OfficeFault.Memory) }
-        ensures counts { Counts (faults_of self.old) (faults_of self.new) result }
         ensures within { IfOk result (AreRowsWithin from most) }
     {
         let found = self.lists.rows_of(side, no, from, most);
@@ -186,46 +173,38 @@ impl Office for PlainOffice {
     }
 
     fn list_in(&mut self) -> Result<Vec<IncomingEntry>, OfficeFault>
+        ensures looks { LooksInMemory self.old self.new result }
         ensures answer { IfOk result (λ entries. entries.items ≡ list_in (register_of self.old)) }
-        ensures same { register_of self.new ≡ register_of self.old }
-        ensures plain { IfErr result (λ fault. fault ≡ OfficeFault.Memory) }
-        ensures counts { Counts (faults_of self.old) (faults_of self.new) result }
     {
         let found = self.lists.list_in();
         self.counted(found)
     }
 
     fn list_out(&mut self) -> Result<Vec<OutgoingEntry>, OfficeFault>
+        ensures looks { LooksInMemory self.old self.new result }
         ensures answer { IfOk result (λ entries. entries.items ≡ list_out (register_of self.old)) }
-        ensures same { register_of self.new ≡ register_of self.old }
-        ensures plain { IfErr result (λ fault. fault ≡ OfficeFault.Memory) }
-        ensures counts { Counts (faults_of self.old) (faults_of self.new) result }
     {
         let found = self.lists.list_out();
         self.counted(found)
     }
 
     fn list_issued(&mut self) -> Result<Vec<IssuedEntry>, OfficeFault>
+        ensures looks { LooksInMemory self.old self.new result }
         ensures answer { IfOk result (λ entries. entries.items ≡ list_issued (register_of self.old)) }
-        ensures same { register_of self.new ≡ register_of self.old }
-        ensures plain { IfErr result (λ fault. fault ≡ OfficeFault.Memory) }
-        ensures counts { Counts (faults_of self.old) (faults_of self.new) result }
     {
         let found = self.lists.list_issued();
         self.counted(found)
     }
 
     fn list_received(&mut self) -> Result<Vec<ReceivedEntry>, OfficeFault>
+        ensures looks { LooksInMemory self.old self.new result }
         ensures answer { IfOk result (λ entries. entries.items ≡ list_received (register_of self.old)) }
-        ensures same { register_of self.new ≡ register_of self.old }
-        ensures plain { IfErr result (λ fault. fault ≡ OfficeFault.Memory) }
-        ensures counts { Counts (faults_of self.old) (faults_of self.new) result }
     {
         let found = self.lists.list_received();
         self.counted(found)
     }
 
-    // It never tells a fault of a store, nor does a look-up.
+    // It never tells a fault of a store.
     fn commit(&mut self, change: Change<'_>) -> Result<(), OfficeFault>
         requires { IsFit (register_of self.old) change }
         ensures made { Makes register_of (apply (register_of self.old) change.entry) self.old self.new result }

@@ -72,7 +72,7 @@ fn verdict_from(row: u32) -> Result<StartVerdict, OfficeFault> {
 }
 
 #[test]
-fn the_first_row_decides(rt: HostRuntime) -> Result<(), Fail> {
+fn the_first_test_decides(rt: HostRuntime) -> Result<(), Fail> {
     for (row, verdict) in [
         (1, refused(StartReason::FileDirectionRefused)),
         (2, refused(StartReason::Unspecified)),
