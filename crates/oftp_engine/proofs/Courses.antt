@@ -13,10 +13,12 @@ use Rattle.oftp_wire.specs.Stream.{Head, Whole, Waits, Bad}
 use Rattle.oftp_wire.proofs.Streams.{front_within}
 use Rattle.oftp_session.specs.Phases.{Phase, Step, register_after, fails}
 use Rattle.oftp_session.specs.Steps.{has_turn, turned, turns_due, is_over}
+use Rattle.oftp_session.specs.Calls.{Allows}
+use Rattle.oftp_session.proofs.Allowed.{turn_allowed}
 use Rattle.oftp_session.proofs.Phases.{turn_falls, over_no_turn}
 use Rattle.oftp_engine.specs.Runs.{Course, Output, octets_of, with_change, with_output, advance, came_in, turned_in, is_stopped, turns, settled, on_front, next_in, run_by, run}
-use Rattle.oftp_engine.specs.Serving.{Allows, Grows, Sound, Counted}
-use Rattle.oftp_engine.proofs.Phases.{step_allowed, turn_allowed}
+use Rattle.oftp_engine.specs.Serving.{Grows, Sound, Counted}
+use Rattle.oftp_engine.proofs.Phases.{step_allowed}
 
 -- a course that grows
 

@@ -17,8 +17,8 @@ use Rattle.oftp_session.specs.Calls.{Seen}
 use Rattle.oftp_engine.specs.declared.serving.RunFault.{RunFault}
 use Rattle.oftp_engine.specs.declared.serving.RunFault.TheVariants as fault
 use Rattle.oftp_engine.specs.Runs.{Course, Output, run, started, octets_of, answered, advance, is_stopped, with_change}
-use Rattle.oftp_engine.specs.Serving.{Grows, Leads, Reaches, Scene, Took, BreaksOff, IsRefused, IsShort, Fails, Comes, IsOver, Sound, Counted, last_frame}
-use Rattle.oftp_engine.specs.Served.{whole, broken_off, LeavesPrefix, IsWhole, IsBrokenOff, IsRefusedService, IsOutOfMemory, ServesErr}
+use Rattle.oftp_engine.specs.Serving.{Grows, Leads, Reaches, Scene, Took, BreaksOff, OfficeFails, IsShort, Fails, Comes, IsOver, Sound, Counted, last_frame}
+use Rattle.oftp_engine.specs.Served.{whole, broken_off, LeavesPrefix, IsWhole, IsBrokenOff, IsOfficeFault, IsOutOfMemory, ServesErr}
 use Rattle.oftp_engine.proofs.Courses.{grows_on, grows_step, run_grows, run_over, run_waits, run_stopped}
 use Rattle.oftp_engine.proofs.Phases.{over_from}
 use Rattle.oftp_engine.proofs.Progress.{octets_step}
@@ -145,8 +145,8 @@ leaves_prefix r d w step (Some change) least rest e g h sd se le only = λ k l.
           }
     ]
 
-pub is_refused : (setting : Setting) (given : List ℕ) (old new : Scene) (lo ln : Rest) → IsRefused (started setting old.register) given old new lo ln → IsRefusedService setting given old new ln
-is_refused setting given old new lo ln h =
+pub is_office_fault : (setting : Setting) (given : List ℕ) (old new : Scene) (lo ln : Rest) → OfficeFails (started setting old.register) given old new lo ln → IsOfficeFault setting given old new ln
+is_office_fault setting given old new lo ln h =
     let r : Register = old.register in
     let w : Course = whole setting given r in
     let sd : Sound r h.at = h.reaches.grows.sound r (sound_start setting r) in
@@ -234,5 +234,5 @@ is_out_of_memory setting given old new lo ln fine alone h =
 pub serves_from : (setting : Setting) (given : List ℕ) (old new : Scene) (lo ln : Rest) (fine : lo.stands) (alone : ln.stands → Only new.register ln) (f : RunFault) → Fails (started setting old.register) given old new lo ln f → ServesErr setting given old new ln f
 serves_from setting given old new lo ln fine alone fault.Read h = absurd h
 serves_from setting given old new lo ln fine alone fault.Write h = is_broken_off setting given old new lo ln fine alone h
-serves_from setting given old new lo ln fine alone fault.Office h = is_refused setting given old new lo ln h
+serves_from setting given old new lo ln fine alone fault.Office h = is_office_fault setting given old new lo ln h
 serves_from setting given old new lo ln fine alone fault.Memory h = is_out_of_memory setting given old new lo ln fine alone h

@@ -1,50 +1,54 @@
--- A run is the fold over the frames.
-use Rattle.std.proofs.Common.{◌≡◌, ℕ, suc, ◌-◌, ◌≤◌, Bool, cond, ◌||◌, List, [], ◌∷◌, ◌++◌, length, drop, Option, refl, sym, ap, ◌∙◌, subst, arith, append_assoc, length-append, length-drop}
-use Rattle.std.proofs.lemmas.List.{drop_at, take_all}
-use Rattle.std.specs.List.{AllByRecursion, flat_map}
-use Rattle.oftp_wire.specs.Stream.{front, command_in, IsWithin}
-use Rattle.oftp_wire.specs.Stream.{Head, Whole, Waits, Bad}
-use Rattle.oftp_wire.proofs.Streams.{front_within, front_more, IsTold}
+-- A run is the fold over the commands of the frames.
+use Rattle.std.proofs.Common.{◌≡◌, ℕ, suc, ◌+◌, ◌-◌, ◌<◌, Bool, cond, ◌||◌, List, [], ◌∷◌, ◌++◌, length, drop, Option, None, Some, refl, ap, ◌∙◌, subst, arith, append_assoc, length-append}
+use Rattle.std.proofs.lemmas.List.{drop_at, take_at}
+use Rattle.std.proofs.lemmas.List.Elements.{All-drop}
+use Rattle.std.specs.List.{All, AllByRecursion, flat_map}
+use Rattle.oftp_wire.specs.declared.frame_fault.FrameFault.{FrameFault}
+use Rattle.oftp_wire.specs.Header.{frame, header_of, IsCommand}
+use Rattle.oftp_wire.specs.Stream.{Whole, front, command_in, head_of, Reads}
+use Rattle.oftp_wire.proofs.Fronts.{front_frame, front_rest}
 use Rattle.oftp_session.specs.Steps.{is_over}
 use Rattle.oftp_engine.specs.Runs.{Course, came_in, is_stopped, settled, on_front, next_in, run_by, run}
-use Rattle.oftp_engine.specs.Frames.{IsFrame, IsNoFrame, Splits, at_rest, over_frames}
+use Rattle.oftp_engine.specs.Frames.{at_rest, over_commands}
 use Rattle.oftp_engine.proofs.Courses.{run_enough}
-use Rattle.oftp_engine.proofs.Progress.{command_more}
 
 cond_else : (b : Bool) (d x y : Course) → x ≡ y → cond b d x ≡ cond b d y
 cond_else b d x y e = ap (λ (z : Course). cond b d z) e
 
-at_end : (go_on : List ℕ → Course → Course) (s : List ℕ) (d : Course) (f : Head) → IsNoFrame f → on_front go_on s d f ≡ at_rest d f
+at_end : (go_on : List ℕ → Course → Course) (s : List ℕ) (d : Course) (fault : Option FrameFault) → on_front go_on s d (head_of fault) ≡ at_rest d fault
 unfolding on_front
-at_end go_on s d (Whole n) h = absurd h
-at_end go_on s d Waits h = refl
-at_end go_on s d (Bad fault) h = refl
+at_end go_on s d None = refl
+at_end go_on s d (Some fault) = refl
 
-command_of : (f more : List ℕ) → 5 ≤ length f → command_in (length f) (f ++ more) ≡ drop 4 f
-command_of f more five =
-    command_more (length f) f more five (omega arith)
-    ∙ take_all (length f - 4) (drop 4 f) (omega (arith, length-drop 4 f))
+frame_length : (m : List ℕ) → length (frame m) ≡ length m + 4
+frame_length m = omega (arith, length-append (header_of (length m + 4)) m)
 
-pub folds : (limit : Option ℕ) (frames : List (List ℕ)) (rest : List ℕ) (c : Course) → AllByRecursion IsFrame frames → IsNoFrame (front 100003 rest) → run limit (flat_map (λ f. f) frames ++ rest) c ≡ over_frames limit frames rest c
+pub folds : (limit : Option ℕ) (commands : List (List ℕ)) (rest : List ℕ) (fault : Option FrameFault) (c : Course) → AllByRecursion (IsCommand 100003) commands → front 100003 rest ≡ head_of fault → run limit (flat_map frame commands ++ rest) c ≡ over_commands limit commands fault c
 unfolding run run_by next_in on_front
-folds limit [] rest c each ends =
+folds limit [] rest fault c each ends =
     let d = settled limit c in
-    cond_else (is_over d.phase || is_stopped limit d) d _ _ (at_end (run_by (length rest) limit) rest d (front 100003 rest) ends)
-folds limit (f ∷ fs) rest c each ends =
+    cond_else (is_over d.phase || is_stopped limit d) d _ _ (ap (on_front (run_by (length rest) limit) rest d) ends ∙ at_end (run_by (length rest) limit) rest d fault)
+folds limit (m ∷ ms) rest fault c each ends =
     let d = settled limit c in
-    let more = flat_map (λ (x : List ℕ). x) fs ++ rest in
-    let s = f ++ more in
-    let told : IsTold (front 100003 f) = subst IsTold (sym each.0) tt in
-    let whole : front 100003 s ≡ Whole (length f) = front_more 100003 f more told ∙ each.0 in
-    let five : 5 ≤ length f = (subst (IsWithin (length f)) each.0 (front_within 100003 f)).0 in
-    let same : (f ++ flat_map (λ (x : List ℕ). x) fs) ++ rest ≡ s = append_assoc f (flat_map (λ (x : List ℕ). x) fs) rest in
-    let step : on_front (run_by (length s) limit) s d (front 100003 s) ≡ over_frames limit fs rest (came_in d (drop 4 f)) =
+    let more = flat_map frame ms ++ rest in
+    let s = frame m ++ more in
+    let whole : front 100003 s ≡ Whole (length m + 4) = front_frame 100003 m more each.0 in
+    let behind : drop (length m + 4) s ≡ more = drop_at (frame m) more (length m + 4) (frame_length m) in
+    let first : command_in (length m + 4) s ≡ m = take_at m more (length m + 4 - 4) (omega arith) in
+    let same : (frame m ++ flat_map frame ms) ++ rest ≡ s = append_assoc (frame m) (flat_map frame ms) rest in
+    let step : on_front (run_by (length s) limit) s d (front 100003 s) ≡ over_commands limit ms fault (came_in d m) =
     ap (on_front (run_by (length s) limit) s d) whole
-    ∙ ap (λ (x : List ℕ). run_by (length s) limit x (came_in d (command_in (length f) s))) (drop_at f more (length f) refl)
-    ∙ ap (λ (x : List ℕ). run_by (length s) limit more (came_in d x)) (command_of f more five)
-    ∙ run_enough (length s) (suc (length more)) limit more (came_in d (drop 4 f)) (omega (arith, length-append f more)) (omega arith)
-    ∙ folds limit fs rest (came_in d (drop 4 f)) each.1 ends in
+    ∙ ap (λ (x : List ℕ). run_by (length s) limit x (came_in d (command_in (length m + 4) s))) behind
+    ∙ ap (λ (x : List ℕ). run_by (length s) limit more (came_in d x)) first
+    ∙ run_enough (length s) (suc (length more)) limit more (came_in d m) (omega (arith, frame_length m, length-append (frame m) more)) (omega arith)
+    ∙ folds limit ms rest fault (came_in d m) each.1 ends in
     ap (λ (x : List ℕ). run limit x c) same ∙ cond_else (is_over d.phase || is_stopped limit d) d _ _ step
 
-pub folds_all : (limit : Option ℕ) (stream rest : List ℕ) (frames : List (List ℕ)) (c : Course) → Splits stream frames rest → run limit stream c ≡ over_frames limit frames rest c
-folds_all limit stream rest frames c h = ap (λ (x : List ℕ). run limit x c) h.all ∙ folds limit frames rest c h.each h.ends
+pub folds_all : (limit : Option ℕ) (stream : List ℕ) (commands : List (List ℕ)) (fault : Option FrameFault) (c : Course) → All (λ octet. octet < 256) stream → Reads 100003 stream commands fault → run limit stream c ≡ over_commands limit commands fault c
+folds_all limit stream commands fault c small h =
+    let frames = flat_map frame commands in
+    let whole : stream ≡ frames ++ h.rest = h.front.whole in
+    let tail : drop (length frames) stream ≡ h.rest = ap (drop (length frames)) whole ∙ drop_at frames h.rest (length frames) refl in
+    let rest_small = subst (All (λ (octet : ℕ). octet < 256)) tail (All-drop (λ (octet : ℕ). octet < 256) (length frames) stream small) in
+    ap (λ (x : List ℕ). run limit x c) whole
+    ∙ folds limit commands h.rest fault c h.front.each (front_rest 100003 h.rest rest_small h.front.last ∙ ap head_of h.fault_is)

@@ -9,13 +9,13 @@ use Rattle.oftp_wire.proofs.Streams.{front_within, front_more, IsTold}
 use Rattle.oftp_register.specs.Offices.{Rest, next_count}
 use Rattle.oftp_session.specs.Phases.{Step, fails}
 use Rattle.oftp_session.specs.Steps.{has_turn, is_over, turned}
-use Rattle.oftp_session.specs.Calls.{Seen}
+use Rattle.oftp_session.specs.Calls.{Allows, Seen}
+use Rattle.oftp_session.proofs.Allowed.{turn_allowed}
 use Rattle.oftp_engine.specs.declared.serving.RunFault.{RunFault}
 use Rattle.oftp_engine.specs.declared.serving.RunFault.TheVariants as fault
 use Rattle.oftp_engine.specs.Runs.{Course, Output, advance, run, is_stopped, octets_of, with_output, with_change, turned_in, came_in}
-use Rattle.oftp_engine.specs.Serving.{Allows, IsSaid, Leads, Reaches, Scene, Took, Went, Fails, Made, StepFails}
+use Rattle.oftp_engine.specs.Serving.{IsSaid, Leads, Reaches, Scene, Took, Went, Fails, Made, StepFails}
 use Rattle.oftp_engine.proofs.Bytes.{appends_none, appends_on, count_on}
-use Rattle.oftp_engine.proofs.Phases.{turn_allowed}
 use Rattle.oftp_engine.proofs.Courses.{grows_none, grows_on, grows_step, octets-append, stopped_before, run_turn, run_frame, run_bad, run_over}
 
 -- what the writer took

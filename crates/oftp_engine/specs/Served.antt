@@ -72,7 +72,7 @@ pub record IsBrokenOff (setting : Setting) (given : List ℕ) (old new : Scene) 
 
 -- the office told a fault: whole outputs are out, and after them ESID 08 or as much of it as the writer took before it told a fault.
 -- The register is the one after some changes, at least those that were answered
-pub record IsRefusedService (setting : Setting) (given : List ℕ) (old new : Scene) (rest : Rest) : Type 0 where
+pub record IsOfficeFault (setting : Setting) (given : List ℕ) (old new : Scene) (rest : Rest) : Type 0 where
   pub outs : List Output
   pub later : List Output
   pub outputs : (whole setting given old.register).outputs ≡ outs ++ later
@@ -104,7 +104,7 @@ pub record IsOutOfMemory (setting : Setting) (given : List ℕ) (old new : Scene
 abbrev pub ServesErr : Setting → List ℕ → Scene → Scene → Rest → RunFault → Type 0
 ServesErr setting given old new rest fault.Read = IsWhole setting given old new rest
 ServesErr setting given old new rest fault.Write = IsBrokenOff setting given old new rest
-ServesErr setting given old new rest fault.Office = IsRefusedService setting given old new rest
+ServesErr setting given old new rest fault.Office = IsOfficeFault setting given old new rest
 ServesErr setting given old new rest fault.Memory = IsOutOfMemory setting given old new rest
 
 -- what a call that answers this has done

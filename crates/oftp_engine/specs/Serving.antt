@@ -8,9 +8,9 @@ use Rattle.oftp_register.specs.declared.change.Change.{Change}
 use Rattle.oftp_register.specs.Register.{Register}
 use Rattle.oftp_register.specs.Changes.{apply_all}
 use Rattle.oftp_register.specs.Offices.{Rest, Only, WithOrWithout, next_count}
-use Rattle.oftp_session.specs.Phases.{Step, register_after, frame_of, esid_of}
+use Rattle.oftp_session.specs.Phases.{Step, frame_of, esid_of}
 use Rattle.oftp_session.specs.Steps.{has_turn, is_over, Holds}
-use Rattle.oftp_session.specs.Calls.{Makes, Seen, Stands, ending_of}
+use Rattle.oftp_session.specs.Calls.{Allows, Seen, Stands, ending_of}
 use Rattle.oftp_session.specs.declared.session.Ending.{Ending}
 use Rattle.oftp_engine.specs.Runs.{Course, Output, run, is_stopped, advance, octets_of}
 use Rattle.oftp_engine.specs.declared.port.Port.{Port}
@@ -22,10 +22,6 @@ use Rattle.oftp_engine.specs.declared.serving.RunFault.TheVariants as fault
 abbrev pub Counted : ℕ → List Output → Type 0
 Counted most [] = Unit {0}
 Counted most (o ∷ outputs) = (o.after ≤ most) × Counted most outputs
-
--- the change of a step, if it makes one, is one that the register takes
-abbrev pub Allows : Register → Option Change → Type 0
-Allows r change = Makes change r (register_after r change)
 
 -- the register is the one after the changes, from r on, all of them made
 pub record Sound (r : Register) (c : Course) : Type 0 where
@@ -115,7 +111,7 @@ pub record StaysAfter (at : Course) (step : Step) (register : Register) (rest : 
   pub left : Only (advance at step).register rest
 
 -- the office told a fault within a step
-pub record IsRefused (c : Course) (s : List ℕ) (old new : Scene) (rest_old rest_new : Rest) : Type 0 where
+pub record OfficeFails (c : Course) (s : List ℕ) (old new : Scene) (rest_old rest_new : Rest) : Type 0 where
   pub at : Course
   pub step : Step
   pub count : ℕ
@@ -146,7 +142,7 @@ pub record IsShort (c : Course) (s : List ℕ) (old new : Scene) (rest_old rest_
 abbrev pub Fails : Course → List ℕ → Scene → Scene → Rest → Rest → RunFault → Type 0
 Fails c s old new rest_old rest_new fault.Read = ⊥
 Fails c s old new rest_old rest_new fault.Write = BreaksOff c s old new rest_old rest_new
-Fails c s old new rest_old rest_new fault.Office = IsRefused c s old new rest_old rest_new
+Fails c s old new rest_old rest_new fault.Office = OfficeFails c s old new rest_old rest_new
 Fails c s old new rest_old rest_new fault.Memory = IsShort c s old new rest_old rest_new
 
 -- one step at a course: it is made and its output is out

@@ -1,11 +1,14 @@
 //! What holds of runs.
 
-ghost use Rattle.std.specs.Prelude.{◌≡◌, ℕ, List, Option};
-ghost use Rattle.oftp_engine.specs.Frames.{Splits, over_frames};
+ghost use Rattle.std.specs.Prelude.{◌≡◌, ◌<◌, ℕ, All, List, Option};
+ghost use Rattle.oftp_wire.specs.declared.frame_fault.FrameFault.{FrameFault};
+ghost use Rattle.oftp_wire.specs.Stream.{Reads};
+ghost use Rattle.oftp_engine.specs.Frames.{over_commands};
 ghost use Rattle.oftp_engine.specs.Runs.{Course, run};
 
-/// A run over the octets of a stream is the fold over its frames, however these are found.
+/// A run over the octets of a stream is the fold over the commands of its frames and the fault behind them.
 pub fn folds_over_frames()
-    ensures { (limit : Option ℕ) (stream rest : List ℕ) (frames : List (List ℕ)) (c : Course) → Splits stream frames rest
-        → run limit stream c ≡ over_frames limit frames rest c }
+    ensures { (limit : Option ℕ) (stream : List ℕ) (commands : List (List ℕ)) (fault : Option FrameFault) (c : Course)
+        → All (λ octet. octet < 256) stream → Reads 100003 stream commands fault
+        → run limit stream c ≡ over_commands limit commands fault c }
 {}

@@ -1,3 +1,4 @@
 pub mod Framing
 pub mod Filing
 pub mod Phases
+pub mod Allowed

@@ -1,5 +1,5 @@
 -- Facts of single phases.
-use Rattle.std.proofs.Common.{◌≡◌, ◌<◌, true, false, Some, refl, ap, arith}
+use Rattle.std.proofs.Common.{◌≡◌, ◌<◌, true, false, Some, refl, ap, arith, is_some}
 use Rattle.std.proofs.lemmas.Bool.{false≢true}
 use Rattle.oftp_wire.specs.declared.command.Command.{Command}
 use Rattle.oftp_register.specs.Register.{Register}
@@ -7,7 +7,7 @@ use Rattle.oftp_session.specs.declared.link.WhenDone.TheVariants.{ChangeDirectio
 use Rattle.oftp_partners.specs.declared.partner.Partner.{Partner}
 use Rattle.oftp_session.specs.declared.link.Link.{Link}
 use Rattle.oftp_session.specs.declared.session.State.TheVariants as state
-use Rattle.oftp_session.specs.Calls.{Seen, Stands}
+use Rattle.oftp_session.specs.Calls.{Seen, Stands, ending_of}
 use Rattle.oftp_session.specs.Settings.{Setting}
 use Rattle.oftp_session.specs.Phases.{Phase, ResponderOpening, InitiatorOpening, AwaitingSsid, ListenerIdle, SpeakerIdle, EndedHere, EndedThere, register_after}
 use Rattle.oftp_session.specs.Steps.{has_turn, turned, turns_due, came, is_over, Holds}
@@ -73,3 +73,13 @@ listening_from (ListenerIdle partner other) s link e h =
 listening_from (SpeakerIdle partner other done) s link e h = absurd (let i = h.0 in let no : ⊥ = cc in no)
 listening_from (EndedHere reason) s link e h = absurd (let no : ⊥ = cc in no)
 listening_from (EndedThere reason) s link e h = absurd (let no : ⊥ = cc in no)
+
+-- a phase has ended where it says how
+pub over_told : (p : Phase) → is_some (ending_of p) ≡ is_over p
+over_told ResponderOpening = refl
+over_told (InitiatorOpening partner) = refl
+over_told AwaitingSsid = refl
+over_told (ListenerIdle partner link) = refl
+over_told (SpeakerIdle partner link done) = refl
+over_told (EndedHere reason) = refl
+over_told (EndedThere reason) = refl

@@ -14,7 +14,7 @@ use Rattle.oftp_session.specs.declared.session.Out.{Out}
 use Rattle.oftp_session.specs.declared.session.Out.TheVariants.{Nothing, Send}
 use Rattle.oftp_session.specs.Settings.{Setting}
 use Rattle.oftp_partners.specs.declared.partner.Partner.{Partner as Entry}
-use Rattle.oftp_session.specs.Phases.{Phase, ResponderOpening, InitiatorOpening, AwaitingSsid, ListenerIdle, SpeakerIdle, EndedHere, EndedThere, Step}
+use Rattle.oftp_session.specs.Phases.{Phase, ResponderOpening, InitiatorOpening, AwaitingSsid, ListenerIdle, SpeakerIdle, EndedHere, EndedThere, Step, register_after}
 
 -- what a caller sees of a session: its book and whom it calls, the partner once it is known, its state, and the frame that it
 -- said last, [] for none
@@ -53,6 +53,10 @@ said (Send frame) = frame.now
 abbrev pub Makes : Option Change → Register → Register → Type 0
 Makes None old new = new ≡ old
 Makes (Some change) old new = apply old change ≡ Ok new
+
+-- the change of a step, if it makes one, is one that the register takes
+abbrev pub Allows : Register → Option Change → Type 0
+Allows r change = Makes change r (register_after r change)
 
 -- the office's side of a call: its register and its count of faults
 pub record Desk : Type 0 where

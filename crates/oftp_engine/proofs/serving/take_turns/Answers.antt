@@ -6,7 +6,7 @@ use Rattle.oftp_session.specs.Steps.{turned}
 use Rattle.oftp_engine.specs.declared.serving.RunFault.{RunFault}
 use Rattle.oftp_engine.specs.Runs.{turned_in}
 use Rattle.oftp_engine.specs.Serving.{scene, TurnsTaken}
-use Rattle.oftp_engine.proofs.Phases.{turn_allowed}
+use Rattle.oftp_session.proofs.Allowed.{turn_allowed}
 use Rattle.oftp_engine.proofs.Progress.{went_none, went_on, went_step, fails_step, fails_later, leads_turn, reaches_turn}
 use Rattle.oftp_engine.proofs.serving.take_turns.Goals as goal
 
