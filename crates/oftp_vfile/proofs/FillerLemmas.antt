@@ -1,12 +1,13 @@
-use Rattle.std.proofs.Common.{◌≡◌, ℕ, suc, zero, ◌+◌, ◌-◌, ◌<◌, ◌≤◌, Bool, true, false, cond, eqb, ◌&&◌, min, List, [], ◌∷◌, ◌++◌, length, get_or, drop, refl, sym, ap, ◌∙◌, subst, arith, inl, inr}
+use Rattle.std.proofs.Common.{◌≡◌, ℕ, suc, zero, ◌+◌, ◌-◌, ◌<◌, ◌≤◌, Bool, true, false, cond, eqb, ◌&&◌, min, List, [], ◌∷◌, ◌++◌, length, get_or, take, drop, refl, sym, ap, ◌∙◌, subst, arith, inl, inr}
 use Rattle.std.proofs.lemmas.Bool.{and_parts, cases_lt, eq-eqb, eqb-true, false≢true}
 use Rattle.std.proofs.lemmas.List.{append-nil, length-append, length-drop, drop-append-le, drop_all, get_or-drop, nil_from_length}
+use Rattle.std.proofs.Math.Bool.{and-false}
 use Rattle.std.proofs.lemmas.List.Concat.{flat_map-append}
 use Rattle.oftp_vfile.specs.declared.format.Format.{Format}
 use Rattle.oftp_vfile.specs.declared.format.Format.TheVariants.{Fixed, Variable, Unstructured, Text}
 use Rattle.oftp_vfile.specs.Subrecord.{Subrecord, payload_of}
-use Rattle.oftp_vfile.specs.VirtualFile.{is_stream, octets_in}
-use Rattle.oftp_vfile.specs.Filling.{advanced, Filling, from_offset, left_of, AreBehind, nothing_left, least, Reaches, IsInRows}
+use Rattle.oftp_vfile.specs.VirtualFile.{is_stream, octets_in, whole_count}
+use Rattle.oftp_vfile.specs.Filling.{advanced, Filling, from_offset, left_of, AreBehind, nothing_left, least, Reaches, IsInRows, Moves}
 use Rattle.oftp_vfile.specs.Fill.{needs, next_count, next_of, behind, IsFull, Packs}
 use Rattle.oftp_vfile.specs.Packing.{HasPacked, rest_at, IsTail, HasStreamed, HasEnded, PacksNext}
 use Rattle.oftp_vfile.proofs.PackingLemmas.{from_offset-zero, needs_most}
@@ -52,6 +53,19 @@ some_subs (s ∷ ss) octets e h = omega arith
 
 pub drop_place : (rows : List (List ℕ)) (row offset : ℕ) → (0 < offset → offset < length (get_or rows row [])) → 0 < offset → offset < length (get_or (drop row rows) 0 [])
 drop_place rows row offset h o = subst (λ (x : List ℕ). offset < length x) (ap (λ n. get_or rows n []) (omega arith) ∙ sym (get_or-drop row rows 0 [])) (h o)
+
+-- a filler that goes on to a place in the lent rows moves on within them
+pub moves_to : (f : Filling) (rows : List (List ℕ)) (row offset : ℕ) (last : Bool) → row ≤ length rows → (0 < offset → offset < length (get_or rows row [])) → (is_stream f.format ≡ true → f.done ≡ false) → Moves f (advanced f rows row offset) rows last
+moves_to f rows row offset last within place going =
+    let gone : f.row + row - f.row ≡ row = omega arith in
+    record {
+      format = refl;
+      ahead = omega arith;
+      within = omega (arith, within);
+      place = λ o. subst (λ (k : ℕ). offset < length (get_or (drop k rows) 0 [])) (sym gone) (drop_place rows row offset place o);
+      mark = ap (λ (k : ℕ). f.mark + whole_count f.format (take k rows)) (sym gone);
+      over = λ stream done. absurd (false≢true (sym (going stream) ∙ done));
+    }
 
 -- the next payload of records
 pub records_next : (size : ℕ) (f : Filling) (rows : List (List ℕ)) (row offset free : ℕ) (octets : List ℕ) (last : Bool) → is_stream f.format ≡ false → IsInRows f rows
@@ -153,6 +167,12 @@ records_some size f new rows octets last e n h =
 
 pub nothing_records : (f : Filling) (rows : List (List ℕ)) (last : Bool) → is_stream f.format ≡ false → rows ≡ [] → last ≡ true → nothing_left f rows last ≡ true
 nothing_records f rows last e n t = ap (λ (b : Bool). cond b f.done (eqb (length rows) 0 && last)) e ∙ ap (λ (x : Bool). x && last) (eq-eqb (length rows) 0 (ap length n)) ∙ t
+
+pub coming_some : (f : Filling) (rows : List (List ℕ)) (last : Bool) → is_stream f.format ≡ false → last ≡ false → nothing_left f rows last ≡ false
+coming_some f rows last e t = ap (λ (b : Bool). cond b f.done (eqb (length rows) 0 && last)) e ∙ ap (λ (x : Bool). eqb (length rows) 0 && x) t ∙ and-false (eqb (length rows) 0)
+
+pub going_some : (f : Filling) (rows : List (List ℕ)) (last : Bool) → is_stream f.format ≡ true → f.done ≡ false → nothing_left f rows last ≡ false
+going_some f rows last e going = ap (λ (b : Bool). cond b f.done (eqb (length rows) 0 && last)) e ∙ going
 
 pub full_all : (rows : List (List ℕ)) (row offset free : ℕ) → row ≤ length rows → (row < length rows → IsFull free (from_offset offset (drop row rows))) → IsFull free (from_offset offset (drop row rows))
 full_all rows row offset free h f =

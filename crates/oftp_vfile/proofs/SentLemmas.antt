@@ -14,7 +14,7 @@ use Rattle.oftp_vfile.specs.VirtualFile.{is_stream, octets_in, whole_count, AreB
 use Rattle.oftp_vfile.specs.Subrecord.{Subrecord, payload_of, octets_of, AreShort}
 use Rattle.oftp_vfile.specs.Carries.{Carries, Carried, pieces, onto}
 use Rattle.oftp_vfile.specs.Fill.{Fills, behind, fill_from, weight, fill, records_of, payloads_of, rows_ended, wholly_sent}
-use Rattle.oftp_vfile.specs.Filling.{Filling, new_filling, from_offset, left_of, AreBehind, IsFirstPayload, IfBuffer, nothing_left, Moves, Sent, AreLent}
+use Rattle.oftp_vfile.specs.Filling.{Filling, new_filling, from_offset, left_of, AreBehind, IsFirstPayload, IfBuffer, nothing_left, Moves, FillsNext, Sent, AreLent}
 use Rattle.oftp_vfile.proofs.PackingLemmas.{from_offset-zero}
 use Rattle.oftp_vfile.proofs.FillerLemmas.{left_records, left_stream, in_octets}
 use Rattle.oftp_vfile.proofs.FillListLemmas.{fills_fill}
@@ -89,10 +89,10 @@ sent_step size old new from file lent payloads last octets s a f m =
     }
 
 pub sent_if : (size : ℕ) (old new : Filling) (from : ℕ) (file lent payloads : List (List ℕ)) (last : Bool) (out : List ℕ) (r : Filled) → Sent old size from file payloads → AreLent old from file lent last
-    → IfBuffer r (λ n. (n ≤ size) × IsFirstPayload size old new lent last (take n out)) → IfBuffer r (λ n. Moves old new lent last) → IfBuffer r (λ n. Sent new size from file (payloads ++ take n out ∷ []))
-sent_if size old new from file lent payloads last out (Buffer n) s a f m = sent_step size old new from file lent payloads last (take n out) s a f.1 m
-sent_if size old new from file lent payloads last out Done s a f m = tt
-sent_if size old new from file lent payloads last out More s a f m = tt
+    → IfBuffer r (λ n. (n ≤ size) × IsFirstPayload size old new lent last (take n out)) → FillsNext size old new lent last r → IfBuffer r (λ n. Sent new size from file (payloads ++ take n out ∷ []))
+sent_if size old new from file lent payloads last out (Buffer n) s a f h = sent_step size old new from file lent payloads last (take n out) s a f.1 h.moves
+sent_if size old new from file lent payloads last out Done s a f h = tt
+sent_if size old new from file lent payloads last out More s a f h = tt
 
 nothing_filled : (size : ℕ) (f : Filling) (lent more : List (List ℕ)) (last : Bool) → nothing_left f lent last ≡ true → AreBehind f.format last more → fill size (left_of f (lent ++ more)) ≡ []
 unfolding fill_from
@@ -106,9 +106,12 @@ nothing_filled size f lent more last n behind =
     both (is_stream f.format) n
 
 -- Where nothing is left all payloads were made.
-pub sent_all : (size : ℕ) (f : Filling) (from : ℕ) (file lent payloads : List (List ℕ)) (last : Bool) → Sent f size from file payloads → AreLent f from file lent last → nothing_left f lent last ≡ true → payloads ≡ payloads_of f.format size file
+sent_all : (size : ℕ) (f : Filling) (from : ℕ) (file lent payloads : List (List ℕ)) (last : Bool) → Sent f size from file payloads → AreLent f from file lent last → nothing_left f lent last ≡ true → payloads ≡ payloads_of f.format size file
 sent_all size f from file lent payloads last s a n =
     sym (append-nil payloads) ∙ ap (λ (x : List (List ℕ)). payloads ++ x) (sym (ap (λ (x : List (List ℕ)). fill size (left_of f x)) a.1 ∙ nothing_filled size f lent a.0 last n a.2)) ∙ s.split
+
+pub sent_done : (size : ℕ) (f new : Filling) (from : ℕ) (file lent payloads : List (List ℕ)) (last : Bool) (r : Filled) → Sent f size from file payloads → AreLent f from file lent last → FillsNext size f new lent last r → r ≡ Done → payloads ≡ payloads_of f.format size file
+sent_done size f new from file lent payloads last r s a h d = sent_all size f from file lent payloads last s a (subst (λ (x : Filled). FillsNext size f new lent last x) d h).none
 
 -- Each end flag makes one more piece.
 pieces_length : (ss : List Subrecord) → length (pieces ss) ≡ suc (count_by (λ (s : Subrecord). s.ends) ss)

@@ -85,6 +85,30 @@ pub record Moves (old new : Filling) (rows : List (List ℕ)) (last : Bool) : Ty
   pub mark : new.mark ≡ old.mark + whole_count old.format (take (new.row - old.row) rows)
   pub over : is_stream old.format ≡ true → new.done ≡ true → (last ≡ true) × (new.row ≡ old.row + length rows)
 
+-- The next payload is written: the filler moved on, something was left to send, and no subrecord of a further row would fit.
+pub record IsWritten (size : ℕ) (old new : Filling) (rows : List (List ℕ)) (last : Bool) : Type 0 where
+  pub moves : Moves old new rows last
+  pub some : nothing_left old rows last ≡ false
+  pub full : last ≡ false → Reaches size old rows → ⊥
+
+-- More rows are asked for: rows are to come, and a subrecord of one could fit.
+pub record AsksForMore (size : ℕ) (old new : Filling) (rows : List (List ℕ)) (last : Bool) : Type 0 where
+  pub coming : last ≡ false
+  pub some : nothing_left old rows last ≡ false
+  pub reaches : Reaches size old rows
+  pub same : new ≡ old
+
+-- Nothing is left to send.
+pub record IsDone (old new : Filling) (rows : List (List ℕ)) (last : Bool) : Type 0 where
+  pub none : nothing_left old rows last ≡ true
+  pub same : new ≡ old
+
+-- What a filler does that answers this.
+abbrev pub FillsNext : ℕ → Filling → Filling → List (List ℕ) → Bool → Filled → Type 0
+FillsNext size old new rows last (Buffer n) = IsWritten size old new rows last
+FillsNext size old new rows last More = AsksForMore size old new rows last
+FillsNext size old new rows last Done = IsDone old new rows last
+
 -- A filler that began at row `from`, where these are the rows of the file from there on, made these payloads of at most size
 -- octets: they are the first of all, and those of what is left are the others.
 pub record Sent (f : Filling) (size from : ℕ) (rows payloads : List (List ℕ)) : Type 0 where

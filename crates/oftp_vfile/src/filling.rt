@@ -1,8 +1,8 @@
 //! Rows in, payloads out.
-ghost use Rattle.std.specs.Prelude.{◌≡◌, ◌+◌, ◌<◌, ◌≤◌, ◌++◌, ◌∷◌, [], ℕ, List, length, take, slice_index_or, true, false, All, ◌↔◌};
+ghost use Rattle.std.specs.Prelude.{◌≡◌, ◌+◌, ◌<◌, ◌≤◌, ◌++◌, ◌∷◌, [], ℕ, List, length, take, slice_index_or, true, false, All};
 ghost use Rattle.oftp_vfile.specs.VirtualFile.{is_stream, whole_count};
 ghost use Rattle.oftp_vfile.specs.Fill.{needs, payloads_of};
-ghost use Rattle.oftp_vfile.specs.Filling.{Filling, AreLent, IfBuffer, IsFirstPayload, IsInRows, Moves, Reaches, Sent, advanced, least, new_filling, nothing_left};
+ghost use Rattle.oftp_vfile.specs.Filling.{Filling, AreLent, FillsNext, IfBuffer, IsFirstPayload, IsInRows, Sent, advanced, least, new_filling};
 ghost use Rattle.oftp_vfile.specs.Packing.{PacksNext};
 
 use crate::content::Row;
@@ -114,17 +114,10 @@ impl Filler {
         // A payload is the first of those of what is left, wherever the lent rows end.
         ensures buffer { IfBuffer result (λ n. (n ≤ length out.old)
             × IsFirstPayload (length out.old) self.old self.new rows.now last (take n out.new)) }
-        ensures moves { IfBuffer result (λ n. Moves self.old self.new rows.now last) }
 
         // More comes exactly where a subrecord of a further row could fit, Done exactly where
         // nothing is left.
-        ensures enough { IfBuffer result (λ n. last ≡ false
-            → Reaches (length out.old) self.old rows.now → ⊥) }
-        ensures more { result ≡ Filled.More
-            → (last ≡ false) × Reaches (length out.old) self.old rows.now }
-        ensures done { result ≡ Filled.Done ↔ (nothing_left self.old rows.now last ≡ true) }
-        ensures same { (result ≡ Filled.Done → self.new ≡ self.old)
-            × (result ≡ Filled.More → self.new ≡ self.old) }
+        ensures fills { FillsNext (length out.old) self.old self.new rows.now last result }
 
         // What was made so far, and all, where the lent rows are those of a whole file.
         ensures sent { (from : ℕ) (file payloads : List (List ℕ))
@@ -164,14 +157,7 @@ impl Filler {
         requires place { IsInRows self.old rows.now }
         ensures buffer { IfBuffer result (λ n. (n ≤ length out.old)
             × PacksNext (length out.old) self.old self.new rows.now last (take n out.new)) }
-        ensures moves { IfBuffer result (λ n. Moves self.old self.new rows.now last) }
-        ensures enough { IfBuffer result (λ n. last ≡ false
-            → Reaches (length out.old) self.old rows.now → ⊥) }
-        ensures more { result ≡ Filled.More
-            → (last ≡ false) × Reaches (length out.old) self.old rows.now }
-        ensures done { result ≡ Filled.Done ↔ (nothing_left self.old rows.now last ≡ true) }
-        ensures same { (result ≡ Filled.Done → self.new ≡ self.old)
-            × (result ≡ Filled.More → self.new ≡ self.old) }
+        ensures fills { FillsNext (length out.old) self.old self.new rows.now last result }
     {
         let (at, place) = pack_records(rows, self.offset, out);
         if place.row == rows.len() && !last && out.len() - at >= least_need(self.format) {
@@ -193,14 +179,7 @@ impl Filler {
         requires some { All (λ r. 0 < length r) rows.now }
         ensures buffer { IfBuffer result (λ n. (n ≤ length out.old)
             × PacksNext (length out.old) self.old self.new rows.now last (take n out.new)) }
-        ensures moves { IfBuffer result (λ n. Moves self.old self.new rows.now last) }
-        ensures enough { IfBuffer result (λ n. last ≡ false
-            → Reaches (length out.old) self.old rows.now → ⊥) }
-        ensures more { result ≡ Filled.More
-            → (last ≡ false) × Reaches (length out.old) self.old rows.now }
-        ensures done { result ≡ Filled.Done ↔ (nothing_left self.old rows.now last ≡ true) }
-        ensures same { (result ≡ Filled.Done → self.new ≡ self.old)
-            × (result ≡ Filled.More → self.new ≡ self.old) }
+        ensures fills { FillsNext (length out.old) self.old self.new rows.now last result }
     {
         if self.done {
             return Filled::Done;

@@ -1,30 +1,40 @@
 use Rattle.std.proofs.Common.{length}
 use Rattle.oftp_vfile.proofs.FillListLemmas.{first_if}
-use Rattle.oftp_vfile.proofs.SentLemmas.{sent_if, sent_all}
+use Rattle.oftp_vfile.proofs.SentLemmas.{sent_if, sent_done}
 use Rattle.oftp_vfile.proofs.filling.Filler.next_buffer.Goals as goal
 
-pub returns-then-is_stream-clause-buffer : goal.returns-then-is_stream-clause-buffer
-returns-then-is_stream-clause-buffer c = first_if (length c.args.out.now) c.args.self.now c.next_of_stream.new.self c.args.rows.now c.args.last c.next_of_stream.new.out c.next_of_stream.result c.requires.room c.next_of_stream.ensures.buffer
-
-pub returns-else-is_stream-clause-buffer : goal.returns-else-is_stream-clause-buffer
-returns-else-is_stream-clause-buffer c = first_if (length c.args.out.now) c.args.self.now c.next_of_records.new.self c.args.rows.now c.args.last c.next_of_records.new.out c.next_of_records.result c.requires.room c.next_of_records.ensures.buffer
-
-pub returns-then-is_stream-clause-sent : goal.returns-then-is_stream-clause-sent
-returns-then-is_stream-clause-sent c = λ from file payloads s a.
+pub returns-then-is_stream : goal.returns-then-is_stream
+returns-then-is_stream c =
     let size = length c.args.out.now in
+    let old = c.args.self.now in
+    let new = c.next_of_stream.new.self in
+    let lent = c.args.rows.now in
+    let last = c.args.last in
+    let out = c.next_of_stream.new.out in
+    let answer = c.next_of_stream.result in
     let e = c.next_of_stream.ensures in
-    let first = first_if size c.args.self.now c.next_of_stream.new.self c.args.rows.now c.args.last c.next_of_stream.new.out c.next_of_stream.result c.requires.room e.buffer in
-    sent_if size c.args.self.now c.next_of_stream.new.self from file c.args.rows.now payloads c.args.last c.next_of_stream.new.out c.next_of_stream.result s a first e.moves
+    let first = first_if size old new lent last out answer c.requires.room e.buffer in
+    record {
+      buffer = first;
+      fills = e.fills;
+      sent = λ from file payloads s a. sent_if size old new from file lent payloads last out answer s a first e.fills;
+      all = λ from file payloads s a. sent_done size old new from file lent payloads last answer s a e.fills;
+    }
 
-pub returns-then-is_stream-clause-all : goal.returns-then-is_stream-clause-all
-returns-then-is_stream-clause-all c = λ from file payloads s a d. sent_all (length c.args.out.now) c.args.self.now from file c.args.rows.now payloads c.args.last s a (c.next_of_stream.ensures.done.0 d)
-
-pub returns-else-is_stream-clause-sent : goal.returns-else-is_stream-clause-sent
-returns-else-is_stream-clause-sent c = λ from file payloads s a.
+pub returns-else-is_stream : goal.returns-else-is_stream
+returns-else-is_stream c =
     let size = length c.args.out.now in
+    let old = c.args.self.now in
+    let new = c.next_of_records.new.self in
+    let lent = c.args.rows.now in
+    let last = c.args.last in
+    let out = c.next_of_records.new.out in
+    let answer = c.next_of_records.result in
     let e = c.next_of_records.ensures in
-    let first = first_if size c.args.self.now c.next_of_records.new.self c.args.rows.now c.args.last c.next_of_records.new.out c.next_of_records.result c.requires.room e.buffer in
-    sent_if size c.args.self.now c.next_of_records.new.self from file c.args.rows.now payloads c.args.last c.next_of_records.new.out c.next_of_records.result s a first e.moves
-
-pub returns-else-is_stream-clause-all : goal.returns-else-is_stream-clause-all
-returns-else-is_stream-clause-all c = λ from file payloads s a d. sent_all (length c.args.out.now) c.args.self.now from file c.args.rows.now payloads c.args.last s a (c.next_of_records.ensures.done.0 d)
+    let first = first_if size old new lent last out answer c.requires.room e.buffer in
+    record {
+      buffer = first;
+      fills = e.fills;
+      sent = λ from file payloads s a. sent_if size old new from file lent payloads last out answer s a first e.fills;
+      all = λ from file payloads s a. sent_done size old new from file lent payloads last answer s a e.fills;
+    }

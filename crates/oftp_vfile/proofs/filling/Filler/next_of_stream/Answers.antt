@@ -1,12 +1,12 @@
-use Rattle.std.proofs.Common.{ℕ, ◌≡◌, ◌-◌, ◌<◌, [], ◌∷◌, ◌++◌, false, take, drop, length, ap, sym, subst, ◌∙◌, arith}
+use Rattle.std.proofs.Common.{refl, ℕ, ◌≡◌, ◌-◌, ◌<◌, [], ◌∷◌, ◌++◌, false, take, drop, length, ap, sym, subst, ◌∙◌, arith}
 use Rattle.std.proofs.lemmas.List.{length-take-le}
-use Rattle.oftp_vfile.specs.Filling.{advanced, Filling, least}
+use Rattle.oftp_vfile.specs.Filling.{advanced, Filling, least, Moves}
 use Rattle.oftp_vfile.specs.Packing.{rest_at, HasStreamed, PacksNext}
-use Rattle.oftp_vfile.proofs.FillerLemmas.{stream_next, stream_more, stream_left, next_enough}
+use Rattle.oftp_vfile.proofs.FillerLemmas.{going_some, moves_to, stream_next, stream_more, stream_left, next_enough}
 use Rattle.oftp_vfile.proofs.filling.Filler.next_of_stream.Goals as goal
 
-pub returns-in-Short-clause-more : goal.returns-in-Short-clause-more
-returns-in-Short-clause-more c = λ _.
+pub returns-in-Short-clause-fills : goal.returns-in-Short-clause-fills
+returns-in-Short-clause-fills c =
     let f = c.args.self.now in
     let rows = c.args.rows.now in
     let size = length c.args.out.now in
@@ -14,17 +14,20 @@ returns-in-Short-clause-more c = λ _.
     let place = c.pack_stream-at.result.1 in
     let free = size - at in
     let was = c.self.view_is in
-    let offset : c.self.inside.offset ≡ f.offset = ap (λ x. x.offset) was in
     let going : f.done ≡ false = sym (ap (λ x. x.done) was) ∙ c.if-self.false in
     let octets = take at c.pack_stream-at.new.out in
-    let long : length c.pack_stream-at.new.out ≡ size = omega arith in
     let told = c.pack_stream-at.ensures.short c.in-Short.is in
     let p : HasStreamed c.args.last size (rest_at rows 0 f.offset) octets free (rest_at rows place.row place.offset) =
-    subst (λ (x : ℕ). HasStreamed c.args.last size (rest_at rows 0 x) octets free (rest_at rows place.row place.offset)) offset told.2 in
-    (told.0, stream_more size f rows place.row place.offset free octets c.args.last c.requires.stream going c.requires.place told.0 told.1 p)
+    subst (λ (x : ℕ). HasStreamed c.args.last size (rest_at rows 0 x) octets free (rest_at rows place.row place.offset)) (ap (λ x. x.offset) was) told.2 in
+    record {
+      coming = told.0;
+      some = going_some f rows c.args.last c.requires.stream going;
+      reaches = stream_more size f rows place.row place.offset free octets c.args.last c.requires.stream going c.requires.place told.0 told.1 p;
+      same = refl;
+    }
 
-pub returns-in-Full-clause-buffer : goal.returns-in-Full-clause-buffer
-returns-in-Full-clause-buffer c =
+pub returns-in-Full : goal.returns-in-Full
+returns-in-Full c =
     let f = c.args.self.now in
     let rows = c.args.rows.now in
     let size = length c.args.out.now in
@@ -32,37 +35,21 @@ returns-in-Full-clause-buffer c =
     let place = c.pack_stream-at.result.1 in
     let free = size - at in
     let was = c.self.view_is in
-    let offset : c.self.inside.offset ≡ f.offset = ap (λ x. x.offset) was in
     let going : f.done ≡ false = sym (ap (λ x. x.done) was) ∙ c.if-self.false in
     let octets = take at c.pack_stream-at.new.out in
     let long : length c.pack_stream-at.new.out ≡ size = omega arith in
     let told = c.pack_stream-at.ensures.full c.in-Full.is in
     let p : HasStreamed c.args.last size (rest_at rows 0 f.offset) octets free (rest_at rows place.row place.offset) =
-    subst (λ (x : ℕ). HasStreamed c.args.last size (rest_at rows 0 x) octets free (rest_at rows place.row place.offset)) offset told.2 in
+    subst (λ (x : ℕ). HasStreamed c.args.last size (rest_at rows 0 x) octets free (rest_at rows place.row place.offset)) (ap (λ x. x.offset) was) told.2 in
     let written : length octets ≡ at = length-take-le at c.pack_stream-at.new.out (omega arith) in
     let some : 0 < length octets = omega (arith, written, told.0, c.requires.room) in
-    let next = stream_next size f rows place.row place.offset free octets c.args.last c.requires.stream going c.requires.place c.pack_stream-at.ensures.offset p told.0 told.1 some in
     let new : Filling = advanced f rows place.row place.offset in
-    (c.pack_stream-at.ensures.room, subst (λ (x : Filling). PacksNext size f x rows c.args.last octets) (sym c.advance.ensures) next)
-
-pub returns-in-Full-clause-enough : goal.returns-in-Full-clause-enough
-returns-in-Full-clause-enough c =
-    let f = c.args.self.now in
-    let rows = c.args.rows.now in
-    let size = length c.args.out.now in
-    let at = c.pack_stream-at.result.0 in
-    let place = c.pack_stream-at.result.1 in
-    let free = size - at in
-    let was = c.self.view_is in
-    let offset : c.self.inside.offset ≡ f.offset = ap (λ x. x.offset) was in
-    let going : f.done ≡ false = sym (ap (λ x. x.done) was) ∙ c.if-self.false in
-    let octets = take at c.pack_stream-at.new.out in
-    let long : length c.pack_stream-at.new.out ≡ size = omega arith in
-    let told = c.pack_stream-at.ensures.full c.in-Full.is in
-    let p : HasStreamed c.args.last size (rest_at rows 0 f.offset) octets free (rest_at rows place.row place.offset) =
-    subst (λ (x : ℕ). HasStreamed c.args.last size (rest_at rows 0 x) octets free (rest_at rows place.row place.offset)) offset told.2 in
-    let written : length octets ≡ at = length-take-le at c.pack_stream-at.new.out (omega arith) in
-    let some : 0 < length octets = omega (arith, written, told.0, c.requires.room) in
-    let next = stream_next size f rows place.row place.offset free octets c.args.last c.requires.stream going c.requires.place c.pack_stream-at.ensures.offset p told.0 told.1 some in
-    let new : Filling = advanced f rows place.row place.offset in
-    next_enough size f new rows c.args.last _ next (stream_left new (drop (new.row - f.row) rows ++ least f.format ∷ []) c.requires.stream going)
+    let next : PacksNext size f new rows c.args.last octets = stream_next size f rows place.row place.offset free octets c.args.last c.requires.stream going c.requires.place c.pack_stream-at.ensures.offset p told.0 told.1 some in
+    record {
+      buffer = (c.pack_stream-at.ensures.room, subst (λ (x : Filling). PacksNext size f x rows c.args.last octets) (sym c.advance.ensures) next);
+      fills = record {
+        moves = subst (λ (x : Filling). Moves f x rows c.args.last) (sym c.advance.ensures) (moves_to f rows place.row place.offset c.args.last c.pack_stream-at.ensures.row c.pack_stream-at.ensures.offset (λ _. going));
+        some = going_some f rows c.args.last c.requires.stream going;
+        full = next_enough size f new rows c.args.last octets next (stream_left new (drop (new.row - f.row) rows ++ least f.format ∷ []) c.requires.stream going);
+      };
+    }
