@@ -145,6 +145,7 @@ fn take_turn<O: Office, W: Write>(
             Err(RunFault::Office)
         }
         Err(SessionFault::Memory) => Err(RunFault::Memory),
+        // It never comes: a session that has ended isn't asked.
         Err(SessionFault::Ended) => Err(RunFault::Memory),
     }
 }
@@ -174,6 +175,7 @@ fn obey<O: Office, W: Write>(
             Err(RunFault::Office)
         }
         Err(SessionFault::Memory) => Err(RunFault::Memory),
+        // It never comes: a session that has ended isn't asked.
         Err(SessionFault::Ended) => Err(RunFault::Memory),
     }
 }
