@@ -44,14 +44,14 @@ whole_is : (setting : Setting) (given t : List ℕ) (r : Register) (d : Course) 
 unfolding is_stopped
 whole_is setting given t r d leads e = ap (λ (x : List ℕ). run None x (started setting r)) (sym (append-nil given)) ∙ leads.same [] None refl ∙ e
 
-pub whole_over : (setting : Setting) (given t : List ℕ) (seen : Seen) (old new : Scene) (lo ln : Rest) (end : Ending) (h : IsOver (started setting old.register) given t seen old new lo ln end) → whole setting given old.register ≡ h.come.at
-whole_over setting given t seen old new lo ln end h = whole_is setting given t old.register h.come.at h.come.went.leads (run_over None (t ++ []) h.come.at (over_from h.come.at.phase end h.ends))
+pub whole_over : (setting : Setting) (given t : List ℕ) (seen : Seen) (old new : Scene) (end : Ending) (h : IsOver (started setting old.register) given t seen old new end) → whole setting given old.register ≡ h.come.at
+whole_over setting given t seen old new end h = whole_is setting given t old.register h.come.at h.come.went.leads (run_over None (t ++ []) h.come.at (over_from h.come.at.phase end h.ends))
 
-pub whole_waits : (setting : Setting) (given t : List ℕ) (seen : Seen) (old new : Scene) (lo ln : Rest) (h : Comes (started setting old.register) given t seen old new lo ln) → has_turn h.at.phase ≡ false → front 100003 t ≡ Waits → whole setting given old.register ≡ h.at
-whole_waits setting given t seen old new lo ln h turn waits = whole_is setting given t old.register h.at h.went.leads (ap (λ (x : List ℕ). run None x h.at) (append-nil t) ∙ run_waits None t h.at turn waits)
+pub whole_waits : (setting : Setting) (given t : List ℕ) (seen : Seen) (old new : Scene) (h : Comes (started setting old.register) given t seen old new) → has_turn h.at.phase ≡ false → front 100003 t ≡ Waits → whole setting given old.register ≡ h.at
+whole_waits setting given t seen old new h turn waits = whole_is setting given t old.register h.at h.went.leads (ap (λ (x : List ℕ). run None x h.at) (append-nil t) ∙ run_waits None t h.at turn waits)
 
-pub is_whole : (setting : Setting) (given t : List ℕ) (seen : Seen) (old new : Scene) (lo ln : Rest) (fine : lo.stands) (alone : ln.stands → Only new.register ln) (h : Comes (started setting old.register) given t seen old new lo ln) → whole setting given old.register ≡ h.at → IsWhole setting given old new ln
-is_whole setting given t seen old new lo ln fine alone h e = record {
+pub is_whole : (setting : Setting) (given t : List ℕ) (seen : Seen) (old new : Scene) (fine : old.rest.stands) (alone : new.rest.stands → Only new.register new.rest) (h : Comes (started setting old.register) given t seen old new) → whole setting given old.register ≡ h.at → IsWhole setting given old new
+is_whole setting given t seen old new fine alone h e = record {
   out = subst (λ (x : List ℕ). Took old new x) (sym h.went.outputs ∙ ap (λ (c : Course). octets_of c.outputs) (sym e)) h.went.took;
   register = h.now.register ∙ ap (λ (c : Course). c.register) (sym e);
   replay = replay_all None setting given old.register new.register (h.now.register ∙ ap (λ (c : Course). c.register) (sym e));
@@ -74,8 +74,8 @@ stopped_now c s n lt = lt-ltb (length (octets_of c.outputs) + n) (length (octets
 take_past : (xs ys : List ℕ) (n : ℕ) → take (length xs + n) (xs ++ ys) ≡ xs ++ take n ys
 take_past xs ys n = take-add (length xs) n (xs ++ ys) ∙ ap (λ (x : List ℕ). x ++ take n (drop (length xs) (xs ++ ys))) (take_at xs ys (length xs) refl) ∙ ap (λ (x : List ℕ). xs ++ take n x) (drop_at xs ys (length xs) refl)
 
-pub is_broken_off : (setting : Setting) (given : List ℕ) (old new : Scene) (lo ln : Rest) (fine : lo.stands) (alone : ln.stands → Only new.register ln) → BreaksOff (started setting old.register) given old new lo ln → IsBrokenOff setting given old new ln
-is_broken_off setting given old new lo ln fine alone h =
+pub is_broken_off : (setting : Setting) (given : List ℕ) (old new : Scene) (fine : old.rest.stands) (alone : new.rest.stands → Only new.register new.rest) → BreaksOff (started setting old.register) given old new → IsBrokenOff setting given old new
+is_broken_off setting given old new fine alone h =
     let before : List ℕ = octets_of h.at.outputs in
     let taken : ℕ = length before + h.count in
     let end : Course = advance h.at h.step in
@@ -145,8 +145,8 @@ leaves_prefix r d w step (Some change) least rest e g h sd se le only = λ k l.
           }
     ]
 
-pub is_office_fault : (setting : Setting) (given : List ℕ) (old new : Scene) (lo ln : Rest) → OfficeFails (started setting old.register) given old new lo ln → IsOfficeFault setting given old new ln
-is_office_fault setting given old new lo ln h =
+pub is_office_fault : (setting : Setting) (given : List ℕ) (old new : Scene) → OfficeFails (started setting old.register) given old new → IsOfficeFault setting given old new
+is_office_fault setting given old new h =
     let r : Register = old.register in
     let w : Course = whole setting given r in
     let sd : Sound r h.at = h.reaches.grows.sound r (sound_start setting r) in
@@ -169,7 +169,7 @@ is_office_fault setting given old new lo ln h =
         kept = kept;
         few = few h.at w g;
         register = λ s. replayed r h.at w g sd ∙ ap Ok (sym (x.same s));
-        left = leaves_prefix r h.at w h.step h.step.change (answered h.at.outputs (length (octets_of h.at.outputs))) ln refl g ge sd se kept x.left;
+        left = leaves_prefix r h.at w h.step h.step.change (answered h.at.outputs (length (octets_of h.at.outputs))) new.rest refl g ge sd se kept x.left;
         faults = h.faults;
       }
       | inr x ↦ record {
@@ -188,8 +188,8 @@ is_office_fault setting given old new lo ln h =
       }
     ]
 
-pub is_out_of_memory : (setting : Setting) (given : List ℕ) (old new : Scene) (lo ln : Rest) (fine : lo.stands) (alone : ln.stands → Only new.register ln) → IsShort (started setting old.register) given old new lo ln → IsOutOfMemory setting given old new ln
-is_out_of_memory setting given old new lo ln fine alone h =
+pub is_out_of_memory : (setting : Setting) (given : List ℕ) (old new : Scene) (fine : old.rest.stands) (alone : new.rest.stands → Only new.register new.rest) → IsShort (started setting old.register) given old new → IsOutOfMemory setting given old new
+is_out_of_memory setting given old new fine alone h =
     let r : Register = old.register in
     let w : Course = whole setting given r in
     let sd : Sound r h.at = h.reaches.grows.sound r (sound_start setting r) in
@@ -231,8 +231,8 @@ is_out_of_memory setting given old new lo ln fine alone h =
     ]
 
 -- each fault
-pub serves_from : (setting : Setting) (given : List ℕ) (old new : Scene) (lo ln : Rest) (fine : lo.stands) (alone : ln.stands → Only new.register ln) (f : RunFault) → Fails (started setting old.register) given old new lo ln f → ServesErr setting given old new ln f
-serves_from setting given old new lo ln fine alone fault.Read h = absurd h
-serves_from setting given old new lo ln fine alone fault.Write h = is_broken_off setting given old new lo ln fine alone h
-serves_from setting given old new lo ln fine alone fault.Office h = is_office_fault setting given old new lo ln h
-serves_from setting given old new lo ln fine alone fault.Memory h = is_out_of_memory setting given old new lo ln fine alone h
+pub serves_from : (setting : Setting) (given : List ℕ) (old new : Scene) (fine : old.rest.stands) (alone : new.rest.stands → Only new.register new.rest) (f : RunFault) → Fails (started setting old.register) given old new f → ServesErr setting given old new f
+serves_from setting given old new fine alone fault.Read h = absurd h
+serves_from setting given old new fine alone fault.Write h = is_broken_off setting given old new fine alone h
+serves_from setting given old new fine alone fault.Office h = is_office_fault setting given old new h
+serves_from setting given old new fine alone fault.Memory h = is_out_of_memory setting given old new fine alone h

@@ -6,7 +6,7 @@ use Rattle.oftp_wire.specs.Stream.{front, command_in, IsWithin}
 use Rattle.oftp_wire.specs.Stream.{Whole, Bad}
 use Rattle.oftp_wire.specs.declared.frame_fault.FrameFault.{FrameFault}
 use Rattle.oftp_wire.proofs.Streams.{front_within, front_more, IsTold}
-use Rattle.oftp_register.specs.Offices.{Rest, next_count}
+use Rattle.oftp_register.specs.Offices.{next_count}
 use Rattle.oftp_session.specs.Phases.{Step, fails}
 use Rattle.oftp_session.specs.Steps.{has_turn, is_over, turned}
 use Rattle.oftp_session.specs.Calls.{Allows, Seen}
@@ -70,8 +70,8 @@ reaches_step c step s t h = record { grows = grows_none c; same = λ more limit 
 
 -- the engine's parts
 
-pub went_none : (c : Course) (s : List ℕ) (old : Scene) (left : Rest) → Went c s c s old old left left
-went_none c s old left = record {
+pub went_none : (c : Course) (s : List ℕ) (old : Scene) → Went c s c s old old
+went_none c s old = record {
   leads = leads_none c s;
   between = [];
   outputs = sym (append-nil (octets_of c.outputs));
@@ -81,8 +81,8 @@ went_none c s old left = record {
   told = refl;
 }
 
-pub went_on : (c d e : Course) (s t u : List ℕ) (a b z : Scene) (la lb lz : Rest) → Went c s d t a b la lb → Went d t e u b z lb lz → Went c s e u a z la lz
-went_on c d e s t u a b z la lb lz p q = record {
+pub went_on : (c d e : Course) (s t u : List ℕ) (a b z : Scene) → Went c s d t a b → Went d t e u b z → Went c s e u a z
+went_on c d e s t u a b z p q = record {
   leads = leads_on c d e s t u p.leads q.leads;
   between = p.between ++ q.between;
   outputs = q.outputs ∙ ap (λ (x : List ℕ). x ++ q.between) p.outputs ∙ append_assoc (octets_of c.outputs) p.between q.between;
@@ -92,8 +92,8 @@ went_on c d e s t u a b z la lb lz p q = record {
   told = q.told ∙ p.told;
 }
 
-pub went_step : (c : Course) (step : Step) (s t : List ℕ) (seen : Seen) (a b : Scene) (la lb : Rest) → Leads c s (advance c step) t → Made c step seen a b la lb → Went c s (advance c step) t a b la lb
-went_step c step s t seen a b la lb leads made = record {
+pub went_step : (c : Course) (step : Step) (s t : List ℕ) (seen : Seen) (a b : Scene) → Leads c s (advance c step) t → Made c step seen a b → Went c s (advance c step) t a b
+went_step c step s t seen a b leads made = record {
   leads = leads;
   between = step.output;
   outputs = octets_step c step;
@@ -103,9 +103,9 @@ went_step c step s t seen a b la lb leads made = record {
   told = made.told;
 }
 
-pub fails_step : (c : Course) (step : Step) (s : List ℕ) (a b : Scene) (la lb : Rest) (f : RunFault) → Allows c.register step.change → Reaches c s c (advance c step) → StepFails c step a b la lb f → Fails c s a b la lb f
-fails_step c step s a b la lb fault.Read allows r h = absurd h
-fails_step c step s a b la lb fault.Write allows r h = record {
+pub fails_step : (c : Course) (step : Step) (s : List ℕ) (a b : Scene) (f : RunFault) → Allows c.register step.change → Reaches c s c (advance c step) → StepFails c step a b f → Fails c s a b f
+fails_step c step s a b fault.Read allows r h = absurd h
+fails_step c step s a b fault.Write allows r h = record {
   at = c;
   step = step;
   count = h.count;
@@ -119,7 +119,7 @@ fails_step c step s a b la lb fault.Write allows r h = record {
   faults = h.faults;
   told = h.told;
 }
-fails_step c step s a b la lb fault.Office allows r h = record {
+fails_step c step s a b fault.Office allows r h = record {
   at = c;
   step = step;
   count = h.count;
@@ -132,7 +132,7 @@ fails_step c step s a b la lb fault.Office allows r h = record {
   cases = h.cases;
   faults = h.faults;
 }
-fails_step c step s a b la lb fault.Memory allows r h = record {
+fails_step c step s a b fault.Memory allows r h = record {
   at = c;
   next = advance c step;
   reaches = r;
@@ -155,9 +155,9 @@ took_later a b z xs ys zs p q = subst (Took a z) (sym (append_assoc xs ys zs)) (
 said_later : (a b z : Scene) (count : ℕ) → b.told ≡ a.told → IsSaid b z count → IsSaid a z count
 said_later a b z count same h = elim h [ inl all ↦ inl (all.0, all.1 ∙ same) | inr part ↦ inr (part.0, part.1 ∙ ap next_count same) ]
 
-pub fails_later : (c d : Course) (s t : List ℕ) (a b z : Scene) (la lb lz : Rest) (f : RunFault) → Went c s d t a b la lb → Fails d t b z lb lz f → Fails c s a z la lz f
-fails_later c d s t a b z la lb lz fault.Read w h = absurd h
-fails_later c d s t a b z la lb lz fault.Write w h = record {
+pub fails_later : (c d : Course) (s t : List ℕ) (a b z : Scene) (f : RunFault) → Went c s d t a b → Fails d t b z f → Fails c s a z f
+fails_later c d s t a b z fault.Read w h = absurd h
+fails_later c d s t a b z fault.Write w h = record {
   at = h.at;
   step = h.step;
   count = h.count;
@@ -171,7 +171,7 @@ fails_later c d s t a b z la lb lz fault.Write w h = record {
   faults = h.faults ∙ w.faults;
   told = h.told ∙ ap next_count w.told;
 }
-fails_later c d s t a b z la lb lz fault.Office w h = record {
+fails_later c d s t a b z fault.Office w h = record {
   at = h.at;
   step = h.step;
   count = h.count;
@@ -184,7 +184,7 @@ fails_later c d s t a b z la lb lz fault.Office w h = record {
   cases = h.cases;
   faults = h.faults ∙ ap next_count w.faults;
 }
-fails_later c d s t a b z la lb lz fault.Memory w h = record {
+fails_later c d s t a b z fault.Memory w h = record {
   at = h.at;
   next = h.next;
   reaches = reaches_later c d h.at h.next s t w.leads h.reaches;
@@ -232,8 +232,8 @@ leads_bad c s f turn over bad more limit stopped =
 
 -- the turns are taken whatever is there to be read
 
-pub went_with : (c d : Course) (s : List ℕ) (a b : Scene) (la lb : Rest) → Went c [] d [] a b la lb → Went c s d s a b la lb
-went_with c d s a b la lb w = record {
+pub went_with : (c d : Course) (s : List ℕ) (a b : Scene) → Went c [] d [] a b → Went c s d s a b
+went_with c d s a b w = record {
   leads = record { grows = w.leads.grows; same = λ more limit h. w.leads.same (s ++ more) limit h };
   between = w.between;
   outputs = w.outputs;
@@ -246,9 +246,9 @@ went_with c d s a b la lb w = record {
 reaches_with : (c d e : Course) (s : List ℕ) → Reaches c [] d e → Reaches c s d e
 reaches_with c d e s r = record { grows = r.grows; same = λ more limit h. r.same (s ++ more) limit h }
 
-pub fails_with : (c : Course) (s : List ℕ) (a b : Scene) (la lb : Rest) (f : RunFault) → Fails c [] a b la lb f → Fails c s a b la lb f
-fails_with c s a b la lb fault.Read h = absurd h
-fails_with c s a b la lb fault.Write h = record {
+pub fails_with : (c : Course) (s : List ℕ) (a b : Scene) (f : RunFault) → Fails c [] a b f → Fails c s a b f
+fails_with c s a b fault.Read h = absurd h
+fails_with c s a b fault.Write h = record {
   at = h.at;
   step = h.step;
   count = h.count;
@@ -262,7 +262,7 @@ fails_with c s a b la lb fault.Write h = record {
   faults = h.faults;
   told = h.told;
 }
-fails_with c s a b la lb fault.Office h = record {
+fails_with c s a b fault.Office h = record {
   at = h.at;
   step = h.step;
   count = h.count;
@@ -275,7 +275,7 @@ fails_with c s a b la lb fault.Office h = record {
   cases = h.cases;
   faults = h.faults;
 }
-fails_with c s a b la lb fault.Memory h = record {
+fails_with c s a b fault.Memory h = record {
   at = h.at;
   next = h.next;
   reaches = reaches_with c h.at _ s h.reaches;

@@ -15,20 +15,19 @@ use Rattle.oftp_engine.specs.Serving.{Leads, Scene, Comes, IsOver, IsWaiting, Is
 use Rattle.oftp_engine.proofs.Pumping.{IsPumping}
 use Rattle.oftp_engine.specs.Served.{Gave}
 use Rattle.oftp_engine.proofs.Bytes.{consumes_on, keeps_consumes}
-use Rattle.oftp_register.specs.Offices.{Rest}
 use Rattle.oftp_engine.proofs.Courses.{grows_none}
 use Rattle.oftp_engine.proofs.Progress.{went_on}
 
 -- while it reads: how far it came where the office is clean and stood
-pub record IsReading {R : Type 0} (remaining : R → Option (List ℕ)) (before now : Port R) (Clean Stood : Type 0) (setting : Setting) (stream : Stream) (seen : Seen) (old new : Scene) (rest_old rest_new : Rest) : Type 0 where
+pub record IsReading {R : Type 0} (remaining : R → Option (List ℕ)) (before now : Port R) (Clean Stood : Type 0) (setting : Setting) (stream : Stream) (seen : Seen) (old new : Scene) : Type 0 where
   pub given : List ℕ
   pub gave : Gave remaining before now given
   pub faults : now.faults ≡ before.faults
-  pub pumping : Clean → Stood → IsPumping (started setting old.register) given stream seen old new rest_old rest_new
+  pub pumping : Clean → Stood → IsPumping (started setting old.register) given stream seen old new
 
-pub wait_on : (k : Course) (s : List ℕ) (before stream : Stream) (seen0 seen1 : Seen) (a b z : Scene) (la lb lz : Rest) (p : Comes k s before.rest seen0 a b la lb) → IsWaiting p.at before.rest stream seen1 b z lb lz → IsWaiting k s stream seen1 a z la lz
-wait_on k s before stream seen0 seen1 a b z la lb lz p w = record {
-  come = record { at = w.come.at; went = went_on k p.at w.come.at s before.rest stream.rest a b z la lb lz p.went w.come.went; now = w.come.now };
+pub wait_on : (k : Course) (s : List ℕ) (before stream : Stream) (seen0 seen1 : Seen) (a b z : Scene) (p : Comes k s before.rest seen0 a b) → IsWaiting p.at before.rest stream seen1 b z → IsWaiting k s stream seen1 a z
+wait_on k s before stream seen0 seen1 a b z p w = record {
+  come = record { at = w.come.at; went = went_on k p.at w.come.at s before.rest stream.rest a b z p.went w.come.went; now = w.come.now };
   turn = w.turn;
   over = w.over;
   waits = w.waits;
@@ -36,9 +35,9 @@ wait_on k s before stream seen0 seen1 a b z la lb lz p w = record {
   told = w.told;
 }
 
-pub over_on : (k : Course) (s t u : List ℕ) (seen0 seen1 : Seen) (a b z : Scene) (la lb lz : Rest) (end : Ending) (p : Comes k s t seen0 a b la lb) → IsOver p.at t u seen1 b z lb lz end → IsOver k s u seen1 a z la lz end
-over_on k s t u seen0 seen1 a b z la lb lz end p w = record {
-  come = record { at = w.come.at; went = went_on k p.at w.come.at s t u a b z la lb lz p.went w.come.went; now = w.come.now };
+pub over_on : (k : Course) (s t u : List ℕ) (seen0 seen1 : Seen) (a b z : Scene) (end : Ending) (p : Comes k s t seen0 a b) → IsOver p.at t u seen1 b z end → IsOver k s u seen1 a z end
+over_on k s t u seen0 seen1 a b z end p w = record {
+  come = record { at = w.come.at; went = went_on k p.at w.come.at s t u a b z p.went w.come.went; now = w.come.now };
   ends = w.ends;
 }
 
@@ -50,8 +49,8 @@ leads_more c d s t x h = record {
   same = λ more limit stopped. ap (λ (y : List ℕ). run limit y c) (append_assoc s x more) ∙ h.same (x ++ more) limit stopped ∙ ap (λ (y : List ℕ). run limit y d) (sym (append_assoc t x more));
 }
 
-comes_more : (k : Course) (s t x : List ℕ) (seen : Seen) (a z : Scene) (la lz : Rest) → Comes k s t seen a z la lz → Comes k (s ++ x) (t ++ x) seen a z la lz
-comes_more k s t x seen a z la lz h = record {
+comes_more : (k : Course) (s t x : List ℕ) (seen : Seen) (a z : Scene) → Comes k s t seen a z → Comes k (s ++ x) (t ++ x) seen a z
+comes_more k s t x seen a z h = record {
   at = h.at;
   went = record { leads = leads_more k h.at s t x h.went.leads; between = h.went.between; outputs = h.went.outputs; took = h.went.took; stands = h.went.stands; faults = h.went.faults; told = h.went.told };
   now = h.now;
@@ -76,21 +75,21 @@ gave_kept remaining before now next given g h = record {
   most = h.most ∙ g.most;
 }
 
-pub read_on : {R : Type 0} (remaining : R → Option (List ℕ)) (before now next : Port R) (given piece : List ℕ) (n : ℕ) (Clean Stood : Type 0) (setting : Setting) (stream fed : Stream) (seen : Seen) (a z : Scene) (la lz : Rest) → Gave remaining before now given → now.faults ≡ before.faults → Gives remaining now next piece n → (Clean → Stood → IsWaiting (started setting a.register) given stream seen a z la lz) → fed ≡ record stream { rest = stream.rest ++ take n piece } → IsReading remaining before next Clean Stood setting fed seen a z la lz
-read_on remaining before now next given piece n Clean Stood setting stream fed seen a z la lz g f h w e = record {
+pub read_on : {R : Type 0} (remaining : R → Option (List ℕ)) (before now next : Port R) (given piece : List ℕ) (n : ℕ) (Clean Stood : Type 0) (setting : Setting) (stream fed : Stream) (seen : Seen) (a z : Scene) → Gave remaining before now given → now.faults ≡ before.faults → Gives remaining now next piece n → (Clean → Stood → IsWaiting (started setting a.register) given stream seen a z) → fed ≡ record stream { rest = stream.rest ++ take n piece } → IsReading remaining before next Clean Stood setting fed seen a z
+read_on remaining before now next given piece n Clean Stood setting stream fed seen a z g f h w e = record {
   given = given ++ take n piece;
   gave = gave_on remaining before now next given piece n g h;
   faults = h.faults ∙ f;
-  pumping = λ clean stood. subst (λ (x : Stream). IsPumping (started setting a.register) (given ++ take n piece) x seen a z la lz) (sym e) (record {
-    come = comes_more (started setting a.register) given stream.rest (take n piece) seen a z la lz (w clean stood).come;
+  pumping = λ clean stood. subst (λ (x : Stream). IsPumping (started setting a.register) (given ++ take n piece) x seen a z) (sym e) (record {
+    come = comes_more (started setting a.register) given stream.rest (take n piece) seen a z (w clean stood).come;
     limit = (w clean stood).limit;
     told = (w clean stood).told;
   });
 }
 
 -- the piece finds no room
-pub short_on : (k : Course) (s t x : List ℕ) (seen : Seen) (a z : Scene) (la lz : Rest) → Comes k s t seen a z la lz → IsShort k (s ++ x) a z la lz
-short_on k s t x seen a z la lz h = record {
+pub short_on : (k : Course) (s t x : List ℕ) (seen : Seen) (a z : Scene) → Comes k s t seen a z → IsShort k (s ++ x) a z
+short_on k s t x seen a z h = record {
   at = h.at;
   next = h.at;
   later = grows_none h.at;

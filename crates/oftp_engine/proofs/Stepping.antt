@@ -10,11 +10,13 @@ use Rattle.oftp_register.specs.declared.change.Change.{Change}
 use Rattle.oftp_register.specs.Register.{Register}
 use Rattle.std.specs.Result.{result_unwrap_or}
 use Rattle.oftp_register.specs.Offices.{Rest, Only, WithOrWithout}
+use Rattle.oftp_session.specs.declared.session.Out.{Out}
 use Rattle.oftp_session.specs.declared.session.SessionFault.{SessionFault}
+use Rattle.oftp_session.specs.declared.session.SessionFault.TheVariants as session
 use Rattle.oftp_session.specs.Phases.{Step, EndedHere, fails, register_after}
 use Rattle.oftp_session.specs.Steps.{Holds}
 use Rattle.oftp_session.specs.Settings.{Setting}
-use Rattle.oftp_session.specs.Calls.{Makes, IsMade, IsBefore, IsAfter, IsBroken, IsUndone, Seen, Stands, Desk}
+use Rattle.oftp_session.specs.Calls.{Makes, IsMade, IsBefore, IsAfter, IsBroken, IsUndone, Does, DoesNot, Seen, Stands, Desk, said as said_of}
 use Rattle.oftp_engine.proofs.Bytes.{appends_none}
 use Rattle.oftp_engine.specs.declared.port.Port.{Port}
 use Rattle.oftp_engine.specs.declared.serving.RunFault.{RunFault}
@@ -40,28 +42,28 @@ made_register None r new h = h
 made_register (Some k) r new h = sym (ap (λ (x : Result Register Cause). result_unwrap_or x r) h)
 
 -- a scene from its parts
-abbrev pub at_desk : Desk → Option (List ℕ) → ℕ → ℕ → Scene
-at_desk d contents taken told = record { register = d.register; faults = d.faults; contents = contents; taken = taken; told = told }
+abbrev pub at_desk : Desk → Rest → Option (List ℕ) → ℕ → ℕ → Scene
+at_desk d rest contents taken told = record { register = d.register; faults = d.faults; rest = rest; contents = contents; taken = taken; told = told }
 
 -- a call that did its step, and the write of what it said
-pub stepped_ok : {T W : Type 0} (contents : W → Option (List ℕ)) (a d : Port W) (x y : Desk) (left_old left_new : Rest) (c : Course) (step : Step) (seen : Seen) (said : List ℕ) (result : Result T RunFault) →
-    seen.setting ≡ c.setting → IsMade step.change step.output x y left_new said → x.register ≡ c.register → Holds step.phase (register_after c.register step.change) → Stands step.phase seen → Sent contents a d said (is_ok result) → IfErr result (λ f. f ≡ fault.Write) →
-    Stepped c step seen (at_desk x (contents a.inner) a.moved a.faults) (at_desk y (contents d.inner) d.moved d.faults) left_old left_new result
+pub stepped_ok : {T W : Type 0} (contents : W → Option (List ℕ)) (a d : Port W) (x y : Desk) (lo ln : Rest) (c : Course) (step : Step) (seen : Seen) (said : List ℕ) (result : Result T RunFault) →
+    seen.setting ≡ c.setting → IsMade step.change step.output x y ln said → x.register ≡ c.register → Holds step.phase (register_after c.register step.change) → Stands step.phase seen → Sent contents a d said (is_ok result) → IfErr result (λ f. f ≡ fault.Write) →
+    Stepped c step seen (at_desk x lo (contents a.inner) a.moved a.faults) (at_desk y ln (contents d.inner) d.moved d.faults) result
 unfolding advance
 stepped_ok contents a d x y lo ln c step seen said (Ok t) setting made same holds stands sent err =
     let makes : Makes step.change c.register y.register = subst (λ (r : Register). Makes step.change r y.register) same made.register in
     record {
       now = record { setting = setting; stands = stands; register = made_register step.change c.register y.register makes; holds = holds };
-      took = subst (Took (at_desk x (contents a.inner) a.moved a.faults) (at_desk y (contents d.inner) d.moved d.faults)) made.said (record { contents = sent.wrote.contents; taken = sent.wrote.moved });
+      took = subst (Took (at_desk x lo (contents a.inner) a.moved a.faults) (at_desk y ln (contents d.inner) d.moved d.faults)) made.said (record { contents = sent.wrote.contents; taken = sent.wrote.moved });
       stands = λ _. made.stands;
       faults = made.faults;
       told = sent.faults;
     }
 stepped_ok contents a d x y lo ln c step seen said (Err f) setting made same holds stands sent err =
     let makes : Makes step.change c.register y.register = subst (λ (r : Register). Makes step.change r y.register) same made.register in
-    let old = at_desk x (contents a.inner) a.moved a.faults in
-    let new = at_desk y (contents d.inner) d.moved d.faults in
-    subst (StepFails c step old new lo ln) (sym err) (record {
+    let old = at_desk x lo (contents a.inner) a.moved a.faults in
+    let new = at_desk y ln (contents d.inner) d.moved d.faults in
+    subst (StepFails c step old new) (sym err) (record {
       count = sent.count;
       short = subst (λ (z : List ℕ). sent.count < length z) made.said sent.short;
       took = subst (λ (z : List ℕ). Took old new (take sent.count z)) made.said (record { contents = sent.wrote.contents; taken = sent.wrote.moved });
@@ -74,7 +76,7 @@ stepped_ok contents a d x y lo ln c step seen said (Err f) setting made same hol
 -- an ESID of the engine's own, which leaves the office alone
 pub stepped_refuse : {T W : Type 0} (contents : W → Option (List ℕ)) (a d : Port W) (x : Desk) (left : Rest) (c : Course) (reason : SessionReason) (seen : Seen) (result : Result T RunFault) →
     seen.setting ≡ c.setting → x.register ≡ c.register → OnOk result (Stands (EndedHere reason) seen) → Sent contents a d (frame_of (esid_of reason)) (is_ok result) → IfErr result (λ f. f ≡ fault.Write) →
-    Stepped c (fails reason) seen (at_desk x (contents a.inner) a.moved a.faults) (at_desk x (contents d.inner) d.moved d.faults) left left result
+    Stepped c (fails reason) seen (at_desk x left (contents a.inner) a.moved a.faults) (at_desk x left (contents d.inner) d.moved d.faults) result
 unfolding advance
 stepped_refuse contents a d x left c reason seen (Ok t) setting same stands sent err = record {
   now = record { setting = setting; stands = stands; register = same; holds = tt };
@@ -84,9 +86,9 @@ stepped_refuse contents a d x left c reason seen (Ok t) setting same stands sent
   told = sent.faults;
 }
 stepped_refuse contents a d x left c reason seen (Err f) setting same stands sent err =
-    let old = at_desk x (contents a.inner) a.moved a.faults in
-    let new = at_desk x (contents d.inner) d.moved d.faults in
-    subst (StepFails c (fails reason) old new left left) (sym err) (record {
+    let old = at_desk x left (contents a.inner) a.moved a.faults in
+    let new = at_desk x left (contents d.inner) d.moved d.faults in
+    subst (StepFails c (fails reason) old new) (sym err) (record {
       count = sent.count;
       short = sent.short;
       took = record { contents = sent.wrote.contents; taken = sent.wrote.moved };
@@ -114,16 +116,16 @@ broken_cases x y ln c step same (inr h) =
 
 pub stepped_office : {W : Type 0} (contents : W → Option (List ℕ)) (a d : Port W) (x y : Desk) (lo ln : Rest) (c : Course) (step : Step) →
     IsBroken step.change x y ln → x.register ≡ c.register → LastWords contents a d →
-    NotMade c step (at_desk x (contents a.inner) a.moved a.faults) (at_desk y (contents d.inner) d.moved d.faults) lo ln
+    NotMade c step (at_desk x lo (contents a.inner) a.moved a.faults) (at_desk y ln (contents d.inner) d.moved d.faults)
 stepped_office contents a d x y lo ln c step broken same last = at last.0 last.1
   where
     whole : take (length last_frame) last_frame ≡ last_frame
     whole = take_all (length last_frame) last_frame (omega arith)
 
-    at : (all : Bool) → Sent contents a d last_frame all → NotMade c step (at_desk x (contents a.inner) a.moved a.faults) (at_desk y (contents d.inner) d.moved d.faults) lo ln
+    at : (all : Bool) → Sent contents a d last_frame all → NotMade c step (at_desk x lo (contents a.inner) a.moved a.faults) (at_desk y ln (contents d.inner) d.moved d.faults)
     at true s = record {
       count = length last_frame;
-      took = subst (Took (at_desk x (contents a.inner) a.moved a.faults) (at_desk y (contents d.inner) d.moved d.faults)) (sym whole) (record { contents = s.wrote.contents; taken = s.wrote.moved });
+      took = subst (Took (at_desk x lo (contents a.inner) a.moved a.faults) (at_desk y ln (contents d.inner) d.moved d.faults)) (sym whole) (record { contents = s.wrote.contents; taken = s.wrote.moved });
       said = inl (refl, s.faults);
       cases = broken_cases x y ln c step same broken.cases;
       faults = broken.faults;
@@ -139,15 +141,40 @@ stepped_office contents a d x y lo ln c step broken same last = at last.0 last.1
 -- a call that ran out of memory
 pub stepped_memory : {W : Type 0} (contents : W → Option (List ℕ)) (a : Port W) (x y : Desk) (lo ln : Rest) (c : Course) (step : Step) →
     IsUndone step.change x y ln → x.register ≡ c.register →
-    NoMemory c step (at_desk x (contents a.inner) a.moved a.faults) (at_desk y (contents a.inner) a.moved a.faults) lo ln
+    NoMemory c step (at_desk x lo (contents a.inner) a.moved a.faults) (at_desk y ln (contents a.inner) a.moved a.faults)
 unfolding advance
 stepped_memory contents a x y lo ln c step h same = at h.cases
   where
-    took : Took (at_desk x (contents a.inner) a.moved a.faults) (at_desk y (contents a.inner) a.moved a.faults) []
+    took : Took (at_desk x lo (contents a.inner) a.moved a.faults) (at_desk y ln (contents a.inner) a.moved a.faults) []
     took = record { contents = appends_none (contents a.inner); taken = omega arith }
 
-    at : (y.register ≡ x.register) ⊎ Makes step.change x.register y.register → NoMemory c step (at_desk x (contents a.inner) a.moved a.faults) (at_desk y (contents a.inner) a.moved a.faults) lo ln
+    at : (y.register ≡ x.register) ⊎ Makes step.change x.register y.register → NoMemory c step (at_desk x lo (contents a.inner) a.moved a.faults) (at_desk y ln (contents a.inner) a.moved a.faults)
     at (inl k) = record { took = took; register = inl (k ∙ same); stands = λ _. h.stands; faults = h.faults; told = refl }
     at (inr k) =
         let makes : Makes step.change c.register y.register = subst (λ (r : Register). Makes step.change r y.register) same k in
         record { took = took; register = inr (made_register step.change c.register y.register makes); stands = λ _. h.stands; faults = h.faults; told = refl }
+
+-- a call of a session that stands at a course does what the course's next step says, and what the engine makes of it
+module _ {W : Type 0} (contents : W → Option (List ℕ)) (a d : Port W) (x y : Desk) (lo ln : Rest) (c : Course) (seen : Seen) (step : Setting → Register → Step)
+    (at : IsAt c seen (at_desk x lo (contents a.inner) a.moved a.faults)) where
+  here : (P : Step → Type 0) → P (step seen.setting x.register) → P (step c.setting c.register)
+  here P h = at_course (λ (setting : Setting) (r : Register). P (step setting r)) c seen (at_desk x lo (contents a.inner) a.moved a.faults) at h
+
+  -- the step is made
+  pub called_ok : {T : Type 0} (next : Seen) (out : Out) (result : Result T RunFault) →
+      next.setting ≡ seen.setting → Does (step seen.setting x.register) x y ln (Ok (said_of out)) → Holds (step c.setting c.register).phase (register_after c.register (step c.setting c.register).change) →
+      Stands (step seen.setting x.register).phase next → Sent contents a d (said_of out) (is_ok result) → IfErr result (λ f. f ≡ fault.Write) →
+      Stepped c (step c.setting c.register) next (at_desk x lo (contents a.inner) a.moved a.faults) (at_desk y ln (contents d.inner) d.moved d.faults) result
+  called_ok next out result setting made holds stands sent err =
+      stepped_ok contents a d x y lo ln c (step c.setting c.register) next (said_of out) result (setting ∙ at.setting)
+      (here (λ (s : Step). IsMade s.change s.output x y ln (said_of out)) made) at.register holds (here (λ (s : Step). Stands s.phase next) stands) sent err
+
+  -- the office told a fault
+  pub called_office : DoesNot (step seen.setting x.register).change x y ln session.Office → LastWords contents a d →
+      NotMade c (step c.setting c.register) (at_desk x lo (contents a.inner) a.moved a.faults) (at_desk y ln (contents d.inner) d.moved d.faults)
+  called_office broken words = stepped_office contents a d x y lo ln c (step c.setting c.register) (here (λ (s : Step). IsBroken s.change x y ln) broken) at.register words
+
+  -- memory ran out
+  pub called_memory : DoesNot (step seen.setting x.register).change x y ln session.Memory →
+      NoMemory c (step c.setting c.register) (at_desk x lo (contents a.inner) a.moved a.faults) (at_desk y ln (contents a.inner) a.moved a.faults)
+  called_memory undone = stepped_memory contents a x y lo ln c (step c.setting c.register) (here (λ (s : Step). IsUndone s.change x y ln) undone) at.register

@@ -49,30 +49,30 @@ abbrev pub LeavesPrefix : Course → Register → ℕ → ℕ → Rest → Type 
 LeavesPrefix c r least made rest = (content : rest.Content) → rest.may_leave content → IsPrefix rest.holds c r least made content
 
 -- all outputs are out, and the register is the run's
-pub record IsWhole (setting : Setting) (given : List ℕ) (old new : Scene) (rest : Rest) : Type 0 where
+pub record IsWhole (setting : Setting) (given : List ℕ) (old new : Scene) : Type 0 where
   pub out : Took old new (octets_of (whole setting given old.register).outputs)
   pub register : new.register ≡ (whole setting given old.register).register
   pub replay : apply_all old.register (whole setting given old.register).changes ≡ Ok new.register
-  pub stands : rest.stands
-  pub left : Only new.register rest
+  pub stands : new.rest.stands
+  pub left : Only new.register new.rest
   pub faults : new.faults ≡ old.faults
   pub told : new.told ≡ old.told
 
 -- the writer told a fault: a beginning of the outputs is out, as long as what it took, and the session stopped there
-pub record IsBrokenOff (setting : Setting) (given : List ℕ) (old new : Scene) (rest : Rest) : Type 0 where
+pub record IsBrokenOff (setting : Setting) (given : List ℕ) (old new : Scene) : Type 0 where
   pub taken : ℕ
   pub short : taken < length (octets_of (broken_off setting taken given old.register).outputs)
   pub out : Took old new (take taken (octets_of (broken_off setting taken given old.register).outputs))
   pub register : new.register ≡ (broken_off setting taken given old.register).register
   pub replay : apply_all old.register (broken_off setting taken given old.register).changes ≡ Ok new.register
-  pub stands : rest.stands
-  pub left : Only new.register rest
+  pub stands : new.rest.stands
+  pub left : Only new.register new.rest
   pub faults : new.faults ≡ old.faults
   pub told : new.told ≡ next_count old.told
 
 -- the office told a fault: whole outputs are out, and after them ESID 08 or as much of it as the writer took before it told a fault.
 -- The register is the one after some changes, at least those that were answered
-pub record IsOfficeFault (setting : Setting) (given : List ℕ) (old new : Scene) (rest : Rest) : Type 0 where
+pub record IsOfficeFault (setting : Setting) (given : List ℕ) (old new : Scene) : Type 0 where
   pub outs : List Output
   pub later : List Output
   pub outputs : (whole setting given old.register).outputs ≡ outs ++ later
@@ -82,12 +82,12 @@ pub record IsOfficeFault (setting : Setting) (given : List ℕ) (old new : Scene
   pub made : ℕ
   pub kept : answered outs (length (octets_of outs)) ≤ made
   pub few : made ≤ length (whole setting given old.register).changes
-  pub register : rest.stands → apply_all old.register (take made (whole setting given old.register).changes) ≡ Ok new.register
-  pub left : LeavesPrefix (whole setting given old.register) old.register (answered outs (length (octets_of outs))) made rest
+  pub register : new.rest.stands → apply_all old.register (take made (whole setting given old.register).changes) ≡ Ok new.register
+  pub left : LeavesPrefix (whole setting given old.register) old.register (answered outs (length (octets_of outs))) made new.rest
   pub faults : new.faults ≡ next_count old.faults
 
 -- memory ran out: a beginning of the outputs is out
-pub record IsOutOfMemory (setting : Setting) (given : List ℕ) (old new : Scene) (rest : Rest) : Type 0 where
+pub record IsOutOfMemory (setting : Setting) (given : List ℕ) (old new : Scene) : Type 0 where
   pub outs : List Output
   pub later : List Output
   pub outputs : (whole setting given old.register).outputs ≡ outs ++ later
@@ -96,21 +96,21 @@ pub record IsOutOfMemory (setting : Setting) (given : List ℕ) (old new : Scene
   pub kept : answered outs (length (octets_of outs)) ≤ made
   pub few : made ≤ length (whole setting given old.register).changes
   pub register : apply_all old.register (take made (whole setting given old.register).changes) ≡ Ok new.register
-  pub stands : rest.stands
-  pub left : Only new.register rest
+  pub stands : new.rest.stands
+  pub left : Only new.register new.rest
   pub faults : new.faults ≡ old.faults
   pub told : new.told ≡ old.told
 
-abbrev pub ServesErr : Setting → List ℕ → Scene → Scene → Rest → RunFault → Type 0
-ServesErr setting given old new rest fault.Read = IsWhole setting given old new rest
-ServesErr setting given old new rest fault.Write = IsBrokenOff setting given old new rest
-ServesErr setting given old new rest fault.Office = IsOfficeFault setting given old new rest
-ServesErr setting given old new rest fault.Memory = IsOutOfMemory setting given old new rest
+abbrev pub ServesErr : Setting → List ℕ → Scene → Scene → RunFault → Type 0
+ServesErr setting given old new fault.Read = IsWhole setting given old new
+ServesErr setting given old new fault.Write = IsBrokenOff setting given old new
+ServesErr setting given old new fault.Office = IsOfficeFault setting given old new
+ServesErr setting given old new fault.Memory = IsOutOfMemory setting given old new
 
 -- what a call that answers this has done
-abbrev pub Serves : Setting → List ℕ → Scene → Scene → Rest → Result End RunFault → Type 0
-Serves setting given old new rest (Ok end) = IsWhole setting given old new rest × (end ≡ ending (whole setting given old.register).phase)
-Serves setting given old new rest (Err fault) = ServesErr setting given old new rest fault
+abbrev pub Serves : Setting → List ℕ → Scene → Scene → Result End RunFault → Type 0
+Serves setting given old new (Ok end) = IsWhole setting given old new × (end ≡ ending (whole setting given old.register).phase)
+Serves setting given old new (Err fault) = ServesErr setting given old new fault
 
 -- what a reader told in a call that answers this
 abbrev pub ReaderErr : {R : Type 0} → Port R → Port R → RunFault → Type 0

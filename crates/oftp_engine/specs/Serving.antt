@@ -7,7 +7,7 @@ use Rattle.oftp_wire.specs.declared.reason.SessionReason.TheVariants.{ResourcesN
 use Rattle.oftp_register.specs.declared.change.Change.{Change}
 use Rattle.oftp_register.specs.Register.{Register}
 use Rattle.oftp_register.specs.Changes.{apply_all}
-use Rattle.oftp_register.specs.Offices.{Rest, Only, WithOrWithout, next_count}
+use Rattle.oftp_register.specs.Offices.{Rest, Only, WithOrWithout, next_count, rest_of}
 use Rattle.oftp_session.specs.Phases.{Step, frame_of, esid_of}
 use Rattle.oftp_session.specs.Steps.{has_turn, is_over, Holds}
 use Rattle.oftp_session.specs.Calls.{Allows, Seen, Stands, ending_of}
@@ -50,11 +50,12 @@ pub record Reaches (c : Course) (s : List ℕ) (d e : Course) : Type 0 where
   pub grows : Grows c d
   pub same : (more : List ℕ) (limit : Option ℕ) → is_stopped limit d ≡ false → (u : List ℕ) × (run limit (s ++ more) c ≡ run limit u e)
 
--- what an office and a writer show: the register, the faults that the office told, what the writer holds and how many
--- octets it took, and the faults that it told. The counts run modulo 2^64
-pub record Scene : Type 0 where
+-- what an office and a writer show: the register, the faults that the office told and what it leaves behind, what the writer holds
+-- and how many octets it took, and the faults that it told. The counts run modulo 2^64
+pub record Scene : Type 1 where
   pub register : Register
   pub faults : ℕ
+  pub rest : Rest
   pub contents : Option (List ℕ)
   pub taken : ℕ
   pub told : ℕ
@@ -76,17 +77,17 @@ pub record IsAt (c : Course) (seen : Seen) (scene : Scene) : Type 0 where
   pub holds : Holds c.phase c.register
 
 -- the engine came from c with the octets s to d with t, and what went out between is out
-pub record Went (c : Course) (s : List ℕ) (d : Course) (t : List ℕ) (old new : Scene) (rest_old rest_new : Rest) : Type 0 where
+pub record Went (c : Course) (s : List ℕ) (d : Course) (t : List ℕ) (old new : Scene) : Type 0 where
   pub leads : Leads c s d t
   pub between : List ℕ
   pub outputs : octets_of d.outputs ≡ octets_of c.outputs ++ between
   pub took : Took old new between
-  pub stands : rest_old.stands → rest_new.stands
+  pub stands : old.rest.stands → new.rest.stands
   pub faults : new.faults ≡ old.faults
   pub told : new.told ≡ old.told
 
 -- the writer told a fault within the output of a step
-pub record BreaksOff (c : Course) (s : List ℕ) (old new : Scene) (rest_old rest_new : Rest) : Type 0 where
+pub record BreaksOff (c : Course) (s : List ℕ) (old new : Scene) : Type 0 where
   pub at : Course
   pub step : Step
   pub count : ℕ
@@ -96,7 +97,7 @@ pub record BreaksOff (c : Course) (s : List ℕ) (old new : Scene) (rest_old res
   pub outputs : octets_of at.outputs ≡ octets_of c.outputs ++ between
   pub took : Took old new (between ++ take count step.output)
   pub register : new.register ≡ (advance at step).register
-  pub stands : rest_old.stands → rest_new.stands
+  pub stands : old.rest.stands → new.rest.stands
   pub faults : new.faults ≡ old.faults
   pub told : new.told ≡ next_count old.told
 
@@ -111,7 +112,7 @@ pub record StaysAfter (at : Course) (step : Step) (register : Register) (rest : 
   pub left : Only (advance at step).register rest
 
 -- the office told a fault within a step
-pub record OfficeFails (c : Course) (s : List ℕ) (old new : Scene) (rest_old rest_new : Rest) : Type 0 where
+pub record OfficeFails (c : Course) (s : List ℕ) (old new : Scene) : Type 0 where
   pub at : Course
   pub step : Step
   pub count : ℕ
@@ -121,11 +122,11 @@ pub record OfficeFails (c : Course) (s : List ℕ) (old new : Scene) (rest_old r
   pub took : Took old new (between ++ take count last_frame)
   pub said : IsSaid old new count
   pub allows : Allows at.register step.change
-  pub cases : StaysBefore at step new.register rest_new ⊎ StaysAfter at step new.register rest_new
+  pub cases : StaysBefore at step new.register new.rest ⊎ StaysAfter at step new.register new.rest
   pub faults : new.faults ≡ next_count old.faults
 
 -- memory ran out, where the run had come or after the change of its next step
-pub record IsShort (c : Course) (s : List ℕ) (old new : Scene) (rest_old rest_new : Rest) : Type 0 where
+pub record IsShort (c : Course) (s : List ℕ) (old new : Scene) : Type 0 where
   pub at : Course
   pub next : Course
   pub reaches : Reaches c s at next
@@ -134,104 +135,111 @@ pub record IsShort (c : Course) (s : List ℕ) (old new : Scene) (rest_old rest_
   pub outputs : octets_of at.outputs ≡ octets_of c.outputs ++ between
   pub took : Took old new between
   pub register : (new.register ≡ at.register) ⊎ (new.register ≡ next.register)
-  pub stands : rest_old.stands → rest_new.stands
+  pub stands : old.rest.stands → new.rest.stands
   pub faults : new.faults ≡ old.faults
   pub told : new.told ≡ old.told
 
 -- what a fault leaves. A function that doesn't read tells none of the reader
-abbrev pub Fails : Course → List ℕ → Scene → Scene → Rest → Rest → RunFault → Type 0
-Fails c s old new rest_old rest_new fault.Read = ⊥
-Fails c s old new rest_old rest_new fault.Write = BreaksOff c s old new rest_old rest_new
-Fails c s old new rest_old rest_new fault.Office = OfficeFails c s old new rest_old rest_new
-Fails c s old new rest_old rest_new fault.Memory = IsShort c s old new rest_old rest_new
+abbrev pub Fails : Course → List ℕ → Scene → Scene → RunFault → Type 0
+Fails c s old new fault.Read = ⊥
+Fails c s old new fault.Write = BreaksOff c s old new
+Fails c s old new fault.Office = OfficeFails c s old new
+Fails c s old new fault.Memory = IsShort c s old new
 
 -- one step at a course: it is made and its output is out
-pub record Made (c : Course) (step : Step) (seen : Seen) (old new : Scene) (rest_old rest_new : Rest) : Type 0 where
+pub record Made (c : Course) (step : Step) (seen : Seen) (old new : Scene) : Type 0 where
   pub now : IsAt (advance c step) seen new
   pub took : Took old new step.output
-  pub stands : rest_old.stands → rest_new.stands
+  pub stands : old.rest.stands → new.rest.stands
   pub faults : new.faults ≡ old.faults
   pub told : new.told ≡ old.told
 
 -- one step at a course: it is made, and the writer told a fault within its output
-pub record MadePart (c : Course) (step : Step) (old new : Scene) (rest_old rest_new : Rest) : Type 0 where
+pub record MadePart (c : Course) (step : Step) (old new : Scene) : Type 0 where
   pub count : ℕ
   pub short : count < length step.output
   pub took : Took old new (take count step.output)
   pub register : new.register ≡ (advance c step).register
-  pub stands : rest_old.stands → rest_new.stands
+  pub stands : old.rest.stands → new.rest.stands
   pub faults : new.faults ≡ old.faults
   pub told : new.told ≡ next_count old.told
 
 -- one step at a course: the office told a fault
-pub record NotMade (c : Course) (step : Step) (old new : Scene) (rest_old rest_new : Rest) : Type 0 where
+pub record NotMade (c : Course) (step : Step) (old new : Scene) : Type 0 where
   pub count : ℕ
   pub took : Took old new (take count last_frame)
   pub said : IsSaid old new count
-  pub cases : StaysBefore c step new.register rest_new ⊎ StaysAfter c step new.register rest_new
+  pub cases : StaysBefore c step new.register new.rest ⊎ StaysAfter c step new.register new.rest
   pub faults : new.faults ≡ next_count old.faults
 
 -- one step at a course: memory ran out
-pub record NoMemory (c : Course) (step : Step) (old new : Scene) (rest_old rest_new : Rest) : Type 0 where
+pub record NoMemory (c : Course) (step : Step) (old new : Scene) : Type 0 where
   pub took : Took old new []
   pub register : (new.register ≡ c.register) ⊎ (new.register ≡ (advance c step).register)
-  pub stands : rest_old.stands → rest_new.stands
+  pub stands : old.rest.stands → new.rest.stands
   pub faults : new.faults ≡ old.faults
   pub told : new.told ≡ old.told
 
-abbrev pub StepFails : Course → Step → Scene → Scene → Rest → Rest → RunFault → Type 0
-StepFails c step old new rest_old rest_new fault.Read = ⊥
-StepFails c step old new rest_old rest_new fault.Write = MadePart c step old new rest_old rest_new
-StepFails c step old new rest_old rest_new fault.Office = NotMade c step old new rest_old rest_new
-StepFails c step old new rest_old rest_new fault.Memory = NoMemory c step old new rest_old rest_new
+abbrev pub StepFails : Course → Step → Scene → Scene → RunFault → Type 0
+StepFails c step old new fault.Read = ⊥
+StepFails c step old new fault.Write = MadePart c step old new
+StepFails c step old new fault.Office = NotMade c step old new
+StepFails c step old new fault.Memory = NoMemory c step old new
 
-abbrev pub Stepped : {T : Type 0} → Course → Step → Seen → Scene → Scene → Rest → Rest → Result T RunFault → Type 0
-Stepped c step seen old new rest_old rest_new (Ok x) = Made c step seen old new rest_old rest_new
-Stepped c step seen old new rest_old rest_new (Err fault) = StepFails c step old new rest_old rest_new fault
+abbrev pub Stepped : {T : Type 0} → Course → Step → Seen → Scene → Scene → Result T RunFault → Type 0
+Stepped c step seen old new (Ok x) = Made c step seen old new
+Stepped c step seen old new (Err fault) = StepFails c step old new fault
 
 -- the last frame is out, or the writer told a fault within it
 abbrev pub LastWords : {W : Type 0} → (W → Option (List ℕ)) → Port W → Port W → Type 0
 LastWords contents old new = (all : Bool) × Sent contents old new last_frame all
 
 -- the scene of an office and a writer's port, by what they tell
-abbrev pub scene : {O W : Type 0} → (O → Register) → (O → ℕ) → (W → Option (List ℕ)) → O → Port W → Scene
-scene register faults contents office port = record { register = register office; faults = faults office; contents = contents port.inner; taken = port.moved; told = port.faults }
+abbrev pub scene : {O C W : Type 0} → (O → Register) → (O → ℕ) → (C → Register → Type 0) → (O → C → Type 0) → (O → Type 0) → (W → Option (List ℕ)) → O → Port W → Scene
+scene register faults holds may_leave stands contents office port = record {
+  register = register office;
+  faults = faults office;
+  rest = rest_of holds may_leave stands office;
+  contents = contents port.inner;
+  taken = port.moved;
+  told = port.faults;
+}
 
 -- the engine came to some course with t left, where the session stands now
-pub record Comes (c : Course) (s t : List ℕ) (seen : Seen) (old new : Scene) (rest_old rest_new : Rest) : Type 0 where
+pub record Comes (c : Course) (s t : List ℕ) (seen : Seen) (old new : Scene) : Type 0 where
   pub at : Course
-  pub went : Went c s at t old new rest_old rest_new
+  pub went : Went c s at t old new
   pub now : IsAt at seen new
 
 -- every due turn is taken
-pub record Settles (c : Course) (seen : Seen) (old new : Scene) (rest_old rest_new : Rest) : Type 0 where
+pub record Settles (c : Course) (seen : Seen) (old new : Scene) : Type 0 where
   pub at : Course
-  pub went : Went c [] at [] old new rest_old rest_new
+  pub went : Went c [] at [] old new
   pub now : IsAt at seen new
   pub done : has_turn at.phase ≡ false
 
-abbrev pub TurnsTaken : {T : Type 0} → Course → Seen → Scene → Scene → Rest → Rest → Result T RunFault → Type 0
-TurnsTaken c seen old new rest_old rest_new (Ok x) = Settles c seen old new rest_old rest_new
-TurnsTaken c seen old new rest_old rest_new (Err fault) = Fails c [] old new rest_old rest_new fault
+abbrev pub TurnsTaken : {T : Type 0} → Course → Seen → Scene → Scene → Result T RunFault → Type 0
+TurnsTaken c seen old new (Ok x) = Settles c seen old new
+TurnsTaken c seen old new (Err fault) = Fails c [] old new fault
 
 -- the session is over, and has ended so
-pub record IsOver (c : Course) (s t : List ℕ) (seen : Seen) (old new : Scene) (rest_old rest_new : Rest) (end : Ending) : Type 0 where
-  pub come : Comes c s t seen old new rest_old rest_new
+pub record IsOver (c : Course) (s t : List ℕ) (seen : Seen) (old new : Scene) (end : Ending) : Type 0 where
+  pub come : Comes c s t seen old new
   pub ends : Some end ≡ ending_of come.at.phase
 
 -- nothing is due and no whole frame is there
-pub record IsWaiting (c : Course) (s : List ℕ) (stream : Stream) (seen : Seen) (old new : Scene) (rest_old rest_new : Rest) : Type 0 where
-  pub come : Comes c s stream.rest seen old new rest_old rest_new
+pub record IsWaiting (c : Course) (s : List ℕ) (stream : Stream) (seen : Seen) (old new : Scene) : Type 0 where
+  pub come : Comes c s stream.rest seen old new
   pub turn : has_turn come.at.phase ≡ false
   pub over : is_over come.at.phase ≡ false
   pub waits : front 100003 stream.rest ≡ Waits
   pub limit : stream.limit ≡ 100003
   pub told : stream.told ≡ None
 
-abbrev pub Pumped : Course → List ℕ → Stream → Seen → Scene → Scene → Rest → Rest → Result (Option Ending) RunFault → Type 0
-Pumped c s stream seen old new rest_old rest_new (Ok (Some end)) = IsOver c s stream.rest seen old new rest_old rest_new end
-Pumped c s stream seen old new rest_old rest_new (Ok None) = IsWaiting c s stream seen old new rest_old rest_new
-Pumped c s stream seen old new rest_old rest_new (Err fault) = Fails c s old new rest_old rest_new fault
+abbrev pub Pumped : Course → List ℕ → Stream → Seen → Scene → Scene → Result (Option Ending) RunFault → Type 0
+Pumped c s stream seen old new (Ok (Some end)) = IsOver c s stream.rest seen old new end
+Pumped c s stream seen old new (Ok None) = IsWaiting c s stream seen old new
+Pumped c s stream seen old new (Err fault) = Fails c s old new fault
 
 -- a fault that isn't the reader's
 abbrev pub IsOwn : RunFault → Type 0

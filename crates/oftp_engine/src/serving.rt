@@ -2,7 +2,6 @@
 
 ghost use Rattle.std.specs.Prelude.{◌≡◌, ◌<◌, ◌+◌, ℕ, true, false, List, None, OnOk, IfErr, is_ok};
 ghost use Rattle.oftp_wire.specs.Kinds.{command_of};
-ghost use Rattle.oftp_register.specs.Offices.{rest_of};
 ghost use Rattle.oftp_session.specs.Phases.{Phase, frame_of, esid_of};
 ghost use Rattle.oftp_session.specs.Steps.{came, has_turn, is_over, opening, turned};
 ghost use Rattle.oftp_session.specs.Calls.{Stands, is_due, said, turns_left};
@@ -131,11 +130,10 @@ fn take_turn<O: Office, W: Write>(
     ensures own { IfErr result IsOwn }
     ensures fewer { is_due session.old.state ≡ true → OnOk result (turns_left session.new.state < turns_left session.old.state) }
     ensures steps { O.is_clean office.new → O.stands office.old → (c : Course) → has_turn c.phase ≡ true
-        → IsAt c session.old (scene O.register O.told W.contents office.old writer.old)
+        → IsAt c session.old (scene O.register O.told O.holds O.may_leave O.stands W.contents office.old writer.old)
         → Stepped c (turned c.setting c.phase c.register) session.new
-        (scene O.register O.told W.contents office.old writer.old)
-        (scene O.register O.told W.contents office.new writer.new)
-        (rest_of O.holds O.may_leave O.stands office.old) (rest_of O.holds O.may_leave O.stands office.new) result }
+        (scene O.register O.told O.holds O.may_leave O.stands W.contents office.old writer.old)
+        (scene O.register O.told O.holds O.may_leave O.stands W.contents office.new writer.new) result }
     ensures out { Puts W.contents writer.old writer.new }
 {
     match session.turn(office) {
@@ -161,11 +159,10 @@ fn obey<O: Office, W: Write>(
     ensures clean { O.is_clean office.new → O.is_clean office.old }
     ensures own { IfErr result IsOwn }
     ensures steps { O.is_clean office.new → O.stands office.old → (c : Course) → is_over c.phase ≡ false
-        → IsAt c session.old (scene O.register O.told W.contents office.old writer.old)
+        → IsAt c session.old (scene O.register O.told O.holds O.may_leave O.stands W.contents office.old writer.old)
         → Stepped c (came c.setting c.phase c.register command.now) session.new
-        (scene O.register O.told W.contents office.old writer.old)
-        (scene O.register O.told W.contents office.new writer.new)
-        (rest_of O.holds O.may_leave O.stands office.old) (rest_of O.holds O.may_leave O.stands office.new) result }
+        (scene O.register O.told O.holds O.may_leave O.stands W.contents office.old writer.old)
+        (scene O.register O.told O.holds O.may_leave O.stands W.contents office.new writer.new) result }
     ensures out { Puts W.contents writer.old writer.new }
 {
     match session.on_command(office, command) {
@@ -191,11 +188,10 @@ fn take_command<O: Office, W: Write>(
     ensures clean { O.is_clean office.new → O.is_clean office.old }
     ensures own { IfErr result IsOwn }
     ensures steps { O.is_clean office.new → O.stands office.old → (c : Course) → is_over c.phase ≡ false
-        → IsAt c session.old (scene O.register O.told W.contents office.old writer.old)
+        → IsAt c session.old (scene O.register O.told O.holds O.may_leave O.stands W.contents office.old writer.old)
         → Stepped c (step_on c.setting c.phase c.register (command_of octets.now)) session.new
-        (scene O.register O.told W.contents office.old writer.old)
-        (scene O.register O.told W.contents office.new writer.new)
-        (rest_of O.holds O.may_leave O.stands office.old) (rest_of O.holds O.may_leave O.stands office.new) result }
+        (scene O.register O.told O.holds O.may_leave O.stands W.contents office.old writer.old)
+        (scene O.register O.told O.holds O.may_leave O.stands W.contents office.new writer.new) result }
     ensures out { Puts W.contents writer.old writer.new }
 {
     match parse(octets) {
@@ -216,11 +212,10 @@ fn take_turns<O: Office, W: Write>(
     ensures clean { O.is_clean office.new → O.is_clean office.old }
     ensures own { IfErr result IsOwn }
     ensures steps { O.is_clean office.new → O.stands office.old → (c : Course)
-        → IsAt c session.old (scene O.register O.told W.contents office.old writer.old)
+        → IsAt c session.old (scene O.register O.told O.holds O.may_leave O.stands W.contents office.old writer.old)
         → TurnsTaken c session.new
-        (scene O.register O.told W.contents office.old writer.old)
-        (scene O.register O.told W.contents office.new writer.new)
-        (rest_of O.holds O.may_leave O.stands office.old) (rest_of O.holds O.may_leave O.stands office.new) result }
+        (scene O.register O.told O.holds O.may_leave O.stands W.contents office.old writer.old)
+        (scene O.register O.told O.holds O.may_leave O.stands W.contents office.new writer.new) result }
     ensures out { Puts W.contents writer.old writer.new }
 {
     'turns: while session.has_turn() {
@@ -239,11 +234,10 @@ fn pump<O: Office, W: Write>(
     ensures clean { O.is_clean office.new → O.is_clean office.old }
     ensures own { IfErr result IsOwn }
     ensures steps { O.is_clean office.new → O.stands office.old → (c : Course) → stream.old.limit ≡ 100003 → stream.old.told ≡ None
-        → IsAt c session.old (scene O.register O.told W.contents office.old writer.old)
+        → IsAt c session.old (scene O.register O.told O.holds O.may_leave O.stands W.contents office.old writer.old)
         → Pumped c stream.old.rest stream.new session.new
-        (scene O.register O.told W.contents office.old writer.old)
-        (scene O.register O.told W.contents office.new writer.new)
-        (rest_of O.holds O.may_leave O.stands office.old) (rest_of O.holds O.may_leave O.stands office.new) result }
+        (scene O.register O.told O.holds O.may_leave O.stands W.contents office.old writer.old)
+        (scene O.register O.told O.holds O.may_leave O.stands W.contents office.new writer.new) result }
     ensures out { Puts W.contents writer.old writer.new }
 {
     'frames: loop {
@@ -295,9 +289,8 @@ pub fn serve<O: Office, R: Read, W: Write>(
 ) -> Result<End, RunFault>
     ensures serves { (given : List ℕ) × Gave R.remaining reader.old reader.new given
         × (O.is_clean office.new → O.stands office.old → Serves (setting_of book.now role.entry) given
-        (scene O.register O.told W.contents office.old writer.old)
-        (scene O.register O.told W.contents office.new writer.new)
-        (rest_of O.holds O.may_leave O.stands office.new) result) }
+        (scene O.register O.told O.holds O.may_leave O.stands W.contents office.old writer.old)
+        (scene O.register O.told O.holds O.may_leave O.stands W.contents office.new writer.new) result) }
     ensures clean { O.is_clean office.new → O.is_clean office.old }
     ensures told { ReaderTold reader.old reader.new result }
     ensures ends { InputEnded R.remaining reader.new result }

@@ -1,5 +1,4 @@
 use Rattle.std.proofs.Common.{◌≡◌, None, length}
-use Rattle.oftp_register.specs.Offices.{rest_of}
 use Rattle.oftp_engine.specs.Ports.{Puts}
 use Rattle.oftp_engine.specs.Runs.{Course}
 use Rattle.oftp_engine.specs.Serving.{scene, IsAt}
@@ -8,12 +7,12 @@ use Rattle.oftp_engine.proofs.serving.pump.Given as goal
 
 abbrev pub invariant-frames : goal.invariant-frames
 invariant-frames g l =
-    let scene_of = scene g.O.Office.register g.O.Office.told g.W.Write.contents in
+    let scene_of = scene g.O.Office.register g.O.Office.told g.O.Office.holds g.O.Office.may_leave g.O.Office.stands g.W.Write.contents in
     record {
       out : Puts g.W.Write.contents l.fn.writer l.writer;
       clean : g.O.Office.is_clean l.office → g.O.Office.is_clean l.fn.office;
       pumps : g.O.Office.is_clean l.office → g.O.Office.stands l.fn.office → (c : Course) → l.fn.stream.limit ≡ 100003 → l.fn.stream.told ≡ None → IsAt c l.fn.session (scene_of l.fn.office l.fn.writer)
-          → IsPumping c l.fn.stream.rest l.stream l.session (scene_of l.fn.office l.fn.writer) (scene_of l.office l.writer) (rest_of g.O.Office.holds g.O.Office.may_leave g.O.Office.stands l.fn.office) (rest_of g.O.Office.holds g.O.Office.may_leave g.O.Office.stands l.office);
+          → IsPumping c l.fn.stream.rest l.stream l.session (scene_of l.fn.office l.fn.writer) (scene_of l.office l.writer);
     }
 
 abbrev pub decreases-frames : goal.decreases-frames

@@ -1,6 +1,5 @@
 use Rattle.std.proofs.Common.{[], sym, ap, ◌∙◌, subst, Err}
 use Rattle.oftp_engine.proofs.Puts.{puts_none, puts_on}
-use Rattle.oftp_register.specs.Offices.{rest_of}
 use Rattle.std.proofs.lemmas.Result.{err_from_is_err_and}
 use Rattle.oftp_session.specs.Steps.{turned}
 use Rattle.oftp_engine.specs.declared.serving.RunFault.{RunFault}
@@ -15,8 +14,8 @@ turns-init g c = record {
   out = puts_none g.W.Write.contents c.args.writer.now;
   clean = λ h. h;
   comes = λ clean stood k at.
-      let scene_of = scene g.O.Office.register g.O.Office.told g.W.Write.contents in
-      record { at = k; went = went_none k [] (scene_of c.args.office.now c.args.writer.now) (rest_of g.O.Office.holds g.O.Office.may_leave g.O.Office.stands c.args.office.now); now = at };
+      let scene_of = scene g.O.Office.register g.O.Office.told g.O.Office.holds g.O.Office.may_leave g.O.Office.stands g.W.Write.contents in
+      record { at = k; went = went_none k [] (scene_of c.args.office.now c.args.writer.now); now = at };
 }
 
 pub turns-preserved : goal.turns-preserved
@@ -24,38 +23,32 @@ turns-preserved g c = record {
   out = puts_on g.W.Write.contents c.args.writer.now c.turns.writer c.take_turn.new.writer c.turns.invariant.out c.take_turn.ensures.out;
   clean = λ h. c.turns.invariant.clean (c.take_turn.ensures.clean h);
   comes = λ clean stood k at.
-      let scene_of = scene g.O.Office.register g.O.Office.told g.W.Write.contents in
+      let scene_of = scene g.O.Office.register g.O.Office.told g.O.Office.holds g.O.Office.may_leave g.O.Office.stands g.W.Write.contents in
       let first = scene_of c.args.office.now c.args.writer.now in
       let old = scene_of c.turns.office c.turns.writer in
       let new = scene_of c.take_turn.new.office c.take_turn.new.writer in
-      let lf = rest_of g.O.Office.holds g.O.Office.may_leave g.O.Office.stands c.args.office.now in
-      let lo = rest_of g.O.Office.holds g.O.Office.may_leave g.O.Office.stands c.turns.office in
-      let ln = rest_of g.O.Office.holds g.O.Office.may_leave g.O.Office.stands c.take_turn.new.office in
       let t = c.turns.invariant.comes (c.take_turn.ensures.clean clean) stood k at in
       let due = sym (c.turns-test.ensures.phase t.at.phase t.now.stands) in
       let made = c.in_ok-take_turn.ensures.steps clean (t.went.stands stood) t.at due t.now in
       record {
         at = turned_in t.at;
-        went = went_on k t.at (turned_in t.at) [] [] [] first old new lf lo ln t.went (went_step t.at (turned t.at.setting t.at.phase t.at.register) [] [] c.take_turn.new.session old new lo ln (leads_turn t.at [] due) made);
+        went = went_on k t.at (turned_in t.at) [] [] [] first old new t.went (went_step t.at (turned t.at.setting t.at.phase t.at.register) [] [] c.take_turn.new.session old new (leads_turn t.at [] due) made);
         now = made.now;
       };
 }
 
 pub returns-in_err-take_turn-clause-steps : goal.returns-in_err-take_turn-clause-steps
 returns-in_err-take_turn-clause-steps g c = λ clean stood k at.
-    let scene_of = scene g.O.Office.register g.O.Office.told g.W.Write.contents in
+    let scene_of = scene g.O.Office.register g.O.Office.told g.O.Office.holds g.O.Office.may_leave g.O.Office.stands g.W.Write.contents in
     let first = scene_of c.args.office.now c.args.writer.now in
     let old = scene_of c.turns.office c.turns.writer in
     let new = scene_of c.take_turn.new.office c.take_turn.new.writer in
-    let lf = rest_of g.O.Office.holds g.O.Office.may_leave g.O.Office.stands c.args.office.now in
-    let lo = rest_of g.O.Office.holds g.O.Office.may_leave g.O.Office.stands c.turns.office in
-    let ln = rest_of g.O.Office.holds g.O.Office.may_leave g.O.Office.stands c.take_turn.new.office in
     let t = c.turns.invariant.comes (c.take_turn.ensures.clean clean) stood k at in
     let due = sym (c.turns-test.ensures.phase t.at.phase t.now.stands) in
     let f = c.in_err-take_turn.field-0.0 in
-    let failed = fails_step t.at (turned t.at.setting t.at.phase t.at.register) [] old new lo ln f (turn_allowed t.at.setting t.at.phase t.at.register) (reaches_turn t.at [] due) (c.in_err-take_turn.ensures.steps clean (t.went.stands stood) t.at due t.now) in
+    let failed = fails_step t.at (turned t.at.setting t.at.phase t.at.register) [] old new f (turn_allowed t.at.setting t.at.phase t.at.register) (reaches_turn t.at [] due) (c.in_err-take_turn.ensures.steps clean (t.went.stands stood) t.at due t.now) in
     let p = err_from_is_err_and c.from_residual.result c.from_residual.ensures.1 in
-    subst (TurnsTaken k c.take_turn.new.session first new lf ln) (sym (p.1 ∙ ap (λ (x : RunFault). Err x) p.2)) (fails_later k t.at [] [] first old new lf lo ln f t.went failed)
+    subst (TurnsTaken k c.take_turn.new.session first new) (sym (p.1 ∙ ap (λ (x : RunFault). Err x) p.2)) (fails_later k t.at [] [] first old new f t.went failed)
 
 pub returns-in_err-take_turn-clause-out : goal.returns-in_err-take_turn-clause-out
 returns-in_err-take_turn-clause-out g c = puts_on g.W.Write.contents c.args.writer.now c.turns.writer c.take_turn.new.writer c.turns.invariant.out c.take_turn.ensures.out
