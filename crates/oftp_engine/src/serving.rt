@@ -104,6 +104,7 @@ fn refuse<W: Write>(
 {
     match session.fail(reason) {
         Ok(out) => write_out(port, out),
+        // It never comes: a session that has ended isn't ended again.
         Err(_) => Err(RunFault::Memory),
     }
 }

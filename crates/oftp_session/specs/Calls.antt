@@ -1,6 +1,7 @@
 -- What a call of a session does: one step.
-use Rattle.std.specs.Prelude.{◌≡◌, ℕ, nat_lt, ◌⊎◌, Bool, true, false, List, [], Option, None, Some, Result, Ok, Err, is_ok}
+use Rattle.std.specs.Prelude.{◌≡◌, ℕ, nat_lt, ◌⊎◌, ⊤, Bool, true, false, List, [], Option, None, Some, Result, Ok, Err, is_ok}
 use Rattle.oftp_register.specs.declared.change.Change.{Change}
+use Rattle.oftp_register.specs.declared.change.Change.TheVariants as change
 use Rattle.oftp_register.specs.Register.{Register}
 use Rattle.oftp_register.specs.Changes.{apply}
 use Rattle.oftp_register.specs.Offices.{Rest, Only, WithOrWithout, next_count}
@@ -73,12 +74,19 @@ pub record IsMade (change : Option Change) (output : List ℕ) (old new : Desk) 
   pub stands : rest.stands
   pub faults : new.faults ≡ old.faults
 
--- the office told a fault: before the change was made, or in a look-up after it. Its register is known where it still stands
+-- the change begins a file, whose number is looked up once it is made
+abbrev pub Begins : Option Change → Type 0
+Begins (Some (change.Start identity format longest description count)) = ⊤
+Begins _ = ⊥
+
+-- the office told a fault: before the change was made, or in a look-up after it, where the change begins a file. Its register is known
+-- where it still stands
 pub record IsBefore (change : Option Change) (old new : Desk) (rest : Rest) : Type 0 where
   pub register : rest.stands → new.register ≡ old.register
   pub left : WithOrWithout change old.register rest
 
 pub record IsAfter (change : Option Change) (old new : Desk) (rest : Rest) : Type 0 where
+  pub begins : Begins change
   pub after : Register
   pub made : Makes change old.register after
   pub register : rest.stands → new.register ≡ after

@@ -157,13 +157,16 @@ fn are_of_one_file(one: &Metadata, other: &Metadata) -> bool {
     one.dev() == other.dev() && one.ino() == other.ino()
 }
 
-/// Refuses an output that is the input or the book: making it would take away their octets.
+/// Refuses an output that is the input or the book: making it would take away their octets. A device loses none.
 fn check_output<R: Files>(rt: &R, files: &Feed<'_>, input: &R::File) -> Result<(), Fault> {
     let output = match fs::metadata(rt, files.output) {
         Ok(output) => output,
         Err(error) if error.kind() == ErrorKind::NotFound => return Ok(()),
         Err(error) => return Err(file_fault(&error)),
     };
+    if !output.is_file() {
+        return Ok(());
+    }
     let input = input.metadata().map_err(|error| file_fault(&error))?;
     let book = fs::metadata(rt, files.book).map_err(|error| file_fault(&error))?;
     if are_of_one_file(&output, &input) || are_of_one_file(&output, &book) {

@@ -153,6 +153,10 @@ fn responses_come(rt: HostRuntime) -> Result<(), OfficeFault> {
     )
 }
 
+const A_DELIVERED: &str = "out A delivered 0/0 mark 0; got A EERP; ";
+
+const A_DELIVERED_TWICE: &str = "out A delivered 0/0 mark 0; got A EERP; got A NERP; ";
+
 #[test]
 fn files_are_delivered(rt: HostRuntime) -> Result<(), OfficeFault> {
     makes(
@@ -162,14 +166,63 @@ fn files_are_delivered(rt: HostRuntime) -> Result<(), OfficeFault> {
             (Submit(b"A", &[]), None, "out A waiting 0/0 mark 0; "),
             (BeginClosing(1), None, "out A closing 0/0 mark 0; "),
             (HandOver(1), None, "out A handed 0/0 mark 0; "),
+            (Act::File(b"A", EndResponse), None, A_DELIVERED),
+            (Mark(1, 0), Some(State), A_DELIVERED),
+            (BeginClosing(1), Some(State), A_DELIVERED),
+            (HandOver(1), Some(State), A_DELIVERED),
+            (Refuse(1), Some(State), A_DELIVERED),
+            (Reopen(1), Some(State), A_DELIVERED),
+            // The first response of a file decides.
             (
-                Act::File(b"A", EndResponse),
+                Act::File(b"A", NegativeEndResponse),
                 None,
-                "out A delivered 0/0 mark 0; got A EERP; ",
+                A_DELIVERED_TWICE,
             ),
         ],
     )
 }
+
+// An end response may come before the answer to the end of the file.
+#[test]
+fn a_closing_file_is_delivered(rt: HostRuntime) -> Result<(), OfficeFault> {
+    makes(
+        rt.alloc(),
+        &rt,
+        &[
+            (Submit(b"A", &[]), None, "out A waiting 0/0 mark 0; "),
+            (BeginClosing(1), None, "out A closing 0/0 mark 0; "),
+            (Act::File(b"A", EndResponse), None, A_DELIVERED),
+        ],
+    )
+}
+
+const A_RETURNED: &str = "out A returned 0/0 mark 0; got A NERP; ";
+
+#[test]
+fn files_are_returned(rt: HostRuntime) -> Result<(), OfficeFault> {
+    makes(
+        rt.alloc(),
+        &rt,
+        &[
+            (Submit(b"A", &[]), None, "out A waiting 0/0 mark 0; "),
+            (BeginClosing(1), None, "out A closing 0/0 mark 0; "),
+            (HandOver(1), None, "out A handed 0/0 mark 0; "),
+            (Act::File(b"A", NegativeEndResponse), None, A_RETURNED),
+            (Mark(1, 0), Some(State), A_RETURNED),
+            (BeginClosing(1), Some(State), A_RETURNED),
+            (HandOver(1), Some(State), A_RETURNED),
+            (Refuse(1), Some(State), A_RETURNED),
+            (Reopen(1), Some(State), A_RETURNED),
+            (
+                Act::File(b"A", EndResponse),
+                None,
+                "out A returned 0/0 mark 0; got A NERP; got A EERP; ",
+            ),
+        ],
+    )
+}
+
+const A_REFUSED: &str = "out A refused 0/0 mark 0; ";
 
 #[test]
 fn a_refused_file_stays_refused(rt: HostRuntime) -> Result<(), OfficeFault> {
@@ -179,7 +232,11 @@ fn a_refused_file_stays_refused(rt: HostRuntime) -> Result<(), OfficeFault> {
         &[
             (Submit(b"A", &[]), None, "out A waiting 0/0 mark 0; "),
             (BeginClosing(1), None, "out A closing 0/0 mark 0; "),
-            (Refuse(1), None, "out A refused 0/0 mark 0; "),
+            (Refuse(1), None, A_REFUSED),
+            (Mark(1, 0), Some(State), A_REFUSED),
+            (BeginClosing(1), Some(State), A_REFUSED),
+            (HandOver(1), Some(State), A_REFUSED),
+            (Reopen(1), Some(State), A_REFUSED),
             (
                 Act::File(b"A", EndResponse),
                 None,
@@ -324,5 +381,30 @@ fn reasons_are_kept(rt: HostRuntime) -> Result<(), Fail> {
     assert_eq!(rt; entry.response.reason.get(), 9);
     assert_eq!(rt; entry.response.text.as_str(), "NO PLANT");
     assert_eq!(rt; entry.identity.originator.octets(), b"O1".as_slice());
+    Ok(())
+}
+
+// All that a file is submitted with is kept.
+#[test]
+fn a_submitted_file_is_kept_whole(rt: HostRuntime) -> Result<(), Fail> {
+    let alloc = rt.alloc();
+    let mut office = PlainOffice::new(alloc, LIMITS);
+    let submit = Change::Submit {
+        identity: file(b"A")?,
+        format: Format::Fixed,
+        longest: 3,
+        description: text("SCHEDULE")?,
+        rows: rows(alloc, &[b"abc", b"def"])?,
+    };
+    commit(&mut office, submit)?;
+    let found = office.out_by_no(1)?.ok_or("no file A")?;
+    assert!(rt; found.identity.is(&file(b"A")?));
+    assert_eq!(rt; (found.format, found.longest), (Format::Fixed, 3));
+    assert_eq!(rt; found.description.as_str(), "SCHEDULE");
+    assert_eq!(rt; (found.rows, found.units, found.mark), (2, 6, 0));
+    let kept = office.rows_of(Side::Outgoing, 1, 0, 9)?;
+    assert_eq!(rt; kept.as_slice().len(), 2);
+    assert_eq!(rt; kept.as_slice()[0].octets(), b"abc".as_slice());
+    assert_eq!(rt; kept.as_slice()[1].octets(), b"def".as_slice());
     Ok(())
 }

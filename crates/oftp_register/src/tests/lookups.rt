@@ -1,4 +1,4 @@
-//! Each look-up, over any office.
+//! Each look-up, and changes in turn.
 
 use super::*;
 

@@ -289,6 +289,19 @@ fn output_over_input_or_book(rt: HostRuntime) -> Result<(), Fail> {
     Ok(())
 }
 
+const DEVICE_BOOK: &str = "station_test_device_book";
+
+/// A device may be read and written at once.
+#[test]
+fn device_as_input_and_output(rt: HostRuntime) -> Result<(), Fail> {
+    fs::write(&rt, DEVICE_BOOK, book_text(rt.alloc(), USUAL)?.as_str())?;
+    let words = feed(DEVICE_BOOK, "responder", CARMAKER, "/dev/null", "/dev/null");
+    let done = command(&rt, &words)?;
+    assert_printed(&rt, &done, 0, "end: input\n", "");
+    fs::remove_file(&rt, DEVICE_BOOK)?;
+    Ok(())
+}
+
 #[test]
 fn book_faults(rt: HostRuntime) -> Result<(), Fail> {
     let rows = [

@@ -4,7 +4,7 @@ use super::*;
 use crate::outcome::{Fault, Outcome};
 use oftp_engine::{End, Port, Role, RunFault, serve};
 use oftp_partners::{Book, read};
-use oftp_register::{PlainOffice, ResponseKind};
+use oftp_register::{Identity, PlainOffice, ResponseKind};
 use oftp_vfile::Limits;
 use oftp_wire::SessionReason;
 use std::io::{self, ErrorKind, Read, Write};
@@ -497,6 +497,31 @@ fn reader_fails(rt: HostRuntime) -> Result<(), Fail> {
     Ok(())
 }
 
+/// Octets after the end aren't asked for: a reader that fails there isn't heard.
+#[test]
+fn nothing_is_read_after_the_end(rt: HostRuntime) -> Result<(), Fail> {
+    let book = read(rt.alloc(), book_text(rt.alloc(), USUAL)?.as_str())?;
+    let input = frames(rt.alloc(), &[PARTNER, NORMAL_END])?;
+    let mut office = PlainOffice::new(rt.alloc(), LIMITS);
+    let failing = Failing {
+        octets: input.as_slice(),
+    };
+    let mut reader = Port::new(failing, 1_000_000);
+    let mut writer = Port::new(Vec::new(rt.alloc()), 0);
+    let end = serve(
+        rt.alloc(),
+        &mut office,
+        &book,
+        Role::Responder,
+        &mut reader,
+        &mut writer,
+    );
+    assert_eq!(rt; end, Ok(End::Partner(SessionReason::Normal.number())));
+    assert_eq!(rt; reader.faults(), 0);
+    assert_eq!(rt; reader.moved(), input.len() as u64);
+    Ok(())
+}
+
 /// A writer that takes one octet at a call, and none once it has `room` for no more.
 #[derive(Drop)]
 struct Slow {
@@ -560,23 +585,64 @@ fn one_octet_writer(rt: HostRuntime) -> Result<(), Fail> {
     Ok(())
 }
 
-#[test]
-fn short_or_long_frame(rt: HostRuntime) -> Result<(), Fail> {
+/// A session over a partner's SSID and these octets ends by ESID 02.
+fn ends_in_violation(rt: &(impl Abort + AllocGlobal), octets: &[u8]) -> Result<(), Fail> {
     let book = read(rt.alloc(), book_text(rt.alloc(), USUAL)?.as_str())?;
     let output = frames(rt.alloc(), &[READY, STATION, "F02000\r"])?;
-    for header in [
-        [0x10, 0, 0, 4],
-        [0x10, 1, 0x86, 0xa4],
-        [0x20, 0, 0, 5],
-        [0x11, 0, 0, 5],
-    ] {
-        let mut input = frames(rt.alloc(), &[PARTNER])?;
-        input.extend_from_slice(&header)?;
-        let served = serve_over(rt.alloc(), &book, Who::Called, input.as_slice());
-        assert_eq!(rt; served.end, Ok(End::Own(SessionReason::ProtocolViolation)));
-        assert!(rt; served.out.as_slice() == output.as_slice());
-    }
+    let mut input = frames(rt.alloc(), &[PARTNER])?;
+    input.extend_from_slice(octets)?;
+    let served = serve_over(rt.alloc(), &book, Who::Called, input.as_slice());
+    assert_eq!(rt; served.end, Ok(End::Own(SessionReason::ProtocolViolation)));
+    assert!(rt; served.out.as_slice() == output.as_slice());
     Ok(())
+}
+
+#[test]
+fn short_or_long_frame(rt: HostRuntime) -> Result<(), Fail> {
+    ends_in_violation(&rt, &[0x10, 0, 0, 4])?;
+    ends_in_violation(&rt, &[0x10, 1, 0x86, 0xa4])
+}
+
+#[test]
+fn bad_header(rt: HostRuntime) -> Result<(), Fail> {
+    ends_in_violation(&rt, &[0x20, 0, 0, 5, 0x50])?;
+    ends_in_violation(&rt, &[0x11, 0, 0, 5, 0x50])
+}
+
+/// The longest frame there is, a DATA that no file awaits.
+#[test]
+fn longest_frame(rt: HostRuntime) -> Result<(), Fail> {
+    let mut frame = vec![in rt.alloc(); 0x44u8; 100_003]?;
+    frame[..4].copy_from_slice(&[0x10, 1, 0x86, 0xa3]);
+    ends_in_violation(&rt, &frame)
+}
+
+/// An input of many pieces.
+#[test]
+fn long_input(rt: HostRuntime) -> Result<(), Fail> {
+    let book = read(rt.alloc(), book_text(rt.alloc(), USUAL)?.as_str())?;
+    let mut input = frames(rt.alloc(), &[PARTNER])?;
+    let mut output = frames(rt.alloc(), &[READY, STATION])?;
+    let response = frames(rt.alloc(), &[END_RESPONSE])?;
+    let answer = frames(rt.alloc(), &[READY_TO_RECEIVE])?;
+    for _ in 0..100 {
+        input.extend_from_slice(&response)?;
+        output.extend_from_slice(&answer)?;
+    }
+    let served = serve_over(rt.alloc(), &book, Who::Called, input.as_slice());
+    assert_eq!(rt; served.end, Ok(End::Input));
+    assert!(rt; served.out.as_slice() == output.as_slice());
+    assert_eq!(rt; served.office.received().len(), 1);
+    Ok(())
+}
+
+/// Whether this is the file of the responses, on its way from the station to the partner.
+fn is_invoice(file: &Identity) -> bool {
+    file.dataset.octets() == b"INV.7".as_slice()
+        && file.date.octets() == b"20240201".as_slice()
+        && file.time.octets() == b"0800000001".as_slice()
+        && file.originator.octets() == b"O0013SUPPLIER".as_slice()
+        && file.destination.octets() == b"O0177CARMAKER".as_slice()
 }
 
 /// What is filed is what the octets say.
@@ -588,13 +654,7 @@ fn refusal_kept_whole(rt: HostRuntime) -> Result<(), Fail> {
     let [delivered, refused] = served.office.received() else {
         return Err("two responses")?;
     };
-    for response in [delivered, refused] {
-        assert!(rt; response.identity.dataset.octets() == b"INV.7".as_slice());
-        assert!(rt; response.identity.date.octets() == b"20240201".as_slice());
-        assert!(rt; response.identity.time.octets() == b"0800000001".as_slice());
-        assert!(rt; response.identity.originator.octets() == b"O0013SUPPLIER".as_slice());
-        assert!(rt; response.identity.destination.octets() == b"O0177CARMAKER".as_slice());
-    }
+    assert!(rt; is_invoice(&delivered.identity) && is_invoice(&refused.identity));
     assert!(rt; delivered.kind == ResponseKind::EndResponse);
     assert_eq!(rt; delivered.reason.get(), 0);
     assert!(rt; delivered.creator.octets().is_empty());
