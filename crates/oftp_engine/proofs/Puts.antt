@@ -1,7 +1,11 @@
--- What a writer took, whatever the office did.
-use Rattle.std.proofs.Common.{ℕ, Bool, true, false, List, [], ◌++◌, length, take, Option, arith, length-append}
+-- What a writer took and told, whatever the office did.
+use Rattle.std.proofs.Common.{◌≡◌, ◌∙◌, ap, inl, inr, ℕ, Bool, true, false, List, [], ◌++◌, length, take, Option, arith, length-append}
+use Rattle.oftp_register.specs.Offices.{next_count}
 use Rattle.oftp_engine.specs.declared.port.Port.{Port}
+use Rattle.oftp_engine.specs.declared.serving.RunFault.{RunFault}
+use Rattle.oftp_engine.specs.declared.serving.RunFault.TheVariants as fault
 use Rattle.oftp_engine.specs.Ports.{Sent, Puts}
+use Rattle.oftp_engine.specs.Served.{WriterErr}
 use Rattle.oftp_engine.proofs.Bytes.{appends_none, appends_on, count_on}
 
 pub puts_none : {X : Type 0} (contents : X → Option (List ℕ)) (a : Port X) → Puts contents a a
@@ -19,3 +23,10 @@ puts_on contents a b d p q = (
 pub puts_sent : {X : Type 0} (contents : X → Option (List ℕ)) (a d : Port X) (octets : List ℕ) (all : Bool) → Sent contents a d octets all → Puts contents a d
 puts_sent contents a d octets true s = (octets, s.wrote)
 puts_sent contents a d octets false s = (take s.count octets, s.wrote)
+
+-- what a writer told in a call, where it told nothing before
+pub told_on : {W : Type 0} (a b d : Port W) (f : RunFault) → b.faults ≡ a.faults → WriterErr b d f → WriterErr a d f
+told_on a b d fault.Read e h = h ∙ e
+told_on a b d fault.Write e h = h ∙ ap next_count e
+told_on a b d fault.Office e h = elim h [ inl none ↦ inl (none ∙ e) | inr one ↦ inr (one ∙ ap next_count e) ]
+told_on a b d fault.Memory e h = h ∙ e

@@ -123,6 +123,17 @@ abbrev pub ReaderTold : {R : Type 0} → Port R → Port R → Result End RunFau
 ReaderTold old new (Ok end) = new.faults ≡ old.faults
 ReaderTold old new (Err fault) = ReaderErr old new fault
 
+-- what a writer told in a call that answers this. After a fault of the office its own, within the last words, isn't answered
+abbrev pub WriterErr : {W : Type 0} → Port W → Port W → RunFault → Type 0
+WriterErr old new fault.Read = new.faults ≡ old.faults
+WriterErr old new fault.Write = new.faults ≡ next_count old.faults
+WriterErr old new fault.Office = (new.faults ≡ old.faults) ⊎ (new.faults ≡ next_count old.faults)
+WriterErr old new fault.Memory = new.faults ≡ old.faults
+
+abbrev pub WriterTold : {T W : Type 0} → Port W → Port W → Result T RunFault → Type 0
+WriterTold old new (Ok x) = new.faults ≡ old.faults
+WriterTold old new (Err fault) = WriterErr old new fault
+
 -- a session ends by its input only where no more is to come
 abbrev pub InputEnded : {R : Type 0} → (R → Option (List ℕ)) → Port R → Result End RunFault → Type 0
 InputEnded remaining now (Ok end) = end ≡ Input → IsDone remaining now

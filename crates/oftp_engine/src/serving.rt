@@ -8,7 +8,7 @@ ghost use Rattle.oftp_session.specs.Calls.{Stands, is_due, said, turns_left};
 ghost use Rattle.oftp_session.specs.declared.session.State.TheVariants as state;
 ghost use Rattle.oftp_engine.specs.Ports.{Sent, Puts};
 ghost use Rattle.oftp_engine.specs.Runs.{Course, ended_as, step_on};
-ghost use Rattle.oftp_engine.specs.Served.{Gave, InputEnded, ReaderTold, Serves, setting_of};
+ghost use Rattle.oftp_engine.specs.Served.{Gave, InputEnded, ReaderTold, Serves, setting_of, WriterErr, WriterTold};
 ghost use Rattle.oftp_engine.specs.Serving.{IsAt, IsOwn, LastWords, Pumped, Stepped, TurnsTaken, scene};
 
 use crate::port::{Port, read, send};
@@ -75,6 +75,7 @@ fn write_out<W: Write>(port: &mut Port<W>, out: Out<'_>) -> Result<(), RunFault>
     ensures sent { Sent W.contents port.old port.new (said out.entry) (is_ok result) }
     ensures err { IfErr result (λ fault. fault ≡ RunFault.Write) }
     ensures out { Puts W.contents port.old port.new }
+    ensures told { WriterTold port.old port.new result }
 {
     match out {
         Out::Nothing => Ok(()),
@@ -101,6 +102,7 @@ fn refuse<W: Write>(
     ensures over { (p : Phase) → is_over p ≡ false → Stands p session.old → OnOk result (Stands (Phase.EndedHere reason) session.new) }
     ensures setting { session.new.setting ≡ session.old.setting }
     ensures out { Puts W.contents port.old port.new }
+    ensures told { WriterTold port.old port.new result }
 {
     match session.fail(reason) {
         Ok(out) => write_out(port, out),
@@ -114,6 +116,7 @@ fn refuse<W: Write>(
 fn last_words<W: Write>(session: &mut Session<'_>, port: &mut Port<W>)
     ensures words { session.old.state ≡ state.Broken → LastWords W.contents port.old port.new }
     ensures out { Puts W.contents port.old port.new }
+    ensures told { WriterErr port.old port.new RunFault.Office }
 {
     if let Ok(out) = session.fail(SessionReason::ResourcesNotAvailable) {
         let _ = write_out(port, out);
@@ -136,6 +139,7 @@ fn take_turn<O: Office, W: Write>(
         (scene O.register O.told O.holds O.may_leave O.stands W.contents office.old writer.old)
         (scene O.register O.told O.holds O.may_leave O.stands W.contents office.new writer.new) result }
     ensures out { Puts W.contents writer.old writer.new }
+    ensures told { WriterTold writer.old writer.new result }
 {
     match session.turn(office) {
         Ok(out) => write_out(writer, out),
@@ -165,6 +169,7 @@ fn obey<O: Office, W: Write>(
         (scene O.register O.told O.holds O.may_leave O.stands W.contents office.old writer.old)
         (scene O.register O.told O.holds O.may_leave O.stands W.contents office.new writer.new) result }
     ensures out { Puts W.contents writer.old writer.new }
+    ensures told { WriterTold writer.old writer.new result }
 {
     match session.on_command(office, command) {
         Ok(out) => write_out(writer, out),
@@ -194,6 +199,7 @@ fn take_command<O: Office, W: Write>(
         (scene O.register O.told O.holds O.may_leave O.stands W.contents office.old writer.old)
         (scene O.register O.told O.holds O.may_leave O.stands W.contents office.new writer.new) result }
     ensures out { Puts W.contents writer.old writer.new }
+    ensures told { WriterTold writer.old writer.new result }
 {
     match parse(octets) {
         Ok(command) => obey(session, office, writer, &command),
@@ -218,6 +224,7 @@ fn take_turns<O: Office, W: Write>(
         (scene O.register O.told O.holds O.may_leave O.stands W.contents office.old writer.old)
         (scene O.register O.told O.holds O.may_leave O.stands W.contents office.new writer.new) result }
     ensures out { Puts W.contents writer.old writer.new }
+    ensures told { WriterTold writer.old writer.new result }
 {
     'turns: while session.has_turn() {
         take_turn(session, office, writer)?;
@@ -240,6 +247,7 @@ fn pump<O: Office, W: Write>(
         (scene O.register O.told O.holds O.may_leave O.stands W.contents office.old writer.old)
         (scene O.register O.told O.holds O.may_leave O.stands W.contents office.new writer.new) result }
     ensures out { Puts W.contents writer.old writer.new }
+    ensures told { WriterTold writer.old writer.new result }
 {
     'frames: loop {
         take_turns(session, office, writer)?;
@@ -293,7 +301,8 @@ pub fn serve<O: Office, R: Read, W: Write>(
         (scene O.register O.told O.holds O.may_leave O.stands W.contents office.old writer.old)
         (scene O.register O.told O.holds O.may_leave O.stands W.contents office.new writer.new) result) }
     ensures clean { O.is_clean office.new → O.is_clean office.old }
-    ensures told { ReaderTold reader.old reader.new result }
+    ensures reader_told { ReaderTold reader.old reader.new result }
+    ensures writer_told { WriterTold writer.old writer.new result }
     ensures ends { InputEnded R.remaining reader.new result }
     ensures out { Puts W.contents writer.old writer.new }
 {

@@ -1,7 +1,8 @@
 use Rattle.oftp_session.specs.declared.session.Ending.TheVariants.{Own}
 use Rattle.oftp_wire.specs.declared.reason.SessionReason.TheVariants.{ProtocolViolation}
-use Rattle.std.proofs.Common.{sym, ap, ◌∙◌, subst, Err, length, ◌<◌}
-use Rattle.oftp_engine.proofs.Puts.{puts_none, puts_on}
+use Rattle.std.proofs.Common.{refl, sym, ap, ◌∙◌, subst, Err, length, ◌<◌}
+use Rattle.oftp_engine.proofs.Puts.{puts_none, puts_on, told_on}
+use Rattle.oftp_engine.specs.Served.{WriterTold}
 use Rattle.std.proofs.lemmas.Result.{err_from_is_err_and}
 use Rattle.oftp_wire.specs.Stream.{Stream}
 use Rattle.oftp_wire.specs.Stream.{Whole, Waits, Bad}
@@ -19,6 +20,7 @@ use Rattle.oftp_engine.proofs.serving.pump.Goals as goal
 pub frames-init : goal.frames-init
 frames-init g c = record {
   out = puts_none g.W.Write.contents c.args.writer.now;
+  told = refl;
   clean = λ h. h;
   pumps = λ clean stood k lim told at.
       let scene_of = scene g.O.Office.register g.O.Office.told g.O.Office.holds g.O.Office.may_leave g.O.Office.stands g.W.Write.contents in
@@ -64,6 +66,7 @@ returns-in-Some-clause-steps g c = λ clean stood k lim told at.
 pub frames-preserved : goal.frames-preserved
 frames-preserved g c = record {
   out = puts_on g.W.Write.contents c.args.writer.now c.take_turns.new.writer c.take_command.new.writer (puts_on g.W.Write.contents c.args.writer.now c.frames.writer c.take_turns.new.writer c.frames.invariant.out c.take_turns.ensures.out) c.take_command.ensures.out;
+  told = c.in_ok-take_command-in-Ok-Some.ensures.told ∙ c.in_ok-take_turns.ensures.told ∙ c.frames.invariant.told;
   clean = λ h. c.frames.invariant.clean (c.take_turns.ensures.clean (c.take_command.ensures.clean h));
   pumps = λ clean stood k lim told at.
       let scene_of = scene g.O.Office.register g.O.Office.told g.O.Office.holds g.O.Office.may_leave g.O.Office.stands g.W.Write.contents in
@@ -187,3 +190,27 @@ returns-in_err-refuse-in-Err-clause-out g c = puts_on g.W.Write.contents c.args.
 
 pub returns-in-Err-clause-out : goal.returns-in-Err-clause-out
 returns-in-Err-clause-out g c = puts_on g.W.Write.contents c.args.writer.now c.take_turns.new.writer c.refuse.new.port (puts_on g.W.Write.contents c.args.writer.now c.frames.writer c.take_turns.new.writer c.frames.invariant.out c.take_turns.ensures.out) c.refuse.ensures.out
+
+pub returns-in_err-take_turns-clause-told : goal.returns-in_err-take_turns-clause-told
+returns-in_err-take_turns-clause-told g c =
+    let e = err_from_is_err_and c.from_residual.result c.from_residual.ensures.1 in
+    subst (WriterTold c.args.writer.now c.take_turns.new.writer) (sym (e.1 ∙ ap (λ (x : RunFault). Err x) e.2)) (told_on c.args.writer.now c.frames.writer c.take_turns.new.writer c.in_err-take_turns.field-0.0 (c.frames.invariant.told) c.in_err-take_turns.ensures.told)
+
+pub returns-in-Some-clause-told : goal.returns-in-Some-clause-told
+returns-in-Some-clause-told g c = c.in_ok-take_turns.ensures.told ∙ c.frames.invariant.told
+
+pub returns-in-Ok-None-clause-told : goal.returns-in-Ok-None-clause-told
+returns-in-Ok-None-clause-told g c = c.in_ok-take_turns.ensures.told ∙ c.frames.invariant.told
+
+pub returns-in_err-take_command-in-Ok-Some-clause-told : goal.returns-in_err-take_command-in-Ok-Some-clause-told
+returns-in_err-take_command-in-Ok-Some-clause-told g c =
+    let e = err_from_is_err_and c.from_residual-in_err-take_command-in-Ok-Some.result c.from_residual-in_err-take_command-in-Ok-Some.ensures.1 in
+    subst (WriterTold c.args.writer.now c.take_command.new.writer) (sym (e.1 ∙ ap (λ (x : RunFault). Err x) e.2)) (told_on c.args.writer.now c.take_turns.new.writer c.take_command.new.writer c.in_err-take_command-in-Ok-Some.field-0.0 (c.in_ok-take_turns.ensures.told ∙ c.frames.invariant.told) c.in_err-take_command-in-Ok-Some.ensures.told)
+
+pub returns-in_err-refuse-in-Err-clause-told : goal.returns-in_err-refuse-in-Err-clause-told
+returns-in_err-refuse-in-Err-clause-told g c =
+    let e = err_from_is_err_and c.from_residual-in_err-refuse-in-Err.result c.from_residual-in_err-refuse-in-Err.ensures.1 in
+    subst (WriterTold c.args.writer.now c.refuse.new.port) (sym (e.1 ∙ ap (λ (x : RunFault). Err x) e.2)) (told_on c.args.writer.now c.take_turns.new.writer c.refuse.new.port c.in_err-refuse-in-Err.field-0.0 (c.in_ok-take_turns.ensures.told ∙ c.frames.invariant.told) c.in_err-refuse-in-Err.ensures.told)
+
+pub returns-in-Err-clause-told : goal.returns-in-Err-clause-told
+returns-in-Err-clause-told g c = c.in_ok-refuse-in-Err.ensures.told ∙ c.in_ok-take_turns.ensures.told ∙ c.frames.invariant.told

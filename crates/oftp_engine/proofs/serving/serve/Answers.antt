@@ -1,5 +1,5 @@
 use Rattle.std.proofs.Common.{rules, [], ◌++◌, take, Option, refl, sym, ap, ◌∙◌, subst, Result, Ok, Err, arith}
-use Rattle.oftp_engine.proofs.Puts.{puts_none, puts_on}
+use Rattle.oftp_engine.proofs.Puts.{puts_none, puts_on, told_on}
 use Rattle.std.proofs.lemmas.Result.{err_from_is_err_and}
 use Rattle.oftp_wire.specs.Stream.{Stream}
 use Rattle.oftp_session.specs.declared.session.Ending.{Ending}
@@ -7,7 +7,7 @@ use Rattle.oftp_engine.specs.declared.serving.RunFault.{RunFault}
 use Rattle.oftp_engine.specs.Runs.{Course, started, ending}
 use Rattle.oftp_engine.specs.Serving.{scene, Pumped}
 use Rattle.oftp_engine.proofs.Pumping.{IsPumping}
-use Rattle.oftp_engine.specs.Served.{setting_of, Serves}
+use Rattle.oftp_engine.specs.Served.{setting_of, Serves, WriterTold}
 use Rattle.oftp_engine.proofs.Bytes.{consumes_none}
 use Rattle.oftp_engine.proofs.Progress.{went_none, fails_later}
 use Rattle.oftp_engine.proofs.Ending.{whole_over, whole_waits, is_whole, is_out_of_memory, serves_from}
@@ -25,6 +25,7 @@ pieces-init g c =
     let k = started setting (g.O.Office.register c.args.office.now) in
     record {
       out = puts_none g.W.Write.contents c.args.writer.now;
+      told = refl;
       clean = λ h. h;
       reads = record {
         given = [];
@@ -124,7 +125,7 @@ pieces-preserved g c =
     let old = scene_of c.pieces.office c.pieces.writer in
     let new = scene_of c.pump.new.office c.pump.new.writer in
     let h = c.pieces.invariant.reads in
-    record { out = puts_on g.W.Write.contents c.args.writer.now c.pieces.writer c.pump.new.writer c.pieces.invariant.out c.pump.ensures.out; clean = λ h. c.pieces.invariant.clean (c.pump.ensures.clean h); reads = read_on g.R.Read.remaining c.args.reader.now c.pieces.reader c.read.new.port h.given c.read.new.piece c.in-Some-read.n (g.O.Office.is_clean c.pump.new.office) (g.O.Office.stands c.args.office.now) setting c.pump.new.stream c.feed.new.self c.pump.new.session first new h.gave h.faults c.in-Some-read.ensures (λ clean stood. let p = h.pumping (c.pump.ensures.clean clean) stood in let pumped = c.in_ok-ending.ensures.steps clean (p.come.went.stands stood) p.come.at p.limit p.told p.come.now in let decided = subst (λ (b : Option Ending). Pumped p.come.at c.pieces.stream.rest c.pump.new.stream c.pump.new.session old new (let r : Result (Option Ending) RunFault = Ok b in r)) c.in_default.is pumped in let w = wait_on k h.given c.pieces.stream c.pump.new.stream c.pieces.session c.pump.new.session first old new p.come decided in w) (fed_from c.feed.result _ c.if-is_err.ensures.negation c.feed.ensures.ok) }
+    record { out = puts_on g.W.Write.contents c.args.writer.now c.pieces.writer c.pump.new.writer c.pieces.invariant.out c.pump.ensures.out; told = c.in_ok-ending.ensures.told ∙ c.pieces.invariant.told; clean = λ h. c.pieces.invariant.clean (c.pump.ensures.clean h); reads = read_on g.R.Read.remaining c.args.reader.now c.pieces.reader c.read.new.port h.given c.read.new.piece c.in-Some-read.n (g.O.Office.is_clean c.pump.new.office) (g.O.Office.stands c.args.office.now) setting c.pump.new.stream c.feed.new.self c.pump.new.session first new h.gave h.faults c.in-Some-read.ensures (λ clean stood. let p = h.pumping (c.pump.ensures.clean clean) stood in let pumped = c.in_ok-ending.ensures.steps clean (p.come.went.stands stood) p.come.at p.limit p.told p.come.now in let decided = subst (λ (b : Option Ending). Pumped p.come.at c.pieces.stream.rest c.pump.new.stream c.pump.new.session old new (let r : Result (Option Ending) RunFault = Ok b in r)) c.in_default.is pumped in let w = wait_on k h.given c.pieces.stream c.pump.new.stream c.pieces.session c.pump.new.session first old new p.come decided in w) (fed_from c.feed.result _ c.if-is_err.ensures.negation c.feed.ensures.ok) }
 
 pub returns-in_err-ending-clause-out : goal.returns-in_err-ending-clause-out
 returns-in_err-ending-clause-out g c = puts_on g.W.Write.contents c.args.writer.now c.pieces.writer c.pump.new.writer c.pieces.invariant.out c.pump.ensures.out
@@ -140,3 +141,20 @@ returns-in-Some-eq0-clause-out g c = puts_on g.W.Write.contents c.args.writer.no
 
 pub returns-then-is_err-clause-out : goal.returns-then-is_err-clause-out
 returns-then-is_err-clause-out g c = puts_on g.W.Write.contents c.args.writer.now c.pieces.writer c.pump.new.writer c.pieces.invariant.out c.pump.ensures.out
+
+pub returns-in_err-ending-clause-writer_told : goal.returns-in_err-ending-clause-writer_told
+returns-in_err-ending-clause-writer_told g c =
+    let e = err_from_is_err_and c.from_residual.result c.from_residual.ensures.1 in
+    subst (WriterTold c.args.writer.now c.pump.new.writer) (sym (e.1 ∙ ap (λ (x : RunFault). Err x) e.2)) (told_on c.args.writer.now c.pieces.writer c.pump.new.writer c.in_err-ending.field-0.0 (c.pieces.invariant.told) c.in_err-ending.ensures.told)
+
+pub returns-in-Some-clause-writer_told : goal.returns-in-Some-clause-writer_told
+returns-in-Some-clause-writer_told g c = c.in_ok-ending.ensures.told ∙ c.pieces.invariant.told
+
+pub returns-in-None-clause-writer_told : goal.returns-in-None-clause-writer_told
+returns-in-None-clause-writer_told g c = c.in_ok-ending.ensures.told ∙ c.pieces.invariant.told
+
+pub returns-in-Some-eq0-clause-writer_told : goal.returns-in-Some-eq0-clause-writer_told
+returns-in-Some-eq0-clause-writer_told g c = c.in_ok-ending.ensures.told ∙ c.pieces.invariant.told
+
+pub returns-then-is_err-clause-writer_told : goal.returns-then-is_err-clause-writer_told
+returns-then-is_err-clause-writer_told g c = c.in_ok-ending.ensures.told ∙ c.pieces.invariant.told

@@ -1,5 +1,6 @@
-use Rattle.std.proofs.Common.{[], sym, ap, ◌∙◌, subst, Err}
-use Rattle.oftp_engine.proofs.Puts.{puts_none, puts_on}
+use Rattle.std.proofs.Common.{[], refl, sym, ap, ◌∙◌, subst, Err}
+use Rattle.oftp_engine.proofs.Puts.{puts_none, puts_on, told_on}
+use Rattle.oftp_engine.specs.Served.{WriterTold}
 use Rattle.std.proofs.lemmas.Result.{err_from_is_err_and}
 use Rattle.oftp_session.specs.Steps.{turned}
 use Rattle.oftp_engine.specs.declared.serving.RunFault.{RunFault}
@@ -12,6 +13,7 @@ use Rattle.oftp_engine.proofs.serving.take_turns.Goals as goal
 pub turns-init : goal.turns-init
 turns-init g c = record {
   out = puts_none g.W.Write.contents c.args.writer.now;
+  told = refl;
   clean = λ h. h;
   comes = λ clean stood k at.
       let scene_of = scene g.O.Office.register g.O.Office.told g.O.Office.holds g.O.Office.may_leave g.O.Office.stands g.W.Write.contents in
@@ -21,6 +23,7 @@ turns-init g c = record {
 pub turns-preserved : goal.turns-preserved
 turns-preserved g c = record {
   out = puts_on g.W.Write.contents c.args.writer.now c.turns.writer c.take_turn.new.writer c.turns.invariant.out c.take_turn.ensures.out;
+  told = c.in_ok-take_turn.ensures.told ∙ c.turns.invariant.told;
   clean = λ h. c.turns.invariant.clean (c.take_turn.ensures.clean h);
   comes = λ clean stood k at.
       let scene_of = scene g.O.Office.register g.O.Office.told g.O.Office.holds g.O.Office.may_leave g.O.Office.stands g.W.Write.contents in
@@ -52,3 +55,11 @@ returns-in_err-take_turn-clause-steps g c = λ clean stood k at.
 
 pub returns-in_err-take_turn-clause-out : goal.returns-in_err-take_turn-clause-out
 returns-in_err-take_turn-clause-out g c = puts_on g.W.Write.contents c.args.writer.now c.turns.writer c.take_turn.new.writer c.turns.invariant.out c.take_turn.ensures.out
+
+pub returns-clause-told : goal.returns-clause-told
+returns-clause-told g c = c.turns.invariant.told
+
+pub returns-in_err-take_turn-clause-told : goal.returns-in_err-take_turn-clause-told
+returns-in_err-take_turn-clause-told g c =
+    let p = err_from_is_err_and c.from_residual.result c.from_residual.ensures.1 in
+    subst (WriterTold c.args.writer.now c.take_turn.new.writer) (sym (p.1 ∙ ap (λ (x : RunFault). Err x) p.2)) (told_on c.args.writer.now c.turns.writer c.take_turn.new.writer c.in_err-take_turn.field-0.0 c.turns.invariant.told c.in_err-take_turn.ensures.told)
