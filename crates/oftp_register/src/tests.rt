@@ -244,15 +244,16 @@ fn shown(alloc: Global, office: &mut PlainOffice) -> Result<String, OfficeFault>
     Ok(all)
 }
 
-// The octets of some rows of the first incoming file, each row ended by a bar.
+// The octets of some rows of the first file of a side, each row ended by a bar.
 fn rows_from(
     office: &mut PlainOffice,
+    side: Side,
     from: u64,
     most: u64,
     alloc: Global,
 ) -> Result<String, OfficeFault> {
     let mut all = String::new(alloc);
-    for row in office.rows_of(Side::Incoming, 1, from, most)?.as_slice() {
+    for row in office.rows_of(side, 1, from, most)?.as_slice() {
         for octet in row.octets() {
             all.push(char::from(*octet))?;
         }

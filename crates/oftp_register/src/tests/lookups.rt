@@ -156,7 +156,10 @@ fn rows_are_handed_out_in_parts(rt: HostRuntime) -> Result<(), Fail> {
         (3, 1, ""),
         (0, 0, ""),
     ] {
-        assert_eq!(rt; rows_from(&mut office, from, most, alloc)?.as_str(), wanted);
+        assert_eq!(rt;
+            rows_from(&mut office, Side::Incoming, from, most, alloc)?.as_str(),
+            wanted
+        );
     }
     assert_eq!(rt; office.rows_of(Side::Outgoing, 1, 0, 9)?.len(), 1);
     assert_eq!(rt; office.rows_of(Side::Outgoing, 3, 0, 9)?.len(), 0);

@@ -153,7 +153,7 @@ fn goes_on(
     if let StartVerdict::Accept(count) = &verdict {
         commit(&mut office, start(b"D", count.get())?)?;
     }
-    let rows = rows_from(&mut office, 0, 9, alloc)?;
+    let rows = rows_from(&mut office, Side::Incoming, 0, 9, alloc)?;
     Ok((verdict, rows))
 }
 
