@@ -4,7 +4,7 @@ use Rattle.oftp_register.specs.declared.change.Change.{Change}
 use Rattle.oftp_register.specs.declared.change.Change.TheVariants as change
 use Rattle.oftp_register.specs.Register.{Register}
 use Rattle.oftp_register.specs.Changes.{apply}
-use Rattle.oftp_register.specs.Offices.{Rest, Only, WithOrWithout, next_count}
+use Rattle.oftp_register.specs.Offices.{View, Only, WithOrWithout, next_count}
 use Rattle.oftp_session.specs.declared.session.Ending.{Ending}
 use Rattle.oftp_session.specs.declared.session.Ending.TheVariants.{Own, Partner}
 use Rattle.oftp_session.specs.declared.session.State.{State}
@@ -59,20 +59,12 @@ Makes (Some change) old new = apply old change ≡ Ok new
 abbrev pub Allows : Register → Option Change → Type 0
 Allows r change = Makes change r (register_after r change)
 
--- the office's side of a call: its register and its count of faults
-pub record Desk : Type 0 where
-  pub register : Register
-  pub faults : ℕ
-
-abbrev pub desk : {O : Type 0} → (O → Register) → (O → ℕ) → O → Desk
-desk register faults office = record { register = register office; faults = faults office }
-
 -- the step is made, and its frame is said
-pub record IsMade (change : Option Change) (output : List ℕ) (old new : Desk) (rest : Rest) (heard_now : List ℕ) : Type 0 where
+pub record IsMade (change : Option Change) (output : List ℕ) (old new : View) (heard_now : List ℕ) : Type 0 where
   pub said : heard_now ≡ output
   pub register : Makes change old.register new.register
-  pub stands : rest.stands
-  pub faults : new.faults ≡ old.faults
+  pub stands : new.stands
+  pub faults : new.told ≡ old.told
 
 -- the change begins a file, whose number is looked up once it is made
 abbrev pub Begins : Option Change → Type 0
@@ -81,36 +73,36 @@ Begins _ = ⊥
 
 -- the office told a fault: before the change was made, or in a look-up after it, where the change begins a file. Its register is known
 -- where it still stands
-pub record IsBefore (change : Option Change) (old new : Desk) (rest : Rest) : Type 0 where
-  pub register : rest.stands → new.register ≡ old.register
-  pub left : WithOrWithout change old.register rest
+pub record IsBefore (change : Option Change) (old new : View) : Type 0 where
+  pub register : new.stands → new.register ≡ old.register
+  pub left : WithOrWithout change old.register new
 
-pub record IsAfter (change : Option Change) (old new : Desk) (rest : Rest) : Type 0 where
+pub record IsAfter (change : Option Change) (old new : View) : Type 0 where
   pub begins : Begins change
   pub after : Register
   pub made : Makes change old.register after
-  pub register : rest.stands → new.register ≡ after
-  pub left : Only after rest
+  pub register : new.stands → new.register ≡ after
+  pub left : Only after new
 
-pub record IsBroken (change : Option Change) (old new : Desk) (rest : Rest) : Type 0 where
-  pub cases : IsBefore change old new rest ⊎ IsAfter change old new rest
-  pub faults : new.faults ≡ next_count old.faults
+pub record IsBroken (change : Option Change) (old new : View) : Type 0 where
+  pub cases : IsBefore change old new ⊎ IsAfter change old new
+  pub faults : new.told ≡ next_count old.told
 
 -- memory ran out: before the change was made, or after it
-pub record IsUndone (change : Option Change) (old new : Desk) (rest : Rest) : Type 0 where
+pub record IsUndone (change : Option Change) (old new : View) : Type 0 where
   pub cases : (new.register ≡ old.register) ⊎ Makes change old.register new.register
-  pub stands : rest.stands
-  pub faults : new.faults ≡ old.faults
+  pub stands : new.stands
+  pub faults : new.told ≡ old.told
 
-abbrev pub DoesNot : Option Change → Desk → Desk → Rest → SessionFault → Type 0
-DoesNot change old new rest fault.Ended = ⊥
-DoesNot change old new rest fault.Office = IsBroken change old new rest
-DoesNot change old new rest fault.Memory = IsUndone change old new rest
+abbrev pub DoesNot : Option Change → View → View → SessionFault → Type 0
+DoesNot change old new fault.Ended = ⊥
+DoesNot change old new fault.Office = IsBroken change old new
+DoesNot change old new fault.Memory = IsUndone change old new
 
 -- a call that answers this did the step
-abbrev pub Does : Step → Desk → Desk → Rest → Result (List ℕ) SessionFault → Type 0
-Does step old new rest (Ok output) = IsMade step.change step.output old new rest output
-Does step old new rest (Err fault) = DoesNot step.change old new rest fault
+abbrev pub Does : Step → View → View → Result (List ℕ) SessionFault → Type 0
+Does step old new (Ok output) = IsMade step.change step.output old new output
+Does step old new (Err fault) = DoesNot step.change old new fault
 
 -- what a call answered, without where it lies in memory
 abbrev pub heard : Result Out SessionFault → Result (List ℕ) SessionFault
@@ -164,6 +156,6 @@ abbrev pub IsAccepted : Register → Change → Type 0
 IsAccepted r change = is_ok (apply r change) ≡ true
 
 -- a helper that makes a change, if one is due, and says nothing
-abbrev pub Files : {T : Type 0} → Option Change → Desk → Desk → Rest → Result T SessionFault → Type 0
-Files change old new rest (Ok x) = IsMade change [] old new rest []
-Files change old new rest (Err fault) = DoesNot change old new rest fault
+abbrev pub Files : {T : Type 0} → Option Change → View → View → Result T SessionFault → Type 0
+Files change old new (Ok x) = IsMade change [] old new []
+Files change old new (Err fault) = DoesNot change old new fault

@@ -1,9 +1,8 @@
 //! The responses that come from a partner.
 
 ghost use Rattle.std.specs.Prelude.{◌≡◌, Some, IfErr};
-ghost use Rattle.oftp_register.specs.Offices.{rest_of};
 ghost use Rattle.oftp_register.specs.Soundness.{IsFit, IsSoundReceived};
-ghost use Rattle.oftp_session.specs.Calls.{Files, IsAccepted, desk};
+ghost use Rattle.oftp_session.specs.Calls.{Files, IsAccepted};
 ghost use Rattle.oftp_session.specs.Listener.{end_response, file_of, filing, negative_end_response};
 ghost use Rattle.oftp_session.specs.Responses.{as_received};
 
@@ -64,13 +63,12 @@ pub(crate) fn negative_end_response<'a>(nerp: &Nerp<'a>) -> Response<'a>
 
 // Makes a change that the register accepts.
 fn make<O: Office>(office: &mut O, change: Change<'_>) -> Result<(), SessionFault>
-    requires fit { O.is_clean office.old → O.stands office.old → IsFit (O.register office.old) change }
-    ensures clean { O.is_clean office.new → O.is_clean office.old }
-    ensures does { O.is_clean office.new → O.stands office.old
-        → IsAccepted (O.register office.old) change.entry
+    ensures clean { (O.view office.new).clean → (O.view office.old).clean }
+    ensures does { (O.view office.new).clean → (O.view office.old).stands
+        → IsFit (O.view office.old).register change.entry
+        → IsAccepted (O.view office.old).register change.entry
         → Files (Some change.entry)
-        (desk O.register O.told office.old) (desk O.register O.told office.new)
-        (rest_of O.holds O.may_leave O.stands office.new) result }
+        (O.view office.old) (O.view office.new) result }
     ensures err { IfErr result (λ fault. fault ≡ SessionFault.Office) }
 {
     if office.commit(change).is_err() {
@@ -86,11 +84,10 @@ pub(crate) fn file_new<O: Office>(
     response: Response<'_>,
 ) -> Result<(), SessionFault>
     requires { IsSoundReceived (as_received response) }
-    ensures clean { O.is_clean office.new → O.is_clean office.old }
-    ensures does { O.is_clean office.new → O.stands office.old
-        → Files (filing (O.register office.old) (as_received response.entry))
-        (desk O.register O.told office.old) (desk O.register O.told office.new)
-        (rest_of O.holds O.may_leave O.stands office.new) result }
+    ensures clean { (O.view office.new).clean → (O.view office.old).clean }
+    ensures does { (O.view office.new).clean → (O.view office.old).stands
+        → Files (filing (O.view office.old).register (as_received response.entry))
+        (O.view office.old) (O.view office.new) result }
     ensures err { IfErr result (λ fault. fault ≡ SessionFault.Office) }
 {
     match office.has_received(response.kind, &response.identity) {

@@ -5,7 +5,6 @@ ghost use Rattle.oftp_wire.specs.Spelling.{is_data};
 ghost use Rattle.oftp_wire.specs.declared.command.Command.TheVariants.{Ssid as an_ssid};
 ghost use Rattle.oftp_session.specs.declared.session.Ending.{Ending};
 ghost use Rattle.oftp_register.specs.Register.{Register};
-ghost use Rattle.oftp_register.specs.Offices.{rest_of};
 ghost use Rattle.oftp_register.specs.Soundness.{IsSoundReceived};
 ghost use Rattle.oftp_partners.specs.declared.partner.Partner.{Partner as Entry};
 ghost use Rattle.oftp_session.specs.Phases.{Phase, frame_of, esid_of};
@@ -15,7 +14,7 @@ ghost use Rattle.oftp_session.specs.Speaker.{came_speaker_idle, nothing_next};
 ghost use Rattle.oftp_session.specs.Steps.{came, has_turn, is_over, opening, turned, Holds};
 ghost use Rattle.oftp_session.specs.Agreements.{terms};
 ghost use Rattle.oftp_session.specs.Responses.{as_received};
-ghost use Rattle.oftp_session.specs.Calls.{Does, Goes, Seen, Stands, desk, ended_as, ending_of, heard, is_closed, is_due, said, spoken, turns_left};
+ghost use Rattle.oftp_session.specs.Calls.{Does, Goes, Seen, Stands, ended_as, ending_of, heard, is_closed, is_due, said, spoken, turns_left};
 
 use crate::commands::{answering_ssid, calling_ssid, esid, spell};
 use crate::link::{Link, WhenDone};
@@ -281,16 +280,15 @@ impl<'b> Session<'b> {
         response: Response<'_>,
     ) -> Result<(), SessionFault>
         requires { IsSoundReceived (as_received response) }
-        ensures clean { O.is_clean office.new → O.is_clean office.old }
-        ensures does { O.is_clean office.new → O.stands office.old
+        ensures clean { (O.view office.new).clean → (O.view office.old).clean }
+        ensures does { (O.view office.new).clean → (O.view office.old).stands
             → (partner : Entry) → self.old.partner ≡ Some partner
             → Does (response_step self.old.setting partner link
-            (O.register office.old) (as_received response.entry))
-            (desk O.register O.told office.old) (desk O.register O.told office.new)
-            (rest_of O.holds O.may_leave O.stands office.new) (spoken result self.new.spoken) }
+            (O.view office.old).register (as_received response.entry))
+            (O.view office.old) (O.view office.new) (spoken result self.new.spoken) }
         ensures goes { (partner : Entry) → self.old.partner ≡ Some partner
             → Goes (response_step self.old.setting partner link
-            (O.register office.old) (as_received response.entry)).phase
+            (O.view office.old).register (as_received response.entry)).phase
             result self.new }
         ensures err { IfErr result (λ fault. fault ≡ SessionFault.Office) }
         ensures setting { self.new.setting ≡ self.old.setting }
@@ -374,16 +372,15 @@ impl<'b> Session<'b> {
         link: Link,
         command: &Command<'_>,
     ) -> Result<(), SessionFault>
-        ensures clean { O.is_clean office.new → O.is_clean office.old }
-        ensures does { O.is_clean office.new → O.stands office.old
+        ensures clean { (O.view office.new).clean → (O.view office.old).clean }
+        ensures does { (O.view office.new).clean → (O.view office.old).stands
             → (partner : Entry) → self.old.partner ≡ Some partner
             → Does (came_listener_idle self.old.setting partner link
-            (O.register office.old) command.now)
-            (desk O.register O.told office.old) (desk O.register O.told office.new)
-            (rest_of O.holds O.may_leave O.stands office.new) (spoken result self.new.spoken) }
+            (O.view office.old).register command.now)
+            (O.view office.old) (O.view office.new) (spoken result self.new.spoken) }
         ensures goes { (partner : Entry) → self.old.partner ≡ Some partner
             → Goes (came_listener_idle self.old.setting partner link
-            (O.register office.old) command.now).phase
+            (O.view office.old).register command.now).phase
             result self.new }
         ensures err { IfErr result (λ fault. fault ≡ SessionFault.Office) }
         ensures setting { self.new.setting ≡ self.old.setting }
@@ -426,14 +423,13 @@ impl<'b> Session<'b> {
         office: &mut O,
         command: &Command<'_>,
     ) -> Result<(), SessionFault>
-        ensures clean { O.is_clean office.new → O.is_clean office.old }
-        ensures does { O.is_clean office.new → O.stands office.old
+        ensures clean { (O.view office.new).clean → (O.view office.old).clean }
+        ensures does { (O.view office.new).clean → (O.view office.old).stands
             → (p : Phase) → is_over p ≡ false → Stands p self.old
-            → Does (came self.old.setting p (O.register office.old) command.now)
-            (desk O.register O.told office.old) (desk O.register O.told office.new)
-            (rest_of O.holds O.may_leave O.stands office.new) (spoken result self.new.spoken) }
+            → Does (came self.old.setting p (O.view office.old).register command.now)
+            (O.view office.old) (O.view office.new) (spoken result self.new.spoken) }
         ensures goes { (p : Phase) → is_over p ≡ false → Stands p self.old
-            → Goes (came self.old.setting p (O.register office.old) command.now).phase
+            → Goes (came self.old.setting p (O.view office.old).register command.now).phase
             result self.new }
         ensures err { is_closed self.old.state ≡ false
             → IfErr result (λ fault. fault ≡ SessionFault.Office) }
@@ -476,20 +472,19 @@ impl<'b> Session<'b> {
         office: &mut O,
         command: &Command<'_>,
     ) -> Result<Out<'_>, SessionFault>
-        ensures clean { O.is_clean office.new → O.is_clean office.old }
-        ensures does { O.is_clean office.new → O.stands office.old
-            → (p : Phase) → Holds p (O.register office.old) → is_over p ≡ false → Stands p self.old
-            → Does (came self.old.setting p (O.register office.old) command.now)
-            (desk O.register O.told office.old) (desk O.register O.told office.new)
-            (rest_of O.holds O.may_leave O.stands office.new) (heard result) }
+        ensures clean { (O.view office.new).clean → (O.view office.old).clean }
+        ensures does { (O.view office.new).clean → (O.view office.old).stands
+            → (p : Phase) → Holds p (O.view office.old).register → is_over p ≡ false → Stands p self.old
+            → Does (came self.old.setting p (O.view office.old).register command.now)
+            (O.view office.old) (O.view office.new) (heard result) }
         ensures err { is_closed self.old.state ≡ false
             → IfErr result (λ fault. fault ≡ SessionFault.Office) }
         ensures closed { is_closed self.old.state ≡ true
             → (heard result ≡ Err SessionFault.Ended) × (office.new ≡ office.old) }
         ensures* goes { sem 𝓛 (Rests (the_row (record { mir = named 1; lft = [] })) self.entry
             (λ new. (new.setting ≡ self.old.setting)
-            × ((p : Phase) → Holds p (O.register office.old) → is_over p ≡ false → Stands p self.old
-            → Goes (came self.old.setting p (O.register office.old) command.now).phase result new)
+            × ((p : Phase) → Holds p (O.view office.old).register → is_over p ≡ false → Stands p self.old
+            → Goes (came self.old.setting p (O.view office.old).register command.now).phase result new)
             × (is_closed self.old.state ≡ true → new ≡ self.old))) }
     {
         self.respond(office, command)?;
@@ -545,12 +540,11 @@ impl<'b> Session<'b> {
     ///
     /// As [`Session::on_command`].
     pub fn turn<O: Office>(&mut self, office: &mut O) -> Result<Out<'_>, SessionFault>
-        ensures clean { O.is_clean office.new → O.is_clean office.old }
-        ensures does { O.is_clean office.new → O.stands office.old
-            → (p : Phase) → Holds p (O.register office.old) → is_over p ≡ false → Stands p self.old
-            → Does (turned self.old.setting p (O.register office.old))
-            (desk O.register O.told office.old) (desk O.register O.told office.new)
-            (rest_of O.holds O.may_leave O.stands office.new) (heard result) }
+        ensures clean { (O.view office.new).clean → (O.view office.old).clean }
+        ensures does { (O.view office.new).clean → (O.view office.old).stands
+            → (p : Phase) → Holds p (O.view office.old).register → is_over p ≡ false → Stands p self.old
+            → Does (turned self.old.setting p (O.view office.old).register)
+            (O.view office.old) (O.view office.new) (heard result) }
         ensures err { is_closed self.old.state ≡ false
             → IfErr result (λ fault. fault ≡ SessionFault.Office) }
         ensures idle { is_due self.old.state ≡ false → is_closed self.old.state ≡ false
@@ -559,9 +553,9 @@ impl<'b> Session<'b> {
             → (heard result ≡ Err SessionFault.Ended) × (office.new ≡ office.old) }
         ensures* goes { sem 𝓛 (Rests (the_row (record { mir = named 1; lft = [] })) self.entry
             (λ new. (new.setting ≡ self.old.setting)
-            × (O.is_clean office.new → O.stands office.old
-            → (p : Phase) → Holds p (O.register office.old) → is_over p ≡ false → Stands p self.old
-            → Goes (turned self.old.setting p (O.register office.old)).phase result new)
+            × ((O.view office.new).clean → (O.view office.old).stands
+            → (p : Phase) → Holds p (O.view office.old).register → is_over p ≡ false → Stands p self.old
+            → Goes (turned self.old.setting p (O.view office.old).register).phase result new)
             × (is_due self.old.state ≡ true
             → OnOk result (turns_left new.state < turns_left self.old.state))
             × (is_closed self.old.state ≡ true → new ≡ self.old)
