@@ -6,7 +6,7 @@ use Rattle.std.proofs.lemmas.Bool.{ltb-false, le-ltb, and_parts, and_right, or_r
 use Rattle.oftp_register.specs.Register.{Register}
 use Rattle.oftp_register.specs.Changes.{apply_all}
 use Rattle.oftp_register.specs.declared.change.Change.{Change}
-use Rattle.oftp_register.proofs.PrefixLemmas.{made_on}
+use Rattle.oftp_register.proofs.PrefixLemmas.{apply_all-push}
 use Rattle.oftp_wire.specs.Kinds.{command_of}
 use Rattle.oftp_wire.specs.Stream.{front, command_in, IsWithin}
 use Rattle.oftp_wire.specs.Stream.{Head, Whole, Waits, Bad}
@@ -48,7 +48,7 @@ change_later changes (Some k) = (k ∷ [], refl)
 
 replay_step : (r x : Register) (ks : List Change) (k : Option Change) → apply_all r ks ≡ Ok x → Allows x k → apply_all r (with_change ks k) ≡ Ok (register_after x k)
 replay_step r x ks None h allows = h
-replay_step r x ks (Some k) h allows = made_on r x (register_after x (Some k)) ks k h allows
+replay_step r x ks (Some k) h allows = apply_all-push r x ks k h ∙ allows
 
 counted_more : (m n : ℕ) (outputs : List Output) → m ≤ n → Counted m outputs → Counted n outputs
 counted_more m n [] le h = tt

@@ -8,7 +8,7 @@ use Rattle.oftp_wire.specs.Stream.{Waits}
 use Rattle.oftp_register.specs.declared.change.Change.{Change}
 use Rattle.oftp_register.specs.Register.{Register}
 use Rattle.oftp_register.specs.Changes.{apply_all}
-use Rattle.oftp_register.specs.Offices.{Rest, Only, WithOrWithout}
+use Rattle.oftp_register.specs.Offices.{View, Only, WithOrWithout}
 use Rattle.oftp_session.specs.Phases.{Step, register_after}
 use Rattle.oftp_session.specs.Steps.{has_turn}
 use Rattle.oftp_session.specs.Settings.{Setting}
@@ -44,17 +44,17 @@ whole_is : (setting : Setting) (given t : List ℕ) (r : Register) (d : Course) 
 unfolding is_stopped
 whole_is setting given t r d leads e = ap (λ (x : List ℕ). run None x (started setting r)) (sym (append-nil given)) ∙ leads.same [] None refl ∙ e
 
-pub whole_over : (setting : Setting) (given t : List ℕ) (seen : Seen) (old new : Scene) (end : Ending) (h : IsOver (started setting old.register) given t seen old new end) → whole setting given old.register ≡ h.come.at
-whole_over setting given t seen old new end h = whole_is setting given t old.register h.come.at h.come.went.leads (run_over None (t ++ []) h.come.at (over_from h.come.at.phase end h.ends))
+pub whole_over : (setting : Setting) (given t : List ℕ) (seen : Seen) (old new : Scene) (end : Ending) (h : IsOver (started setting old.office.register) given t seen old new end) → whole setting given old.office.register ≡ h.come.at
+whole_over setting given t seen old new end h = whole_is setting given t old.office.register h.come.at h.come.went.leads (run_over None (t ++ []) h.come.at (over_from h.come.at.phase end h.ends))
 
-pub whole_waits : (setting : Setting) (given t : List ℕ) (seen : Seen) (old new : Scene) (h : Comes (started setting old.register) given t seen old new) → has_turn h.at.phase ≡ false → front 100003 t ≡ Waits → whole setting given old.register ≡ h.at
-whole_waits setting given t seen old new h turn waits = whole_is setting given t old.register h.at h.went.leads (ap (λ (x : List ℕ). run None x h.at) (append-nil t) ∙ run_waits None t h.at turn waits)
+pub whole_waits : (setting : Setting) (given t : List ℕ) (seen : Seen) (old new : Scene) (h : Comes (started setting old.office.register) given t seen old new) → has_turn h.at.phase ≡ false → front 100003 t ≡ Waits → whole setting given old.office.register ≡ h.at
+whole_waits setting given t seen old new h turn waits = whole_is setting given t old.office.register h.at h.went.leads (ap (λ (x : List ℕ). run None x h.at) (append-nil t) ∙ run_waits None t h.at turn waits)
 
-pub is_whole : (setting : Setting) (given t : List ℕ) (seen : Seen) (old new : Scene) (fine : old.rest.stands) (alone : new.rest.stands → Only new.register new.rest) (h : Comes (started setting old.register) given t seen old new) → whole setting given old.register ≡ h.at → IsWhole setting given old new
+pub is_whole : (setting : Setting) (given t : List ℕ) (seen : Seen) (old new : Scene) (fine : old.office.stands) (alone : new.office.stands → Only new.office.register new.office) (h : Comes (started setting old.office.register) given t seen old new) → whole setting given old.office.register ≡ h.at → IsWhole setting given old new
 is_whole setting given t seen old new fine alone h e = record {
   out = subst (λ (x : List ℕ). Took old new x) (sym h.went.outputs ∙ ap (λ (c : Course). octets_of c.outputs) (sym e)) h.went.took;
   register = h.now.register ∙ ap (λ (c : Course). c.register) (sym e);
-  replay = replay_all None setting given old.register new.register (h.now.register ∙ ap (λ (c : Course). c.register) (sym e));
+  replay = replay_all None setting given old.office.register new.office.register (h.now.register ∙ ap (λ (c : Course). c.register) (sym e));
   stands = h.went.stands fine;
   left = alone (h.went.stands fine);
   faults = h.went.faults;
@@ -74,20 +74,20 @@ stopped_now c s n lt = lt-ltb (length (octets_of c.outputs) + n) (length (octets
 take_past : (xs ys : List ℕ) (n : ℕ) → take (length xs + n) (xs ++ ys) ≡ xs ++ take n ys
 take_past xs ys n = take-add (length xs) n (xs ++ ys) ∙ ap (λ (x : List ℕ). x ++ take n (drop (length xs) (xs ++ ys))) (take_at xs ys (length xs) refl) ∙ ap (λ (x : List ℕ). xs ++ take n x) (drop_at xs ys (length xs) refl)
 
-pub is_broken_off : (setting : Setting) (given : List ℕ) (old new : Scene) (fine : old.rest.stands) (alone : new.rest.stands → Only new.register new.rest) → BreaksOff (started setting old.register) given old new → IsBrokenOff setting given old new
+pub is_broken_off : (setting : Setting) (given : List ℕ) (old new : Scene) (fine : old.office.stands) (alone : new.office.stands → Only new.office.register new.office) → BreaksOff (started setting old.office.register) given old new → IsBrokenOff setting given old new
 is_broken_off setting given old new fine alone h =
     let before : List ℕ = octets_of h.at.outputs in
     let taken : ℕ = length before + h.count in
     let end : Course = advance h.at h.step in
     let r = h.reaches.same [] (Some taken) (not_stopped h.at h.count) in
-    let e : broken_off setting taken given old.register ≡ end = ap (λ (x : List ℕ). run (Some taken) x (started setting old.register)) (sym (append-nil given)) ∙ r.1 ∙ run_stopped (Some taken) r.0 end (stopped_now h.at h.step h.count h.short) in
-    let octets : octets_of (broken_off setting taken given old.register).outputs ≡ before ++ h.step.output = ap (λ (c : Course). octets_of c.outputs) e ∙ octets_step h.at h.step in
+    let e : broken_off setting taken given old.office.register ≡ end = ap (λ (x : List ℕ). run (Some taken) x (started setting old.office.register)) (sym (append-nil given)) ∙ r.1 ∙ run_stopped (Some taken) r.0 end (stopped_now h.at h.step h.count h.short) in
+    let octets : octets_of (broken_off setting taken given old.office.register).outputs ≡ before ++ h.step.output = ap (λ (c : Course). octets_of c.outputs) e ∙ octets_step h.at h.step in
     record {
       taken = taken;
       short = subst (λ (x : List ℕ). taken < length x) (sym octets) (rw length-append (omega (arith, h.short)));
       out = subst (λ (x : List ℕ). Took old new x) (ap (λ (x : List ℕ). x ++ take h.count h.step.output) (sym h.outputs) ∙ sym (take_past before h.step.output h.count) ∙ ap (λ (x : List ℕ). take taken x) (sym octets)) h.took;
       register = h.register ∙ ap (λ (c : Course). c.register) (sym e);
-      replay = replay_all (Some taken) setting given old.register new.register (h.register ∙ ap (λ (c : Course). c.register) (sym e));
+      replay = replay_all (Some taken) setting given old.office.register new.office.register (h.register ∙ ap (λ (c : Course). c.register) (sym e));
       stands = h.stands fine;
       left = alone (h.stands fine);
       faults = h.faults;
@@ -127,9 +127,9 @@ register_step : (d : Course) (step : Step) → (advance d step).register ≡ reg
 unfolding advance
 register_step d step = refl
 
-leaves_prefix : (r : Register) (d w : Course) (step : Step) (change : Option Change) (least : ℕ) (rest : Rest) → step.change ≡ change → Grows d w → Grows (advance d step) w → Sound r d → Sound r (advance d step) → least ≤ length d.changes → WithOrWithout change d.register rest → LeavesPrefix w r least (length d.changes) rest
-leaves_prefix r d w step None least rest e g h sd se le only = λ k l. record { count = length d.changes; least = le; most = few d w g; near = inl refl; register = d.register; replay = replayed r d w g sd; holds = only k l }
-leaves_prefix r d w step (Some change) least rest e g h sd se le only = λ k l.
+leaves_prefix : (r : Register) (d w : Course) (step : Step) (change : Option Change) (least : ℕ) (left : View) → step.change ≡ change → Grows d w → Grows (advance d step) w → Sound r d → Sound r (advance d step) → least ≤ length d.changes → WithOrWithout change d.register left → LeavesPrefix w r least (length d.changes) left
+leaves_prefix r d w step None least left e g h sd se le only = λ k l. record { count = length d.changes; least = le; most = few d w g; near = inl refl; register = d.register; replay = replayed r d w g sd; holds = only k l }
+leaves_prefix r d w step (Some change) least left e g h sd se le only = λ k l.
     elim (only k l) [
       | inl same ↦ record { count = length d.changes; least = le; most = few d w g; near = inl refl; register = d.register; replay = replayed r d w g sd; holds = same }
       | inr made ↦
@@ -141,13 +141,13 @@ leaves_prefix r d w step (Some change) least rest e g h sd se le only = λ k l.
             near = inr (sym long);
             register = (advance d step).register;
             replay = replayed r (advance d step) w h se;
-            holds = subst (rest.holds k) (made_register (Some change) d.register made.0 made.1 ∙ sym (register_step d step ∙ ap (register_after d.register) e)) made.2;
+            holds = subst (left.holds k) (made_register (Some change) d.register made.0 made.1 ∙ sym (register_step d step ∙ ap (register_after d.register) e)) made.2;
           }
     ]
 
-pub is_office_fault : (setting : Setting) (given : List ℕ) (old new : Scene) → OfficeFails (started setting old.register) given old new → IsOfficeFault setting given old new
+pub is_office_fault : (setting : Setting) (given : List ℕ) (old new : Scene) → OfficeFails (started setting old.office.register) given old new → IsOfficeFault setting given old new
 is_office_fault setting given old new h =
-    let r : Register = old.register in
+    let r : Register = old.office.register in
     let w : Course = whole setting given r in
     let sd : Sound r h.at = h.reaches.grows.sound r (sound_start setting r) in
     let step : Grows h.at (advance h.at h.step) = grows_step h.at h.step h.allows in
@@ -169,7 +169,7 @@ is_office_fault setting given old new h =
         kept = kept;
         few = few h.at w g;
         register = λ s. replayed r h.at w g sd ∙ ap Ok (sym (x.same s));
-        left = leaves_prefix r h.at w h.step h.step.change (answered h.at.outputs (length (octets_of h.at.outputs))) new.rest refl g ge sd se kept x.left;
+        left = leaves_prefix r h.at w h.step h.step.change (answered h.at.outputs (length (octets_of h.at.outputs))) new.office refl g ge sd se kept x.left;
         faults = h.faults;
       }
       | inr x ↦ record {
@@ -188,9 +188,9 @@ is_office_fault setting given old new h =
       }
     ]
 
-pub is_out_of_memory : (setting : Setting) (given : List ℕ) (old new : Scene) (fine : old.rest.stands) (alone : new.rest.stands → Only new.register new.rest) → IsShort (started setting old.register) given old new → IsOutOfMemory setting given old new
+pub is_out_of_memory : (setting : Setting) (given : List ℕ) (old new : Scene) (fine : old.office.stands) (alone : new.office.stands → Only new.office.register new.office) → IsShort (started setting old.office.register) given old new → IsOutOfMemory setting given old new
 is_out_of_memory setting given old new fine alone h =
-    let r : Register = old.register in
+    let r : Register = old.office.register in
     let w : Course = whole setting given r in
     let sd : Sound r h.at = h.reaches.grows.sound r (sound_start setting r) in
     let se : Sound r h.next = h.later.sound r sd in
@@ -231,7 +231,7 @@ is_out_of_memory setting given old new fine alone h =
     ]
 
 -- each fault
-pub serves_from : (setting : Setting) (given : List ℕ) (old new : Scene) (fine : old.rest.stands) (alone : new.rest.stands → Only new.register new.rest) (f : RunFault) → Fails (started setting old.register) given old new f → ServesErr setting given old new f
+pub serves_from : (setting : Setting) (given : List ℕ) (old new : Scene) (fine : old.office.stands) (alone : new.office.stands → Only new.office.register new.office) (f : RunFault) → Fails (started setting old.office.register) given old new f → ServesErr setting given old new f
 serves_from setting given old new fine alone fault.Read h = absurd h
 serves_from setting given old new fine alone fault.Write h = is_broken_off setting given old new fine alone h
 serves_from setting given old new fine alone fault.Office h = is_office_fault setting given old new h

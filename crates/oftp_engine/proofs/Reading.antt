@@ -23,7 +23,7 @@ pub record IsReading {R : Type 0} (remaining : R → Option (List ℕ)) (before 
   pub given : List ℕ
   pub gave : Gave remaining before now given
   pub faults : now.faults ≡ before.faults
-  pub pumping : Clean → Stood → IsPumping (started setting old.register) given stream seen old new
+  pub pumping : Clean → Stood → IsPumping (started setting old.office.register) given stream seen old new
 
 pub wait_on : (k : Course) (s : List ℕ) (before stream : Stream) (seen0 seen1 : Seen) (a b z : Scene) (p : Comes k s before.rest seen0 a b) → IsWaiting p.at before.rest stream seen1 b z → IsWaiting k s stream seen1 a z
 wait_on k s before stream seen0 seen1 a b z p w = record {
@@ -75,13 +75,13 @@ gave_kept remaining before now next given g h = record {
   most = h.most ∙ g.most;
 }
 
-pub read_on : {R : Type 0} (remaining : R → Option (List ℕ)) (before now next : Port R) (given piece : List ℕ) (n : ℕ) (Clean Stood : Type 0) (setting : Setting) (stream fed : Stream) (seen : Seen) (a z : Scene) → Gave remaining before now given → now.faults ≡ before.faults → Gives remaining now next piece n → (Clean → Stood → IsWaiting (started setting a.register) given stream seen a z) → fed ≡ record stream { rest = stream.rest ++ take n piece } → IsReading remaining before next Clean Stood setting fed seen a z
+pub read_on : {R : Type 0} (remaining : R → Option (List ℕ)) (before now next : Port R) (given piece : List ℕ) (n : ℕ) (Clean Stood : Type 0) (setting : Setting) (stream fed : Stream) (seen : Seen) (a z : Scene) → Gave remaining before now given → now.faults ≡ before.faults → Gives remaining now next piece n → (Clean → Stood → IsWaiting (started setting a.office.register) given stream seen a z) → fed ≡ record stream { rest = stream.rest ++ take n piece } → IsReading remaining before next Clean Stood setting fed seen a z
 read_on remaining before now next given piece n Clean Stood setting stream fed seen a z g f h w e = record {
   given = given ++ take n piece;
   gave = gave_on remaining before now next given piece n g h;
   faults = h.faults ∙ f;
-  pumping = λ clean stood. subst (λ (x : Stream). IsPumping (started setting a.register) (given ++ take n piece) x seen a z) (sym e) (record {
-    come = comes_more (started setting a.register) given stream.rest (take n piece) seen a z (w clean stood).come;
+  pumping = λ clean stood. subst (λ (x : Stream). IsPumping (started setting a.office.register) (given ++ take n piece) x seen a z) (sym e) (record {
+    come = comes_more (started setting a.office.register) given stream.rest (take n piece) seen a z (w clean stood).come;
     limit = (w clean stood).limit;
     told = (w clean stood).told;
   });

@@ -9,21 +9,21 @@ use Rattle.oftp_session.specs.Phases.{esid_of}
 use Rattle.oftp_register.specs.declared.change.Change.{Change}
 use Rattle.oftp_register.specs.Register.{Register}
 use Rattle.std.specs.Result.{result_unwrap_or}
-use Rattle.oftp_register.specs.Offices.{Rest, Only, WithOrWithout}
+use Rattle.oftp_register.specs.Offices.{View, Only, WithOrWithout}
 use Rattle.oftp_session.specs.declared.session.Out.{Out}
 use Rattle.oftp_session.specs.declared.session.SessionFault.{SessionFault}
 use Rattle.oftp_session.specs.declared.session.SessionFault.TheVariants as session
 use Rattle.oftp_session.specs.Phases.{Step, EndedHere, fails, register_after}
 use Rattle.oftp_session.specs.Steps.{Holds}
 use Rattle.oftp_session.specs.Settings.{Setting}
-use Rattle.oftp_session.specs.Calls.{Makes, IsMade, IsBefore, IsAfter, IsBroken, IsUndone, Does, DoesNot, Seen, Stands, Desk, said as said_of}
+use Rattle.oftp_session.specs.Calls.{Makes, IsMade, IsBefore, IsAfter, IsBroken, IsUndone, Does, DoesNot, Seen, Stands, said as said_of}
 use Rattle.oftp_engine.proofs.Bytes.{appends_none}
 use Rattle.oftp_engine.specs.declared.port.Port.{Port}
 use Rattle.oftp_engine.specs.declared.serving.RunFault.{RunFault}
 use Rattle.oftp_engine.specs.declared.serving.RunFault.TheVariants as fault
 use Rattle.oftp_engine.specs.Ports.{Sent}
 use Rattle.oftp_engine.specs.Runs.{Course, advance}
-use Rattle.oftp_engine.specs.Serving.{LastWords, last_frame, NotMade, NoMemory, Stepped, StepFails, Scene, Took, IsAt, StaysBefore, StaysAfter}
+use Rattle.oftp_engine.specs.Serving.{LastWords, last_frame, NotMade, NoMemory, Stepped, StepFails, Scene, scene, Took, IsAt, StaysBefore, StaysAfter}
 
 pub last_from : {W : Type 0} (contents : W → Option (List ℕ)) (a d : Port W) (said : List ℕ) (all : Bool) → said ≡ last_frame → Sent contents a d said all → LastWords contents a d
 last_from contents a d said all e s = (all, subst (λ (x : List ℕ). Sent contents a d x all) e s)
@@ -41,28 +41,24 @@ pub made_register : (change : Option Change) (r new : Register) → Makes change
 made_register None r new h = h
 made_register (Some k) r new h = sym (ap (λ (x : Result Register Cause). result_unwrap_or x r) h)
 
--- a scene from its parts
-abbrev pub at_desk : Desk → Rest → Option (List ℕ) → ℕ → ℕ → Scene
-at_desk d rest contents taken told = record { register = d.register; faults = d.faults; rest = rest; contents = contents; taken = taken; told = told }
-
 -- a call that did its step, and the write of what it said
-pub stepped_ok : {T W : Type 0} (contents : W → Option (List ℕ)) (a d : Port W) (x y : Desk) (lo ln : Rest) (c : Course) (step : Step) (seen : Seen) (said : List ℕ) (result : Result T RunFault) →
-    seen.setting ≡ c.setting → IsMade step.change step.output x y ln said → x.register ≡ c.register → Holds step.phase (register_after c.register step.change) → Stands step.phase seen → Sent contents a d said (is_ok result) → IfErr result (λ f. f ≡ fault.Write) →
-    Stepped c step seen (at_desk x lo (contents a.inner) a.moved a.faults) (at_desk y ln (contents d.inner) d.moved d.faults) result
+pub stepped_ok : {T W : Type 0} (contents : W → Option (List ℕ)) (a d : Port W) (x y : View) (c : Course) (step : Step) (seen : Seen) (said : List ℕ) (result : Result T RunFault) →
+    seen.setting ≡ c.setting → IsMade step.change step.output x y said → x.register ≡ c.register → Holds step.phase (register_after c.register step.change) → Stands step.phase seen → Sent contents a d said (is_ok result) → IfErr result (λ f. f ≡ fault.Write) →
+    Stepped c step seen (scene contents x a) (scene contents y d) result
 unfolding advance
-stepped_ok contents a d x y lo ln c step seen said (Ok t) setting made same holds stands sent err =
+stepped_ok contents a d x y c step seen said (Ok t) setting made same holds stands sent err =
     let makes : Makes step.change c.register y.register = subst (λ (r : Register). Makes step.change r y.register) same made.register in
     record {
       now = record { setting = setting; stands = stands; register = made_register step.change c.register y.register makes; holds = holds };
-      took = subst (Took (at_desk x lo (contents a.inner) a.moved a.faults) (at_desk y ln (contents d.inner) d.moved d.faults)) made.said (record { contents = sent.wrote.contents; taken = sent.wrote.moved });
+      took = subst (Took (scene contents x a) (scene contents y d)) made.said (record { contents = sent.wrote.contents; taken = sent.wrote.moved });
       stands = λ _. made.stands;
       faults = made.faults;
       told = sent.faults;
     }
-stepped_ok contents a d x y lo ln c step seen said (Err f) setting made same holds stands sent err =
+stepped_ok contents a d x y c step seen said (Err f) setting made same holds stands sent err =
     let makes : Makes step.change c.register y.register = subst (λ (r : Register). Makes step.change r y.register) same made.register in
-    let old = at_desk x lo (contents a.inner) a.moved a.faults in
-    let new = at_desk y ln (contents d.inner) d.moved d.faults in
+    let old = scene contents x a in
+    let new = scene contents y d in
     subst (StepFails c step old new) (sym err) (record {
       count = sent.count;
       short = subst (λ (z : List ℕ). sent.count < length z) made.said sent.short;
@@ -74,20 +70,20 @@ stepped_ok contents a d x y lo ln c step seen said (Err f) setting made same hol
     })
 
 -- an ESID of the engine's own, which leaves the office alone
-pub stepped_refuse : {T W : Type 0} (contents : W → Option (List ℕ)) (a d : Port W) (x : Desk) (left : Rest) (c : Course) (reason : SessionReason) (seen : Seen) (result : Result T RunFault) →
+pub stepped_refuse : {T W : Type 0} (contents : W → Option (List ℕ)) (a d : Port W) (x : View) (c : Course) (reason : SessionReason) (seen : Seen) (result : Result T RunFault) →
     seen.setting ≡ c.setting → x.register ≡ c.register → OnOk result (Stands (EndedHere reason) seen) → Sent contents a d (frame_of (esid_of reason)) (is_ok result) → IfErr result (λ f. f ≡ fault.Write) →
-    Stepped c (fails reason) seen (at_desk x left (contents a.inner) a.moved a.faults) (at_desk x left (contents d.inner) d.moved d.faults) result
+    Stepped c (fails reason) seen (scene contents x a) (scene contents x d) result
 unfolding advance
-stepped_refuse contents a d x left c reason seen (Ok t) setting same stands sent err = record {
+stepped_refuse contents a d x c reason seen (Ok t) setting same stands sent err = record {
   now = record { setting = setting; stands = stands; register = same; holds = tt };
   took = record { contents = sent.wrote.contents; taken = sent.wrote.moved };
   stands = λ h. h;
   faults = refl;
   told = sent.faults;
 }
-stepped_refuse contents a d x left c reason seen (Err f) setting same stands sent err =
-    let old = at_desk x left (contents a.inner) a.moved a.faults in
-    let new = at_desk x left (contents d.inner) d.moved d.faults in
+stepped_refuse contents a d x c reason seen (Err f) setting same stands sent err =
+    let old = scene contents x a in
+    let new = scene contents x d in
     subst (StepFails c (fails reason) old new) (sym err) (record {
       count = sent.count;
       short = sent.short;
@@ -99,82 +95,82 @@ stepped_refuse contents a d x left c reason seen (Err f) setting same stands sen
     })
 
 -- where a session stands at a course, what holds at the session's own book and register holds at the course's
-pub at_course : (P : Setting → Register → Type 0) (c : Course) (seen : Seen) (scene : Scene) → IsAt c seen scene → P seen.setting scene.register → P c.setting c.register
-at_course P c seen scene at h = subst (λ (r : Register). P c.setting r) at.register (subst (λ (setting : Setting). P setting scene.register) at.setting h)
+pub at_course : (P : Setting → Register → Type 0) (c : Course) (seen : Seen) (now : Scene) → IsAt c seen now → P seen.setting now.office.register → P c.setting c.register
+at_course P c seen now at h = subst (λ (r : Register). P c.setting r) at.register (subst (λ (setting : Setting). P setting now.office.register) at.setting h)
 
 -- a call that the office broke off, and the last words
-broken_cases : (x y : Desk) (ln : Rest) (c : Course) (step : Step) → x.register ≡ c.register → IsBefore step.change x y ln ⊎ IsAfter step.change x y ln → StaysBefore c step y.register ln ⊎ StaysAfter c step y.register ln
+broken_cases : (x y : View) (c : Course) (step : Step) → x.register ≡ c.register → IsBefore step.change x y ⊎ IsAfter step.change x y → StaysBefore c step y ⊎ StaysAfter c step y
 unfolding advance
-broken_cases x y ln c step same (inl h) = inl (record {
+broken_cases x y c step same (inl h) = inl (record {
   same = λ s. h.register s ∙ same;
-  left = subst (λ (r : Register). WithOrWithout step.change r ln) same h.left;
+  left = subst (λ (r : Register). WithOrWithout step.change r y) same h.left;
 })
-broken_cases x y ln c step same (inr h) =
+broken_cases x y c step same (inr h) =
     let makes : Makes step.change c.register h.after = subst (λ (r : Register). Makes step.change r h.after) same h.made in
     let now : h.after ≡ register_after c.register step.change = made_register step.change c.register h.after makes in
-    inr (record { same = λ s. h.register s ∙ now; left = subst (λ (r : Register). Only r ln) now h.left })
+    inr (record { same = λ s. h.register s ∙ now; left = subst (λ (r : Register). Only r y) now h.left })
 
-pub stepped_office : {W : Type 0} (contents : W → Option (List ℕ)) (a d : Port W) (x y : Desk) (lo ln : Rest) (c : Course) (step : Step) →
-    IsBroken step.change x y ln → x.register ≡ c.register → LastWords contents a d →
-    NotMade c step (at_desk x lo (contents a.inner) a.moved a.faults) (at_desk y ln (contents d.inner) d.moved d.faults)
-stepped_office contents a d x y lo ln c step broken same last = at last.0 last.1
+pub stepped_office : {W : Type 0} (contents : W → Option (List ℕ)) (a d : Port W) (x y : View) (c : Course) (step : Step) →
+    IsBroken step.change x y → x.register ≡ c.register → LastWords contents a d →
+    NotMade c step (scene contents x a) (scene contents y d)
+stepped_office contents a d x y c step broken same last = at last.0 last.1
   where
     whole : take (length last_frame) last_frame ≡ last_frame
     whole = take_all (length last_frame) last_frame (omega arith)
 
-    at : (all : Bool) → Sent contents a d last_frame all → NotMade c step (at_desk x lo (contents a.inner) a.moved a.faults) (at_desk y ln (contents d.inner) d.moved d.faults)
+    at : (all : Bool) → Sent contents a d last_frame all → NotMade c step (scene contents x a) (scene contents y d)
     at true s = record {
       count = length last_frame;
-      took = subst (Took (at_desk x lo (contents a.inner) a.moved a.faults) (at_desk y ln (contents d.inner) d.moved d.faults)) (sym whole) (record { contents = s.wrote.contents; taken = s.wrote.moved });
+      took = subst (Took (scene contents x a) (scene contents y d)) (sym whole) (record { contents = s.wrote.contents; taken = s.wrote.moved });
       said = inl (refl, s.faults);
-      cases = broken_cases x y ln c step same broken.cases;
+      cases = broken_cases x y c step same broken.cases;
       faults = broken.faults;
     }
     at false s = record {
       count = s.count;
       took = record { contents = s.wrote.contents; taken = s.wrote.moved };
       said = inr (s.short, s.faults);
-      cases = broken_cases x y ln c step same broken.cases;
+      cases = broken_cases x y c step same broken.cases;
       faults = broken.faults;
     }
 
 -- a call that ran out of memory
-pub stepped_memory : {W : Type 0} (contents : W → Option (List ℕ)) (a : Port W) (x y : Desk) (lo ln : Rest) (c : Course) (step : Step) →
-    IsUndone step.change x y ln → x.register ≡ c.register →
-    NoMemory c step (at_desk x lo (contents a.inner) a.moved a.faults) (at_desk y ln (contents a.inner) a.moved a.faults)
+pub stepped_memory : {W : Type 0} (contents : W → Option (List ℕ)) (a : Port W) (x y : View) (c : Course) (step : Step) →
+    IsUndone step.change x y → x.register ≡ c.register →
+    NoMemory c step (scene contents x a) (scene contents y a)
 unfolding advance
-stepped_memory contents a x y lo ln c step h same = at h.cases
+stepped_memory contents a x y c step h same = at h.cases
   where
-    took : Took (at_desk x lo (contents a.inner) a.moved a.faults) (at_desk y ln (contents a.inner) a.moved a.faults) []
+    took : Took (scene contents x a) (scene contents y a) []
     took = record { contents = appends_none (contents a.inner); taken = omega arith }
 
-    at : (y.register ≡ x.register) ⊎ Makes step.change x.register y.register → NoMemory c step (at_desk x lo (contents a.inner) a.moved a.faults) (at_desk y ln (contents a.inner) a.moved a.faults)
+    at : (y.register ≡ x.register) ⊎ Makes step.change x.register y.register → NoMemory c step (scene contents x a) (scene contents y a)
     at (inl k) = record { took = took; register = inl (k ∙ same); stands = λ _. h.stands; faults = h.faults; told = refl }
     at (inr k) =
         let makes : Makes step.change c.register y.register = subst (λ (r : Register). Makes step.change r y.register) same k in
         record { took = took; register = inr (made_register step.change c.register y.register makes); stands = λ _. h.stands; faults = h.faults; told = refl }
 
 -- a call of a session that stands at a course does what the course's next step says, and what the engine makes of it
-module _ {W : Type 0} (contents : W → Option (List ℕ)) (a d : Port W) (x y : Desk) (lo ln : Rest) (c : Course) (seen : Seen) (step : Setting → Register → Step)
-    (at : IsAt c seen (at_desk x lo (contents a.inner) a.moved a.faults)) where
+module _ {W : Type 0} (contents : W → Option (List ℕ)) (a d : Port W) (x y : View) (c : Course) (seen : Seen) (step : Setting → Register → Step)
+    (at : IsAt c seen (scene contents x a)) where
   here : (P : Step → Type 0) → P (step seen.setting x.register) → P (step c.setting c.register)
-  here P h = at_course (λ (setting : Setting) (r : Register). P (step setting r)) c seen (at_desk x lo (contents a.inner) a.moved a.faults) at h
+  here P h = at_course (λ (setting : Setting) (r : Register). P (step setting r)) c seen (scene contents x a) at h
 
   -- the step is made
   pub called_ok : {T : Type 0} (next : Seen) (out : Out) (result : Result T RunFault) →
-      next.setting ≡ seen.setting → Does (step seen.setting x.register) x y ln (Ok (said_of out)) → Holds (step c.setting c.register).phase (register_after c.register (step c.setting c.register).change) →
+      next.setting ≡ seen.setting → Does (step seen.setting x.register) x y (Ok (said_of out)) → Holds (step c.setting c.register).phase (register_after c.register (step c.setting c.register).change) →
       Stands (step seen.setting x.register).phase next → Sent contents a d (said_of out) (is_ok result) → IfErr result (λ f. f ≡ fault.Write) →
-      Stepped c (step c.setting c.register) next (at_desk x lo (contents a.inner) a.moved a.faults) (at_desk y ln (contents d.inner) d.moved d.faults) result
+      Stepped c (step c.setting c.register) next (scene contents x a) (scene contents y d) result
   called_ok next out result setting made holds stands sent err =
-      stepped_ok contents a d x y lo ln c (step c.setting c.register) next (said_of out) result (setting ∙ at.setting)
-      (here (λ (s : Step). IsMade s.change s.output x y ln (said_of out)) made) at.register holds (here (λ (s : Step). Stands s.phase next) stands) sent err
+      stepped_ok contents a d x y c (step c.setting c.register) next (said_of out) result (setting ∙ at.setting)
+      (here (λ (s : Step). IsMade s.change s.output x y (said_of out)) made) at.register holds (here (λ (s : Step). Stands s.phase next) stands) sent err
 
   -- the office told a fault
-  pub called_office : DoesNot (step seen.setting x.register).change x y ln session.Office → LastWords contents a d →
-      NotMade c (step c.setting c.register) (at_desk x lo (contents a.inner) a.moved a.faults) (at_desk y ln (contents d.inner) d.moved d.faults)
-  called_office broken words = stepped_office contents a d x y lo ln c (step c.setting c.register) (here (λ (s : Step). IsBroken s.change x y ln) broken) at.register words
+  pub called_office : DoesNot (step seen.setting x.register).change x y session.Office → LastWords contents a d →
+      NotMade c (step c.setting c.register) (scene contents x a) (scene contents y d)
+  called_office broken words = stepped_office contents a d x y c (step c.setting c.register) (here (λ (s : Step). IsBroken s.change x y) broken) at.register words
 
   -- memory ran out
-  pub called_memory : DoesNot (step seen.setting x.register).change x y ln session.Memory →
-      NoMemory c (step c.setting c.register) (at_desk x lo (contents a.inner) a.moved a.faults) (at_desk y ln (contents a.inner) a.moved a.faults)
-  called_memory undone = stepped_memory contents a x y lo ln c (step c.setting c.register) (here (λ (s : Step). IsUndone s.change x y ln) undone) at.register
+  pub called_memory : DoesNot (step seen.setting x.register).change x y session.Memory →
+      NoMemory c (step c.setting c.register) (scene contents x a) (scene contents y a)
+  called_memory undone = stepped_memory contents a x y c (step c.setting c.register) (here (λ (s : Step). IsUndone s.change x y) undone) at.register

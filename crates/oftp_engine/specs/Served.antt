@@ -3,7 +3,7 @@ use Rattle.std.specs.Prelude.{◌≡◌, ℕ, ◌+◌, ◌-◌, ◌<◌, ◌≤�
 use Rattle.std.specs.Io.KnownBytes.{Consumes}
 use Rattle.oftp_register.specs.Register.{Register}
 use Rattle.oftp_register.specs.Changes.{apply_all}
-use Rattle.oftp_register.specs.Offices.{Rest, Only, next_count}
+use Rattle.oftp_register.specs.Offices.{View, Only, next_count}
 use Rattle.oftp_engine.specs.declared.serving.End.{End}
 use Rattle.oftp_session.specs.Settings.{Setting}
 use Rattle.oftp_partners.specs.Book.{BookData}
@@ -45,29 +45,29 @@ pub record IsPrefix {C : Type 0} (holds' : C → Register → Type 0) (c : Cours
   pub replay : apply_all r (take count c.changes) ≡ Ok register
   pub holds : holds' content register
 
-abbrev pub LeavesPrefix : Course → Register → ℕ → ℕ → Rest → Type 0
-LeavesPrefix c r least made rest = (content : rest.Content) → rest.may_leave content → IsPrefix rest.holds c r least made content
+abbrev pub LeavesPrefix : Course → Register → ℕ → ℕ → View → Type 0
+LeavesPrefix c r least made now = (content : now.Content) → now.may_leave content → IsPrefix now.holds c r least made content
 
 -- all outputs are out, and the register is the run's
 pub record IsWhole (setting : Setting) (given : List ℕ) (old new : Scene) : Type 0 where
-  pub out : Took old new (octets_of (whole setting given old.register).outputs)
-  pub register : new.register ≡ (whole setting given old.register).register
-  pub replay : apply_all old.register (whole setting given old.register).changes ≡ Ok new.register
-  pub stands : new.rest.stands
-  pub left : Only new.register new.rest
-  pub faults : new.faults ≡ old.faults
+  pub out : Took old new (octets_of (whole setting given old.office.register).outputs)
+  pub register : new.office.register ≡ (whole setting given old.office.register).register
+  pub replay : apply_all old.office.register (whole setting given old.office.register).changes ≡ Ok new.office.register
+  pub stands : new.office.stands
+  pub left : Only new.office.register new.office
+  pub faults : new.office.told ≡ old.office.told
   pub told : new.told ≡ old.told
 
 -- the writer told a fault: a beginning of the outputs is out, as long as what it took, and the session stopped there
 pub record IsBrokenOff (setting : Setting) (given : List ℕ) (old new : Scene) : Type 0 where
   pub taken : ℕ
-  pub short : taken < length (octets_of (broken_off setting taken given old.register).outputs)
-  pub out : Took old new (take taken (octets_of (broken_off setting taken given old.register).outputs))
-  pub register : new.register ≡ (broken_off setting taken given old.register).register
-  pub replay : apply_all old.register (broken_off setting taken given old.register).changes ≡ Ok new.register
-  pub stands : new.rest.stands
-  pub left : Only new.register new.rest
-  pub faults : new.faults ≡ old.faults
+  pub short : taken < length (octets_of (broken_off setting taken given old.office.register).outputs)
+  pub out : Took old new (take taken (octets_of (broken_off setting taken given old.office.register).outputs))
+  pub register : new.office.register ≡ (broken_off setting taken given old.office.register).register
+  pub replay : apply_all old.office.register (broken_off setting taken given old.office.register).changes ≡ Ok new.office.register
+  pub stands : new.office.stands
+  pub left : Only new.office.register new.office
+  pub faults : new.office.told ≡ old.office.told
   pub told : new.told ≡ next_count old.told
 
 -- the office told a fault: whole outputs are out, and after them ESID 08 or as much of it as the writer took before it told a fault.
@@ -75,30 +75,30 @@ pub record IsBrokenOff (setting : Setting) (given : List ℕ) (old new : Scene) 
 pub record IsOfficeFault (setting : Setting) (given : List ℕ) (old new : Scene) : Type 0 where
   pub outs : List Output
   pub later : List Output
-  pub outputs : (whole setting given old.register).outputs ≡ outs ++ later
+  pub outputs : (whole setting given old.office.register).outputs ≡ outs ++ later
   pub count : ℕ
   pub out : Took old new (octets_of outs ++ take count last_frame)
   pub said : IsSaid old new count
   pub made : ℕ
   pub kept : answered outs (length (octets_of outs)) ≤ made
-  pub few : made ≤ length (whole setting given old.register).changes
-  pub register : new.rest.stands → apply_all old.register (take made (whole setting given old.register).changes) ≡ Ok new.register
-  pub left : LeavesPrefix (whole setting given old.register) old.register (answered outs (length (octets_of outs))) made new.rest
-  pub faults : new.faults ≡ next_count old.faults
+  pub few : made ≤ length (whole setting given old.office.register).changes
+  pub register : new.office.stands → apply_all old.office.register (take made (whole setting given old.office.register).changes) ≡ Ok new.office.register
+  pub left : LeavesPrefix (whole setting given old.office.register) old.office.register (answered outs (length (octets_of outs))) made new.office
+  pub faults : new.office.told ≡ next_count old.office.told
 
 -- memory ran out: a beginning of the outputs is out
 pub record IsOutOfMemory (setting : Setting) (given : List ℕ) (old new : Scene) : Type 0 where
   pub outs : List Output
   pub later : List Output
-  pub outputs : (whole setting given old.register).outputs ≡ outs ++ later
+  pub outputs : (whole setting given old.office.register).outputs ≡ outs ++ later
   pub out : Took old new (octets_of outs)
   pub made : ℕ
   pub kept : answered outs (length (octets_of outs)) ≤ made
-  pub few : made ≤ length (whole setting given old.register).changes
-  pub register : apply_all old.register (take made (whole setting given old.register).changes) ≡ Ok new.register
-  pub stands : new.rest.stands
-  pub left : Only new.register new.rest
-  pub faults : new.faults ≡ old.faults
+  pub few : made ≤ length (whole setting given old.office.register).changes
+  pub register : apply_all old.office.register (take made (whole setting given old.office.register).changes) ≡ Ok new.office.register
+  pub stands : new.office.stands
+  pub left : Only new.office.register new.office
+  pub faults : new.office.told ≡ old.office.told
   pub told : new.told ≡ old.told
 
 abbrev pub ServesErr : Setting → List ℕ → Scene → Scene → RunFault → Type 0
@@ -109,7 +109,7 @@ ServesErr setting given old new fault.Memory = IsOutOfMemory setting given old n
 
 -- what a call that answers this has done
 abbrev pub Serves : Setting → List ℕ → Scene → Scene → Result End RunFault → Type 0
-Serves setting given old new (Ok end) = IsWhole setting given old new × (end ≡ ending (whole setting given old.register).phase)
+Serves setting given old new (Ok end) = IsWhole setting given old new × (end ≡ ending (whole setting given old.office.register).phase)
 Serves setting given old new (Err fault) = ServesErr setting given old new fault
 
 -- what a reader told in a call that answers this

@@ -7,7 +7,7 @@ use Rattle.oftp_wire.specs.declared.reason.SessionReason.TheVariants.{ResourcesN
 use Rattle.oftp_register.specs.declared.change.Change.{Change}
 use Rattle.oftp_register.specs.Register.{Register}
 use Rattle.oftp_register.specs.Changes.{apply_all}
-use Rattle.oftp_register.specs.Offices.{Rest, Only, WithOrWithout, next_count, rest_of}
+use Rattle.oftp_register.specs.Offices.{View, Only, WithOrWithout, next_count}
 use Rattle.oftp_session.specs.Phases.{Step, frame_of, esid_of}
 use Rattle.oftp_session.specs.Steps.{has_turn, is_over, Holds}
 use Rattle.oftp_session.specs.Calls.{Allows, Seen, Stands, ending_of}
@@ -50,12 +50,10 @@ pub record Reaches (c : Course) (s : List ℕ) (d e : Course) : Type 0 where
   pub grows : Grows c d
   pub same : (more : List ℕ) (limit : Option ℕ) → is_stopped limit d ≡ false → (u : List ℕ) × (run limit (s ++ more) c ≡ run limit u e)
 
--- what an office and a writer show: the register, the faults that the office told and what it leaves behind, what the writer holds
--- and how many octets it took, and the faults that it told. The counts run modulo 2^64
+-- what an office and a writer show: the office's view, what the writer holds and how many octets it took, and the faults that it told.
+-- The counts run modulo 2^64
 pub record Scene : Type 1 where
-  pub register : Register
-  pub faults : ℕ
-  pub rest : Rest
+  pub office : View
   pub contents : Option (List ℕ)
   pub taken : ℕ
   pub told : ℕ
@@ -73,7 +71,7 @@ IsSaid old new count = ((count ≡ length last_frame) × (new.told ≡ old.told)
 pub record IsAt (c : Course) (seen : Seen) (scene : Scene) : Type 0 where
   pub setting : seen.setting ≡ c.setting
   pub stands : Stands c.phase seen
-  pub register : scene.register ≡ c.register
+  pub register : scene.office.register ≡ c.register
   pub holds : Holds c.phase c.register
 
 -- the engine came from c with the octets s to d with t, and what went out between is out
@@ -82,8 +80,8 @@ pub record Went (c : Course) (s : List ℕ) (d : Course) (t : List ℕ) (old new
   pub between : List ℕ
   pub outputs : octets_of d.outputs ≡ octets_of c.outputs ++ between
   pub took : Took old new between
-  pub stands : old.rest.stands → new.rest.stands
-  pub faults : new.faults ≡ old.faults
+  pub stands : old.office.stands → new.office.stands
+  pub faults : new.office.told ≡ old.office.told
   pub told : new.told ≡ old.told
 
 -- the writer told a fault within the output of a step
@@ -96,20 +94,20 @@ pub record BreaksOff (c : Course) (s : List ℕ) (old new : Scene) : Type 0 wher
   pub between : List ℕ
   pub outputs : octets_of at.outputs ≡ octets_of c.outputs ++ between
   pub took : Took old new (between ++ take count step.output)
-  pub register : new.register ≡ (advance at step).register
-  pub stands : old.rest.stands → new.rest.stands
-  pub faults : new.faults ≡ old.faults
+  pub register : new.office.register ≡ (advance at step).register
+  pub stands : old.office.stands → new.office.stands
+  pub faults : new.office.told ≡ old.office.told
   pub told : new.told ≡ next_count old.told
 
 -- the office told a fault within a step: the register is the one before it, and a stop may leave either; or it is the one
 -- after it, and nothing else is left
-pub record StaysBefore (at : Course) (step : Step) (register : Register) (rest : Rest) : Type 0 where
-  pub same : rest.stands → register ≡ at.register
-  pub left : WithOrWithout step.change at.register rest
+pub record StaysBefore (at : Course) (step : Step) (now : View) : Type 0 where
+  pub same : now.stands → now.register ≡ at.register
+  pub left : WithOrWithout step.change at.register now
 
-pub record StaysAfter (at : Course) (step : Step) (register : Register) (rest : Rest) : Type 0 where
-  pub same : rest.stands → register ≡ (advance at step).register
-  pub left : Only (advance at step).register rest
+pub record StaysAfter (at : Course) (step : Step) (now : View) : Type 0 where
+  pub same : now.stands → now.register ≡ (advance at step).register
+  pub left : Only (advance at step).register now
 
 -- the office told a fault within a step
 pub record OfficeFails (c : Course) (s : List ℕ) (old new : Scene) : Type 0 where
@@ -122,8 +120,8 @@ pub record OfficeFails (c : Course) (s : List ℕ) (old new : Scene) : Type 0 wh
   pub took : Took old new (between ++ take count last_frame)
   pub said : IsSaid old new count
   pub allows : Allows at.register step.change
-  pub cases : StaysBefore at step new.register new.rest ⊎ StaysAfter at step new.register new.rest
-  pub faults : new.faults ≡ next_count old.faults
+  pub cases : StaysBefore at step new.office ⊎ StaysAfter at step new.office
+  pub faults : new.office.told ≡ next_count old.office.told
 
 -- memory ran out, where the run had come or after the change of its next step
 pub record IsShort (c : Course) (s : List ℕ) (old new : Scene) : Type 0 where
@@ -134,9 +132,9 @@ pub record IsShort (c : Course) (s : List ℕ) (old new : Scene) : Type 0 where
   pub between : List ℕ
   pub outputs : octets_of at.outputs ≡ octets_of c.outputs ++ between
   pub took : Took old new between
-  pub register : (new.register ≡ at.register) ⊎ (new.register ≡ next.register)
-  pub stands : old.rest.stands → new.rest.stands
-  pub faults : new.faults ≡ old.faults
+  pub register : (new.office.register ≡ at.register) ⊎ (new.office.register ≡ next.register)
+  pub stands : old.office.stands → new.office.stands
+  pub faults : new.office.told ≡ old.office.told
   pub told : new.told ≡ old.told
 
 -- what a fault leaves. A function that doesn't read tells none of the reader
@@ -150,8 +148,8 @@ Fails c s old new fault.Memory = IsShort c s old new
 pub record Made (c : Course) (step : Step) (seen : Seen) (old new : Scene) : Type 0 where
   pub now : IsAt (advance c step) seen new
   pub took : Took old new step.output
-  pub stands : old.rest.stands → new.rest.stands
-  pub faults : new.faults ≡ old.faults
+  pub stands : old.office.stands → new.office.stands
+  pub faults : new.office.told ≡ old.office.told
   pub told : new.told ≡ old.told
 
 -- one step at a course: it is made, and the writer told a fault within its output
@@ -159,9 +157,9 @@ pub record MadePart (c : Course) (step : Step) (old new : Scene) : Type 0 where
   pub count : ℕ
   pub short : count < length step.output
   pub took : Took old new (take count step.output)
-  pub register : new.register ≡ (advance c step).register
-  pub stands : old.rest.stands → new.rest.stands
-  pub faults : new.faults ≡ old.faults
+  pub register : new.office.register ≡ (advance c step).register
+  pub stands : old.office.stands → new.office.stands
+  pub faults : new.office.told ≡ old.office.told
   pub told : new.told ≡ next_count old.told
 
 -- one step at a course: the office told a fault
@@ -169,15 +167,15 @@ pub record NotMade (c : Course) (step : Step) (old new : Scene) : Type 0 where
   pub count : ℕ
   pub took : Took old new (take count last_frame)
   pub said : IsSaid old new count
-  pub cases : StaysBefore c step new.register new.rest ⊎ StaysAfter c step new.register new.rest
-  pub faults : new.faults ≡ next_count old.faults
+  pub cases : StaysBefore c step new.office ⊎ StaysAfter c step new.office
+  pub faults : new.office.told ≡ next_count old.office.told
 
 -- one step at a course: memory ran out
 pub record NoMemory (c : Course) (step : Step) (old new : Scene) : Type 0 where
   pub took : Took old new []
-  pub register : (new.register ≡ c.register) ⊎ (new.register ≡ (advance c step).register)
-  pub stands : old.rest.stands → new.rest.stands
-  pub faults : new.faults ≡ old.faults
+  pub register : (new.office.register ≡ c.register) ⊎ (new.office.register ≡ (advance c step).register)
+  pub stands : old.office.stands → new.office.stands
+  pub faults : new.office.told ≡ old.office.told
   pub told : new.told ≡ old.told
 
 abbrev pub StepFails : Course → Step → Scene → Scene → RunFault → Type 0
@@ -194,16 +192,9 @@ Stepped c step seen old new (Err fault) = StepFails c step old new fault
 abbrev pub LastWords : {W : Type 0} → (W → Option (List ℕ)) → Port W → Port W → Type 0
 LastWords contents old new = (all : Bool) × Sent contents old new last_frame all
 
--- the scene of an office and a writer's port, by what they tell
-abbrev pub scene : {O C W : Type 0} → (O → Register) → (O → ℕ) → (C → Register → Type 0) → (O → C → Type 0) → (O → Type 0) → (W → Option (List ℕ)) → O → Port W → Scene
-scene register faults holds may_leave stands contents office port = record {
-  register = register office;
-  faults = faults office;
-  rest = rest_of holds may_leave stands office;
-  contents = contents port.inner;
-  taken = port.moved;
-  told = port.faults;
-}
+-- the scene of an office and a writer's port
+abbrev pub scene : {W : Type 0} → (W → Option (List ℕ)) → View → Port W → Scene
+scene contents office port = record { office = office; contents = contents port.inner; taken = port.moved; told = port.faults }
 
 -- the engine came to some course with t left, where the session stands now
 pub record Comes (c : Course) (s t : List ℕ) (seen : Seen) (old new : Scene) : Type 0 where

@@ -130,14 +130,14 @@ fn take_turn<O: Office, W: Write>(
     office: &mut O,
     writer: &mut Port<W>,
 ) -> Result<(), RunFault>
-    ensures clean { O.is_clean office.new → O.is_clean office.old }
+    ensures clean { (O.view office.new).clean → (O.view office.old).clean }
     ensures own { IfErr result IsOwn }
     ensures fewer { is_due session.old.state ≡ true → OnOk result (turns_left session.new.state < turns_left session.old.state) }
-    ensures steps { O.is_clean office.new → O.stands office.old → (c : Course) → has_turn c.phase ≡ true
-        → IsAt c session.old (scene O.register O.told O.holds O.may_leave O.stands W.contents office.old writer.old)
+    ensures steps { (O.view office.new).clean → (O.view office.old).stands → (c : Course) → has_turn c.phase ≡ true
+        → IsAt c session.old (scene W.contents (O.view office.old) writer.old)
         → Stepped c (turned c.setting c.phase c.register) session.new
-        (scene O.register O.told O.holds O.may_leave O.stands W.contents office.old writer.old)
-        (scene O.register O.told O.holds O.may_leave O.stands W.contents office.new writer.new) result }
+        (scene W.contents (O.view office.old) writer.old)
+        (scene W.contents (O.view office.new) writer.new) result }
     ensures out { Puts W.contents writer.old writer.new }
     ensures told { WriterTold writer.old writer.new result }
 {
@@ -161,13 +161,13 @@ fn obey<O: Office, W: Write>(
     writer: &mut Port<W>,
     command: &Command<'_>,
 ) -> Result<(), RunFault>
-    ensures clean { O.is_clean office.new → O.is_clean office.old }
+    ensures clean { (O.view office.new).clean → (O.view office.old).clean }
     ensures own { IfErr result IsOwn }
-    ensures steps { O.is_clean office.new → O.stands office.old → (c : Course) → is_over c.phase ≡ false
-        → IsAt c session.old (scene O.register O.told O.holds O.may_leave O.stands W.contents office.old writer.old)
+    ensures steps { (O.view office.new).clean → (O.view office.old).stands → (c : Course) → is_over c.phase ≡ false
+        → IsAt c session.old (scene W.contents (O.view office.old) writer.old)
         → Stepped c (came c.setting c.phase c.register command.now) session.new
-        (scene O.register O.told O.holds O.may_leave O.stands W.contents office.old writer.old)
-        (scene O.register O.told O.holds O.may_leave O.stands W.contents office.new writer.new) result }
+        (scene W.contents (O.view office.old) writer.old)
+        (scene W.contents (O.view office.new) writer.new) result }
     ensures out { Puts W.contents writer.old writer.new }
     ensures told { WriterTold writer.old writer.new result }
 {
@@ -191,13 +191,13 @@ fn take_command<O: Office, W: Write>(
     writer: &mut Port<W>,
     octets: &[u8],
 ) -> Result<(), RunFault>
-    ensures clean { O.is_clean office.new → O.is_clean office.old }
+    ensures clean { (O.view office.new).clean → (O.view office.old).clean }
     ensures own { IfErr result IsOwn }
-    ensures steps { O.is_clean office.new → O.stands office.old → (c : Course) → is_over c.phase ≡ false
-        → IsAt c session.old (scene O.register O.told O.holds O.may_leave O.stands W.contents office.old writer.old)
+    ensures steps { (O.view office.new).clean → (O.view office.old).stands → (c : Course) → is_over c.phase ≡ false
+        → IsAt c session.old (scene W.contents (O.view office.old) writer.old)
         → Stepped c (step_on c.setting c.phase c.register (command_of octets.now)) session.new
-        (scene O.register O.told O.holds O.may_leave O.stands W.contents office.old writer.old)
-        (scene O.register O.told O.holds O.may_leave O.stands W.contents office.new writer.new) result }
+        (scene W.contents (O.view office.old) writer.old)
+        (scene W.contents (O.view office.new) writer.new) result }
     ensures out { Puts W.contents writer.old writer.new }
     ensures told { WriterTold writer.old writer.new result }
 {
@@ -216,13 +216,13 @@ fn take_turns<O: Office, W: Write>(
     office: &mut O,
     writer: &mut Port<W>,
 ) -> Result<(), RunFault>
-    ensures clean { O.is_clean office.new → O.is_clean office.old }
+    ensures clean { (O.view office.new).clean → (O.view office.old).clean }
     ensures own { IfErr result IsOwn }
-    ensures steps { O.is_clean office.new → O.stands office.old → (c : Course)
-        → IsAt c session.old (scene O.register O.told O.holds O.may_leave O.stands W.contents office.old writer.old)
+    ensures steps { (O.view office.new).clean → (O.view office.old).stands → (c : Course)
+        → IsAt c session.old (scene W.contents (O.view office.old) writer.old)
         → TurnsTaken c session.new
-        (scene O.register O.told O.holds O.may_leave O.stands W.contents office.old writer.old)
-        (scene O.register O.told O.holds O.may_leave O.stands W.contents office.new writer.new) result }
+        (scene W.contents (O.view office.old) writer.old)
+        (scene W.contents (O.view office.new) writer.new) result }
     ensures out { Puts W.contents writer.old writer.new }
     ensures told { WriterTold writer.old writer.new result }
 {
@@ -239,13 +239,13 @@ fn pump<O: Office, W: Write>(
     stream: &mut Deframer,
     writer: &mut Port<W>,
 ) -> Result<Option<Ending>, RunFault>
-    ensures clean { O.is_clean office.new → O.is_clean office.old }
+    ensures clean { (O.view office.new).clean → (O.view office.old).clean }
     ensures own { IfErr result IsOwn }
-    ensures steps { O.is_clean office.new → O.stands office.old → (c : Course) → stream.old.limit ≡ 100003 → stream.old.told ≡ None
-        → IsAt c session.old (scene O.register O.told O.holds O.may_leave O.stands W.contents office.old writer.old)
+    ensures steps { (O.view office.new).clean → (O.view office.old).stands → (c : Course) → stream.old.limit ≡ 100003 → stream.old.told ≡ None
+        → IsAt c session.old (scene W.contents (O.view office.old) writer.old)
         → Pumped c stream.old.rest stream.new session.new
-        (scene O.register O.told O.holds O.may_leave O.stands W.contents office.old writer.old)
-        (scene O.register O.told O.holds O.may_leave O.stands W.contents office.new writer.new) result }
+        (scene W.contents (O.view office.old) writer.old)
+        (scene W.contents (O.view office.new) writer.new) result }
     ensures out { Puts W.contents writer.old writer.new }
     ensures told { WriterTold writer.old writer.new result }
 {
@@ -297,10 +297,10 @@ pub fn serve<O: Office, R: Read, W: Write>(
     writer: &mut Port<W>,
 ) -> Result<End, RunFault>
     ensures serves { (given : List ℕ) × Gave R.remaining reader.old reader.new given
-        × (O.is_clean office.new → O.stands office.old → Serves (setting_of book.now role.entry) given
-        (scene O.register O.told O.holds O.may_leave O.stands W.contents office.old writer.old)
-        (scene O.register O.told O.holds O.may_leave O.stands W.contents office.new writer.new) result) }
-    ensures clean { O.is_clean office.new → O.is_clean office.old }
+        × ((O.view office.new).clean → (O.view office.old).stands → Serves (setting_of book.now role.entry) given
+        (scene W.contents (O.view office.old) writer.old)
+        (scene W.contents (O.view office.new) writer.new) result) }
+    ensures clean { (O.view office.new).clean → (O.view office.old).clean }
     ensures reader_told { ReaderTold reader.old reader.new result }
     ensures writer_told { WriterTold writer.old writer.new result }
     ensures ends { InputEnded R.remaining reader.new result }

@@ -35,7 +35,7 @@ unfolding AreFit
 fit_later r s k rest later is fit made = (subst (AreFit r) is fit).1 s made
 
 -- one more change
-apply_all-push : (r before : Register) (gone : List Change) (k : Change) → apply_all r gone ≡ Ok before → apply_all r (gone ++ k ∷ []) ≡ apply before k
+pub apply_all-push : (r before : Register) (gone : List Change) (k : Change) → apply_all r gone ≡ Ok before → apply_all r (gone ++ k ∷ []) ≡ apply before k
 apply_all-push r before gone k made = fold-append go_on_by (Ok r) gone (k ∷ []) ∙ ap (λ so_far. go_on_by so_far k) made
 
 -- one more change is gone

@@ -1,54 +1,45 @@
 use Rattle.std.proofs.Common.{subst, sym, Result}
-use Rattle.oftp_register.specs.Offices.{rest_of}
 use Rattle.oftp_session.specs.declared.session.Out.{Out}
 use Rattle.oftp_session.specs.declared.session.SessionFault.{SessionFault}
 use Rattle.oftp_session.specs.Steps.{came, Holds}
 use Rattle.oftp_session.proofs.Phases.{holds_came}
-use Rattle.oftp_session.specs.Calls.{desk, DoesNot, Goes}
+use Rattle.oftp_session.specs.Calls.{DoesNot, Goes}
 use Rattle.oftp_engine.proofs.Stepping.{called_ok, called_office, called_memory}
 use Rattle.oftp_engine.proofs.serving.obey.Goals as goal
 
 pub returns-in-Ok-clause-steps : goal.returns-in-Ok-clause-steps
 returns-in-Ok-clause-steps g c = λ clean stood k live at.
-    let before = desk g.O.Office.register g.O.Office.told c.args.office.now in
-    let after = desk g.O.Office.register g.O.Office.told c.on_command.new.office in
-    let lo = rest_of g.O.Office.holds g.O.Office.may_leave g.O.Office.stands c.args.office.now in
-    let ln = rest_of g.O.Office.holds g.O.Office.may_leave g.O.Office.stands c.on_command.new.office in
+    let before = g.O.Office.view c.args.office.now in
+    let after = g.O.Office.view c.on_command.new.office in
     let held = subst (Holds k.phase) (sym at.register) at.holds in
     let next = c.on_command.follows.lender-at-none in
     let done = c.on_command.follows.holds-at-none in
-    let stands = subst (λ (x : Result Out SessionFault). Goes (came c.args.session.now.setting k.phase (g.O.Office.register c.args.office.now) c.args.command.now).phase x next) c.in-Ok.is (done.1 k.phase held live at.stands) in
-    called_ok g.W.Write.contents c.args.writer.now c.write_out.new.port before after lo ln k c.args.session.now (λ setting r. came setting k.phase r c.args.command.now) at next c.in-Ok.out c.write_out.result
+    let stands = subst (λ (x : Result Out SessionFault). Goes (came c.args.session.now.setting k.phase (g.O.Office.view c.args.office.now).register c.args.command.now).phase x next) c.in-Ok.is (done.1 k.phase held live at.stands) in
+    called_ok g.W.Write.contents c.args.writer.now c.write_out.new.port before after k c.args.session.now (λ setting r. came setting k.phase r c.args.command.now) at next c.in-Ok.out c.write_out.result
     done.0 (c.in-Ok.ensures.does clean stood k.phase held live at.stands) (holds_came k.setting k.phase k.register c.args.command.now at.holds) stands c.write_out.ensures.sent c.write_out.ensures.err
 
 pub returns-in-Err-Office-clause-steps : goal.returns-in-Err-Office-clause-steps
 returns-in-Err-Office-clause-steps g c = λ clean stood k live at.
-    let before = desk g.O.Office.register g.O.Office.told c.args.office.now in
-    let after = desk g.O.Office.register g.O.Office.told c.on_command.new.office in
-    let lo = rest_of g.O.Office.holds g.O.Office.may_leave g.O.Office.stands c.args.office.now in
-    let ln = rest_of g.O.Office.holds g.O.Office.may_leave g.O.Office.stands c.on_command.new.office in
+    let before = g.O.Office.view c.args.office.now in
+    let after = g.O.Office.view c.on_command.new.office in
     let held = subst (Holds k.phase) (sym at.register) at.holds in
     let next = c.on_command.follows.lender-at-none in
     let done = c.on_command.follows.holds-at-none in
-    let broken = subst (λ (x : Result Out SessionFault). Goes (came c.args.session.now.setting k.phase (g.O.Office.register c.args.office.now) c.args.command.now).phase x next) c.in-Err-Office.is (done.1 k.phase held live at.stands) in
-    called_office g.W.Write.contents c.args.writer.now c.last_words.new.port before after lo ln k c.args.session.now (λ setting r. came setting k.phase r c.args.command.now) at
-    (subst (DoesNot (came c.args.session.now.setting k.phase (g.O.Office.register c.args.office.now) c.args.command.now).change before after ln) c.in-Err-Office.field-0-is (c.in-Err-Office.ensures.does clean stood k.phase held live at.stands)) (c.last_words.ensures.words broken)
+    let broken = subst (λ (x : Result Out SessionFault). Goes (came c.args.session.now.setting k.phase (g.O.Office.view c.args.office.now).register c.args.command.now).phase x next) c.in-Err-Office.is (done.1 k.phase held live at.stands) in
+    called_office g.W.Write.contents c.args.writer.now c.last_words.new.port before after k c.args.session.now (λ setting r. came setting k.phase r c.args.command.now) at
+    (subst (DoesNot (came c.args.session.now.setting k.phase (g.O.Office.view c.args.office.now).register c.args.command.now).change before after) c.in-Err-Office.field-0-is (c.in-Err-Office.ensures.does clean stood k.phase held live at.stands)) (c.last_words.ensures.words broken)
 
 pub returns-in-Err-Memory-clause-steps : goal.returns-in-Err-Memory-clause-steps
 returns-in-Err-Memory-clause-steps g c = λ clean stood k live at.
-    let before = desk g.O.Office.register g.O.Office.told c.args.office.now in
-    let after = desk g.O.Office.register g.O.Office.told c.on_command.new.office in
-    let lo = rest_of g.O.Office.holds g.O.Office.may_leave g.O.Office.stands c.args.office.now in
-    let ln = rest_of g.O.Office.holds g.O.Office.may_leave g.O.Office.stands c.on_command.new.office in
+    let before = g.O.Office.view c.args.office.now in
+    let after = g.O.Office.view c.on_command.new.office in
     let held = subst (Holds k.phase) (sym at.register) at.holds in
-    called_memory g.W.Write.contents c.args.writer.now c.args.writer.now before after lo ln k c.args.session.now (λ setting r. came setting k.phase r c.args.command.now) at
-    (subst (DoesNot (came c.args.session.now.setting k.phase (g.O.Office.register c.args.office.now) c.args.command.now).change before after ln) c.in-Err-Memory.field-0-is (c.in-Err-Memory.ensures.does clean stood k.phase held live at.stands))
+    called_memory g.W.Write.contents c.args.writer.now c.args.writer.now before after k c.args.session.now (λ setting r. came setting k.phase r c.args.command.now) at
+    (subst (DoesNot (came c.args.session.now.setting k.phase (g.O.Office.view c.args.office.now).register c.args.command.now).change before after) c.in-Err-Memory.field-0-is (c.in-Err-Memory.ensures.does clean stood k.phase held live at.stands))
 
 pub returns-in-Err-Ended-clause-steps : goal.returns-in-Err-Ended-clause-steps
 returns-in-Err-Ended-clause-steps g c = λ clean stood k live at.
-    let before = desk g.O.Office.register g.O.Office.told c.args.office.now in
-    let after = desk g.O.Office.register g.O.Office.told c.on_command.new.office in
-    let lo = rest_of g.O.Office.holds g.O.Office.may_leave g.O.Office.stands c.args.office.now in
-    let ln = rest_of g.O.Office.holds g.O.Office.may_leave g.O.Office.stands c.on_command.new.office in
+    let before = g.O.Office.view c.args.office.now in
+    let after = g.O.Office.view c.on_command.new.office in
     let held = subst (Holds k.phase) (sym at.register) at.holds in
-    absurd (subst (DoesNot (came c.args.session.now.setting k.phase (g.O.Office.register c.args.office.now) c.args.command.now).change before after ln) c.in-Err-Ended.field-0-is (c.in-Err-Ended.ensures.does clean stood k.phase held live at.stands))
+    absurd (subst (DoesNot (came c.args.session.now.setting k.phase (g.O.Office.view c.args.office.now).register c.args.command.now).change before after) c.in-Err-Ended.field-0-is (c.in-Err-Ended.ensures.does clean stood k.phase held live at.stands))

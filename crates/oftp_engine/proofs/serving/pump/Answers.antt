@@ -7,7 +7,6 @@ use Rattle.std.proofs.lemmas.Result.{err_from_is_err_and}
 use Rattle.oftp_wire.specs.Stream.{Stream}
 use Rattle.oftp_wire.specs.Stream.{Whole, Waits, Bad}
 use Rattle.oftp_wire.proofs.Streams.{next_err, past_shorter}
-use Rattle.oftp_session.specs.Calls.{desk}
 use Rattle.oftp_session.specs.Phases.{fails}
 use Rattle.oftp_engine.specs.declared.serving.RunFault.{RunFault}
 use Rattle.oftp_engine.specs.Serving.{scene, Pumped, IsWaiting, IsOver}
@@ -23,9 +22,8 @@ frames-init g c = record {
   told = refl;
   clean = λ h. h;
   pumps = λ clean stood k lim told at.
-      let scene_of = scene g.O.Office.register g.O.Office.told g.O.Office.holds g.O.Office.may_leave g.O.Office.stands g.W.Write.contents in
-      record {
-        come = record { at = k; went = went_none k c.args.stream.now.rest (scene_of c.args.office.now c.args.writer.now); now = at };
+        record {
+        come = record { at = k; went = went_none k c.args.stream.now.rest (scene g.W.Write.contents (g.O.Office.view c.args.office.now) c.args.writer.now); now = at };
         limit = lim;
         told = told;
       };
@@ -38,12 +36,11 @@ frames-smaller g c =
 
 pub returns-in_err-take_turns-clause-steps : goal.returns-in_err-take_turns-clause-steps
 returns-in_err-take_turns-clause-steps g c = λ clean stood k lim told at.
-    let scene_of = scene g.O.Office.register g.O.Office.told g.O.Office.holds g.O.Office.may_leave g.O.Office.stands g.W.Write.contents in
     let s = c.args.stream.now.rest in
     let t = c.frames.stream.rest in
-    let first = scene_of c.args.office.now c.args.writer.now in
-    let old = scene_of c.frames.office c.frames.writer in
-    let mid = scene_of c.take_turns.new.office c.take_turns.new.writer in
+    let first = scene g.W.Write.contents (g.O.Office.view c.args.office.now) c.args.writer.now in
+    let old = scene g.W.Write.contents (g.O.Office.view c.frames.office) c.frames.writer in
+    let mid = scene g.W.Write.contents (g.O.Office.view c.take_turns.new.office) c.take_turns.new.writer in
     let p = c.frames.invariant.pumps (c.take_turns.ensures.clean clean) stood k lim told at in
     let f = c.in_err-take_turns.field-0.0 in
     let e = err_from_is_err_and c.from_residual.result c.from_residual.ensures.1 in
@@ -52,12 +49,11 @@ returns-in_err-take_turns-clause-steps g c = λ clean stood k lim told at.
 
 pub returns-in-Some-clause-steps : goal.returns-in-Some-clause-steps
 returns-in-Some-clause-steps g c = λ clean stood k lim told at.
-    let scene_of = scene g.O.Office.register g.O.Office.told g.O.Office.holds g.O.Office.may_leave g.O.Office.stands g.W.Write.contents in
     let s = c.args.stream.now.rest in
     let t = c.frames.stream.rest in
-    let first = scene_of c.args.office.now c.args.writer.now in
-    let old = scene_of c.frames.office c.frames.writer in
-    let mid = scene_of c.take_turns.new.office c.take_turns.new.writer in
+    let first = scene g.W.Write.contents (g.O.Office.view c.args.office.now) c.args.writer.now in
+    let old = scene g.W.Write.contents (g.O.Office.view c.frames.office) c.frames.writer in
+    let mid = scene g.W.Write.contents (g.O.Office.view c.take_turns.new.office) c.take_turns.new.writer in
     let p = c.frames.invariant.pumps (c.take_turns.ensures.clean clean) stood k lim told at in
     let r = settle_on k s t c.frames.session c.take_turns.new.session first old mid p.come (c.in_ok-take_turns.ensures.steps clean (p.come.went.stands stood) p.come.at p.come.now) in
     let q = r.come in
@@ -69,19 +65,18 @@ frames-preserved g c = record {
   told = c.in_ok-take_command-in-Ok-Some.ensures.told ∙ c.in_ok-take_turns.ensures.told ∙ c.frames.invariant.told;
   clean = λ h. c.frames.invariant.clean (c.take_turns.ensures.clean (c.take_command.ensures.clean h));
   pumps = λ clean stood k lim told at.
-      let scene_of = scene g.O.Office.register g.O.Office.told g.O.Office.holds g.O.Office.may_leave g.O.Office.stands g.W.Write.contents in
-      let s = c.args.stream.now.rest in
+        let s = c.args.stream.now.rest in
       let t = c.frames.stream.rest in
-      let first = scene_of c.args.office.now c.args.writer.now in
-      let old = scene_of c.frames.office c.frames.writer in
-      let mid = scene_of c.take_turns.new.office c.take_turns.new.writer in
+      let first = scene g.W.Write.contents (g.O.Office.view c.args.office.now) c.args.writer.now in
+      let old = scene g.W.Write.contents (g.O.Office.view c.frames.office) c.frames.writer in
+      let mid = scene g.W.Write.contents (g.O.Office.view c.take_turns.new.office) c.take_turns.new.writer in
       let p = c.frames.invariant.pumps (c.take_turns.ensures.clean (c.take_command.ensures.clean clean)) stood k lim told at in
       let r = settle_on k s t c.frames.session c.take_turns.new.session first old mid p.come (c.in_ok-take_turns.ensures.steps (c.take_command.ensures.clean clean) (p.come.went.stands stood) p.come.at p.come.now) in
       let q = r.come in
       let over = live_from q.at.phase c.ended.result (c.ended.ensures.phase q.at.phase q.now.stands) c.in_default.is in
       let h = seen_some c.frames.stream c.in-Ok-Some.field-0 c.in-Ok-Some.octets c.in-Ok-Some.ensures.value c.in-Ok-Some.field-0-is in
       let whole = limit_front c.frames.stream (Whole h.0) p.limit h.1 in
-      let new = scene_of c.take_command.new.office c.take_command.new.writer in
+      let new = scene g.W.Write.contents (g.O.Office.view c.take_command.new.office) c.take_command.new.writer in
       let made = c.in_ok-take_command-in-Ok-Some.ensures.steps clean (q.went.stands stood) q.at over q.now in
       subst (λ (x : Stream). IsPumping k s x c.take_command.new.session first new) (sym (c.next.follows.holds-at-none ∙ h.3)) (record {
         come = frame_on k s t c.in-Ok-Some.octets.now h.0 c.take_turns.new.session c.take_command.new.session first mid new q r.done over whole h.2 made;
@@ -92,19 +87,18 @@ frames-preserved g c = record {
 
 pub returns-in_err-take_command-in-Ok-Some-clause-steps : goal.returns-in_err-take_command-in-Ok-Some-clause-steps
 returns-in_err-take_command-in-Ok-Some-clause-steps g c = λ clean stood k lim told at.
-    let scene_of = scene g.O.Office.register g.O.Office.told g.O.Office.holds g.O.Office.may_leave g.O.Office.stands g.W.Write.contents in
     let s = c.args.stream.now.rest in
     let t = c.frames.stream.rest in
-    let first = scene_of c.args.office.now c.args.writer.now in
-    let old = scene_of c.frames.office c.frames.writer in
-    let mid = scene_of c.take_turns.new.office c.take_turns.new.writer in
+    let first = scene g.W.Write.contents (g.O.Office.view c.args.office.now) c.args.writer.now in
+    let old = scene g.W.Write.contents (g.O.Office.view c.frames.office) c.frames.writer in
+    let mid = scene g.W.Write.contents (g.O.Office.view c.take_turns.new.office) c.take_turns.new.writer in
     let p = c.frames.invariant.pumps (c.take_turns.ensures.clean (c.take_command.ensures.clean clean)) stood k lim told at in
     let r = settle_on k s t c.frames.session c.take_turns.new.session first old mid p.come (c.in_ok-take_turns.ensures.steps (c.take_command.ensures.clean clean) (p.come.went.stands stood) p.come.at p.come.now) in
     let q = r.come in
     let over = live_from q.at.phase c.ended.result (c.ended.ensures.phase q.at.phase q.now.stands) c.in_default.is in
     let h = seen_some c.frames.stream c.in-Ok-Some.field-0 c.in-Ok-Some.octets c.in-Ok-Some.ensures.value c.in-Ok-Some.field-0-is in
     let whole = limit_front c.frames.stream (Whole h.0) p.limit h.1 in
-    let new = scene_of c.take_command.new.office c.take_command.new.writer in
+    let new = scene g.W.Write.contents (g.O.Office.view c.take_command.new.office) c.take_command.new.writer in
     let f = c.in_err-take_command-in-Ok-Some.field-0.0 in
     let e = err_from_is_err_and c.from_residual-in_err-take_command-in-Ok-Some.result c.from_residual-in_err-take_command-in-Ok-Some.ensures.1 in
     subst (Pumped k s c.next.follows.lender-at-none c.take_command.new.session first new) (sym (e.1 ∙ ap (λ (x : RunFault). Err x) e.2))
@@ -112,12 +106,11 @@ returns-in_err-take_command-in-Ok-Some-clause-steps g c = λ clean stood k lim t
 
 pub returns-in-Ok-None-clause-steps : goal.returns-in-Ok-None-clause-steps
 returns-in-Ok-None-clause-steps g c = λ clean stood k lim told at.
-    let scene_of = scene g.O.Office.register g.O.Office.told g.O.Office.holds g.O.Office.may_leave g.O.Office.stands g.W.Write.contents in
     let s = c.args.stream.now.rest in
     let t = c.frames.stream.rest in
-    let first = scene_of c.args.office.now c.args.writer.now in
-    let old = scene_of c.frames.office c.frames.writer in
-    let mid = scene_of c.take_turns.new.office c.take_turns.new.writer in
+    let first = scene g.W.Write.contents (g.O.Office.view c.args.office.now) c.args.writer.now in
+    let old = scene g.W.Write.contents (g.O.Office.view c.frames.office) c.frames.writer in
+    let mid = scene g.W.Write.contents (g.O.Office.view c.take_turns.new.office) c.take_turns.new.writer in
     let p = c.frames.invariant.pumps (c.take_turns.ensures.clean clean) stood k lim told at in
     let r = settle_on k s t c.frames.session c.take_turns.new.session first old mid p.come (c.in_ok-take_turns.ensures.steps clean (p.come.went.stands stood) p.come.at p.come.now) in
     let q = r.come in
@@ -134,39 +127,37 @@ returns-in-Ok-None-clause-steps g c = λ clean stood k lim told at.
 
 pub returns-in-Err-clause-steps : goal.returns-in-Err-clause-steps
 returns-in-Err-clause-steps g c = λ clean stood k lim told at.
-    let scene_of = scene g.O.Office.register g.O.Office.told g.O.Office.holds g.O.Office.may_leave g.O.Office.stands g.W.Write.contents in
     let s = c.args.stream.now.rest in
     let t = c.frames.stream.rest in
-    let first = scene_of c.args.office.now c.args.writer.now in
-    let old = scene_of c.frames.office c.frames.writer in
-    let mid = scene_of c.take_turns.new.office c.take_turns.new.writer in
+    let first = scene g.W.Write.contents (g.O.Office.view c.args.office.now) c.args.writer.now in
+    let old = scene g.W.Write.contents (g.O.Office.view c.frames.office) c.frames.writer in
+    let mid = scene g.W.Write.contents (g.O.Office.view c.take_turns.new.office) c.take_turns.new.writer in
     let p = c.frames.invariant.pumps (c.take_turns.ensures.clean clean) stood k lim told at in
     let r = settle_on k s t c.frames.session c.take_turns.new.session first old mid p.come (c.in_ok-take_turns.ensures.steps clean (p.come.went.stands stood) p.come.at p.come.now) in
     let q = r.come in
     let over = live_from q.at.phase c.ended.result (c.ended.ensures.phase q.at.phase q.now.stands) c.in_default.is in
     let h = next_err c.frames.stream c.in-Err.field-0 p.told (sym c.in-Err.ensures.value) in
     let bad = limit_front c.frames.stream (Bad c.in-Err.field-0) p.limit h.0 in
-    let new = scene_of c.take_turns.new.office c.refuse.new.port in
-    let st = stepped_refuse g.W.Write.contents c.take_turns.new.writer c.refuse.new.port (desk g.O.Office.register g.O.Office.told c.take_turns.new.office) mid.rest q.at ProtocolViolation c.refuse.new.session c.refuse.result (c.refuse.ensures.setting ∙ q.now.setting) q.now.register (c.refuse.ensures.over q.at.phase over q.now.stands) (c.refuse.ensures.sent q.at.phase over q.now.stands) (c.refuse.ensures.err q.at.phase over q.now.stands) in
+    let new = scene g.W.Write.contents (g.O.Office.view c.take_turns.new.office) c.refuse.new.port in
+    let st = stepped_refuse g.W.Write.contents c.take_turns.new.writer c.refuse.new.port (g.O.Office.view c.take_turns.new.office) q.at ProtocolViolation c.refuse.new.session c.refuse.result (c.refuse.ensures.setting ∙ q.now.setting) q.now.register (c.refuse.ensures.over q.at.phase over q.now.stands) (c.refuse.ensures.sent q.at.phase over q.now.stands) (c.refuse.ensures.err q.at.phase over q.now.stands) in
     let made = ok_at q.at (fails ProtocolViolation) c.refuse.new.session mid new c.refuse.result c.in_ok-refuse-in-Err.field-0 st c.in_ok-refuse-in-Err.was in
     subst (λ (x : Stream). IsOver k s x.rest c.refuse.new.session first new (Own ProtocolViolation)) (sym (c.next.follows.holds-at-none ∙ h.1)) (bad_on k s t c.in-Err.field-0 c.take_turns.new.session c.refuse.new.session first mid new q r.done over bad made)
 
 pub returns-in_err-refuse-in-Err-clause-steps : goal.returns-in_err-refuse-in-Err-clause-steps
 returns-in_err-refuse-in-Err-clause-steps g c = λ clean stood k lim told at.
-    let scene_of = scene g.O.Office.register g.O.Office.told g.O.Office.holds g.O.Office.may_leave g.O.Office.stands g.W.Write.contents in
     let s = c.args.stream.now.rest in
     let t = c.frames.stream.rest in
-    let first = scene_of c.args.office.now c.args.writer.now in
-    let old = scene_of c.frames.office c.frames.writer in
-    let mid = scene_of c.take_turns.new.office c.take_turns.new.writer in
+    let first = scene g.W.Write.contents (g.O.Office.view c.args.office.now) c.args.writer.now in
+    let old = scene g.W.Write.contents (g.O.Office.view c.frames.office) c.frames.writer in
+    let mid = scene g.W.Write.contents (g.O.Office.view c.take_turns.new.office) c.take_turns.new.writer in
     let p = c.frames.invariant.pumps (c.take_turns.ensures.clean clean) stood k lim told at in
     let r = settle_on k s t c.frames.session c.take_turns.new.session first old mid p.come (c.in_ok-take_turns.ensures.steps clean (p.come.went.stands stood) p.come.at p.come.now) in
     let q = r.come in
     let over = live_from q.at.phase c.ended.result (c.ended.ensures.phase q.at.phase q.now.stands) c.in_default.is in
     let h = next_err c.frames.stream c.in-Err.field-0 p.told (sym c.in-Err.ensures.value) in
     let bad = limit_front c.frames.stream (Bad c.in-Err.field-0) p.limit h.0 in
-    let new = scene_of c.take_turns.new.office c.refuse.new.port in
-    let st = stepped_refuse g.W.Write.contents c.take_turns.new.writer c.refuse.new.port (desk g.O.Office.register g.O.Office.told c.take_turns.new.office) mid.rest q.at ProtocolViolation c.refuse.new.session c.refuse.result (c.refuse.ensures.setting ∙ q.now.setting) q.now.register (c.refuse.ensures.over q.at.phase over q.now.stands) (c.refuse.ensures.sent q.at.phase over q.now.stands) (c.refuse.ensures.err q.at.phase over q.now.stands) in
+    let new = scene g.W.Write.contents (g.O.Office.view c.take_turns.new.office) c.refuse.new.port in
+    let st = stepped_refuse g.W.Write.contents c.take_turns.new.writer c.refuse.new.port (g.O.Office.view c.take_turns.new.office) q.at ProtocolViolation c.refuse.new.session c.refuse.result (c.refuse.ensures.setting ∙ q.now.setting) q.now.register (c.refuse.ensures.over q.at.phase over q.now.stands) (c.refuse.ensures.sent q.at.phase over q.now.stands) (c.refuse.ensures.err q.at.phase over q.now.stands) in
     let f = c.in_err-refuse-in-Err.field-0.0 in
     let failed = err_at q.at (fails ProtocolViolation) c.refuse.new.session mid new c.refuse.result f st c.in_err-refuse-in-Err.was in
     let e = err_from_is_err_and c.from_residual-in_err-refuse-in-Err.result c.from_residual-in_err-refuse-in-Err.ensures.1 in

@@ -7,13 +7,12 @@ use Rattle.oftp_engine.proofs.serving.pump.Given as goal
 
 abbrev pub invariant-frames : goal.invariant-frames
 invariant-frames g l =
-    let scene_of = scene g.O.Office.register g.O.Office.told g.O.Office.holds g.O.Office.may_leave g.O.Office.stands g.W.Write.contents in
     record {
       out : Puts g.W.Write.contents l.fn.writer l.writer;
       told : l.writer.faults ≡ l.fn.writer.faults;
-      clean : g.O.Office.is_clean l.office → g.O.Office.is_clean l.fn.office;
-      pumps : g.O.Office.is_clean l.office → g.O.Office.stands l.fn.office → (c : Course) → l.fn.stream.limit ≡ 100003 → l.fn.stream.told ≡ None → IsAt c l.fn.session (scene_of l.fn.office l.fn.writer)
-          → IsPumping c l.fn.stream.rest l.stream l.session (scene_of l.fn.office l.fn.writer) (scene_of l.office l.writer);
+      clean : (g.O.Office.view l.office).clean → (g.O.Office.view l.fn.office).clean;
+      pumps : (g.O.Office.view l.office).clean → (g.O.Office.view l.fn.office).stands → (c : Course) → l.fn.stream.limit ≡ 100003 → l.fn.stream.told ≡ None → IsAt c l.fn.session (scene g.W.Write.contents (g.O.Office.view l.fn.office) l.fn.writer)
+          → IsPumping c l.fn.stream.rest l.stream l.session (scene g.W.Write.contents (g.O.Office.view l.fn.office) l.fn.writer) (scene g.W.Write.contents (g.O.Office.view l.office) l.writer);
     }
 
 abbrev pub decreases-frames : goal.decreases-frames

@@ -20,9 +20,8 @@ use Rattle.oftp_engine.proofs.serving.serve.Goals as goal
 pub pieces-init : goal.pieces-init
 pieces-init g c =
     let setting = setting_of c.args.book.now c.args.role in
-    let scene_of = scene g.O.Office.register g.O.Office.told g.O.Office.holds g.O.Office.may_leave g.O.Office.stands g.W.Write.contents in
-    let first = scene_of c.args.office.now c.args.writer.now in
-    let k = started setting (g.O.Office.register c.args.office.now) in
+    let first = scene g.W.Write.contents (g.O.Office.view c.args.office.now) c.args.writer.now in
+    let k = started setting (g.O.Office.view c.args.office.now).register in
     record {
       out = puts_none g.W.Write.contents c.args.writer.now;
       told = refl;
@@ -32,7 +31,7 @@ pieces-init g c =
         gave = record { bytes = consumes_none (g.R.Read.remaining c.args.reader.now.inner) []; count = omega arith; within = omega arith; most = refl };
         faults = refl;
         pumping = λ clean stood. subst (λ (x : Stream). IsPumping k [] x c.opened-session.result first first) (sym c.new-stream.ensures) (record {
-          come = record { at = k; went = went_none k [] first; now = record { setting = c.opened-session.ensures.setting; stands = c.opened-session.ensures.stands; register = refl; holds = holds_all (opening setting.called) (g.O.Office.register c.args.office.now) } };
+          come = record { at = k; went = went_none k [] first; now = record { setting = c.opened-session.ensures.setting; stands = c.opened-session.ensures.stands; register = refl; holds = holds_all (opening setting.called) (g.O.Office.view c.args.office.now).register } };
           limit = refl;
           told = refl;
         });
@@ -42,33 +41,31 @@ pieces-init g c =
 pub returns-in_err-ending-clause-serves : goal.returns-in_err-ending-clause-serves
 returns-in_err-ending-clause-serves g c =
     let setting = setting_of c.args.book.now c.args.role in
-    let scene_of = scene g.O.Office.register g.O.Office.told g.O.Office.holds g.O.Office.may_leave g.O.Office.stands g.W.Write.contents in
-    let first = scene_of c.args.office.now c.args.writer.now in
-    let k = started setting (g.O.Office.register c.args.office.now) in
-    let old = scene_of c.pieces.office c.pieces.writer in
-    let new = scene_of c.pump.new.office c.pump.new.writer in
+    let first = scene g.W.Write.contents (g.O.Office.view c.args.office.now) c.args.writer.now in
+    let k = started setting (g.O.Office.view c.args.office.now).register in
+    let old = scene g.W.Write.contents (g.O.Office.view c.pieces.office) c.pieces.writer in
+    let new = scene g.W.Write.contents (g.O.Office.view c.pump.new.office) c.pump.new.writer in
     let h = c.pieces.invariant.reads in
     let f = c.in_err-ending.field-0.0 in
     let e = err_from_is_err_and c.from_residual.result c.from_residual.ensures.1 in (
       h.given,
       h.gave,
       λ clean stood. let p = h.pumping (c.pump.ensures.clean clean) stood in subst (Serves setting h.given first new) (sym (e.1 ∙ ap (λ (x : RunFault). Err x) e.2))
-          (serves_from setting h.given first new stood (λ fine k l. g.met.O.Office.alone c.pump.new.office k clean fine l) f (fails_later k p.come.at h.given c.pieces.stream.rest first old new f p.come.went (c.in_err-ending.ensures.steps clean (p.come.went.stands stood) p.come.at p.limit p.told p.come.now))),
+          (serves_from setting h.given first new stood (λ fine. g.met.O.Office.alone c.pump.new.office clean fine) f (fails_later k p.come.at h.given c.pieces.stream.rest first old new f p.come.went (c.in_err-ending.ensures.steps clean (p.come.went.stands stood) p.come.at p.limit p.told p.come.now))),
     )
 
 pub returns-in-Some-clause-serves : goal.returns-in-Some-clause-serves
 returns-in-Some-clause-serves g c =
     let setting = setting_of c.args.book.now c.args.role in
-    let scene_of = scene g.O.Office.register g.O.Office.told g.O.Office.holds g.O.Office.may_leave g.O.Office.stands g.W.Write.contents in
-    let first = scene_of c.args.office.now c.args.writer.now in
-    let k = started setting (g.O.Office.register c.args.office.now) in
-    let old = scene_of c.pieces.office c.pieces.writer in
-    let new = scene_of c.pump.new.office c.pump.new.writer in
+    let first = scene g.W.Write.contents (g.O.Office.view c.args.office.now) c.args.writer.now in
+    let k = started setting (g.O.Office.view c.args.office.now).register in
+    let old = scene g.W.Write.contents (g.O.Office.view c.pieces.office) c.pieces.writer in
+    let new = scene g.W.Write.contents (g.O.Office.view c.pump.new.office) c.pump.new.writer in
     let h = c.pieces.invariant.reads in (
       h.given,
       h.gave,
       λ clean stood. let p = h.pumping (c.pump.ensures.clean clean) stood in let pumped = c.in_ok-ending.ensures.steps clean (p.come.went.stands stood) p.come.at p.limit p.told p.come.now in let decided = subst (λ (b : Option Ending). Pumped p.come.at c.pieces.stream.rest c.pump.new.stream c.pump.new.session old new (let r : Result (Option Ending) RunFault = Ok b in r)) c.in-Some.is pumped in let w = over_on k h.given c.pieces.stream.rest c.pump.new.stream.rest c.pieces.session c.pump.new.session first old new c.in-Some.ending p.come decided in let e = whole_over setting h.given c.pump.new.stream.rest c.pump.new.session first new c.in-Some.ending w in (
-        is_whole setting h.given c.pump.new.stream.rest c.pump.new.session first new stood (λ fine k l. g.met.O.Office.alone c.pump.new.office k clean fine l) w.come e,
+        is_whole setting h.given c.pump.new.stream.rest c.pump.new.session first new stood (λ fine. g.met.O.Office.alone c.pump.new.office clean fine) w.come e,
         c.from.ensures ∙ ending_from w.come.at.phase c.in-Some.ending w.ends ∙ ap (λ (x : Course). ending x.phase) (sym e),
       ),
     )
@@ -76,27 +73,25 @@ returns-in-Some-clause-serves g c =
 pub returns-in-None-clause-serves : goal.returns-in-None-clause-serves
 returns-in-None-clause-serves g c =
     let setting = setting_of c.args.book.now c.args.role in
-    let scene_of = scene g.O.Office.register g.O.Office.told g.O.Office.holds g.O.Office.may_leave g.O.Office.stands g.W.Write.contents in
-    let first = scene_of c.args.office.now c.args.writer.now in
-    let k = started setting (g.O.Office.register c.args.office.now) in
-    let old = scene_of c.pieces.office c.pieces.writer in
-    let new = scene_of c.pump.new.office c.pump.new.writer in
+    let first = scene g.W.Write.contents (g.O.Office.view c.args.office.now) c.args.writer.now in
+    let k = started setting (g.O.Office.view c.args.office.now).register in
+    let old = scene g.W.Write.contents (g.O.Office.view c.pieces.office) c.pieces.writer in
+    let new = scene g.W.Write.contents (g.O.Office.view c.pump.new.office) c.pump.new.writer in
     let h = c.pieces.invariant.reads in
-    (h.given, gave_kept g.R.Read.remaining c.args.reader.now c.pieces.reader c.read.new.port h.given h.gave c.in-None.ensures, λ clean stood. let p = h.pumping (c.pump.ensures.clean clean) stood in let pumped = c.in_ok-ending.ensures.steps clean (p.come.went.stands stood) p.come.at p.limit p.told p.come.now in let decided = subst (λ (b : Option Ending). Pumped p.come.at c.pieces.stream.rest c.pump.new.stream c.pump.new.session old new (let r : Result (Option Ending) RunFault = Ok b in r)) c.in_default.is pumped in let w = wait_on k h.given c.pieces.stream c.pump.new.stream c.pieces.session c.pump.new.session first old new p.come decided in let e = whole_waits setting h.given c.pump.new.stream.rest c.pump.new.session first new w.come w.turn w.waits in is_whole setting h.given c.pump.new.stream.rest c.pump.new.session first new stood (λ fine k l. g.met.O.Office.alone c.pump.new.office k clean fine l) w.come e)
+    (h.given, gave_kept g.R.Read.remaining c.args.reader.now c.pieces.reader c.read.new.port h.given h.gave c.in-None.ensures, λ clean stood. let p = h.pumping (c.pump.ensures.clean clean) stood in let pumped = c.in_ok-ending.ensures.steps clean (p.come.went.stands stood) p.come.at p.limit p.told p.come.now in let decided = subst (λ (b : Option Ending). Pumped p.come.at c.pieces.stream.rest c.pump.new.stream c.pump.new.session old new (let r : Result (Option Ending) RunFault = Ok b in r)) c.in_default.is pumped in let w = wait_on k h.given c.pieces.stream c.pump.new.stream c.pieces.session c.pump.new.session first old new p.come decided in let e = whole_waits setting h.given c.pump.new.stream.rest c.pump.new.session first new w.come w.turn w.waits in is_whole setting h.given c.pump.new.stream.rest c.pump.new.session first new stood (λ fine. g.met.O.Office.alone c.pump.new.office clean fine) w.come e)
 
 pub returns-in-Some-eq0-clause-serves : goal.returns-in-Some-eq0-clause-serves
 returns-in-Some-eq0-clause-serves g c =
     let setting = setting_of c.args.book.now c.args.role in
-    let scene_of = scene g.O.Office.register g.O.Office.told g.O.Office.holds g.O.Office.may_leave g.O.Office.stands g.W.Write.contents in
-    let first = scene_of c.args.office.now c.args.writer.now in
-    let k = started setting (g.O.Office.register c.args.office.now) in
-    let old = scene_of c.pieces.office c.pieces.writer in
-    let new = scene_of c.pump.new.office c.pump.new.writer in
+    let first = scene g.W.Write.contents (g.O.Office.view c.args.office.now) c.args.writer.now in
+    let k = started setting (g.O.Office.view c.args.office.now).register in
+    let old = scene g.W.Write.contents (g.O.Office.view c.pieces.office) c.pieces.writer in
+    let new = scene g.W.Write.contents (g.O.Office.view c.pump.new.office) c.pump.new.writer in
     let h = c.pieces.invariant.reads in (
       h.given,
       gave_zero g.R.Read.remaining c.args.reader.now c.pieces.reader c.read.new.port h.given c.read.new.piece c.in-Some-eq0.field-0 h.gave c.in-Some-eq0.ensures (search rules),
       λ clean stood. let p = h.pumping (c.pump.ensures.clean clean) stood in let pumped = c.in_ok-ending.ensures.steps clean (p.come.went.stands stood) p.come.at p.limit p.told p.come.now in let decided = subst (λ (b : Option Ending). Pumped p.come.at c.pieces.stream.rest c.pump.new.stream c.pump.new.session old new (let r : Result (Option Ending) RunFault = Ok b in r)) c.in_default.is pumped in let w = wait_on k h.given c.pieces.stream c.pump.new.stream c.pieces.session c.pump.new.session first old new p.come decided in let e = whole_waits setting h.given c.pump.new.stream.rest c.pump.new.session first new w.come w.turn w.waits in (
-        is_whole setting h.given c.pump.new.stream.rest c.pump.new.session first new stood (λ fine k l. g.met.O.Office.alone c.pump.new.office k clean fine l) w.come e,
+        is_whole setting h.given c.pump.new.stream.rest c.pump.new.session first new stood (λ fine. g.met.O.Office.alone c.pump.new.office clean fine) w.come e,
         input_ending w.come.at.phase w.over ∙ ap (λ (x : Course). ending x.phase) (sym e),
       ),
     )
@@ -104,28 +99,26 @@ returns-in-Some-eq0-clause-serves g c =
 pub returns-then-is_err-clause-serves : goal.returns-then-is_err-clause-serves
 returns-then-is_err-clause-serves g c =
     let setting = setting_of c.args.book.now c.args.role in
-    let scene_of = scene g.O.Office.register g.O.Office.told g.O.Office.holds g.O.Office.may_leave g.O.Office.stands g.W.Write.contents in
-    let first = scene_of c.args.office.now c.args.writer.now in
-    let k = started setting (g.O.Office.register c.args.office.now) in
-    let old = scene_of c.pieces.office c.pieces.writer in
-    let new = scene_of c.pump.new.office c.pump.new.writer in
+    let first = scene g.W.Write.contents (g.O.Office.view c.args.office.now) c.args.writer.now in
+    let k = started setting (g.O.Office.view c.args.office.now).register in
+    let old = scene g.W.Write.contents (g.O.Office.view c.pieces.office) c.pieces.writer in
+    let new = scene g.W.Write.contents (g.O.Office.view c.pump.new.office) c.pump.new.writer in
     let h = c.pieces.invariant.reads in
     let given = h.given ++ take c.in-Some-read.n c.read.new.piece in (
       given,
       gave_on g.R.Read.remaining c.args.reader.now c.pieces.reader c.read.new.port h.given c.read.new.piece c.in-Some-read.n h.gave c.in-Some-read.ensures,
-      λ clean stood. let p = h.pumping (c.pump.ensures.clean clean) stood in let pumped = c.in_ok-ending.ensures.steps clean (p.come.went.stands stood) p.come.at p.limit p.told p.come.now in let decided = subst (λ (b : Option Ending). Pumped p.come.at c.pieces.stream.rest c.pump.new.stream c.pump.new.session old new (let r : Result (Option Ending) RunFault = Ok b in r)) c.in_default.is pumped in let w = wait_on k h.given c.pieces.stream c.pump.new.stream c.pieces.session c.pump.new.session first old new p.come decided in is_out_of_memory setting given first new stood (λ fine k l. g.met.O.Office.alone c.pump.new.office k clean fine l) (short_on k h.given c.pump.new.stream.rest (take c.in-Some-read.n c.read.new.piece) c.pump.new.session first new w.come),
+      λ clean stood. let p = h.pumping (c.pump.ensures.clean clean) stood in let pumped = c.in_ok-ending.ensures.steps clean (p.come.went.stands stood) p.come.at p.limit p.told p.come.now in let decided = subst (λ (b : Option Ending). Pumped p.come.at c.pieces.stream.rest c.pump.new.stream c.pump.new.session old new (let r : Result (Option Ending) RunFault = Ok b in r)) c.in_default.is pumped in let w = wait_on k h.given c.pieces.stream c.pump.new.stream c.pieces.session c.pump.new.session first old new p.come decided in is_out_of_memory setting given first new stood (λ fine. g.met.O.Office.alone c.pump.new.office clean fine) (short_on k h.given c.pump.new.stream.rest (take c.in-Some-read.n c.read.new.piece) c.pump.new.session first new w.come),
     )
 
 pub pieces-preserved : goal.pieces-preserved
 pieces-preserved g c =
     let setting = setting_of c.args.book.now c.args.role in
-    let scene_of = scene g.O.Office.register g.O.Office.told g.O.Office.holds g.O.Office.may_leave g.O.Office.stands g.W.Write.contents in
-    let first = scene_of c.args.office.now c.args.writer.now in
-    let k = started setting (g.O.Office.register c.args.office.now) in
-    let old = scene_of c.pieces.office c.pieces.writer in
-    let new = scene_of c.pump.new.office c.pump.new.writer in
+    let first = scene g.W.Write.contents (g.O.Office.view c.args.office.now) c.args.writer.now in
+    let k = started setting (g.O.Office.view c.args.office.now).register in
+    let old = scene g.W.Write.contents (g.O.Office.view c.pieces.office) c.pieces.writer in
+    let new = scene g.W.Write.contents (g.O.Office.view c.pump.new.office) c.pump.new.writer in
     let h = c.pieces.invariant.reads in
-    record { out = puts_on g.W.Write.contents c.args.writer.now c.pieces.writer c.pump.new.writer c.pieces.invariant.out c.pump.ensures.out; told = c.in_ok-ending.ensures.told ∙ c.pieces.invariant.told; clean = λ h. c.pieces.invariant.clean (c.pump.ensures.clean h); reads = read_on g.R.Read.remaining c.args.reader.now c.pieces.reader c.read.new.port h.given c.read.new.piece c.in-Some-read.n (g.O.Office.is_clean c.pump.new.office) (g.O.Office.stands c.args.office.now) setting c.pump.new.stream c.feed.new.self c.pump.new.session first new h.gave h.faults c.in-Some-read.ensures (λ clean stood. let p = h.pumping (c.pump.ensures.clean clean) stood in let pumped = c.in_ok-ending.ensures.steps clean (p.come.went.stands stood) p.come.at p.limit p.told p.come.now in let decided = subst (λ (b : Option Ending). Pumped p.come.at c.pieces.stream.rest c.pump.new.stream c.pump.new.session old new (let r : Result (Option Ending) RunFault = Ok b in r)) c.in_default.is pumped in let w = wait_on k h.given c.pieces.stream c.pump.new.stream c.pieces.session c.pump.new.session first old new p.come decided in w) (fed_from c.feed.result _ c.if-is_err.ensures.negation c.feed.ensures.ok) }
+    record { out = puts_on g.W.Write.contents c.args.writer.now c.pieces.writer c.pump.new.writer c.pieces.invariant.out c.pump.ensures.out; told = c.in_ok-ending.ensures.told ∙ c.pieces.invariant.told; clean = λ h. c.pieces.invariant.clean (c.pump.ensures.clean h); reads = read_on g.R.Read.remaining c.args.reader.now c.pieces.reader c.read.new.port h.given c.read.new.piece c.in-Some-read.n ((g.O.Office.view c.pump.new.office).clean) ((g.O.Office.view c.args.office.now).stands) setting c.pump.new.stream c.feed.new.self c.pump.new.session first new h.gave h.faults c.in-Some-read.ensures (λ clean stood. let p = h.pumping (c.pump.ensures.clean clean) stood in let pumped = c.in_ok-ending.ensures.steps clean (p.come.went.stands stood) p.come.at p.limit p.told p.come.now in let decided = subst (λ (b : Option Ending). Pumped p.come.at c.pieces.stream.rest c.pump.new.stream c.pump.new.session old new (let r : Result (Option Ending) RunFault = Ok b in r)) c.in_default.is pumped in let w = wait_on k h.given c.pieces.stream c.pump.new.stream c.pieces.session c.pump.new.session first old new p.come decided in w) (fed_from c.feed.result _ c.if-is_err.ensures.negation c.feed.ensures.ok) }
 
 pub returns-in_err-ending-clause-out : goal.returns-in_err-ending-clause-out
 returns-in_err-ending-clause-out g c = puts_on g.W.Write.contents c.args.writer.now c.pieces.writer c.pump.new.writer c.pieces.invariant.out c.pump.ensures.out

@@ -2,7 +2,6 @@ use Rattle.std.proofs.Common.{subst, sym, ◌∙◌, Result, Option, Some}
 use Rattle.oftp_wire.specs.declared.command.Command.{Command}
 use Rattle.oftp_wire.specs.declared.fault.WireFault.{WireFault}
 use Rattle.oftp_wire.specs.declared.reason.SessionReason.{SessionReason}
-use Rattle.oftp_session.specs.Calls.{desk}
 use Rattle.oftp_engine.specs.Runs.{refusal, step_on}
 use Rattle.oftp_engine.specs.Serving.{scene, Stepped}
 use Rattle.oftp_engine.proofs.Stepping.{stepped_refuse}
@@ -10,9 +9,9 @@ use Rattle.oftp_engine.proofs.serving.take_command.Goals as goal
 
 pub returns-in-Some-clause-steps : goal.returns-in-Some-clause-steps
 returns-in-Some-clause-steps g c = λ clean stood k live at.
-    let before = desk g.O.Office.register g.O.Office.told c.args.office.now in
-    let old = scene g.O.Office.register g.O.Office.told g.O.Office.holds g.O.Office.may_leave g.O.Office.stands g.W.Write.contents c.args.office.now c.args.writer.now in
-    let new = scene g.O.Office.register g.O.Office.told g.O.Office.holds g.O.Office.may_leave g.O.Office.stands g.W.Write.contents c.args.office.now c.refuse.new.port in
+    let before = g.O.Office.view c.args.office.now in
+    let old = scene g.W.Write.contents (g.O.Office.view c.args.office.now) c.args.writer.now in
+    let new = scene g.W.Write.contents (g.O.Office.view c.args.office.now) c.refuse.new.port in
     subst (λ (p : Result Command WireFault). Stepped k (step_on k.setting k.phase k.register p) c.refuse.new.session old new c.refuse.result) c.in-Err.ensures.value
     (subst (λ (o : Option SessionReason). Stepped k (refusal o) c.refuse.new.session old new c.refuse.result) {x = Some c.in-Some.reason} (sym c.in-Some.is ∙ c.reason.ensures)
-    (stepped_refuse g.W.Write.contents c.args.writer.now c.refuse.new.port before old.rest k c.in-Some.reason c.refuse.new.session c.refuse.result (c.refuse.ensures.setting ∙ at.setting) at.register (c.refuse.ensures.over k.phase live at.stands) (c.refuse.ensures.sent k.phase live at.stands) (c.refuse.ensures.err k.phase live at.stands)))
+    (stepped_refuse g.W.Write.contents c.args.writer.now c.refuse.new.port before k c.in-Some.reason c.refuse.new.session c.refuse.result (c.refuse.ensures.setting ∙ at.setting) at.register (c.refuse.ensures.over k.phase live at.stands) (c.refuse.ensures.sent k.phase live at.stands) (c.refuse.ensures.err k.phase live at.stands)))

@@ -16,8 +16,7 @@ turns-init g c = record {
   told = refl;
   clean = λ h. h;
   comes = λ clean stood k at.
-      let scene_of = scene g.O.Office.register g.O.Office.told g.O.Office.holds g.O.Office.may_leave g.O.Office.stands g.W.Write.contents in
-      record { at = k; went = went_none k [] (scene_of c.args.office.now c.args.writer.now); now = at };
+        record { at = k; went = went_none k [] (scene g.W.Write.contents (g.O.Office.view c.args.office.now) c.args.writer.now); now = at };
 }
 
 pub turns-preserved : goal.turns-preserved
@@ -26,10 +25,9 @@ turns-preserved g c = record {
   told = c.in_ok-take_turn.ensures.told ∙ c.turns.invariant.told;
   clean = λ h. c.turns.invariant.clean (c.take_turn.ensures.clean h);
   comes = λ clean stood k at.
-      let scene_of = scene g.O.Office.register g.O.Office.told g.O.Office.holds g.O.Office.may_leave g.O.Office.stands g.W.Write.contents in
-      let first = scene_of c.args.office.now c.args.writer.now in
-      let old = scene_of c.turns.office c.turns.writer in
-      let new = scene_of c.take_turn.new.office c.take_turn.new.writer in
+        let first = scene g.W.Write.contents (g.O.Office.view c.args.office.now) c.args.writer.now in
+      let old = scene g.W.Write.contents (g.O.Office.view c.turns.office) c.turns.writer in
+      let new = scene g.W.Write.contents (g.O.Office.view c.take_turn.new.office) c.take_turn.new.writer in
       let t = c.turns.invariant.comes (c.take_turn.ensures.clean clean) stood k at in
       let due = sym (c.turns-test.ensures.phase t.at.phase t.now.stands) in
       let made = c.in_ok-take_turn.ensures.steps clean (t.went.stands stood) t.at due t.now in
@@ -42,10 +40,9 @@ turns-preserved g c = record {
 
 pub returns-in_err-take_turn-clause-steps : goal.returns-in_err-take_turn-clause-steps
 returns-in_err-take_turn-clause-steps g c = λ clean stood k at.
-    let scene_of = scene g.O.Office.register g.O.Office.told g.O.Office.holds g.O.Office.may_leave g.O.Office.stands g.W.Write.contents in
-    let first = scene_of c.args.office.now c.args.writer.now in
-    let old = scene_of c.turns.office c.turns.writer in
-    let new = scene_of c.take_turn.new.office c.take_turn.new.writer in
+    let first = scene g.W.Write.contents (g.O.Office.view c.args.office.now) c.args.writer.now in
+    let old = scene g.W.Write.contents (g.O.Office.view c.turns.office) c.turns.writer in
+    let new = scene g.W.Write.contents (g.O.Office.view c.take_turn.new.office) c.take_turn.new.writer in
     let t = c.turns.invariant.comes (c.take_turn.ensures.clean clean) stood k at in
     let due = sym (c.turns-test.ensures.phase t.at.phase t.now.stands) in
     let f = c.in_err-take_turn.field-0.0 in

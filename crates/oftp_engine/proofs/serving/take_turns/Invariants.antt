@@ -7,13 +7,12 @@ use Rattle.oftp_engine.proofs.serving.take_turns.Given as goal
 
 abbrev pub invariant-turns : goal.invariant-turns
 invariant-turns g l =
-    let scene_of = scene g.O.Office.register g.O.Office.told g.O.Office.holds g.O.Office.may_leave g.O.Office.stands g.W.Write.contents in
     record {
       out : Puts g.W.Write.contents l.fn.writer l.writer;
       told : l.writer.faults ≡ l.fn.writer.faults;
-      clean : g.O.Office.is_clean l.office → g.O.Office.is_clean l.fn.office;
-      comes : g.O.Office.is_clean l.office → g.O.Office.stands l.fn.office → (c : Course) → IsAt c l.fn.session (scene_of l.fn.office l.fn.writer)
-          → Comes c [] [] l.session (scene_of l.fn.office l.fn.writer) (scene_of l.office l.writer);
+      clean : (g.O.Office.view l.office).clean → (g.O.Office.view l.fn.office).clean;
+      comes : (g.O.Office.view l.office).clean → (g.O.Office.view l.fn.office).stands → (c : Course) → IsAt c l.fn.session (scene g.W.Write.contents (g.O.Office.view l.fn.office) l.fn.writer)
+          → Comes c [] [] l.session (scene g.W.Write.contents (g.O.Office.view l.fn.office) l.fn.writer) (scene g.W.Write.contents (g.O.Office.view l.office) l.writer);
     }
 
 abbrev pub decreases-turns : goal.decreases-turns
