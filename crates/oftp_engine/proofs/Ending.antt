@@ -36,7 +36,7 @@ run_sound : (limit : Option ℕ) (setting : Setting) (given : List ℕ) (r : Reg
 run_sound limit setting given r = (run_grows limit given (started setting r)).sound r (sound_start setting r)
 
 -- the register is the one after all the run's changes
-replay_all : (limit : Option ℕ) (setting : Setting) (given : List ℕ) (r now : Register) → now ≡ (run limit given (started setting r)).register → apply_all r (run limit given (started setting r)).changes ≡ Ok now
+pub replay_all : (limit : Option ℕ) (setting : Setting) (given : List ℕ) (r now : Register) → now ≡ (run limit given (started setting r)).register → apply_all r (run limit given (started setting r)).changes ≡ Ok now
 replay_all limit setting given r now same = (run_sound limit setting given r).replay ∙ ap Ok (sym same)
 
 -- what the run over all the octets comes to

@@ -9,3 +9,4 @@ pub mod Pumping
 pub mod Sending
 pub mod Stepping
 pub mod Puts
+pub mod Served

@@ -1,5 +1,5 @@
 -- The loop over the pieces, one part after another.
-use Rattle.std.proofs.Common.{◌≡◌, ℕ, List, [], ◌++◌, take, Option, Result, Ok, Err, sym, ap, ◌∙◌, subst, arith, append_assoc, length-append, false, true, is_ok, inl}
+use Rattle.std.proofs.Common.{◌≡◌, ℕ, List, [], ◌++◌, take, Option, Result, Ok, Err, refl, length, ◌≤◌, sym, ap, ◌∙◌, subst, arith, append_assoc, length-append, false, true, is_ok, inl}
 use Rattle.std.proofs.lemmas.List.{append-nil, length-take-le}
 use Rattle.std.proofs.lemmas.Bool.{false≢true}
 use Rattle.std.specs.Result.{OnOk}
@@ -13,7 +13,9 @@ use Rattle.oftp_engine.specs.Ports.{Gives, GivesNothing}
 use Rattle.oftp_engine.specs.Runs.{Course, started, run, is_stopped}
 use Rattle.oftp_engine.specs.Serving.{Leads, Scene, Comes, IsOver, IsWaiting, IsShort}
 use Rattle.oftp_engine.proofs.Pumping.{IsPumping}
-use Rattle.oftp_engine.specs.Served.{Gave}
+use Rattle.oftp_engine.specs.Served.{Gave, IsNeeded}
+use Rattle.oftp_session.specs.Steps.{is_over}
+use Rattle.oftp_engine.proofs.Ending.{whole_waits}
 use Rattle.oftp_engine.proofs.Bytes.{consumes_on, keeps_consumes}
 use Rattle.oftp_engine.proofs.Courses.{grows_none}
 use Rattle.oftp_engine.proofs.Progress.{went_on}
@@ -24,6 +26,7 @@ pub record IsReading {R : Type 0} (remaining : R → Option (List ℕ)) (before 
   pub gave : Gave remaining before now given
   pub faults : now.faults ≡ before.faults
   pub pumping : Clean → Stood → IsPumping (started setting old.office.register) given stream seen old new
+  pub needed : Clean → Stood → IsNeeded setting old.office.register given
 
 pub wait_on : (k : Course) (s : List ℕ) (before stream : Stream) (seen0 seen1 : Seen) (a b z : Scene) (p : Comes k s before.rest seen0 a b) → IsWaiting p.at before.rest stream seen1 b z → IsWaiting k s stream seen1 a z
 wait_on k s before stream seen0 seen1 a b z p w = record {
@@ -75,8 +78,12 @@ gave_kept remaining before now next given g h = record {
   most = h.most ∙ g.most;
 }
 
-pub read_on : {R : Type 0} (remaining : R → Option (List ℕ)) (before now next : Port R) (given piece : List ℕ) (n : ℕ) (Clean Stood : Type 0) (setting : Setting) (stream fed : Stream) (seen : Seen) (a z : Scene) → Gave remaining before now given → now.faults ≡ before.faults → Gives remaining now next piece n → (Clean → Stood → IsWaiting (started setting a.office.register) given stream seen a z) → fed ≡ record stream { rest = stream.rest ++ take n piece } → IsReading remaining before next Clean Stood setting fed seen a z
-read_on remaining before now next given piece n Clean Stood setting stream fed seen a z g f h w e = record {
+pub read_on : {R : Type 0} (remaining : R → Option (List ℕ)) (before now next : Port R) (given piece : List ℕ) (n : ℕ) (Clean Stood : Type 0) (setting : Setting) (stream fed : Stream) (seen : Seen) (a z : Scene)
+    → Gave remaining before now given → now.faults ≡ before.faults → Gives remaining now next piece n
+    → (Clean → Stood → IsWaiting (started setting a.office.register) given stream seen a z)
+    → fed ≡ record stream { rest = stream.rest ++ take n piece } → length (take n piece) ≤ 4096
+    → IsReading remaining before next Clean Stood setting fed seen a z
+read_on remaining before now next given piece n Clean Stood setting stream fed seen a z g f h w e short = record {
   given = given ++ take n piece;
   gave = gave_on remaining before now next given piece n g h;
   faults = h.faults ∙ f;
@@ -85,6 +92,13 @@ read_on remaining before now next given piece n Clean Stood setting stream fed s
     limit = (w clean stood).limit;
     told = (w clean stood).told;
   });
+  needed = λ clean stood. let v = w clean stood in record {
+    before = given;
+    last = take n piece;
+    all = refl;
+    piece = short;
+    live = λ some. subst (λ (x : Course). is_over x.phase ≡ false) (sym (whole_waits setting given stream.rest seen a z v.come v.turn v.waits)) v.over;
+  };
 }
 
 -- the piece finds no room

@@ -1,11 +1,12 @@
 -- What a served session leaves, and what it has out: the whole run over the octets that the reader gave.
-use Rattle.std.specs.Prelude.{◌≡◌, ℕ, ◌+◌, ◌-◌, ◌<◌, ◌≤◌, ◌⊎◌, ⊤, List, ◌++◌, length, take, Option, None, Some, Result, Ok, Err}
+use Rattle.std.specs.Prelude.{◌≡◌, false, ℕ, ◌+◌, ◌-◌, ◌<◌, ◌≤◌, ◌⊎◌, ⊤, List, ◌++◌, length, take, Option, None, Some, Result, Ok, Err}
 use Rattle.std.specs.Io.KnownBytes.{Consumes}
 use Rattle.oftp_register.specs.Register.{Register}
 use Rattle.oftp_register.specs.Changes.{apply_all}
 use Rattle.oftp_register.specs.Offices.{View, Only, next_count}
 use Rattle.oftp_engine.specs.declared.serving.End.{End}
 use Rattle.oftp_session.specs.Settings.{Setting}
+use Rattle.oftp_session.specs.Steps.{is_over}
 use Rattle.oftp_partners.specs.Book.{BookData}
 use Rattle.oftp_partners.specs.declared.partner.Partner.{Partner as Entry}
 use Rattle.oftp_engine.specs.declared.serving.Role.{Role}
@@ -47,6 +48,14 @@ pub record IsPrefix {C : Type 0} (holds' : C → Register → Type 0) (c : Cours
 
 abbrev pub LeavesPrefix : Course → Register → ℕ → ℕ → View → Type 0
 LeavesPrefix c r least made now = (content : now.Content) → now.may_leave content → IsPrefix now.holds c r least made content
+
+-- the last octets that were read are ones that the session still needed: it went on before them
+pub record IsNeeded (setting : Setting) (r : Register) (given : List ℕ) : Type 0 where
+  pub before : List ℕ
+  pub last : List ℕ
+  pub all : given ≡ before ++ last
+  pub piece : length last ≤ 4096
+  pub live : 0 < length last → is_over (whole setting before r).phase ≡ false
 
 -- all outputs are out, and the register is the run's
 pub record IsWhole (setting : Setting) (given : List ℕ) (old new : Scene) : Type 0 where
@@ -101,15 +110,26 @@ pub record IsOutOfMemory (setting : Setting) (given : List ℕ) (old new : Scene
   pub faults : new.office.told ≡ old.office.told
   pub told : new.told ≡ old.told
 
+-- the session ended so, and nothing was read that it didn't need
+pub record IsServed (setting : Setting) (given : List ℕ) (old new : Scene) (end : End) : Type 0 where
+  pub all : IsWhole setting given old new
+  pub ends : end ≡ ending (whole setting given old.office.register).phase
+  pub needed : IsNeeded setting old.office.register given
+
+-- the reader told a fault while the session went on
+pub record IsCutShort (setting : Setting) (given : List ℕ) (old new : Scene) : Type 0 where
+  pub all : IsWhole setting given old new
+  pub live : is_over (whole setting given old.office.register).phase ≡ false
+
 abbrev pub ServesErr : Setting → List ℕ → Scene → Scene → RunFault → Type 0
-ServesErr setting given old new fault.Read = IsWhole setting given old new
+ServesErr setting given old new fault.Read = IsCutShort setting given old new
 ServesErr setting given old new fault.Write = IsBrokenOff setting given old new
 ServesErr setting given old new fault.Office = IsOfficeFault setting given old new
 ServesErr setting given old new fault.Memory = IsOutOfMemory setting given old new
 
 -- what a call that answers this has done
 abbrev pub Serves : Setting → List ℕ → Scene → Scene → Result End RunFault → Type 0
-Serves setting given old new (Ok end) = IsWhole setting given old new × (end ≡ ending (whole setting given old.office.register).phase)
+Serves setting given old new (Ok end) = IsServed setting given old new end
 Serves setting given old new (Err fault) = ServesErr setting given old new fault
 
 -- what a reader told in a call that answers this

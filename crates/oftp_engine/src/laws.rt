@@ -1,14 +1,23 @@
 //! What holds of runs.
 
-ghost use Rattle.std.specs.Prelude.{◌≡◌, ◌<◌, ℕ, All, List, Option};
+ghost use Rattle.std.specs.Prelude.{◌≡◌, ◌<◌, ℕ, All, List, Option, Ok};
 ghost use Rattle.oftp_wire.specs.declared.frame_fault.FrameFault.{FrameFault};
 ghost use Rattle.oftp_wire.specs.Stream.{Reads};
 ghost use Rattle.oftp_engine.specs.Frames.{over_commands};
-ghost use Rattle.oftp_engine.specs.Runs.{Course, run};
+ghost use Rattle.oftp_engine.specs.Runs.{Course, run, started};
+ghost use Rattle.oftp_session.specs.Settings.{Setting};
+ghost use Rattle.oftp_register.specs.Register.{Register};
+ghost use Rattle.oftp_register.specs.Changes.{apply_all};
 
 /// A run over the octets of a stream is the fold over the commands of its frames and the fault behind them.
 pub fn folds_over_frames()
     ensures { (limit : Option ℕ) (stream : List ℕ) (commands : List (List ℕ)) (fault : Option FrameFault) (c : Course)
         → All (λ octet. octet < 256) stream → Reads 100003 stream commands fault
         → run limit stream c ≡ over_commands limit commands fault c }
+{}
+
+/// The changes of a run are all made, one after another.
+pub fn changes_are_made()
+    ensures { (limit : Option ℕ) (setting : Setting) (given : List ℕ) (r : Register)
+        → apply_all r (run limit given (started setting r)).changes ≡ Ok (run limit given (started setting r)).register }
 {}

@@ -2,6 +2,7 @@
 
 ghost use Rattle.std.specs.Prelude.{◌≡◌, ◌<◌, ◌+◌, ℕ, true, false, List, None, OnOk, IfErr, is_ok};
 ghost use Rattle.oftp_wire.specs.Kinds.{command_of};
+ghost use Rattle.oftp_register.specs.Plain.{view_of};
 ghost use Rattle.oftp_session.specs.Phases.{Phase, frame_of, esid_of};
 ghost use Rattle.oftp_session.specs.Steps.{came, has_turn, is_over, opening, turned};
 ghost use Rattle.oftp_session.specs.Calls.{Stands, is_due, said, turns_left};
@@ -13,7 +14,7 @@ ghost use Rattle.oftp_engine.specs.Serving.{IsAt, IsOwn, LastWords, Pumped, Step
 
 use crate::port::{Port, read, send};
 use oftp_partners::{Book, Partner};
-use oftp_register::Office;
+use oftp_register::{Office, PlainOffice};
 use oftp_session::{Ending, Out, Session, SessionFault};
 use oftp_wire::{Command, Count, Deframer, SessionReason, parse};
 use std::alloc::Global;
@@ -323,4 +324,29 @@ pub fn serve<O: Office, R: Read, W: Write>(
             }
         }
     }
+}
+
+/// Serves one session, as [`serve`], over an office in memory. What it promises has no premise, since what such an office reads is
+/// what was written.
+///
+/// # Errors
+///
+/// As [`serve`]; [`RunFault::Office`] only where the office's memory ran out.
+pub fn serve_in_memory<R: Read, W: Write>(
+    alloc: Global,
+    office: &mut PlainOffice,
+    book: &Book,
+    role: Role<'_>,
+    reader: &mut Port<R>,
+    writer: &mut Port<W>,
+) -> Result<End, RunFault>
+    ensures serves { (given : List ℕ) × Gave R.remaining reader.old reader.new given
+        × Serves (setting_of book.now role.entry) given
+        (scene W.contents (view_of office.old) writer.old) (scene W.contents (view_of office.new) writer.new) result }
+    ensures reader_told { ReaderTold reader.old reader.new result }
+    ensures writer_told { WriterTold writer.old writer.new result }
+    ensures ends { InputEnded R.remaining reader.new result }
+    ensures out { Puts W.contents writer.old writer.new }
+{
+    serve(alloc, office, book, role, reader, writer)
 }

@@ -22,7 +22,7 @@ frames-init g c = record {
   told = refl;
   clean = λ h. h;
   pumps = λ clean stood k lim told at.
-        record {
+      record {
         come = record { at = k; went = went_none k c.args.stream.now.rest (scene g.W.Write.contents (g.O.Office.view c.args.office.now) c.args.writer.now); now = at };
         limit = lim;
         told = told;
@@ -65,7 +65,7 @@ frames-preserved g c = record {
   told = c.in_ok-take_command-in-Ok-Some.ensures.told ∙ c.in_ok-take_turns.ensures.told ∙ c.frames.invariant.told;
   clean = λ h. c.frames.invariant.clean (c.take_turns.ensures.clean (c.take_command.ensures.clean h));
   pumps = λ clean stood k lim told at.
-        let s = c.args.stream.now.rest in
+      let s = c.args.stream.now.rest in
       let t = c.frames.stream.rest in
       let first = scene g.W.Write.contents (g.O.Office.view c.args.office.now) c.args.writer.now in
       let old = scene g.W.Write.contents (g.O.Office.view c.frames.office) c.frames.writer in

@@ -16,7 +16,7 @@ turns-init g c = record {
   told = refl;
   clean = λ h. h;
   comes = λ clean stood k at.
-        record { at = k; went = went_none k [] (scene g.W.Write.contents (g.O.Office.view c.args.office.now) c.args.writer.now); now = at };
+      record { at = k; went = went_none k [] (scene g.W.Write.contents (g.O.Office.view c.args.office.now) c.args.writer.now); now = at };
 }
 
 pub turns-preserved : goal.turns-preserved
@@ -25,7 +25,7 @@ turns-preserved g c = record {
   told = c.in_ok-take_turn.ensures.told ∙ c.turns.invariant.told;
   clean = λ h. c.turns.invariant.clean (c.take_turn.ensures.clean h);
   comes = λ clean stood k at.
-        let first = scene g.W.Write.contents (g.O.Office.view c.args.office.now) c.args.writer.now in
+      let first = scene g.W.Write.contents (g.O.Office.view c.args.office.now) c.args.writer.now in
       let old = scene g.W.Write.contents (g.O.Office.view c.turns.office) c.turns.writer in
       let new = scene g.W.Write.contents (g.O.Office.view c.take_turn.new.office) c.take_turn.new.writer in
       let t = c.turns.invariant.comes (c.take_turn.ensures.clean clean) stood k at in
