@@ -19,14 +19,14 @@ use Rattle.oftp_register.proofs.NumberLemmas.{mapped_ok, not_both, one_result}
 use Rattle.oftp_register.proofs.RowLemmas.{full-nil, full-append, rows-append}
 
 -- an open file, and what is known of it
-open_rows : (file : Incoming) → IsSoundIncoming file → file.state ≡ Open → AreFullRows file.format file.longest file.rows
+pub open_rows : (file : Incoming) → IsSoundIncoming file → file.state ≡ Open → AreFullRows file.format file.longest file.rows
 open_rows file sound is = subst (λ state. FitsState state file.format file.longest file.rows) is sound.fits
 
-open_unanswered : (file : Incoming) → IsSoundIncoming file → file.state ≡ Open → is_some file.response ≡ false
+pub open_unanswered : (file : Incoming) → IsSoundIncoming file → file.state ≡ Open → is_some file.response ≡ false
 open_unanswered file sound is = subst (λ state. IsAnsweredWhole state file.response) is sound.answered
 
 -- a change that an open file alone allows
-if_open_ok : (file : Incoming) (rows : List (List ℕ)) (next state : IncomingState) (after : Incoming) → if_open file rows next state ≡ Ok after
+pub if_open_ok : (file : Incoming) (rows : List (List ℕ)) (next state : IncomingState) (after : Incoming) → if_open file rows next state ≡ Ok after
     → (state ≡ Open) × (record file { rows = rows; state = next } ≡ after)
 if_open_ok file rows next Open after h = (refl, cc)
 if_open_ok file rows next Whole after h = absurd (cc)
@@ -67,7 +67,7 @@ given_up_sound file after sound h =
     })
 
 -- a response is issued to a whole file alone
-issued_on_ok : (response : Issued) (file : Incoming) (state : IncomingState) (after : Incoming) → issued_on response file state ≡ Ok after
+pub issued_on_ok : (response : Issued) (file : Incoming) (state : IncomingState) (after : Incoming) → issued_on response file state ≡ Ok after
     → (state ≡ Whole) × (record file { response = Some response } ≡ after)
 issued_on_ok response file Open after h = absurd (cc)
 issued_on_ok response file Whole after h = (refl, unanswered_ok file.response h)
@@ -88,7 +88,7 @@ issued_sound response file after sound fit h =
     })
 
 -- a response that was sent was issued
-sent_of_ok : (file : Incoming) (response : Option Issued) (after : Incoming) → sent_of file response ≡ Ok after
+pub sent_of_ok : (file : Incoming) (response : Option Issued) (after : Incoming) → sent_of file response ≡ Ok after
     → (was : Issued) × (answer : Issued) × (response ≡ Some was) × (record file { response = Some answer } ≡ after) × (sent_as was was.dispatch ≡ Ok answer)
 sent_of_ok file None after h = absurd (cc)
 sent_of_ok file (Some response) after h =
@@ -132,7 +132,7 @@ pub sent_same : (file after : Incoming) → sent file ≡ Ok after → after.ide
 sent_same file after h = ap (λ (f : Incoming). f.identity) (sym (sent_of_ok file file.response after h).3)
 
 -- a file goes on where it is open and has these rows
-gone_on_ok : (header : Incoming) (count : ℕ) (file : Incoming) (state : IncomingState) (after : Incoming) → gone_on header count file state ≡ Ok after
+pub gone_on_ok : (header : Incoming) (count : ℕ) (file : Incoming) (state : IncomingState) (after : Incoming) → gone_on header count file state ≡ Ok after
     → (state ≡ Open) × (record header { rows = take count file.rows; response = file.response } ≡ after) × (nat_lt (length file.rows) count ≡ false)
 gone_on_ok header count file Open after h =
     let past = nat_lt (length file.rows) count in
@@ -160,7 +160,8 @@ begins_sound header begins = record {
   answer = subst IsSoundAnswer (sym begins.response) tt;
 }
 
-begun_ok : (r : Register) (header : Incoming) (count : ℕ) (after : Incoming) → begun r header count ≡ Ok after → header ≡ after
+-- a file begins at its first row
+pub begun_ok : (r : Register) (header : Incoming) (count : ℕ) (after : Incoming) → begun r header count ≡ Ok after → (header ≡ after) × (count ≡ 0)
 begun_ok r header count after h =
     let full = nat_le r.limits.files (length r.incoming) in
     let table : Result Incoming Cause = cond full (Err Full) (Ok header) in
@@ -170,7 +171,7 @@ begun_ok r header count after h =
       | inr e ↦ (let room : table ≡ Ok after = sym (cond-false (nat_lt 0 count) (Err State) table e) ∙ h in
           elim (cases_Bool full) [
             | inl d ↦ absurd (not_both table Full after (cond-true full (Err Full) (Ok header) d) room)
-            | inr d ↦ one_result table header after (cond-false full (Err Full) (Ok header) d) room
+            | inr d ↦ (one_result table header after (cond-false full (Err Full) (Ok header) d) room, omega (arith, ltb-false 0 count e))
           ])
     ]
 
@@ -195,7 +196,7 @@ pub started_sound : (r : Register) (header : Incoming) (count : ℕ) (files afte
 unfolding MayStart
 started_sound r header count [] after begins all fit h =
     let part = mapped_ok (λ f. f ∷ []) (begun r header count) after h in
-    subst (All IsSoundIncoming) part.2 (All-cons IsSoundIncoming part.0 [] (subst IsSoundIncoming (begun_ok r header count part.0 part.1) (begins_sound header begins)) (All-nil IsSoundIncoming))
+    subst (All IsSoundIncoming) part.2 (All-cons IsSoundIncoming part.0 [] (subst IsSoundIncoming (begun_ok r header count part.0 part.1).0 (begins_sound header begins)) (All-nil IsSoundIncoming))
 started_sound r header count (file ∷ files) after begins all fit h =
     let named = same_identity file.identity header.identity in
     let going = mapped (λ f. f ∷ files) (gone_on header count file file.state) in
@@ -214,7 +215,7 @@ started_names : (r : Register) (header : Incoming) (count : ℕ) (files after : 
     ⊎ ((map (λ (f : Incoming). f.identity) after ≡ map (λ (f : Incoming). f.identity) files ++ header.identity ∷ []) × (list_any (λ x. same_identity x header.identity) (map (λ (f : Incoming). f.identity) files) ≡ false))
 started_names r header count [] after h =
     let part = mapped_ok (λ f. f ∷ []) (begun r header count) after h in
-    inr (ap (map (λ (f : Incoming). f.identity)) (sym part.2) ∙ ap (λ (f : Incoming). f.identity ∷ []) (sym (begun_ok r header count part.0 part.1)), refl)
+    inr (ap (map (λ (f : Incoming). f.identity)) (sym part.2) ∙ ap (λ (f : Incoming). f.identity ∷ []) (sym (begun_ok r header count part.0 part.1).0), refl)
 started_names r header count (file ∷ files) after h =
     let name = λ (f : Incoming). f.identity in
     let named = same_identity file.identity header.identity in

@@ -8,6 +8,7 @@ pub mod KeepLemmas
 pub mod FitLemmas
 pub mod UnitLemmas
 pub mod LookUpLemmas
+pub mod ByIdentityLemmas
 pub mod FileRowLemmas
 pub mod PrefixLemmas
 pub mod PlainChanges

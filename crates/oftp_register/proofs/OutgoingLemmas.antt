@@ -11,7 +11,7 @@ use Rattle.oftp_register.specs.Changes.{answered, closing, handed, if_allowed, i
 use Rattle.oftp_register.specs.Soundness.{IsSoundOutgoing}
 
 -- a change that is allowed
-allowed_ok : (allowed : Bool) (file after : Outgoing) → if_allowed allowed file ≡ Ok after → (allowed ≡ true) × (file ≡ after)
+pub allowed_ok : (allowed : Bool) (file after : Outgoing) → if_allowed allowed file ≡ Ok after → (allowed ≡ true) × (file ≡ after)
 allowed_ok true file after h = (refl, cc)
 allowed_ok false file after h = absurd (cc)
 

@@ -4,6 +4,7 @@ pub mod Offices
 pub mod Soundness
 pub mod SoundProps
 pub mod LookUps
+pub mod ByIdentity
 pub mod Verdicts
 pub mod Lists
 pub mod Plain

@@ -20,6 +20,7 @@ use Rattle.oftp_register.specs.declared.entries.Cursor.{Cursor}
 use Rattle.oftp_register.specs.declared.entries.Item.{Item}
 use Rattle.oftp_register.specs.declared.entries.Item.TheVariants as item
 use Rattle.oftp_register.specs.Register.{Register, Incoming, Outgoing, Issued, Received, same_identity}
+use Rattle.oftp_vfile.specs.declared.format.TheConstants.{MOST_ROWS}
 
 -- a response as it is handed out
 abbrev pub issued_response : Issued → IssuedResponse
@@ -144,12 +145,12 @@ units_of r which n = units_in (file_rows r which n)
 -- an incoming file within the limits
 pub record IsIncomingWithin (e : IncomingEntry) : Type 0 where
   pub longest : IsLongest e.format e.longest
-  pub rows : e.rows ≤ 1000000
+  pub rows : e.rows ≤ MOST_ROWS
 
 -- an outgoing file within the limits
 pub record IsOutgoingWithin (e : OutgoingEntry) : Type 0 where
   pub longest : IsLongest e.format e.longest
-  pub rows : e.rows ≤ 1000000
+  pub rows : e.rows ≤ MOST_ROWS
   pub mark : e.mark ≤ e.rows
 
 -- an item within the limits
@@ -160,4 +161,4 @@ IsItemWithin (item.File file) = IsOutgoingWithin file
 -- rows that were asked for, from one on
 pub record AreRowsWithin (from most : ℕ) (rows : List (List ℕ)) : Type 0 where
   pub asked : length rows ≤ most
-  pub few : 0 < length rows → from + length rows ≤ 1000000
+  pub few : 0 < length rows → from + length rows ≤ MOST_ROWS

@@ -1,13 +1,20 @@
-//! The law of the changes.
+//! The laws of the changes.
 
 ghost use Rattle.std.specs.Prelude.{◌≡◌, Ok};
 ghost use Rattle.oftp_register.specs.Register.{Register};
 ghost use Rattle.oftp_register.specs.Changes.{apply};
 ghost use Rattle.oftp_register.specs.Soundness.{IsFit, IsSound};
+ghost use Rattle.oftp_register.specs.ByIdentity.{StaysElsewhere};
 ghost use Rattle.oftp_register.specs.declared.change.Change.{Change};
 
 /// A change that is fit keeps a register sound: its identities apart, its rows in their formats, its marks within the rows, and
 /// only whole files answered. It does nothing; its contract is the law.
 pub fn changes_keep()
     ensures { (r : Register) (k : Change) (s : Register) → IsSound r → IsFit r k → apply r k ≡ Ok s → IsSound s }
+{}
+
+/// A change is of one identity: the files of all others, incoming and outgoing, stay as they were. It does nothing; its contract is
+/// the law.
+pub fn changes_stay()
+    ensures { (r : Register) (k : Change) (s : Register) → apply r k ≡ Ok s → StaysElsewhere r s k }
 {}

@@ -5,6 +5,7 @@ ghost use Rattle.oftp_register.specs.Register.{has_received};
 ghost use Rattle.oftp_register.specs.Soundness.{IsSound};
 ghost use Rattle.oftp_register.specs.LookUps.{AreRowsWithin, IsIncomingWithin, IsItemWithin, IsOutgoingWithin, files_full, in_by_no, list_in, list_issued, list_out, list_received, look_in, look_out, next_item, out_by_no, rows_of, units_of};
 ghost use Rattle.oftp_register.specs.Offices.{Commits, Leaves, LooksUp, Only, View};
+ghost use Rattle.oftp_register.specs.declared.fit.TheConstants.{MOST_FILES, MOST_OCTETS, MOST_UNITS};
 
 use crate::change::{Cause, Change};
 use crate::entries::{
@@ -58,7 +59,7 @@ pub trait Office {
     fn limits(&self) -> Limits
         ensures answer { result ≡ (view self.now).register.limits }
         // It holds of any store.
-        ensures within { (result.files ≤ 1000000) × (result.octets ≤ 1024000000) };
+        ensures within { (result.files ≤ MOST_FILES) × (result.octets ≤ MOST_OCTETS) };
 
     /// The incoming file of an identity. The register stays as it was.
     ///
@@ -150,7 +151,7 @@ pub trait Office {
     fn units_of(&mut self, side: Side, no: u64) -> Result<u64, OfficeFault>
         ensures looks { LooksUp (λ r units. units ≡ units_of r side no) (view self.old) (view self.new) result }
         // It holds of any store.
-        ensures within { IfOk result (λ units. units ≤ 16384000000) };
+        ensures within { IfOk result (λ units. units ≤ MOST_UNITS) };
 
     /// All incoming files, in order of number. The register stays as it was.
     ///
@@ -184,7 +185,7 @@ pub trait Office {
     fn list_received(&mut self) -> Result<Vec<ReceivedEntry>, OfficeFault>
         ensures looks { LooksUp (λ r entries. entries.items ≡ list_received r) (view self.old) (view self.new) result };
 
-    /// Makes a change. When it returns `Ok`, a stop leaves the change made.
+    /// CarriesOut a change. When it returns `Ok`, a stop leaves the change made.
     ///
     /// The change has to be fit: the file that it leaves has at most 1,000,000 rows, which fit its format and longest record, and
     /// an end response gives no reason, no creator and no text. [`is_file`], [`Format::allows_longest`], [`are_full_rows`],

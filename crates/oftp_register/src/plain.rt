@@ -7,7 +7,8 @@ ghost use Rattle.oftp_register.specs.Offices.{Counts};
 ghost use Rattle.oftp_register.specs.Soundness.{IsFit, IsSound};
 ghost use Rattle.oftp_register.specs.SoundProps.{sound-prop};
 ghost use Rattle.oftp_register.specs.LookUps.{AreRowsWithin, IsIncomingWithin, IsItemWithin, IsOutgoingWithin, files_full, in_by_no, list_in, list_issued, list_out, list_received, look_in, look_out, next_item, out_by_no, rows_of, units_of};
-ghost use Rattle.oftp_register.specs.Lists.{Makes, received_of, register_in};
+ghost use Rattle.oftp_register.specs.Lists.{CarriesOut, received_of, register_in};
+ghost use Rattle.oftp_register.specs.declared.fit.TheConstants.{MOST_FILES, MOST_OCTETS, MOST_UNITS};
 
 mod incoming;
 mod lists;
@@ -39,8 +40,8 @@ impl PlainOffice {
 
     /// An office with an empty register. [`are_limits`](crate::are_limits) tests the limits. It takes no memory.
     pub fn new(alloc: Global, limits: Limits) -> PlainOffice
-        requires files { limits.files ≤ 1000000 }
-        requires octets { limits.octets ≤ 1024000000 }
+        requires files { limits.files ≤ MOST_FILES }
+        requires octets { limits.octets ≤ MOST_OCTETS }
         ensures { register_of result ≡ empty limits }
     {
         PlainOffice {
@@ -157,7 +158,7 @@ impl Office for PlainOffice {
 
     fn units_of(&mut self, side: Side, no: u64) -> Result<u64, OfficeFault>
         ensures answer { result ≡ Ok (units_of (register_of self.old) side no) }
-        ensures within { IfOk result (λ units. units ≤ 16384000000) }
+        ensures within { IfOk result (λ units. units ≤ MOST_UNITS) }
         ensures same { self.new ≡ self.old }
     {
         Ok(self.lists.units_of(side, no))
@@ -193,7 +194,7 @@ impl Office for PlainOffice {
 
     // It never tells a fault of a store.
     fn commit(&mut self, change: Change<'_>) -> Result<(), OfficeFault>
-        ensures made { Makes register_of (apply (register_of self.old) change.entry) self.old self.new result }
+        ensures made { CarriesOut register_of (apply (register_of self.old) change.entry) self.old self.new result }
         ensures counts { Counts (faults_of self.old) (faults_of self.new) result }
     {
         if !self.is_fit(&change) {

@@ -5,7 +5,7 @@ ghost use Rattle.oftp_register.specs.Offices.{CommitsAll};
 use crate::change::Change;
 use crate::office::{Office, OfficeFault};
 
-/// Makes changes in turn, up to the first that isn't made. Wherever it ends, a stop leaves the register after the first so many
+/// CarriesOut changes in turn, up to the first that isn't made. Wherever it ends, a stop leaves the register after the first so many
 /// of them, each one made. Each has to be fit when its turn comes.
 ///
 /// # Errors

@@ -150,7 +150,7 @@ fn change(alloc: Global, act: Act) -> Result<Change<'static>, OfficeFault> {
     }
 }
 
-// Makes a change that has to be fit: another is a fault of the fixture.
+// CarriesOut a change that has to be fit: another is a fault of the fixture.
 fn commit(office: &mut PlainOffice, change: Change<'_>) -> Result<(), OfficeFault> {
     if !office.is_fit(&change) {
         return Err(BAD);

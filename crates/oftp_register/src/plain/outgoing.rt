@@ -5,7 +5,7 @@ ghost use Rattle.oftp_register.specs.Register.{Outgoing};
 ghost use Rattle.oftp_register.specs.Soundness.{IsSoundOutgoing};
 ghost use Rattle.oftp_register.specs.LookUps.{IsOutgoingWithin, outgoing_entry};
 ghost use Rattle.oftp_register.specs.Changes.{closing, handed, marked, refused, reopened, settled};
-ghost use Rattle.oftp_register.specs.Lists.{Makes, is_on_its_way_to, outgoing_of, to_send};
+ghost use Rattle.oftp_register.specs.Lists.{CarriesOut, is_on_its_way_to, outgoing_of, to_send};
 
 use super::incoming::Header;
 use crate::change::Cause;
@@ -63,7 +63,7 @@ impl OutgoingFile {
 
     // So many rows are covered by credit.
     pub(crate) fn mark(&mut self, rows: u64) -> Result<(), OfficeFault>
-        ensures { Makes outgoing_of (marked rows (outgoing_of self.old)) self.old self.new result }
+        ensures { CarriesOut outgoing_of (marked rows (outgoing_of self.old)) self.old self.new result }
     {
         match self.state {
             OutgoingState::Waiting if rows <= self.rows.len() as u64 => {
@@ -76,7 +76,7 @@ impl OutgoingFile {
 
     // The end is about to be sent.
     pub(crate) fn close(&mut self) -> Result<(), OfficeFault>
-        ensures { Makes outgoing_of (closing (outgoing_of self.old)) self.old self.new result }
+        ensures { CarriesOut outgoing_of (closing (outgoing_of self.old)) self.old self.new result }
     {
         match self.state {
             OutgoingState::Waiting => {
@@ -89,7 +89,7 @@ impl OutgoingFile {
 
     // The partner has it.
     pub(crate) fn hand_over(&mut self) -> Result<(), OfficeFault>
-        ensures { Makes outgoing_of (handed (outgoing_of self.old)) self.old self.new result }
+        ensures { CarriesOut outgoing_of (handed (outgoing_of self.old)) self.old self.new result }
     {
         match self.state {
             OutgoingState::Closing => {
@@ -102,7 +102,7 @@ impl OutgoingFile {
 
     // The partner doesn't take it.
     pub(crate) fn refuse(&mut self, reason: Count<2>) -> Result<(), OfficeFault>
-        ensures { Makes outgoing_of (refused reason (outgoing_of self.old)) self.old self.new result }
+        ensures { CarriesOut outgoing_of (refused reason (outgoing_of self.old)) self.old self.new result }
     {
         match self.state {
             OutgoingState::Waiting | OutgoingState::Closing => {
@@ -115,7 +115,7 @@ impl OutgoingFile {
 
     // It is to be sent again.
     pub(crate) fn reopen(&mut self) -> Result<(), OfficeFault>
-        ensures { Makes outgoing_of (reopened (outgoing_of self.old)) self.old self.new result }
+        ensures { CarriesOut outgoing_of (reopened (outgoing_of self.old)) self.old self.new result }
     {
         match self.state {
             OutgoingState::Closing => {

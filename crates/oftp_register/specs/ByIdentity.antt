@@ -1,0 +1,85 @@
+-- A register as two maps from identities to files, and what a change makes of them. In a sound register no two files of a side have
+-- one identity, so each file is the one that its identity finds.
+use Rattle.std.specs.Prelude.{◌≡◌, ◌≢◌, ◌≤◌, ◌+◌, ℕ, false, List, length, take, find, slice_get, Option, None, Some, Result, Ok}
+use Rattle.std.specs.List.{position_or_len}
+use Rattle.std.specs.Option.{option_map}
+use Rattle.oftp_register.specs.declared.change.Cause.{Cause}
+use Rattle.oftp_register.specs.declared.change.Change.{Change}
+use Rattle.oftp_register.specs.declared.change.Change.TheVariants as change
+use Rattle.oftp_register.specs.declared.entry.Identity.{Identity}
+use Rattle.oftp_register.specs.declared.entry.IncomingState.TheVariants.{Open}
+use Rattle.oftp_register.specs.Register.{Register, Incoming, Outgoing, same_identity}
+use Rattle.oftp_register.specs.LookUps.{entry_at}
+
+-- the entry of an identity, if there is one, by what names an entry
+abbrev pub named : {A : Type 0} → (A → Identity) → Identity → List A → Option A
+named name identity xs = find (λ x. same_identity (name x) identity) xs
+
+-- what names an incoming file
+abbrev pub incoming_name : Incoming → Identity
+incoming_name f = f.identity
+
+-- what names an outgoing file
+abbrev pub outgoing_name : Outgoing → Identity
+outgoing_name f = f.identity
+
+-- the incoming file of an identity, if there is one
+abbrev pub in_at : Register → Identity → Option Incoming
+in_at r identity = named incoming_name identity r.incoming
+
+-- the outgoing file of an identity, if there is one
+abbrev pub out_at : Register → Identity → Option Outgoing
+out_at r identity = named outgoing_name identity r.outgoing
+
+-- the number of the incoming file of an identity, or the one that it gets
+abbrev pub number_of : Register → Identity → ℕ
+number_of r identity = 1 + position_or_len (λ (f : Incoming). same_identity f.identity identity) r.incoming
+
+-- One entry was changed, and no other: the one at this place of the list.
+pub record OneChanged {A : Type 0} (name : A → Identity) (change : A → Result A Cause) (place : ℕ) (xs ys : List A) : Type 0 where
+  pub old : A
+  pub new : A
+  pub entry : slice_get xs place ≡ Some old
+  pub entry_now : slice_get ys place ≡ Some new
+  pub done : change old ≡ Ok new
+  pub others : (i : Identity) → same_identity (name old) i ≡ false → named name i ys ≡ named name i xs
+
+-- What a file that starts was before: new, and then it begins at its first row; or open, with so many rows, which it keeps.
+abbrev pub WasStarted : Incoming → ℕ → Option Incoming → Incoming → Type 0
+WasStarted header count None new = (new ≡ header) × (count ≡ 0)
+WasStarted header count (Some old) new =
+    (old.state ≡ Open) × (count ≤ length old.rows) × (new ≡ record header { rows = take count old.rows; response = old.response })
+
+-- A file was started, and no other was changed.
+pub record Started (header : Incoming) (count : ℕ) (xs ys : List Incoming) : Type 0 where
+  pub new : Incoming
+  pub was : WasStarted header count (named incoming_name header.identity xs) new
+  pub named_so : new.identity ≡ header.identity
+  pub now : named incoming_name header.identity ys ≡ Some new
+  pub others : (i : Identity) → same_identity header.identity i ≡ false → named incoming_name i ys ≡ named incoming_name i xs
+
+-- one thing or else another
+abbrev pub or_else : {A : Type 0} → Option A → Option A → Option A
+or_else (Some x) y = Some x
+or_else None y = y
+
+-- the identity of the file that a change is of, if there is one
+abbrev pub subject : Register → Change → Option Identity
+subject r (change.Submit identity format longest description rows) = Some identity
+subject r (change.Start identity format longest description count) = Some identity
+subject r (change.Keep n rows) = option_map incoming_name (entry_at n r.incoming)
+subject r (change.Close n rows) = option_map incoming_name (entry_at n r.incoming)
+subject r (change.GiveUp n) = option_map incoming_name (entry_at n r.incoming)
+subject r (change.File kind identity reason creator text) = Some identity
+subject r (change.Issue n kind reason text) = option_map incoming_name (entry_at n r.incoming)
+subject r (change.Mark n rows) = option_map outgoing_name (entry_at n r.outgoing)
+subject r (change.BeginClosing n) = option_map outgoing_name (entry_at n r.outgoing)
+subject r (change.HandOver n) = option_map outgoing_name (entry_at n r.outgoing)
+subject r (change.Refuse n reason) = option_map outgoing_name (entry_at n r.outgoing)
+subject r (change.Reopen n) = option_map outgoing_name (entry_at n r.outgoing)
+subject r (change.Send n) = option_map incoming_name (entry_at n r.incoming)
+
+-- A change is of one identity: all other files stay.
+pub record StaysElsewhere (r s : Register) (k : Change) : Type 0 where
+  pub incoming : (i : Identity) → subject r k ≢ Some i → in_at s i ≡ in_at r i
+  pub outgoing : (i : Identity) → subject r k ≢ Some i → out_at s i ≡ out_at r i
