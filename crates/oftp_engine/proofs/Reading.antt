@@ -81,7 +81,7 @@ gave_kept remaining before now next given g h = record {
 pub read_on : {R : Type 0} (remaining : R → Option (List ℕ)) (before now next : Port R) (given piece : List ℕ) (n : ℕ) (Clean Stood : Type 0) (setting : Setting) (stream fed : Stream) (seen : Seen) (a z : Scene)
     → Gave remaining before now given → now.faults ≡ before.faults → Gives remaining now next piece n
     → (Clean → Stood → IsWaiting (started setting a.office.register) given stream seen a z)
-    → fed ≡ record stream { rest = stream.rest ++ take n piece } → length (take n piece) ≤ 4096
+    → fed ≡ record stream { rest = stream.rest ++ take n piece; capacity = fed.capacity } → length (take n piece) ≤ 4096
     → IsReading remaining before next Clean Stood setting fed seen a z
 read_on remaining before now next given piece n Clean Stood setting stream fed seen a z g f h w e short = record {
   given = given ++ take n piece;

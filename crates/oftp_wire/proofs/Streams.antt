@@ -29,21 +29,21 @@ pub record HandsOut (before after : Stream) (m : List ℕ) : Type 0 where
   pub parts : before.rest ≡ frame m ++ drop (length m + 4) before.rest
 
 -- `next` where a whole frame is there
-pub hands_out : (s : Stream) (octets seen : List ℕ) (begin n limit room : ℕ) (told : Option FrameFault)
-    → record { limit = limit; rest = drop begin octets; told = told; room = room } ≡ s → told ≡ None → seen ≡ octets
+pub hands_out : (s : Stream) (octets seen : List ℕ) (begin n limit room capacity : ℕ) (told : Option FrameFault)
+    → record { limit = limit; rest = drop begin octets; told = told; room = room; capacity = capacity } ≡ s → told ≡ None → seen ≡ octets
     → Ok (Some n) ≡ len_of (front limit (take (length seen - begin) (drop begin seen)))
     → Finds limit (take (length seen - begin) (drop begin seen)) (Ok (Some n))
-    → HandsOut s (record { limit = limit; rest = drop (begin + n) octets; told = told; room = room }) (take (begin + n - (begin + 4)) (drop (begin + 4) octets))
-hands_out s octets seen begin n limit room told view none same found cut =
+    → HandsOut s (record { limit = limit; rest = drop (begin + n) octets; told = told; room = room; capacity = capacity }) (take (begin + n - (begin + 4)) (drop (begin + 4) octets))
+hands_out s octets seen begin n limit room capacity told view none same found cut =
     let rest = drop begin octets in
-    let t : Stream = record { limit = limit; rest = rest; told = told; room = room } in
+    let t : Stream = record { limit = limit; rest = rest; told = told; room = room; capacity = capacity } in
     let m = command_in n rest in
     let all : take (length seen - begin) (drop begin seen) ≡ rest = take_rest seen begin ∙ ap (drop begin) same in
     let here : front limit rest ≡ Whole n = whole_from (front limit rest) n (found ∙ ap (λ (x : List ℕ). len_of (front limit x)) all) in
     let parts : Finds limit rest (Ok (Some n)) = subst (λ (x : List ℕ). Finds limit x (Ok (Some n))) all cut in
     let long : length m + 4 ≡ n = omega (arith, length-take-le (n - 4) (drop 4 rest) (omega (arith, parts.0, parts.1, length-drop 4 rest)), parts.0) in
-    subst (λ (u : Stream). HandsOut u (record { limit = limit; rest = drop (begin + n) octets; told = told; room = room }) (take (begin + n - (begin + 4)) (drop (begin + 4) octets))) view
-    (subst (HandsOut t (record { limit = limit; rest = drop (begin + n) octets; told = told; room = room })) (sym (command_at octets begin n)) (record {
+    subst (λ (u : Stream). HandsOut u (record { limit = limit; rest = drop (begin + n) octets; told = told; room = room; capacity = capacity }) (take (begin + n - (begin + 4)) (drop (begin + 4) octets))) view
+    (subst (HandsOut t (record { limit = limit; rest = drop (begin + n) octets; told = told; room = room; capacity = capacity })) (sym (command_at octets begin n)) (record {
       left = ap (λ (r : List ℕ). record t { rest = r }) (sym (drop-drop n begin octets)) ∙ sym (ap (left_of t) none ∙ ap (left_at t) here);
       value = sym (ap (next_of t) none ∙ ap (next_at t) here);
       small = parts.2;

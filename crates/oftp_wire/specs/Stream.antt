@@ -39,13 +39,13 @@ IsWithin count (Whole n) = (5 ≤ n) × (n ≤ count)
 IsWithin count Waits = ⊤
 IsWithin count (Bad fault) = ⊤
 
--- a stream that is being cut: the greatest length of a frame, the octets that were fed and not handed out, the fault that was
--- told, and up to how many octets memory was taken beforehand
+-- a stream that is being cut
 pub record Stream : Type 0 where
-  pub limit : ℕ
-  pub rest : List ℕ
-  pub told : Option FrameFault
-  pub room : ℕ
+  pub limit : ℕ  -- the greatest length of a frame
+  pub rest : List ℕ  -- the octets that were fed and not handed out
+  pub told : Option FrameFault  -- the fault that was told
+  pub room : ℕ  -- up to how many octets memory was taken beforehand
+  pub capacity : ℕ  -- for how many octets there is memory
 
 -- the stream once n octets of it are gone
 abbrev pub past : Stream → ℕ → Stream

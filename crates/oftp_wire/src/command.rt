@@ -3,7 +3,7 @@
 use crate::field::{Count, Digits, Octets, Text, X};
 
 /// SSID, start session: who a station is, and what it can do (RFC 5024, section 5.3.2).
-#[derive(Drop)]
+#[derive(Drop, PartialEq)]
 pub struct Ssid<'a> {
     /// The protocol level, 5 for OFTP 2.
     pub level: Count<1>,
@@ -41,7 +41,7 @@ pub enum Mode {
 }
 
 /// SFID, start file: the virtual file that the speaker offers (RFC 5024, section 5.3.3).
-#[derive(Drop)]
+#[derive(Debug, Drop, PartialEq)]
 pub struct Sfid<'a> {
     /// The dataset name.
     pub dataset: X<'a, 26>,
@@ -107,7 +107,7 @@ pub struct Sfpa {
 }
 
 /// SFNA, start file negative answer: the file isn't taken (RFC 5024, section 5.3.5).
-#[derive(Drop)]
+#[derive(Debug, Drop, PartialEq)]
 pub struct Sfna<'a> {
     /// The reason's number: `StartReason` has those in use.
     pub reason: Count<2>,
@@ -134,7 +134,7 @@ pub struct Efpa {
 }
 
 /// EFNA, end file negative answer: the listener doesn't have the file (RFC 5024, section 5.3.10).
-#[derive(Drop)]
+#[derive(Debug, Drop, PartialEq)]
 pub struct Efna<'a> {
     /// The reason's number: `EndReason` has those in use.
     pub reason: Count<2>,
@@ -143,7 +143,7 @@ pub struct Efna<'a> {
 }
 
 /// ESID, end session (RFC 5024, section 5.3.11).
-#[derive(Drop)]
+#[derive(Debug, Drop, PartialEq)]
 pub struct Esid<'a> {
     /// The reason's number: `SessionReason` has those in use.
     pub reason: Count<2>,
@@ -152,7 +152,7 @@ pub struct Esid<'a> {
 }
 
 /// EERP, end to end response: the destination has the file (RFC 5024, section 5.3.13).
-#[derive(Drop)]
+#[derive(Debug, Drop, PartialEq)]
 pub struct Eerp<'a> {
     /// The dataset name of the file.
     pub dataset: X<'a, 26>,
@@ -170,7 +170,7 @@ pub struct Eerp<'a> {
 
 /// NERP, negative end response: the file won't reach its destination (RFC 5024, section 5.3.14). Its places and its reserved octets
 /// are this station's profile.
-#[derive(Drop)]
+#[derive(Debug, Drop, PartialEq)]
 pub struct Nerp<'a> {
     /// The dataset name of the file.
     pub dataset: X<'a, 26>,
@@ -191,7 +191,7 @@ pub struct Nerp<'a> {
 }
 
 /// A command. Its texts are slices of the octets that it was read from.
-#[derive(Drop)]
+#[derive(Debug, Drop, PartialEq)]
 pub enum Command<'a> {
     /// The responder is ready (RFC 5024, section 5.3.1).
     Ssrm,

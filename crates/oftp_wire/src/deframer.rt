@@ -1,6 +1,6 @@
 //! The stream, cut into commands however it comes.
 
-ghost use Rattle.std.specs.Prelude.{◌≡◌, ◌+◌, ◌-◌, ◌*◌, ◌<◌, ◌≤◌, ◌++◌, [], length, drop, Some, None, Ok, Err, OnOk, OnErr, IfOk, IfErr, IfSome, IfNone};
+ghost use Rattle.std.specs.Prelude.{◌≡◌, ◌+◌, ◌-◌, ◌*◌, ◌<◌, ◌≤◌, ◌++◌, [], length, drop, max, Some, None, Ok, Err, OnOk, OnErr, IfOk, IfErr, IfSome, IfNone};
 ghost use Rattle.std.specs.Vec.{vec_len, vec_capacity};
 ghost use Rattle.oftp_wire.specs.Stream.{front, len_of, Finds, BeginsWith, IsRest, next_of, left_of, shown};
 
@@ -36,6 +36,7 @@ impl Model for Deframer {
       rest = drop d.begin d.buffer.items;
       told = d.told;
       room = d.room;
+      capacity = vec_capacity d.buffer;
     } };
 
     // The capacity is twice the room, since `make_room` asks for twice what is needed.
@@ -77,19 +78,31 @@ fn drop_front(buffer: &mut Vec<u8>, count: usize)
     buffer.truncate(len);
 }
 
-/// Makes the capacity at least twice what the buffer holds with `count` octets more, so that each growth, and each move of the
-/// octets to the front, is followed by as many octets that need neither.
+/// Makes the capacity twice what the buffer holds with `count` octets more, or leaves it where it is more, so that each growth,
+/// and each move of the octets to the front, is followed by as many octets that need neither.
 fn make_room(buffer: &mut Vec<u8>, count: usize) -> Result<(), FrameFault>
     ensures items { buffer.new.items ≡ buffer.old.items }
-    ensures ok { OnOk result (2 * (vec_len buffer.old + count) ≤ vec_capacity buffer.new) }
-    ensures capacity { vec_capacity buffer.old ≤ vec_capacity buffer.new }
+    ensures ok { OnOk result
+        (vec_capacity buffer.new ≡ max (vec_capacity buffer.old) (2 * (vec_len buffer.old + count))) }
     ensures err { IfErr result (λ fault. (fault ≡ FrameFault.Memory)
+        × (vec_capacity buffer.new ≡ vec_capacity buffer.old)
         × (vec_capacity buffer.old < 2 * (vec_len buffer.old + count))) }
 {
     let needed = buffer.len().checked_add(count).ok_or(FrameFault::Memory)?;
     let wanted = needed.checked_mul(2).ok_or(FrameFault::Memory)?;
     buffer.reserve_exact(wanted - buffer.len())?;
     Ok(())
+}
+
+/// Puts octets behind those of the buffer, which has the capacity for them and keeps it.
+fn append(buffer: &mut Vec<u8>, piece: &[u8])
+    requires { vec_len buffer.old + length piece.now ≤ vec_capacity buffer.old }
+    ensures items { buffer.new.items ≡ buffer.old.items ++ piece.now }
+    ensures capacity { vec_capacity buffer.new ≡ vec_capacity buffer.old }
+{
+    for octet in piece {
+        buffer.push_reserved(*octet);
+    }
 }
 
 impl Deframer {
@@ -102,7 +115,7 @@ impl Deframer {
     pub fn new(alloc: Global, limit: usize) -> Deframer
         requires low { 5 ≤ limit }
         requires high { limit ≤ 100003 }
-        ensures { result ≡ record { limit = limit; rest = []; told = None; room = 0 } }
+        ensures { result ≡ record { limit = limit; rest = []; told = None; room = 0; capacity = 0 } }
     {
         Deframer {
             limit,
@@ -119,7 +132,7 @@ impl Deframer {
         requires low { 5 ≤ limit }
         requires high { limit ≤ 100003 }
         ensures ok { IfOk result
-            (λ d. d ≡ record { limit = limit; rest = []; told = None; room = room }) }
+            (λ d. d ≡ record { limit = limit; rest = []; told = None; room = room; capacity = 2 * room }) }
         ensures err { IfErr result (λ fault. fault ≡ FrameFault.Memory) }
     {
         let capacity = room.checked_mul(2).ok_or(FrameFault::Memory)?;
@@ -139,12 +152,21 @@ impl Deframer {
         self.room
     }
 
+    /// For how many octets the deframer has taken memory.
+    pub fn capacity(&self) -> usize
+        ensures { result ≡ self.now.capacity }
+    {
+        self.buffer.capacity()
+    }
+
     /// Takes the next piece of the stream. The fault is the one that `next` answered before, or `Memory`, which comes only where
     /// more than `room` octets would be held; both leave the deframer as it was. Over a whole stream the work is linear in its
     /// octets, however they are cut.
     pub fn feed(&mut self, piece: &[u8]) -> Result<(), FrameFault>
         ensures ok { OnOk result
-            (self.new ≡ record self.old { rest = self.old.rest ++ piece.now }) }
+            (self.new ≡ record self.old { rest = self.old.rest ++ piece.now; capacity = self.new.capacity }) }
+        ensures capacity { self.new.capacity
+            ≤ max self.old.capacity (2 * (length self.old.rest + length piece.now)) }
         ensures open { OnOk result (self.old.told ≡ None) }
         ensures err { OnErr result (self.new ≡ self.old) }
         ensures told { IfErr result (λ fault. IfSome self.old.told (λ before. fault ≡ before)) }
@@ -159,7 +181,7 @@ impl Deframer {
             self.begin = 0;
             make_room(&mut self.buffer, piece.len())?;
         }
-        self.buffer.extend_from_slice(piece)?;
+        append(&mut self.buffer, piece);
         Ok(())
     }
 

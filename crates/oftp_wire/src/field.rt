@@ -25,6 +25,20 @@ impl<'a, const N: usize> Model for X<'a, N> {
     ghost invariant = { λ x. IsName N x.text.now };
 }
 
+impl<'a, const N: usize> PartialEq for X<'a, N> {
+    ghost use Rattle.std.specs.Str.{bytes_eq};
+    ghost use Rattle.std.specs.Cmp.Rules.{comparing};
+    ghost use Rattle.std.proofs.Common.{rules};
+
+    ghost eq = { bytes_eq };
+
+    ghost laws = { Prim.search (comparing, rules) };
+
+    fn eq(&self, other: &Self) -> bool {
+        self.text == other.text
+    }
+}
+
 impl<'a, const N: usize> X<'a, N> {
     /// The value, or `None` where it is longer than N octets or has a character that isn't allowed.
     pub fn new(text: &'a [u8]) -> Option<X<'a, N>>
@@ -76,6 +90,20 @@ impl<'a, const N: usize> Model for Digits<'a, N> {
     ghost view = { λ x. x.text.now };
 
     ghost invariant = { λ x. IsDigits N x.text.now };
+}
+
+impl<'a, const N: usize> PartialEq for Digits<'a, N> {
+    ghost use Rattle.std.specs.Str.{bytes_eq};
+    ghost use Rattle.std.specs.Cmp.Rules.{comparing};
+    ghost use Rattle.std.proofs.Common.{rules};
+
+    ghost eq = { bytes_eq };
+
+    ghost laws = { Prim.search (comparing, rules) };
+
+    fn eq(&self, other: &Self) -> bool {
+        self.text == other.text
+    }
 }
 
 impl<'a, const N: usize> Digits<'a, N> {
@@ -166,6 +194,20 @@ impl<'a> Model for Text<'a> {
     ghost invariant = { λ x. length x.text.now ≤ 999 };
 }
 
+impl<'a> PartialEq for Text<'a> {
+    ghost use Rattle.std.specs.Str.{bytes_eq};
+    ghost use Rattle.std.specs.Cmp.Rules.{comparing};
+    ghost use Rattle.std.proofs.Common.{rules};
+
+    ghost eq = { bytes_eq };
+
+    ghost laws = { Prim.search (comparing, rules) };
+
+    fn eq(&self, other: &Self) -> bool {
+        self.text == other.text
+    }
+}
+
 impl<'a> Text<'a> {
     /// The text, or `None` where it has more than 999 octets.
     pub fn new(text: &'a str) -> Option<Text<'a>>
@@ -212,6 +254,20 @@ impl<'a> Model for Octets<'a> {
     ghost Value = { List ℕ };
 
     ghost view = { λ x. x.octets.now };
+}
+
+impl<'a> PartialEq for Octets<'a> {
+    ghost use Rattle.std.specs.Str.{bytes_eq};
+    ghost use Rattle.std.specs.Cmp.Rules.{comparing};
+    ghost use Rattle.std.proofs.Common.{rules};
+
+    ghost eq = { bytes_eq };
+
+    ghost laws = { Prim.search (comparing, rules) };
+
+    fn eq(&self, other: &Self) -> bool {
+        self.octets == other.octets
+    }
 }
 
 impl<'a> Octets<'a> {

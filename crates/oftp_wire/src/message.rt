@@ -4,8 +4,8 @@ ghost use Rattle.std.specs.Prelude.{◌≡◌, Some};
 ghost use Rattle.std.specs.Fmt.{DisplaysOnOk, decimal};
 ghost use Rattle.oftp_wire.specs.Messages.{printable, shown_text, text_after_colon, start_words, end_words, session_words, sfid_text, sfna_text, eerp_text, nerp_text, command_text};
 
-use crate::command::{Command, Eerp, Nerp, Sfid, Sfna};
-use crate::field::{Count, Digits, Text, X};
+use crate::command::{Command, Eerp, Nerp, Sfid, Sfna, Ssid};
+use crate::field::{Count, Digits, Octets, Text, X};
 use crate::reason::{EndReason, SessionReason, StartReason, write_two_digits};
 use std::fmt;
 
@@ -163,4 +163,46 @@ fn write_nerp<W: fmt::Write>(f: &mut fmt::Formatter<W>, s: &Nerp) -> fmt::Result
     write!(f, " to {}, reason ", s.destination)?;
     write_two_digits(f, s.reason)?;
     write_text(f, &s.text)
+}
+
+impl<const N: usize> fmt::Debug for X<'_, N> {
+    fn fmt<W: fmt::Write>(&self, f: &mut fmt::Formatter<W>) -> fmt::Result {
+        fmt::Debug::fmt(self.text(), f)
+    }
+}
+
+impl<const N: usize> fmt::Debug for Digits<'_, N> {
+    fn fmt<W: fmt::Write>(&self, f: &mut fmt::Formatter<W>) -> fmt::Result {
+        fmt::Debug::fmt(self.text(), f)
+    }
+}
+
+impl fmt::Debug for Text<'_> {
+    fn fmt<W: fmt::Write>(&self, f: &mut fmt::Formatter<W>) -> fmt::Result {
+        fmt::Debug::fmt(self.text(), f)
+    }
+}
+
+impl fmt::Debug for Octets<'_> {
+    fn fmt<W: fmt::Write>(&self, f: &mut fmt::Formatter<W>) -> fmt::Result {
+        fmt::Debug::fmt(self.octets(), f)
+    }
+}
+
+/// The fields, but for the password: a password goes into no log.
+impl fmt::Debug for Ssid<'_> {
+    fn fmt<W: fmt::Write>(&self, f: &mut fmt::Formatter<W>) -> fmt::Result {
+        f.debug_struct("Ssid")
+            .field("level", &self.level)
+            .field("code", &self.code)
+            .field("buffer", &self.buffer)
+            .field("mode", &self.mode)
+            .field("compression", &self.compression)
+            .field("restart", &self.restart)
+            .field("special_logic", &self.special_logic)
+            .field("credit", &self.credit)
+            .field("authentication", &self.authentication)
+            .field("user", &self.user)
+            .finish_non_exhaustive()
+    }
 }

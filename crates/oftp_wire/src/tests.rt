@@ -5,6 +5,8 @@ use super::*;
 use std::alloc::{AllocError, Global};
 use std::test::Fail;
 
+mod by_hand;
+
 /// What an operator reads, and the fields of the spelling.
 type Spelled = (&'static [u8], &'static [&'static [u8]]);
 
@@ -464,42 +466,116 @@ fn first_fault(rt: HostRuntime) {
 }
 
 #[test]
-fn reasons(rt: HostRuntime) -> Result<(), Fail> {
-    let cases: [(&[u8], &[u8]); 23] = [
-        (b"301N000", b"SFNA 01 invalid filename"),
-        (b"302N000", b"SFNA 02 invalid destination"),
-        (b"303N000", b"SFNA 03 invalid origin"),
-        (b"304N000", b"SFNA 04"),
-        (b"305N000", b"SFNA 05 maximum record length not supported"),
-        (b"306Y000", b"SFNA 06 file size too big, retry"),
-        (b"313N000", b"SFNA 13 duplicate file"),
-        (b"314N000", b"SFNA 14 file direction refused"),
-        (b"399Y002no", b"SFNA 99 unspecified, retry: no"),
-        (b"510000", b"EFNA 10 invalid record count"),
-        (b"511002no", b"EFNA 11 invalid byte count: no"),
-        (b"512000", b"EFNA 12"),
-        (b"F00000\r", b"ESID 00 normal"),
-        (b"F01000\r", b"ESID 01 command not recognised"),
-        (b"F02000\r", b"ESID 02 protocol violation"),
-        (b"F03000\r", b"ESID 03 user code not known"),
-        (b"F04000\r", b"ESID 04 invalid password"),
-        (b"F05000\r", b"ESID 05"),
-        (b"F06000\r", b"ESID 06 invalid data"),
-        (b"F07000\r", b"ESID 07 buffer size error"),
-        (b"F08000\r", b"ESID 08 resources not available"),
-        (b"F10000\r", b"ESID 10 mode or capabilities incompatible"),
+fn start_reasons(rt: HostRuntime) -> Result<(), Fail> {
+    let cases = [
+        (1, StartReason::InvalidFilename, "01 invalid filename"),
+        (2, StartReason::InvalidDestination, "02 invalid destination"),
+        (3, StartReason::InvalidOrigin, "03 invalid origin"),
         (
-            b"F12000\r",
-            b"ESID 12 secure authentication requirements incompatible",
+            5,
+            StartReason::MaximumRecordLengthNotSupported,
+            "05 maximum record length not supported",
         ),
+        (6, StartReason::FileSizeTooBig, "06 file size too big"),
+        (13, StartReason::DuplicateFile, "13 duplicate file"),
+        (
+            14,
+            StartReason::FileDirectionRefused,
+            "14 file direction refused",
+        ),
+        (99, StartReason::Unspecified, "99 unspecified"),
+    ];
+    for (number, reason, words) in cases {
+        assert_eq!(rt; reason.number().get(), number, "{words}");
+        assert_eq!(rt;
+            StartReason::from_number(Count::new(number)),
+            Some(reason),
+            "{words}"
+        );
+        assert_eq!(rt; reason.to_string(rt.alloc())?.as_str(), words);
+    }
+    assert_eq!(rt; StartReason::from_number(Count::new(4)), None);
+    Ok(())
+}
+
+#[test]
+fn end_reasons(rt: HostRuntime) -> Result<(), Fail> {
+    let cases = [
+        (10, EndReason::InvalidRecordCount, "10 invalid record count"),
+        (11, EndReason::InvalidByteCount, "11 invalid byte count"),
+    ];
+    for (number, reason, words) in cases {
+        assert_eq!(rt; reason.number().get(), number, "{words}");
+        assert_eq!(rt;
+            EndReason::from_number(Count::new(number)),
+            Some(reason),
+            "{words}"
+        );
+        assert_eq!(rt; reason.to_string(rt.alloc())?.as_str(), words);
+    }
+    assert_eq!(rt; EndReason::from_number(Count::new(12)), None);
+    Ok(())
+}
+
+#[test]
+fn session_reasons(rt: HostRuntime) -> Result<(), Fail> {
+    let cases = [
+        (0, SessionReason::Normal, "00 normal"),
+        (
+            1,
+            SessionReason::CommandNotRecognised,
+            "01 command not recognised",
+        ),
+        (2, SessionReason::ProtocolViolation, "02 protocol violation"),
+        (3, SessionReason::UserCodeNotKnown, "03 user code not known"),
+        (4, SessionReason::InvalidPassword, "04 invalid password"),
+        (6, SessionReason::InvalidData, "06 invalid data"),
+        (7, SessionReason::BufferSizeError, "07 buffer size error"),
+        (
+            8,
+            SessionReason::ResourcesNotAvailable,
+            "08 resources not available",
+        ),
+        (
+            10,
+            SessionReason::ModeIncompatible,
+            "10 mode or capabilities incompatible",
+        ),
+        (
+            12,
+            SessionReason::AuthenticationIncompatible,
+            "12 secure authentication requirements incompatible",
+        ),
+    ];
+    for (number, reason, words) in cases {
+        assert_eq!(rt; reason.number().get(), number, "{words}");
+        assert_eq!(rt;
+            SessionReason::from_number(Count::new(number)),
+            Some(reason),
+            "{words}"
+        );
+        assert_eq!(rt; reason.to_string(rt.alloc())?.as_str(), words);
+    }
+    assert_eq!(rt; SessionReason::from_number(Count::new(5)), None);
+    Ok(())
+}
+
+/// Numbers that aren't listed are read and written, and shown without words.
+#[test]
+fn other_reasons(rt: HostRuntime) -> Result<(), Fail> {
+    let cases: [(&[u8], &[u8]); 4] = [
+        (b"304N000", b"SFNA 04"),
+        (b"306Y000", b"SFNA 06 file size too big, retry"),
+        (b"512002no", b"EFNA 12: no"),
+        (b"F05000\r", b"ESID 05"),
     ];
     for (octets, words) in cases {
         let command = parse(octets)?;
         assert_eq!(rt; command.to_string(rt.alloc())?.as_bytes(), words);
+        let mut out = [0u8; 8];
+        assert_eq!(rt; encode(&command, &mut out), Ok(octets.len()));
+        assert!(rt; out.starts_with(octets));
     }
-    assert_eq!(rt; SessionReason::ModeIncompatible.number().get(), 10);
-    assert_eq!(rt; StartReason::Unspecified.number().get(), 99);
-    assert_eq!(rt; EndReason::InvalidByteCount.number().get(), 11);
     Ok(())
 }
 
@@ -550,4 +626,12 @@ fn fields(rt: HostRuntime) -> Result<(), Fail> {
     assert_eq!(rt; text.again().to_string(rt.alloc())?.as_str(), "a?[2J?b");
     assert_eq!(rt; Octets::new(b"AB").again().octets(), b"AB".as_slice());
     Ok(())
+}
+
+#[test]
+fn characters_of_names(rt: HostRuntime) {
+    for c in 0..=255u8 {
+        let listed = b"0123456789ABCDEFGHIJKLMNOPQRSTUVWXYZ/-.&()".contains(&c);
+        assert_eq!(rt; X::<1>::new(&[c]).is_some(), listed, "{c}");
+    }
 }

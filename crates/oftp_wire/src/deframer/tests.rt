@@ -76,6 +76,7 @@ fn no_memory_within_room(rt: HostRuntime) -> Result<(), Fail> {
     };
     assert!(rt; deframer.room() == 17);
     take_cuts(&rt, &mut deframer)?;
+    assert!(rt; deframer.capacity() == 34);
     Ok(())
 }
 
@@ -125,6 +126,21 @@ fn million_pieces_of_one_octet(rt: HostRuntime) -> Result<(), Fail> {
             deframer.feed(b"D")?;
         }
         assert!(rt; matches!(deframer.next(), Ok(Some(command)) if command.len() == 99_999));
+    }
+    Ok(())
+}
+
+#[test]
+fn faults_in_words(rt: HostRuntime) -> Result<(), Fail> {
+    for (fault, words) in [
+        (FrameFault::BadHeader, "no stream header begins so"),
+        (
+            FrameFault::BadLength,
+            "a stream header has a length out of range",
+        ),
+        (FrameFault::Memory, "out of memory"),
+    ] {
+        assert_eq!(rt; fault.to_string(rt.alloc())?.as_str(), words);
     }
     Ok(())
 }
