@@ -5,7 +5,7 @@ use Rattle.std.proofs.Math.Seq.{take-append_seam, drop-append_seam}
 use Rattle.oftp_vfile.specs.declared.format.TakeFault.{TakeFault}
 use Rattle.oftp_vfile.specs.VirtualFile.{is_stream}
 use Rattle.oftp_vfile.specs.Subrecord.{Subrecord, header, payload_of, count_in, AreShort}
-use Rattle.oftp_vfile.specs.Taking.{Taking, Walked, FirstFault, added, added_all, fault_at, fault_of, AreAllowed, Took}
+use Rattle.oftp_vfile.specs.Taking.{Taking, Walked, FirstFault, added, added_all, fault_at, fault_in, AreAllowed, Took}
 use Rattle.oftp_vfile.proofs.TakingLemmas.{NoFault, no_fault, fault_none}
 use Rattle.oftp_vfile.proofs.CarriesLemmas.{header_says, took_walked}
 use Rattle.std.specs.Result.{result_unwrap_or}
@@ -32,7 +32,8 @@ no_fault_alone t s rest short h =
     fault_none t (header s) (length s.octets) (record { plain = n.plain; within = omega (arith, says.0); fits = n.fits; on = n.on; sized = n.sized })
 
 -- a payload of subrecords that is taken
-pub walk_spelled : (n : ℕ) (t : Taking) (ss : List Subrecord) (after : Taking) → AreShort ss → length (payload_of ss) ≤ n → take_subrecords n t (payload_of ss) ≡ Ok after → AreAllowed t ss × (after ≡ added_all t ss)
+pub walk_spelled : (n : ℕ) (t : Taking) (ss : List Subrecord) (after : Taking) → AreShort ss → length (payload_of ss) ≤ n → take_subrecords n t (payload_of ss) ≡ Ok after
+    → AreAllowed t ss × (after ≡ added_all t ss)
 unfolding take_subrecords
 walk_spelled zero t [] after short few h = (tt, cc)
 walk_spelled zero t (s ∷ ss) after short few h = absurd (omega (arith, few))
@@ -50,13 +51,15 @@ walk_spelled (suc n) t (s ∷ ss) after short few h =
     (((short.0, no_fault_alone t s behind short.0 on.0), ih.0), ih.1)
 
 -- a payload of subrecords that is taken was walked through, so that a taker that took those before took it too
-pub took_one : (t after : Taking) (gone payloads : List (List ℕ)) (ss : List Subrecord) → AreShort ss → Took t gone payloads → taken t (payload_of ss) ≡ Ok after → Took after gone (payloads ++ payload_of ss ∷ [])
+pub took_one : (t after : Taking) (gone payloads : List (List ℕ)) (ss : List Subrecord) → AreShort ss → Took t gone payloads → taken t (payload_of ss) ≡ Ok after
+    → Took after gone (payloads ++ payload_of ss ∷ [])
 took_one t after gone payloads ss short took h =
     let w = walk_spelled (length (payload_of ss)) t ss after short (omega arith) h in
     took_walked t after gone payloads (payload_of ss) took (record { subs = ss; spelling = sym (append-nil (payload_of ss)); allowed = w.0; after = w.1 })
 
 -- a taker stays one of its file
-then_same : {A : Type 0} (fault : Option TakeFault) (x : A) (f : A → Result Taking TakeFault) (after t : Taking) → then_go_on (unless_fault fault x) f ≡ Ok after → (f x ≡ Ok after → (after.format ≡ t.format) × (after.longest ≡ t.longest)) → (after.format ≡ t.format) × (after.longest ≡ t.longest)
+then_same : {A : Type 0} (fault : Option TakeFault) (x : A) (f : A → Result Taking TakeFault) (after t : Taking) → then_go_on (unless_fault fault x) f ≡ Ok after
+    → (f x ≡ Ok after → (after.format ≡ t.format) × (after.longest ≡ t.longest)) → (after.format ≡ t.format) × (after.longest ≡ t.longest)
 then_same fault x f after t h k = k (went_on fault x f after h).1
 
 pub take_same : (n : ℕ) (t : Taking) (payload : List ℕ) (after : Taking) → take_subrecords n t payload ≡ Ok after → (after.format ≡ t.format) × (after.longest ≡ t.longest)
@@ -67,7 +70,8 @@ take_same (suc n) t (first ∷ rest) after h =
     then_same (fault_at t first (length rest)) (added t (subrecord_in first rest)) (λ x. take_subrecords n x (drop (count_in first) rest)) after t h
     (λ g. take_same n (added t (subrecord_in first rest)) (drop (count_in first) rest) after g)
 
-unwrapped_same : (t : Taking) (r : Result Taking TakeFault) → ((after : Taking) → r ≡ Ok after → (after.format ≡ t.format) × (after.longest ≡ t.longest)) → let after : Taking = result_unwrap_or r t in (after.format ≡ t.format) × (after.longest ≡ t.longest)
+unwrapped_same : (t : Taking) (r : Result Taking TakeFault) → ((after : Taking) → r ≡ Ok after → (after.format ≡ t.format) × (after.longest ≡ t.longest)) → let after : Taking =
+    result_unwrap_or r t in (after.format ≡ t.format) × (after.longest ≡ t.longest)
 unwrapped_same t (Ok after) h = h after refl
 unwrapped_same t (Err fault) h = (refl, refl)
 
@@ -113,7 +117,8 @@ walk_allowed (suc n) t (s ∷ ss) rest allowed few =
     let next : drop (count_in (header s)) (s.octets ++ behind) ≡ behind = ap (λ k. drop k (s.octets ++ behind)) says.0 ∙ drop-append_seam s.octets behind in
     let few' : length behind ≤ n = omega (arith, few, ap length split, length-append s.octets behind) in
     let ih = walk_allowed n (added t s) ss rest allowed.1 few' in
-    let Step : List ℕ → Result Taking TakeFault = λ x. then_go_on (unless_fault (fault_at t (header s) (length x)) (added t (subrecord_in (header s) x))) (λ after. take_subrecords n after (drop (count_in (header s)) x)) in (
+    let Step : List ℕ → Result Taking TakeFault =
+    λ x. then_go_on (unless_fault (fault_at t (header s) (length x)) (added t (subrecord_in (header s) x))) (λ after. take_subrecords n after (drop (count_in (header s)) x)) in (
       ih.0,
       ih.1,
       ap Step split
@@ -134,7 +139,7 @@ walk_taken t after payload w =
     let ih = walk_allowed (length payload) t w.subs [] w.allowed n in
     ap (take_subrecords (length payload) t) w.spelling ∙ ih.2 ∙ none_left ih.0 (added_all t w.subs) ∙ ap (λ (x : Taking). let y : Result Taking TakeFault = Ok x in y) (sym w.after)
 
-fault_left : (m : ℕ) (t : Taking) (rest : List ℕ) (fault : TakeFault) → length rest ≤ m → fault_of t rest ≡ Some fault → take_subrecords m t rest ≡ Err fault
+fault_left : (m : ℕ) (t : Taking) (rest : List ℕ) (fault : TakeFault) → length rest ≤ m → fault_in t rest ≡ Some fault → take_subrecords m t rest ≡ Err fault
 unfolding take_subrecords
 fault_left m t [] fault few h = absurd (cc)
 fault_left zero t (x ∷ rest) fault few h = absurd (omega (arith, few))
@@ -147,7 +152,7 @@ fault_taken t payload fault f =
     let w = f.2 in
     let n : length (payload_of w.subs ++ rest) ≤ length payload = omega (arith, ap length w.spelling) in
     let ih = walk_allowed (length payload) t w.subs rest w.allowed n in
-    let at : fault_of (added_all t w.subs) rest ≡ Some fault = subst (λ (x : Taking). fault_of x rest ≡ Some fault) w.after f.3 in
+    let at : fault_in (added_all t w.subs) rest ≡ Some fault = subst (λ (x : Taking). fault_in x rest ≡ Some fault) w.after f.3 in
     ap (take_subrecords (length payload) t) w.spelling ∙ ih.2 ∙ fault_left ih.0 (added_all t w.subs) rest fault ih.1 at
 
 -- a subrecord takes no row away

@@ -19,7 +19,8 @@ abbrev pub then_go_on : {A B : Type 0} → Result A TakeFault → (A → Result 
 then_go_on (Ok x) f = f x
 then_go_on (Err fault) f = Err fault
 
--- what a taker holds after the first n subrecords of a payload, or after all where these are fewer, or the fault of the first faulty one
+-- what a taker holds after the first n subrecords of a payload, or after all where these are fewer, or the fault of the first
+-- faulty one
 unfoldable pub take_subrecords : ℕ → Taking → List ℕ → Result Taking TakeFault
 take_subrecords zero t payload = Ok t
 take_subrecords (suc n) t [] = Ok t

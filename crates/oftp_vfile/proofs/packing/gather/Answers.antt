@@ -13,7 +13,15 @@ loop-row-preserved-then-offset-octets c =
     let row : octets ≡ get_or c.args.rows.now l.row octets = get_or_same c.args.rows.now l.row _ octets (omega arith) c.index-rows-row.is c.octets-octets.ensures in
     let part : c.copy_from_slice.new.self ≡ take n (drop l.offset octets) = c.copy_from_slice.ensures.after ∙ ap (λ m. take m (drop l.offset octets)) (omega arith) in
     let s = gather_step c.args.rows.now l.row l.offset l.at n (l.at + n - l.at) l.out (drop c.args.from.offset (octets_in (drop c.args.from.row c.args.rows.now))) _ octets (omega arith) row (omega arith) i.room i.octets i.rest part in
-    record { octets = s.0; rest = sym (ap (λ (x : List ℕ). x ++ octets_in (drop (l.row + 1) c.args.rows.now)) (drop_all (l.offset + n) octets (omega arith))) ∙ s.1; within = s.3 i.within; room = search rules; row = omega arith; offset = λ h. omega arith }
+    record {
+      octets = s.0;
+      rest = sym (ap (λ (x : List ℕ). x ++ octets_in (drop (l.row + 1) c.args.rows.now)) (drop_all (l.offset + n) octets (omega arith))) ∙ s.1;
+      within =
+          s.3 i.within;
+      room = search rules;
+      row = omega arith;
+      offset = λ h. omega arith;
+    }
 
 pub loop-row-preserved : goal.loop-row-preserved
 loop-row-preserved c =

@@ -44,7 +44,8 @@ returns-in-Full c =
     let written : length octets ≡ at = length-take-le at c.pack_stream-at.new.out (omega arith) in
     let some : 0 < length octets = omega (arith, written, told.0, c.requires.room) in
     let new : Filling = advanced f rows place.row place.offset in
-    let next : PacksNext size f new rows c.args.last octets = stream_next size f rows place.row place.offset free octets c.args.last c.requires.stream going c.requires.place c.pack_stream-at.ensures.offset p told.0 told.1 some in
+    let next : PacksNext size f new rows c.args.last octets =
+    stream_next size f rows place.row place.offset free octets c.args.last c.requires.stream going c.requires.place c.pack_stream-at.ensures.offset p told.0 told.1 some in
     record {
       buffer = (c.pack_stream-at.ensures.room, subst (λ (x : Filling). PacksNext size f x rows c.args.last octets) (sym c.advance.ensures) next);
       fills = record {

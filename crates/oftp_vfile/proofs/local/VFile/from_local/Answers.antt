@@ -6,7 +6,7 @@ use Rattle.oftp_vfile.proofs.LocalLemmas.{blocks_local, fixed_local, fixed_no, o
 use Rattle.oftp_vfile.proofs.local.VFile.from_local.Goals as goal
 use Rattle.oftp_vfile.proofs.local.VFile.from_local.Goals.{in-Fixed+in_ok-rows-in-Fixed, in-Variable+in_ok-rows-in-Variable, in-Unstructured+in_ok-rows-in-Unstructured}
 
--- The rows that were read are the content's.
+-- the rows that were read are the content's
 is_file : (c : goal.After-new) → IsLocal c.args.format c.args.longest c.args.content.now c.new.result
 is_file c =
     let longest = c.args.longest in
