@@ -174,7 +174,8 @@ rows_after gone rows tail s format =
     let octets : List ℕ = tail ++ s.octets in
     let push : (r : List ℕ) → (gone ++ rows) ++ r ∷ [] ≡ gone ++ (rows ++ r ∷ []) = λ r. append_assoc gone rows (r ∷ []) in
     let P : Bool → Bool → Bool → Type 0 =
-    λ a b d. cond a (cond d ((gone ++ rows) ++ take 1024 octets ∷ []) (gone ++ rows)) (cond b ((gone ++ rows) ++ octets ∷ []) (gone ++ rows)) ≡ gone ++ cond a (cond d (rows ++ take 1024 octets ∷ []) rows) (cond b (rows ++ octets ∷ []) rows) in
+    λ a b d. cond a (cond d ((gone ++ rows) ++ take 1024 octets ∷ []) (gone ++ rows)) (cond b ((gone ++ rows) ++ octets ∷ []) (gone ++ rows))
+    ≡ gone ++ cond a (cond d (rows ++ take 1024 octets ∷ []) rows) (cond b (rows ++ octets ∷ []) rows) in
     let every : (a b d : Bool) → P a b d = λ a b d. elim a as (λ a. P a b d) [
       | true ↦ elim d as (λ d. P true b d) [ true ↦ push (take 1024 octets) | false ↦ refl ]
       | false ↦
@@ -193,11 +194,14 @@ holds_added t gone ss s h a =
     let fits : is_too_big t s.ends (length s.octets) ≡ false = subst (λ (x : ℕ). is_too_big t s.ends x ≡ false) says.0 (subst (λ (x : Bool). is_too_big t x (header s % 64) ≡ false) says.1 f.fits) in
     let fit = not_too_big t s.ends (length s.octets) fits in
     let sized : is_wrong_size t.format t.longest (length t.tail + length s.octets) s.ends ≡ false =
-    subst (λ (x : ℕ). is_wrong_size t.format t.longest (length t.tail + x) s.ends ≡ false) says.0 (subst (λ (x : Bool). is_wrong_size t.format t.longest (length t.tail + header s % 64) x ≡ false) says.1 f.sized) in
+    let ends = subst (λ (x : Bool). is_wrong_size t.format t.longest (length t.tail + header s % 64) x ≡ false) says.1 f.sized in
+    subst (λ (x : ℕ). is_wrong_size t.format t.longest (length t.tail + x) s.ends ≡ false) says.0 ends in
     let on : (is_stream t.format && is_ended (stage_of ss)) ≡ false = subst (λ (x : Stage). (is_stream t.format && is_ended x) ≡ false) h.last f.on in
     let few = added-rows_few t s in
+    let carried = carried_added t.format t.longest ss s (gone ++ t.rows) t.tail h.carried on sized a.0 in
+    let P : List (List ℕ) → Type 0 = λ x. Carried t.format t.longest (ss ++ s ∷ []) x (tail_after t.format t.tail s) in
     record {
-      carried = subst (λ (x : List (List ℕ)). Carried t.format t.longest (ss ++ s ∷ []) x (tail_after t.format t.tail s)) (rows_after gone t.rows t.tail s t.format) (carried_added t.format t.longest ss s (gone ++ t.rows) t.tail h.carried on sized a.0);
+      carried = subst P (rows_after gone t.rows t.tail s t.format) carried;
       away = h.away;
       last = sym (stage_of-push ss s);
       units = ap (λ x. x + length s.octets) h.units ∙ sym (length-append (octets_of ss) s.octets) ∙ ap length (sym (octets_of-push ss s));
@@ -233,12 +237,14 @@ flat-push subs ss = flat_map-append (λ (x : List Subrecord). x) subs (ss ∷ []
 pub took_walked : (old new : Taking) (gone payloads : List (List ℕ)) (payload : List ℕ) → Took old gone payloads → Walked old new payload [] → Took new gone (payloads ++ payload ∷ [])
 took_walked old new gone payloads payload t w =
     let flat : List Subrecord = flat_map (λ (x : List Subrecord). x) t.subs in
+    let all : HasTaken (added_all old w.subs) gone (flat ++ w.subs) = holds_all old gone flat w.subs t.holds w.allowed in
+    let holds : HasTaken new gone (flat ++ w.subs) = subst (λ (x : Taking). HasTaken x gone (flat ++ w.subs)) (sym w.after) all in
     record {
       subs = t.subs ++ w.subs ∷ [];
       spelling = ap (λ (x : List (List ℕ)). x ++ payload ∷ []) t.spelling ∙ ap (λ (x : List ℕ). map payload_of t.subs ++ x ∷ []) (w.spelling ∙ append-nil (payload_of w.subs))
           ∙ sym (map-append payload_of t.subs (w.subs ∷ []));
       short = subst AreShort (sym (flat-push t.subs w.subs)) (short-append flat w.subs t.short (allowed_short old w.subs w.allowed));
-      holds = subst (λ (x : List Subrecord). HasTaken new gone x) (sym (flat-push t.subs w.subs)) (subst (λ (x : Taking). HasTaken x gone (flat ++ w.subs)) (sym w.after) (holds_all old gone flat w.subs t.holds w.allowed));
+      holds = subst (λ (x : List Subrecord). HasTaken new gone x) (sym (flat-push t.subs w.subs)) holds;
     }
 
 pub took_new : (format : Format) (longest kept_rows kept_units limit : ℕ) → kept_rows ≤ 1000000 → Took (new_taking format longest kept_rows kept_units limit) [] []
@@ -472,12 +478,14 @@ no_fault_within t gone xs s ys rows tail h c n o r =
     let d = length-append gone t.rows in
     let fits : is_too_big t s.ends (length s.octets) ≡ false = or_from _ _ (le-ltb t.limit (t.kept_units + t.units + length s.octets) (omega (arith, o, j, l, h.units)))
     (le-ltb 1000000 (t.kept_rows + t.away + length t.rows + new_rows t s.ends (length s.octets)) (omega (arith, r, w.0, d, h.away))) in
+    let ends : is_wrong_size t.format t.longest (length t.tail + length s.octets) (nat_le 128 (header s)) ≡ false =
+    subst (λ (x : Bool). is_wrong_size t.format t.longest (length t.tail + length s.octets) x ≡ false) (sym says.1) w.1 in
     record {
       plain = omega (arith, says.2, n);
       within = omega (arith, says.0, length-append s.octets (payload_of ys));
       fits = subst (λ (x : ℕ). is_too_big t (nat_le 128 (header s)) x ≡ false) (sym says.0) (subst (λ (x : Bool). is_too_big t x (length s.octets) ≡ false) (sym says.1) fits);
       on = subst (λ (x : Stage). (is_stream t.format && is_ended x) ≡ false) (sym h.last) (going_on t.format t.longest xs s ys rows tail c);
-      sized = subst (λ (x : ℕ). is_wrong_size t.format t.longest (length t.tail + x) (nat_le 128 (header s)) ≡ false) (sym says.0) (subst (λ (x : Bool). is_wrong_size t.format t.longest (length t.tail + length s.octets) x ≡ false) (sym says.1) w.1);
+      sized = subst (λ (x : ℕ). is_wrong_size t.format t.longest (length t.tail + x) (nat_le 128 (header s)) ≡ false) (sym says.0) ends;
     }
 
 same_limits : (t old : Taking) (payloads : List (List ℕ)) → restored t old ≡ old → CarriesWithin old payloads → CarriesWithin t payloads

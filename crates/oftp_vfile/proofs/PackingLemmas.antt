@@ -90,8 +90,9 @@ packed_more size records octets free r rs p h =
       p.0 ++ s ∷ [],
       ap (λ (x : List ℕ). x ++ spelled s) p.1 ∙ sym (payload_of-push p.0 s),
       λ more ss left q.
+          let sized = subst (λ (x : ℕ). Packs (free - (1 + x)) (behind r rs free ++ more) ss left) (sym n) q in
           let q' : Packs (free - (1 + length s.octets)) (behind r (rs ++ more) free) ss left =
-          subst (λ (x : List (List ℕ)). Packs (free - (1 + length s.octets)) x ss left) (behind-append r rs more free) (subst (λ (x : ℕ). Packs (free - (1 + x)) (behind r rs free ++ more) ss left) (sym n) q) in
+          subst (λ (x : List (List ℕ)). Packs (free - (1 + length s.octets)) x ss left) (behind-append r rs more free) sized in
           subst (λ (x : List Subrecord). Packs size (records ++ more) x left) (sym (append_assoc p.0 (s ∷ []) ss)) (p.2 more (s ∷ ss) left (h, refl, q')),
     )
 
@@ -99,7 +100,7 @@ pub packed_none : (size : ℕ) (records : List (List ℕ)) → HasPacked size re
 packed_none size records = ([], refl, λ more ss left p. p)
 
 -- in terms of rows and places
-pub packed_ends : (size : ℕ) (start : List (List ℕ)) (octets : List ℕ) (free : ℕ) (rows : List (List ℕ)) (row offset count : ℕ) (r written : List ℕ) (ends : Bool)
+packed_ends : (size : ℕ) (start : List (List ℕ)) (octets : List ℕ) (free : ℕ) (rows : List (List ℕ)) (row offset count : ℕ) (r written : List ℕ) (ends : Bool)
     → row < length rows → r ≡ get_or rows row r → HasPacked size start octets free (from_offset offset (drop row rows)) → needs (drop offset r) ≤ free
     → count ≡ next_length (drop offset r) free → ends ≡ eqb count (length (drop offset r)) → written ≡ octets ++ spelled (record { ends = ends; octets = take count (drop offset r) })
     → HasPacked size start written (free - (1 + count)) (cond ends (drop (row + 1) rows) (drop count (drop offset r) ∷ drop (row + 1) rows))
@@ -127,6 +128,24 @@ packed_done size size' at count free start records records' written e f p r =
     let a : HasPacked size start written (size - (at + (1 + count))) records = subst (λ (x : ℕ). HasPacked size start written x records) n p in
     let b : HasPacked size' start written (size' - (at + (1 + count))) records = subst (λ (x : ℕ). HasPacked x start written (x - (at + (1 + count))) records) (sym e) a in
     subst (λ (x : List (List ℕ)). HasPacked size' start written (size' - (at + (1 + count))) x) r b
+
+-- the loop wrote the next subrecord, which is the part in front of what is left of its record
+pub packed_step : (size : ℕ) (start rows : List (List ℕ)) (row offset at count : ℕ) (r rest part out out' : List ℕ)
+    → row < length rows → r ≡ get_or rows row r → rest ≡ drop offset r → part ≡ take count rest → length part ≡ count
+    → HasPacked size start (take at out) (size - at) (from_offset offset (drop row rows))
+    → needs rest ≤ size - at → count ≡ next_length rest (size - at)
+    → take (at + (1 + length part)) out' ≡ take at out ++ spelled (record { ends = eqb count (length rest); octets = part })
+    → HasPacked size start (take (at + (1 + count)) out') (size - at - (1 + count))
+    (cond (eqb count (length rest)) (drop (row + 1) rows) (drop count (drop offset r) ∷ drop (row + 1) rows))
+packed_step size start rows row offset at count r rest part out out' h e back front len p f n w =
+    let ends : Bool = eqb count (length rest) in
+    let sub : List ℕ → List ℕ = λ x. take at out ++ spelled (record { ends = ends; octets = x }) in
+    let written : take (at + (1 + count)) out' ≡ sub (take count (drop offset r)) =
+    ap (λ x. take (at + (1 + x)) out') (sym len) ∙ w ∙ ap sub front ∙ ap (λ (x : List ℕ). sub (take count x)) back in
+    let fits : needs (drop offset r) ≤ size - at = subst (λ (x : List ℕ). needs x ≤ size - at) back f in
+    let sized : count ≡ next_length (drop offset r) (size - at) = n ∙ ap (λ (x : List ℕ). next_length x (size - at)) back in
+    let last : ends ≡ eqb count (length (drop offset r)) = ap (λ (x : List ℕ). eqb count (length x)) back in
+    packed_ends size start (take at out) (size - at) rows row offset count r (take (at + (1 + count)) out') ends h e p fits sized last written
 
 -- a place in a row is in the row
 pub in_row : (offset n : ℕ) → (0 < offset → offset < n) → offset ≤ n

@@ -40,7 +40,9 @@ walk_spelled zero t (s ∷ ss) after short few h = absurd (omega (arith, few))
 walk_spelled (suc n) t [] after short few h = (tt, cc)
 walk_spelled (suc n) t (s ∷ ss) after short few h =
     let behind : List ℕ = payload_of ss in
-    let on = went_on (fault_at t (header s) (length (s.octets ++ behind))) (added t (subrecord_in (header s) (s.octets ++ behind))) (λ x. take_subrecords n x (drop (count_in (header s)) (s.octets ++ behind))) after h in
+    let first = added t (subrecord_in (header s) (s.octets ++ behind)) in
+    let go : Taking → Result Taking TakeFault = λ x. take_subrecords n x (drop (count_in (header s)) (s.octets ++ behind)) in
+    let on = went_on (fault_at t (header s) (length (s.octets ++ behind))) first go after h in
     let says = header_says s short.0 in
     let rest : drop (count_in (header s)) (s.octets ++ behind) ≡ behind = ap (λ k. drop k (s.octets ++ behind)) says.0 ∙ drop-append_seam s.octets behind in
     let next : take_subrecords n (added t s) behind ≡ Ok after =
@@ -117,12 +119,14 @@ walk_allowed (suc n) t (s ∷ ss) rest allowed few =
     let next : drop (count_in (header s)) (s.octets ++ behind) ≡ behind = ap (λ k. drop k (s.octets ++ behind)) says.0 ∙ drop-append_seam s.octets behind in
     let few' : length behind ≤ n = omega (arith, few, ap length split, length-append s.octets behind) in
     let ih = walk_allowed n (added t s) ss rest allowed.1 few' in
+    let first = added t (subrecord_in (header s) (s.octets ++ behind)) in
+    let go : Taking → Result Taking TakeFault = λ x. take_subrecords n x (drop (count_in (header s)) (s.octets ++ behind)) in
     let Step : List ℕ → Result Taking TakeFault =
     λ x. then_go_on (unless_fault (fault_at t (header s) (length x)) (added t (subrecord_in (header s) x))) (λ after. take_subrecords n after (drop (count_in (header s)) x)) in (
       ih.0,
       ih.1,
       ap Step split
-          ∙ goes_on (fault_at t (header s) (length (s.octets ++ behind))) (added t (subrecord_in (header s) (s.octets ++ behind))) (λ after. take_subrecords n after (drop (count_in (header s)) (s.octets ++ behind))) (no_fault_more t s behind allowed.0.1)
+          ∙ goes_on (fault_at t (header s) (length (s.octets ++ behind))) first go (no_fault_more t s behind allowed.0.1)
           ∙ ap (λ (x : Subrecord). take_subrecords n (added t x) (drop (count_in (header s)) (s.octets ++ behind))) (subrecord_again s behind short)
           ∙ ap (λ (x : List ℕ). take_subrecords n (added t s) x) next
           ∙ ih.2,

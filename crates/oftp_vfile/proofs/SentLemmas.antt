@@ -318,7 +318,8 @@ mark_sent f longest size from rows payloads h a s =
     let short : AreShort (flat subs) = front_short size n records all fa in
     let joined : map payload_of subs ++ map payload_of rest ≡ map payload_of all = ap (λ (x : List (List ℕ)). x ++ map payload_of rest) (sym front) ∙ s.split in
     let P : Bool → Type 0 = λ b. (b ≡ is_stream f.format)
-    → cond b (count_by (λ (r : List ℕ). eqb (length r) 1024) (take k rows)) (length (take k rows)) ≡ cond b (length (octets_of (flat subs)) / 1024) (count_by (λ (s : Subrecord). s.ends) (flat subs)) in
+    → cond b (count_by (λ (r : List ℕ). eqb (length r) 1024) (take k rows)) (length (take k rows))
+    ≡ cond b (length (octets_of (flat subs)) / 1024) (count_by (λ (s : Subrecord). s.ends) (flat subs)) in
     let both : (b : Bool) → P b = λ b. elim b as P [
       | true ↦ λ e. (let o : length (octets_in records) ≡ length (octets_in rows) = ap (λ (x : Bool). length (octets_in (cond x (octets_in rows ∷ []) rows))) (sym e)
           ∙ ap length (append-nil (octets_in rows)) in

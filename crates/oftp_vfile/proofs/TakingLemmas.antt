@@ -175,7 +175,9 @@ goes_on-added t s h = goes_on-grown t.rows t.tail s.octets (is_stream t.format) 
 pub goes_on-all : (t : Taking) (ss : List Subrecord) → AreAllowed t ss → (is_stream t.format ≡ true → length t.tail < 1024) → HasGrown t.rows t.tail (added_all t ss).rows (added_all t ss).tail
 goes_on-all t [] a h = goes_on_same t.rows t.tail t.rows t.tail refl refl
 goes_on-all t (s ∷ ss) a h =
-    goes_on-trans t.rows t.tail (added t s).rows (added t s).tail (added_all t (s ∷ ss)).rows (added_all t (s ∷ ss)).tail (goes_on-added t s h) (goes_on-all (added t s) ss a.1 (added-tail_short t s a.0.0 h))
+    let u = added t s in
+    let v = added_all t (s ∷ ss) in
+    goes_on-trans t.rows t.tail u.rows u.tail v.rows v.tail (goes_on-added t s h) (goes_on-all u ss a.1 (added-tail_short t s a.0.0 h))
 
 -- after some subrecords of a payload the taker can be put back
 pub walked_back : (old mid : Taking) (payload rest : List ℕ) → Walked old mid payload rest → (is_stream old.format ≡ true → length old.tail < 1024)

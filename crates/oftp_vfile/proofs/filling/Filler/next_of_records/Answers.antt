@@ -87,10 +87,12 @@ returns c =
     let new : Filling = advanced f rows place.row place.offset in
     let next : PacksNext size f new rows c.args.last octets =
     records_next size f rows place.row place.offset free octets c.args.last c.requires.records c.requires.place c.pack_records-at.ensures.offset p full ends some in
+    let to = c.pack_records-at.ensures in
+    let moves = moves_to f rows place.row place.offset c.args.last to.row to.offset (λ stream. absurd (true≢false (sym stream ∙ c.requires.records))) in
     record {
       buffer = (c.pack_records-at.ensures.room, subst (λ (x : Filling). PacksNext size f x rows c.args.last octets) (sym c.advance.ensures) next);
       fills = record {
-        moves = subst (λ (x : Filling). Moves f x rows c.args.last) (sym c.advance.ensures) (moves_to f rows place.row place.offset c.args.last c.pack_records-at.ensures.row c.pack_records-at.ensures.offset (λ stream. absurd (true≢false (sym stream ∙ c.requires.records))));
+        moves = subst (λ (x : Filling). Moves f x rows c.args.last) (sym c.advance.ensures) moves;
         some = false_from_ne_true (nothing_left f rows c.args.last) (records_some size f new rows octets c.args.last c.requires.records next);
         full = next_enough size f new rows c.args.last octets next (records_left new (drop (new.row - f.row) rows) (least f.format) c.requires.records);
       };
