@@ -6,33 +6,9 @@ use std::alloc::{AllocError, Global};
 mod commands;
 mod sessions;
 
-/// What the station of a book offers, and in which mode its partner works with it.
-#[derive(Clone, Copy, Drop)]
-struct Terms {
-    buffer: u32,
-    credit: u32,
-    mode: &'static str,
-}
-
-const USUAL: Terms = Terms {
-    buffer: 128,
-    credit: 2,
-    mode: "B",
-};
-
 /// A book of one partner.
-fn book_text(alloc: Global, terms: Terms) -> Result<String, AllocError> {
-    let Terms {
-        buffer,
-        credit,
-        mode,
-    } = terms;
-    let mut text = format!(in alloc; "[station]\ncode = 'O0013SUPPLIER'\nbuffer = {buffer}\n")?;
-    write!(text, "credit = {credit}\nrestart = true\n")?;
-    text.push_str("[[partner]]\ncode = 'O0177CARMAKER'\nexpects = 'CARPW'\nsends = 'SUPPW'\n")?;
-    write!(text, "mode = '{mode}'\naddress = '127.0.0.1:3305'\n")?;
-    Ok(text)
-}
+const BOOK: &str =
+    "[station]\ncode = 'O0013SUPPLIER'\nbuffer = 128\ncredit = 2\nrestart = true\n[[partner]]\ncode = 'O0177CARMAKER'\nexpects = 'CARPW'\nsends = 'SUPPW'\nmode = 'B'\naddress = '127.0.0.1:3305'\n";
 
 const READY: &str = "IODETTE FTP READY \r";
 

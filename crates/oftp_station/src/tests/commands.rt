@@ -85,7 +85,7 @@ const SESSIONS: [(&str, &[&str], &[&str], &str); 3] = [
 
 #[test]
 fn sessions_of_files(rt: HostRuntime) -> Result<(), Fail> {
-    fs::write(&rt, SESSION_BOOK, book_text(rt.alloc(), USUAL)?.as_str())?;
+    fs::write(&rt, SESSION_BOOK, BOOK)?;
     for (role, input, output, line) in SESSIONS {
         let input = frames(rt.alloc(), input)?;
         let output = frames(rt.alloc(), output)?;
@@ -111,7 +111,7 @@ const FAILING_OUT: &str = "station_test_failing_out";
 /// A file that opens and can't be read, and one that opens and has no room.
 #[test]
 fn files_that_fail_in_a_session(rt: HostRuntime) -> Result<(), Fail> {
-    fs::write(&rt, FAILING_BOOK, book_text(rt.alloc(), USUAL)?.as_str())?;
+    fs::write(&rt, FAILING_BOOK, BOOK)?;
     fs::write(&rt, FAILING_IN, "")?;
     for (input, output, err) in [
         ("/proc/self/mem", FAILING_OUT, "fault: 1 read\n"),
@@ -145,11 +145,7 @@ impl Write for Closed {
 
 #[test]
 fn standard_output_fails(rt: HostRuntime) -> Result<(), Fail> {
-    fs::write(
-        &rt,
-        "station_test_shown",
-        book_text(rt.alloc(), USUAL)?.as_str(),
-    )?;
+    fs::write(&rt, "station_test_shown", BOOK)?;
     let mut words = Vec::new(rt.alloc());
     for word in ["check", "--book", "station_test_shown"] {
         words.push(word.to_string(rt.alloc())?)?;
@@ -241,14 +237,13 @@ const NOT_SERVED: [([&str; 5], (&str, &str)); 7] = [
 /// A fault or a refusal that comes first makes no file and leaves each as it was.
 #[test]
 fn sessions_not_served(rt: HostRuntime) -> Result<(), Fail> {
-    let book = book_text(rt.alloc(), USUAL)?;
-    fs::write(&rt, KEPT, book.as_str())?;
+    fs::write(&rt, KEPT, BOOK)?;
     for ([role, partner, book_file, input, output], (out, err)) in NOT_SERVED {
         let words = feed(book_file, role, partner, input, output);
         let done = command(&rt, &words)?;
         assert_printed(&rt, &done, 1, out, err);
         assert!(rt; fs::metadata(&rt, MADE).is_err());
-        assert!(rt; fs::read(&rt, KEPT)?.as_slice() == book.as_bytes());
+        assert!(rt; fs::read(&rt, KEPT)?.as_slice() == BOOK.as_bytes());
     }
     let words = ["feed", "--role", "initiator", "--book", KEPT, NONE, MADE];
     let done = command(&rt, &words)?;
@@ -266,8 +261,7 @@ const LINKED: &str = "station_test_linked";
 /// An output that is the input or the book, under whatever name, takes nothing away.
 #[test]
 fn output_over_input_or_book(rt: HostRuntime) -> Result<(), Fail> {
-    let book = book_text(rt.alloc(), USUAL)?;
-    fs::write(&rt, OWN_BOOK, book.as_str())?;
+    fs::write(&rt, OWN_BOOK, BOOK)?;
     fs::write(&rt, OWN_IN, "kept")?;
     fs::hard_link(&rt, OWN_IN, LINKED)?;
     for output in [
@@ -281,7 +275,7 @@ fn output_over_input_or_book(rt: HostRuntime) -> Result<(), Fail> {
         let done = command(&rt, &words)?;
         assert_printed(&rt, &done, 1, "", "fault: 7 file\n");
         assert!(rt; fs::read(&rt, OWN_IN)?.as_slice() == b"kept".as_slice());
-        assert!(rt; fs::read(&rt, OWN_BOOK)?.as_slice() == book.as_bytes());
+        assert!(rt; fs::read(&rt, OWN_BOOK)?.as_slice() == BOOK.as_bytes());
     }
     for name in [OWN_BOOK, OWN_IN, LINKED] {
         fs::remove_file(&rt, name)?;
@@ -294,7 +288,7 @@ const DEVICE_BOOK: &str = "station_test_device_book";
 /// A device may be read and written at once.
 #[test]
 fn device_as_input_and_output(rt: HostRuntime) -> Result<(), Fail> {
-    fs::write(&rt, DEVICE_BOOK, book_text(rt.alloc(), USUAL)?.as_str())?;
+    fs::write(&rt, DEVICE_BOOK, BOOK)?;
     let words = feed(DEVICE_BOOK, "responder", CARMAKER, "/dev/null", "/dev/null");
     let done = command(&rt, &words)?;
     assert_printed(&rt, &done, 0, "end: input\n", "");
@@ -339,11 +333,7 @@ fn book_faults(rt: HostRuntime) -> Result<(), Fail> {
 
 #[test]
 fn book_checked(rt: HostRuntime) -> Result<(), Fail> {
-    fs::write(
-        &rt,
-        "station_test_checked",
-        book_text(rt.alloc(), USUAL)?.as_str(),
-    )?;
+    fs::write(&rt, "station_test_checked", BOOK)?;
     let done = command(&rt, &["check", "--book", "station_test_checked"])?;
     fs::remove_file(&rt, "station_test_checked")?;
     assert_printed(&rt, &done, 0, "ok: 1 partners\n", "");
