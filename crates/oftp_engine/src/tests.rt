@@ -45,23 +45,21 @@ impl Failing {
 }
 
 impl Office for Failing {
-    ghost Content = { ⊤ };
-
-    ghost may_leave = { λ _ _. ⊤ };
-
-    ghost holds = { λ _ _. ⊤ };
-
-    ghost register = { λ _. empty (record { files = 1; octets = 1 }) };
-
-    ghost stands = { λ _. ⊤ };
-
-    ghost is_clean = { λ _. ⊥ };
-
-    ghost told = { λ o. o.faults };
+    ghost view = { λ o. record {
+      register = empty (record { files = 1; octets = 1 });
+      told = o.faults;
+      clean = ⊥;
+      stands = ⊤;
+      Content = ⊤;
+      may_leave = λ _. ⊤;
+      holds = λ _ _. ⊤;
+    } };
 
     ghost sound = { λ o clean stood. absurd clean };
 
-    ghost alone = { λ o c clean stood left. absurd clean };
+    ghost alone = { λ o clean stood. absurd clean };
+
+    ghost leaves = { λ o clean. absurd clean };
 
     fn limits(&self) -> Limits {
         Limits {
@@ -117,6 +115,10 @@ impl Office for Failing {
         _from: u64,
         _most: u64,
     ) -> Result<Rows, OfficeFault> {
+        self.fail()
+    }
+
+    fn units_of(&mut self, _side: Side, _no: u64) -> Result<u64, OfficeFault> {
         self.fail()
     }
 
