@@ -7,7 +7,6 @@ ghost use Rattle.oftp_register.specs.Soundness.{Ends, GoesOn, IfOpen, IsSoundInc
 ghost use Rattle.oftp_register.specs.LookUps.{IsIncomingWithin, incoming_entry, is_due, issued_entry};
 ghost use Rattle.oftp_register.specs.Lists.{Makes, header_of, incoming_of, is_due_to, issued_of, response_of};
 
-use super::units::units_of;
 use crate::change::Cause;
 use crate::entries::{IncomingEntry, IssuedEntry, IssuedResponse};
 use crate::entry::{Dispatch, Identity, IncomingState};
@@ -245,7 +244,6 @@ impl IncomingFile {
             description: self.description.again(alloc)?,
             state: self.state,
             rows: self.rows.len() as u64,
-            units: units_of(&self.rows),
             response,
         })
     }

@@ -6,11 +6,12 @@ ghost use Rattle.oftp_register.specs.Register.{Register, answers, empty, has_rec
 ghost use Rattle.oftp_register.specs.Changes.{apply, closed, closing, filed, given_up, handed, issued, kept, marked, on_incoming, on_outgoing, refused, reopened, sent, settled, started, submitted};
 ghost use Rattle.oftp_register.specs.declared.change.Change.TheVariants as change;
 ghost use Rattle.oftp_register.specs.Soundness.{AtNumber, Ends, GoesOn, IfOpen, IsFit, IsSound, MayStart};
-ghost use Rattle.oftp_register.specs.LookUps.{AreRowsWithin, IsIncomingWithin, IsItemWithin, IsOutgoingWithin, file_rows, files_full, in_by_no, list_in, list_issued, list_out, list_received, look_in, look_out, next_file, next_item, next_response, out_by_no, rows_of};
+ghost use Rattle.oftp_register.specs.LookUps.{AreRowsWithin, IsIncomingWithin, IsItemWithin, IsOutgoingWithin, file_rows, files_full, in_by_no, list_in, list_issued, list_out, list_received, look_in, look_out, next_file, next_item, next_response, out_by_no, rows_of, units_of};
 ghost use Rattle.oftp_register.specs.Lists.{IsPlace, Makes, header_of, incoming_of, issued_of, newly_started, outgoing_of, received_of, register_in, to_send};
 
 use super::incoming::{Header, IncomingFile};
 use super::outgoing::OutgoingFile;
+use super::units::count_units;
 use crate::change::{Cause, Change};
 use crate::entries::{
     Cursor, IncomingEntry, IssuedEntry, IssuedResponse, Item, OutgoingEntry, ReceivedEntry,
@@ -635,6 +636,15 @@ impl Lists {
         ensures within { IfOk result (AreRowsWithin from most) }
     {
         copy_of(self.alloc, part_of(self.file_rows(side, no), from, most))
+    }
+
+    // How many octets the rows of a file have.
+    pub(crate) fn units_of(&self, side: Side, no: u64) -> u64
+        requires { IsSound (register_in self.now) }
+        ensures value { result ≡ units_of (register_in self.now) side no }
+        ensures within { result ≤ 16384000000 }
+    {
+        count_units(self.file_rows(side, no))
     }
 
     // All incoming files.

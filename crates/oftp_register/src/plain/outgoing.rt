@@ -8,7 +8,6 @@ ghost use Rattle.oftp_register.specs.Changes.{closing, handed, marked, refused, 
 ghost use Rattle.oftp_register.specs.Lists.{Makes, is_on_its_way_to, outgoing_of, to_send};
 
 use super::incoming::Header;
-use super::units::units_of;
 use crate::change::Cause;
 use crate::entries::OutgoingEntry;
 use crate::entry::{Identity, OutgoingState, ResponseKind};
@@ -141,7 +140,6 @@ impl OutgoingFile {
             longest: self.longest,
             description: self.description.again(alloc)?,
             rows: self.rows.len() as u64,
-            units: units_of(&self.rows),
             mark: self.mark,
             state: self.state,
         })
