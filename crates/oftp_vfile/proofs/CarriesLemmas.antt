@@ -190,7 +190,7 @@ pub short-right : (xs ys : List Subrecord) → AreShort (xs ++ ys) → AreShort 
 short-right [] ys h = h
 short-right (x ∷ xs) ys h = short-right xs ys h.1
 
-allowed_short : (t : Taking) (ss : List Subrecord) → AreAllowed t ss → AreShort ss
+pub allowed_short : (t : Taking) (ss : List Subrecord) → AreAllowed t ss → AreShort ss
 allowed_short t [] a = tt
 allowed_short t (s ∷ ss) a = (a.0.0, allowed_short (added t s) ss a.1)
 

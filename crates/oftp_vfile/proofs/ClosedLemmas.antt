@@ -15,7 +15,7 @@ use Rattle.oftp_vfile.proofs.CarriesLemmas.{carried-joined, octets_in-push}
 use Rattle.oftp_vfile.proofs.LocalLemmas.{blocks_push, full_are_blocks}
 
 -- the octets of a closed file
-octets_in-closed : (rows : List (List ℕ)) (tail : List ℕ) → octets_in (closed rows tail) ≡ octets_in rows ++ tail
+pub octets_in-closed : (rows : List (List ℕ)) (tail : List ℕ) → octets_in (closed rows tail) ≡ octets_in rows ++ tail
 octets_in-closed rows [] = sym (append-nil (octets_in rows))
 octets_in-closed rows (x ∷ xs) = octets_in-push rows (x ∷ xs)
 
@@ -46,7 +46,7 @@ last_ended s (t ∷ ss) o =
     let both : (b : Bool) → P b = λ b. elim b as P [ true ↦ (s.octets, r.0 ∷ r.1, ap (λ (x : List (List ℕ)). s.octets ∷ x) r.2) | false ↦ (s.octets ++ r.0, r.1, ap (onto s.octets) r.2) ] in
     both s.ends
 
-ended_piece : (ss : List Subrecord) (rows : List (List ℕ)) (tail : List ℕ) → is_open (stage_of ss) ≡ false → pieces ss ≡ rows ++ tail ∷ [] → tail ≡ []
+pub ended_piece : (ss : List Subrecord) (rows : List (List ℕ)) (tail : List ℕ) → is_open (stage_of ss) ≡ false → pieces ss ≡ rows ++ tail ∷ [] → tail ≡ []
 ended_piece [] rows tail o e = sym ((same_from_push [] rows [] tail e).1)
 ended_piece (s ∷ ss) rows tail o e = let r = last_ended s ss o in sym ((same_from_push (r.0 ∷ r.1) rows [] tail (sym r.2 ∙ e)).1)
 

@@ -126,7 +126,7 @@ fills_last size records (ss ∷ ts ∷ rest) p h =
     (stage_of-append ss (flat (ts ∷ rest)) k.1 ∙ k.0, omega (arith, length-append ss (flat (ts ∷ rest)), k.1))
 
 -- the rows of a stream in blocks
-rows_blocks : (rows : List (List ℕ)) → AreBlocks 1024 rows → (found : List (List ℕ)) × (tail : List ℕ) × InBlocks (octets_in rows) found tail × (closed found tail ≡ rows)
+pub rows_blocks : (rows : List (List ℕ)) → AreBlocks 1024 rows → (found : List (List ℕ)) × (tail : List ℕ) × InBlocks (octets_in rows) found tail × (closed found tail ≡ rows)
 rows_blocks [] a = ([], [], record { joined = refl; full = All-nil (λ (r : List ℕ). length r ≡ 1024); rest = omega arith }, refl)
 rows_blocks (r ∷ []) a =
     elim (cases_lt (length r) 1024) [
@@ -199,7 +199,8 @@ decode_all (x ∷ xs) (y ∷ ys) h k e =
     let same : y ≡ x = d.1 ∙ ap (λ (z : List Subrecord). x ++ z) (nothing_more d.0 d.2) ∙ append-nil x in
     ap (λ (z : List Subrecord). z ++ flat xs) (sym same) ∙ ap (λ (z : List Subrecord). y ++ z) (decode_all xs ys (short-right x (flat xs) h) (short-right y (flat ys) k) tl)
 
-one_full_blocks : (rows rows' : List (List ℕ)) (tail tail' : List ℕ) → All (λ (r : List ℕ). length r ≡ 1024) rows → All (λ (r : List ℕ). length r ≡ 1024) rows' → length tail < 1024 → length tail' < 1024 → octets_in rows ++ tail ≡ octets_in rows' ++ tail' → (rows ≡ rows') × (tail ≡ tail')
+-- octets are cut in blocks in one way
+pub one_full_blocks : (rows rows' : List (List ℕ)) (tail tail' : List ℕ) → All (λ (r : List ℕ). length r ≡ 1024) rows → All (λ (r : List ℕ). length r ≡ 1024) rows' → length tail < 1024 → length tail' < 1024 → octets_in rows ++ tail ≡ octets_in rows' ++ tail' → (rows ≡ rows') × (tail ≡ tail')
 one_full_blocks [] [] tail tail' a b h k e = (refl, e)
 one_full_blocks [] (r ∷ rs) tail tail' a b h k e = absurd (let n : length r ≡ 1024 = b 0 [] (omega arith) in omega (arith, ap length e, n, length-append (r ++ octets_in rs) tail', length-append r (octets_in rs)))
 one_full_blocks (r ∷ rs) [] tail tail' a b h k e = absurd (let n : length r ≡ 1024 = a 0 [] (omega arith) in omega (arith, ap length e, n, length-append (r ++ octets_in rs) tail, length-append r (octets_in rs)))

@@ -2,10 +2,11 @@ use Rattle.std.specs.Prelude.{◌≡◌, ℕ, false, List, ◌++◌, ◌+◌, �
 use Rattle.oftp_vfile.specs.declared.format.Format.{Format}
 use Rattle.oftp_vfile.specs.declared.format.Stage.{Stage}
 use Rattle.oftp_vfile.specs.declared.format.TakeFault.{TakeFault}
-use Rattle.oftp_vfile.specs.VirtualFile.{is_stream, AreRows, IsLongest, closed, records_in, units_in}
+use Rattle.oftp_vfile.specs.VirtualFile.{is_stream, AreRows, IsLongest, closed, records_in, units_in, Begins}
 use Rattle.oftp_vfile.specs.Subrecord.{Subrecord, payload_of}
 use Rattle.oftp_vfile.specs.Carries.{Carries, CarriesWhole, is_open}
 use Rattle.oftp_vfile.specs.Taking.{Taking, Took, CarriesWithin, FirstFault, counts_of}
+use Rattle.oftp_vfile.specs.Reading.{taken, shed, shed_in}
 use Rattle.oftp_vfile.specs.Fill.{Fills, fill_from, weight, fill, payloads_of, wholly_sent}
 use Rattle.oftp_vfile.specs.Filling.{Filling, AreLent, IsInRows, Sent}
 use Rattle.oftp_vfile.specs.LocalForm.{IsLocal}
@@ -81,3 +82,24 @@ OneFault = (t : Taking) (payload : List ℕ) (f g : TakeFault) → FirstFault t 
 abbrev pub OneFile : Type 0
 OneFile = (format : Format) (longest : ℕ) (content : List ℕ) (rows rows' : List (List ℕ)) → IsLongest format longest
     → IsLocal format longest content rows → IsLocal format longest content rows' → rows ≡ rows'
+
+-- what a part of a file's payloads carries, cut anywhere, begins the rows of the file
+abbrev pub PartBegins : Type 0
+PartBegins = (format : Format) (longest : ℕ) (file payloads next rows : List (List ℕ)) (tail : List ℕ) (stage : Stage)
+    → CarriesWhole format longest (payloads ++ next) file → Carries format longest payloads rows tail stage → Begins file rows
+
+-- what the first payloads of a file carry, as the filling rule makes them, begins its rows
+abbrev pub CarriedBegins : Type 0
+CarriedBegins = (format : Format) (longest size : ℕ) (file payloads next rows : List (List ℕ)) (tail : List ℕ) (stage : Stage)
+    → 2 ≤ size → AreRows format longest file → payloads ++ next ≡ payloads_of format size file
+    → Carries format longest payloads rows tail stage → Begins file rows
+
+-- a part of a file's payloads that is closed, and has the counts of the file, carries all of it
+abbrev pub PartCloses : Type 0
+PartCloses = (format : Format) (longest : ℕ) (file payloads next rows : List (List ℕ)) (tail : List ℕ) (stage : Stage)
+    → CarriesWhole format longest (payloads ++ next) file → Carries format longest payloads rows tail stage → is_open stage ≡ false
+    → records_in format rows ≡ records_in format file → units_in (closed rows tail) ≡ units_in file → closed rows tail ≡ file
+
+-- a taker without its first rows takes and refuses what the whole one does
+abbrev pub ShedTaken : Type 0
+ShedTaken = (k : ℕ) (t : Taking) (payload : List ℕ) → k ≤ length t.rows → taken (shed k t) payload ≡ shed_in k (taken t payload)

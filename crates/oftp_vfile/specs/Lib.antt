@@ -3,6 +3,7 @@ pub mod Growth
 pub mod Subrecord
 pub mod Carries
 pub mod Taking
+pub mod Reading
 pub mod Fill
 pub mod Filling
 pub mod Packing

@@ -53,3 +53,7 @@ AreRows Text longest rows = AreBlocks 1024 rows
 abbrev pub closed : List (List ℕ) → List ℕ → List (List ℕ)
 closed rows [] = rows
 closed rows (x ∷ xs) = rows ++ (x ∷ xs) ∷ []
+
+-- these rows begin a list
+abbrev pub Begins : List (List ℕ) → List (List ℕ) → Type 0
+Begins all first = (more : List (List ℕ)) × (all ≡ first ++ more)

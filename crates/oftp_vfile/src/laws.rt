@@ -1,5 +1,5 @@
 //! Laws of the definitions, as contracts of functions that do nothing.
-ghost use Rattle.oftp_vfile.specs.Laws.{ClosedIsFile, CountsAreFile, FillFits, FillIsOne, FillIsTaken, FillIsWhole, LendsRows, MarkIsSent, OneFault, OneFile, OneReading, RowsFrom, TookIsWithin, WhollySent};
+ghost use Rattle.oftp_vfile.specs.Laws.{CarriedBegins, ClosedIsFile, CountsAreFile, FillFits, FillIsOne, FillIsTaken, FillIsWhole, LendsRows, MarkIsSent, OneFault, OneFile, OneReading, PartBegins, PartCloses, RowsFrom, ShedTaken, TookIsWithin, WhollySent};
 
 /// There is one list of payloads that follows the filling rule.
 pub fn fill_is_one()
@@ -69,4 +69,24 @@ pub fn one_fault()
 /// A content is the local form of one file only.
 pub fn one_file()
     ensures { OneFile }
+{}
+
+/// What a part of a file's payloads carries, cut anywhere, begins its rows.
+pub fn part_begins()
+    ensures { PartBegins }
+{}
+
+/// What the first payloads of a file carry begins its rows.
+pub fn carried_begins()
+    ensures { CarriedBegins }
+{}
+
+/// A part of a file's payloads that is closed, and has the counts of the file, carries all of it.
+pub fn part_closes()
+    ensures { PartCloses }
+{}
+
+/// A taker from which rows were taken away takes and refuses what the whole one does.
+pub fn shed_taken()
+    ensures { ShedTaken }
 {}

@@ -1,14 +1,16 @@
 //! Payloads in, rows out.
-ghost use Rattle.std.specs.Prelude.{◌≡◌, ◌+◌, ◌<◌, ◌≤◌, ◌^◌, ◌++◌, ◌∷◌, [], ◌⊎◌, ℕ, List, length, OnOk, OnErr, IfErr, false, Some};
+ghost use Rattle.std.specs.Prelude.{◌≡◌, ◌+◌, ◌<◌, ◌≤◌, ◌^◌, ◌++◌, ◌∷◌, [], ◌⊎◌, ℕ, List, length, Ok, Err, OnOk, OnErr, IfOk, IfErr, false, Some};
 ghost use Rattle.oftp_vfile.specs.Subrecord.{Subrecord};
 ghost use Rattle.oftp_vfile.specs.Carries.{is_open};
+ghost use Rattle.oftp_vfile.specs.VirtualFile.{closed};
+ghost use Rattle.oftp_vfile.specs.Reading.{taken};
 ghost use Rattle.oftp_vfile.specs.Taking.{Taking, CarriesWithin, FirstFault, IsSameFile, Took, Walked, added, counts_of, fault_at, fault_of, is_ended, is_too_big, is_wrong_size, new_taking};
 
-use crate::content::Row;
+use crate::content::{Row, Rows};
 use crate::format::{BLOCK, Format, Limits, MOST_ROWS, Stage, TakeFault};
 use crate::growth::{add_to_record, add_to_stream, back_to};
 use crate::header::{count_in, has_compression, has_end};
-use std::alloc::Global;
+use std::alloc::{AllocError, Global};
 use std::marker::Model;
 use std::mem;
 
@@ -129,6 +131,12 @@ impl Taker {
         ensures fault { IfErr result (λ f.
             (f ≡ TakeFault.Memory) ⊎ FirstFault self.old payload.now f) }
         ensures same_file { IsSameFile self.old self.new }
+
+        // What the taker is afterwards, and what it answers, follow from what it was.
+        ensures value { OnOk result (taken self.old payload.now ≡ Ok self.new) }
+        ensures refused { IfErr result (λ f.
+            (f ≡ TakeFault.Memory) ⊎ (taken self.old payload.now ≡ Err f)) }
+        ensures walked { OnOk result (Walked self.old self.new payload.now []) }
         ensures err { OnErr result (self.new ≡ self.old) }
     {
         let row_count = self.rows.len();
@@ -195,6 +203,19 @@ impl Taker {
             self.kept_rows + self.away + self.rows.len() as u64
         };
         (records, self.kept_units + self.units)
+    }
+
+    /// The rows of the file that weren't taken away, with the open tail as the last where it isn't
+    /// empty, without a copy: so ends a stream. A record that is open would be cut, so ask `is_open`
+    /// first. A want of memory gives the rows up.
+    pub fn close(self) -> Result<Rows, AllocError>
+        ensures rows { IfOk result (λ rows. rows ≡ closed self.rows self.tail) }
+    {
+        let Taker { mut rows, tail, .. } = self;
+        if !tail.is_empty() {
+            rows.push(Row::new(tail))?;
+        }
+        Ok(Rows::new(rows))
     }
 
     /// Takes one subrecord after another, up to the first that is faulty.

@@ -2,6 +2,7 @@ use Rattle.std.proofs.Common.{inl, inr, ℕ, List, length, ◌<◌, sym, subst, 
 use Rattle.oftp_vfile.specs.VirtualFile.{is_stream}
 use Rattle.oftp_vfile.proofs.TakingLemmas.{put_back}
 use Rattle.oftp_vfile.proofs.CarriesLemmas.{took_walked, walked_same, no_first_fault}
+use Rattle.oftp_vfile.proofs.ReadingLemmas.{walk_taken, fault_taken}
 use Rattle.oftp_vfile.proofs.taking.Taker.take.Goals as goal
 
 pub invariant_of-self : goal.invariant_of-self
@@ -37,3 +38,11 @@ returns-in-Err-clause-same_file c =
     let w = walked_same _ _ _ _ c.in-Err.ensures.err.1 in
     let v = c.self-2.view_is in
     (ap (λ x. x.format) v ∙ w.0, ap (λ x. x.longest) v ∙ w.1, ap (λ x. x.limit) v ∙ w.2, ap (λ x. x.kept_rows) v ∙ w.3, ap (λ x. x.kept_units) v ∙ w.4, ap (λ x. x.away) v ∙ w.5)
+
+pub returns-in-Ok-clause-value : goal.returns-in-Ok-clause-value
+returns-in-Ok-clause-value c = walk_taken _ _ _ c.in-Ok.ensures.ok
+
+pub returns-in-Err-clause-refused : goal.returns-in-Err-clause-refused
+returns-in-Err-clause-refused c =
+    let e = c.in-Err.ensures.err in
+    elim e.2 [ inl m ↦ inl m | inr f ↦ inr (fault_taken c.args.self.now c.args.payload.now c.in-Err.fault (c.walk.new.self, e.0, e.1, f)) ]
