@@ -6,4 +6,5 @@ pub mod Speaker
 pub mod Steps
 pub mod Standings
 pub mod Calls
+pub mod Agreements
 pub mod Responses

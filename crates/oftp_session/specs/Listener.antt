@@ -6,15 +6,15 @@ use Rattle.oftp_wire.specs.declared.command.Nerp.{Nerp}
 use Rattle.oftp_wire.specs.declared.command.Command.{Command}
 use Rattle.oftp_wire.specs.declared.command.Command.TheVariants as command
 use Rattle.oftp_wire.specs.declared.reason.SessionReason.TheVariants.{InvalidData}
-use Rattle.oftp_partners.specs.declared.partner.Partner.{Partner}
 use Rattle.oftp_register.specs.declared.change.Change.{Change}
 use Rattle.oftp_register.specs.declared.change.Change.TheVariants.{File}
 use Rattle.oftp_register.specs.declared.entry.Identity.{Identity}
 use Rattle.oftp_register.specs.declared.entry.ResponseKind.TheVariants.{EndResponse, NegativeEndResponse}
 use Rattle.oftp_register.specs.Register.{Register, Received, has_received}
 use Rattle.oftp_session.specs.declared.link.WhenDone.TheVariants.{EndSession}
+use Rattle.oftp_session.specs.declared.state.Contact.{Contact}
 use Rattle.oftp_session.specs.Settings.{Setting}
-use Rattle.oftp_session.specs.Phases.{Contact, ListenerIdle, SpeakerIdle, Step, quiet, answers, fails, unexpected}
+use Rattle.oftp_session.specs.Phases.{ListenerIdle, SpeakerIdle, Step, quiet, answers, fails, unexpected}
 
 -- an end response as it is filed. It answers a file that went from the response's destination to its originator
 abbrev pub end_response : Eerp → Received
@@ -41,8 +41,8 @@ abbrev pub file_of : Received → Change
 file_of r = File r.kind r.identity r.reason r.creator r.text
 
 -- the answered file went from the station to the partner
-abbrev pub is_between : Setting → Partner → Identity → Bool
-is_between setting partner file = bytes_eq file.originator setting.book.station.code && bytes_eq file.destination partner.code
+abbrev pub is_between : Setting → Contact → Identity → Bool
+is_between setting contact file = bytes_eq file.originator setting.book.station.code && bytes_eq file.destination contact.code
 
 -- a response is filed where it is new
 abbrev pub filing : Register → Received → Option Change
@@ -50,7 +50,7 @@ filing r response = if has_received r response.kind response.identity then None 
 
 -- a response is filed, if it is new, and answered
 unfoldable pub response_step : Setting → Contact → Register → Received → Step
-response_step setting contact r response = if is_between setting contact.partner response.identity
+response_step setting contact r response = if is_between setting contact response.identity
     then answers (ListenerIdle contact) (filing r response) command.Rtr
     else fails InvalidData
 

@@ -7,13 +7,14 @@ use Rattle.oftp_wire.specs.declared.command.Mode.TheVariants.{Send, Receive, Bot
 use Rattle.oftp_wire.specs.declared.command.Command.{Command}
 use Rattle.oftp_wire.specs.declared.command.Command.TheVariants as command
 use Rattle.oftp_wire.specs.declared.reason.SessionReason.{SessionReason}
-use Rattle.oftp_wire.specs.declared.reason.SessionReason.TheVariants.{UserCodeNotKnown, InvalidPassword, InvalidData, ModeIncompatible, AuthenticationIncompatible}
+use Rattle.oftp_wire.specs.declared.reason.SessionReason.TheVariants.{ProtocolViolation, UserCodeNotKnown, InvalidPassword, InvalidData, ModeIncompatible, AuthenticationIncompatible}
 use Rattle.oftp_partners.specs.Book.{BookData, partner_at}
 use Rattle.oftp_partners.specs.declared.partner.Partner.{Partner}
 use Rattle.oftp_session.specs.declared.link.Link.{Link}
 use Rattle.oftp_session.specs.declared.link.WhenDone.TheVariants.{ChangeDirection}
+use Rattle.oftp_session.specs.declared.state.Contact.{Contact}
 use Rattle.oftp_session.specs.Settings.{Setting}
-use Rattle.oftp_session.specs.Phases.{AwaitingSsid, Contact, ListenerIdle, SpeakerIdle, Step, quiet, says, fails, unexpected}
+use Rattle.oftp_session.specs.Phases.{AwaitingSsid, ListenerIdle, SpeakerIdle, Step, quiet, says, fails, unexpected}
 
 -- whether a station in one mode sends what the other receives
 abbrev pub flows : Mode → Mode → Bool
@@ -56,22 +57,23 @@ partner_for setting code = called_as code setting.book.partners setting.called
 abbrev pub is_initiator : Setting → Bool
 is_initiator setting = is_some setting.called
 
--- an open session, in which nothing was tried yet
-abbrev pub first_contact : BookData → Partner → Ssid → Contact
-first_contact book partner ssid = record { partner = partner; link = agreed book partner ssid; tried = record { response = 0; file = 0 } }
+-- the partner of a session and what is agreed with it
+pub record Agreement : Type 0 where
+  pub partner : Partner
+  pub link : Link
 
 -- what is agreed once the code is looked up: the tests after the code, in their order
-abbrev pub agreement : Setting → Ssid → Option Partner → Result Contact SessionReason
+abbrev pub agreement : Setting → Ssid → Option Partner → Result Agreement SessionReason
 agreement setting ssid None = Err UserCodeNotKnown
 agreement setting ssid (Some partner) =
     if not (bytes_eq ssid.password partner.expects) then Err InvalidPassword else (
     if is_initiator setting && (ssid.compression || ssid.special_logic) then Err ModeIncompatible else (
     if is_opposed partner.mode ssid.mode then Err ModeIncompatible else (
     if ssid.authentication then Err AuthenticationIncompatible else
-    Ok (first_contact setting.book partner ssid))))
+    Ok (record { partner = partner; link = agreed setting.book partner ssid }))))
 
 -- what is agreed with a partner who sends this SSID, or why the session ends: the first test that fails
-unfoldable pub ssid_verdict : Setting → Ssid → Result Contact SessionReason
+unfoldable pub ssid_verdict : Setting → Ssid → Result Agreement SessionReason
 ssid_verdict setting ssid =
     if not (ssid.level == 5) then Err ModeIncompatible else (
     if nat_lt ssid.buffer 128 || ssid.credit == 0 then Err InvalidData else
@@ -100,28 +102,37 @@ ssid_with book partner buffer credit restart mode = record {
 }
 
 -- the responder's SSID: what was agreed
-abbrev pub answering_ssid : BookData → Mode → Contact → Ssid
-answering_ssid book letter c =
-    ssid_with book c.partner c.link.buffer c.link.credit c.link.restart (answered_mode c.partner.mode letter)
+abbrev pub answering_ssid : BookData → Mode → Agreement → Ssid
+answering_ssid book letter a =
+    ssid_with book a.partner a.link.buffer a.link.credit a.link.restart (answered_mode a.partner.mode letter)
 
 -- the initiator's SSID: its own offers
 abbrev pub calling_ssid : BookData → Partner → Ssid
 calling_ssid book partner =
     ssid_with book partner book.station.buffer book.station.credit book.station.restart partner.mode
 
--- a responder answers and listens; an initiator speaks
-abbrev pub open_step : Setting → Mode → Contact → Option Partner → Step
-open_step setting letter contact None = says (ListenerIdle contact) (command.Ssid (answering_ssid setting.book letter contact))
-open_step setting letter contact (Some partner) = quiet (SpeakerIdle contact ChangeDirection)
+-- an open session, in which nothing was tried yet
+abbrev pub contact_of : Agreement → Contact
+contact_of a = record { code = a.partner.code; link = a.link; tried = record { response = 0; file = 0 } }
 
-abbrev pub opened_step : Setting → Mode → Result Contact SessionReason → Step
-opened_step setting letter (Ok contact) = open_step setting letter contact setting.called
+-- a responder answers and listens; an initiator speaks
+abbrev pub open_step : Setting → Mode → Agreement → Option Partner → Step
+open_step setting letter a None = says (ListenerIdle (contact_of a)) (command.Ssid (answering_ssid setting.book letter a))
+open_step setting letter a (Some partner) = quiet (SpeakerIdle (contact_of a) ChangeDirection)
+
+abbrev pub opened_step : Setting → Mode → Result Agreement SessionReason → Step
+opened_step setting letter (Ok a) = open_step setting letter a setting.called
 opened_step setting letter (Err reason) = fails reason
 
+-- an initiator offers the session to the partner that it calls
+abbrev pub offer_step : Setting → Option Partner → Step
+offer_step setting (Some partner) = says AwaitingSsid (command.Ssid (calling_ssid setting.book partner))
+offer_step setting None = fails ProtocolViolation
+
 -- what comes where the called partner's ready message is awaited
-unfoldable pub came_initiator_opening : Setting → Partner → Command → Step
-came_initiator_opening setting partner command.Ssrm = says AwaitingSsid (command.Ssid (calling_ssid setting.book partner))
-came_initiator_opening setting partner other = unexpected other
+unfoldable pub came_initiator_opening : Setting → Command → Step
+came_initiator_opening setting command.Ssrm = offer_step setting setting.called
+came_initiator_opening setting other = unexpected other
 
 -- what comes where the partner's SSID is awaited
 unfoldable pub came_awaiting_ssid : Setting → Command → Step

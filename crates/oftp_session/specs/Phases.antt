@@ -8,26 +8,18 @@ use Rattle.oftp_wire.specs.declared.command.Command.{Command}
 use Rattle.oftp_wire.specs.declared.command.Command.TheVariants as command
 use Rattle.oftp_wire.specs.declared.reason.SessionReason.{SessionReason}
 use Rattle.oftp_wire.specs.declared.reason.SessionReason.TheVariants.{ProtocolViolation}
-use Rattle.oftp_partners.specs.declared.partner.Partner.{Partner}
 use Rattle.oftp_register.specs.declared.change.Change.{Change}
-use Rattle.oftp_register.specs.declared.entries.Cursor.{Cursor}
 use Rattle.oftp_register.specs.Register.{Register}
 use Rattle.oftp_register.specs.Changes.{apply}
-use Rattle.oftp_session.specs.declared.link.Link.{Link}
 use Rattle.oftp_session.specs.declared.link.WhenDone.{WhenDone}
+use Rattle.oftp_session.specs.declared.state.Contact.{Contact}
 use Rattle.oftp_session.specs.declared.session.Ending.{Ending}
 use Rattle.oftp_session.specs.declared.session.Ending.TheVariants as ended
-
--- the partner of an open session, what is agreed with it, and up to which numbers responses and files were tried
-pub record Contact : Type 0 where
-  pub partner : Partner
-  pub link : Link
-  pub tried : Cursor
 
 -- where a session stands (RFC 5024, section 9)
 pub data Phase : Type 0 where
   ResponderOpening : Phase
-  InitiatorOpening : (partner : Partner) → Phase
+  InitiatorOpening : Phase
   AwaitingSsid : Phase
   ListenerIdle : (contact : Contact) → Phase
   SpeakerIdle : (contact : Contact) (done : WhenDone) → Phase
@@ -37,7 +29,7 @@ pub data Phase : Type 0 where
 -- how a session ended, if it did
 abbrev pub ending_of : Phase → Option Ending
 ending_of ResponderOpening = None
-ending_of (InitiatorOpening partner) = None
+ending_of InitiatorOpening = None
 ending_of AwaitingSsid = None
 ending_of (ListenerIdle contact) = None
 ending_of (SpeakerIdle contact done) = None

@@ -3,7 +3,8 @@ use Rattle.oftp_wire.specs.declared.command.Command.TheVariants as command
 use Rattle.oftp_wire.specs.declared.reason.SessionReason.TheVariants.{Normal}
 use Rattle.oftp_session.specs.declared.link.WhenDone.{WhenDone}
 use Rattle.oftp_session.specs.declared.link.WhenDone.TheVariants.{ChangeDirection, EndSession}
-use Rattle.oftp_session.specs.Phases.{Contact, ListenerIdle, Step, says, fails}
+use Rattle.oftp_session.specs.declared.state.Contact.{Contact}
+use Rattle.oftp_session.specs.Phases.{ListenerIdle, Step, says, fails}
 
 -- nothing is next: the partner may speak, or the session ends
 abbrev pub nothing_next : Contact → WhenDone → Step

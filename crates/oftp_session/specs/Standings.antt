@@ -1,10 +1,9 @@
 -- Where a session stands, as contracts see it: in a phase, or broken off.
-use Rattle.std.specs.Prelude.{◌≡◌, ℕ, nat_lt, Bool, true, false, Option, None, Some, is_some}
+use Rattle.std.specs.Prelude.{◌≡◌, ℕ, nat_lt, Bool, true, Option, None}
 use Rattle.oftp_session.specs.declared.session.Ending.{Ending}
-use Rattle.oftp_session.specs.declared.state.Contact.{Contact as Held}
 use Rattle.oftp_session.specs.declared.state.State.{State}
 use Rattle.oftp_session.specs.declared.state.State.TheVariants as state
-use Rattle.oftp_session.specs.Phases.{Contact, Phase, ResponderOpening, InitiatorOpening, AwaitingSsid, ListenerIdle, SpeakerIdle, EndedHere, EndedThere, ending_of, is_over}
+use Rattle.oftp_session.specs.Phases.{Phase, ResponderOpening, InitiatorOpening, AwaitingSsid, ListenerIdle, SpeakerIdle, EndedHere, EndedThere, ending_of, is_over}
 use Rattle.oftp_session.specs.Steps.{turns_due}
 
 -- a session is in a phase, or a fault of the office or of memory broke it off
@@ -16,17 +15,13 @@ pub data Standing : Type 0 where
 abbrev pub StandsIn : Phase → Standing → Type 0
 StandsIn p s = s ≡ At p
 
--- a contact, without where its partner lies in memory
-abbrev pub contact_of : Held → Contact
-contact_of c = record { partner = c.partner.now; link = c.link; tried = c.tried }
-
 -- what the code holds, as where the session stands
 abbrev pub standing_of : State → Standing
 standing_of state.ResponderOpening = At ResponderOpening
-standing_of (state.InitiatorOpening partner) = At (InitiatorOpening partner.now)
+standing_of state.InitiatorOpening = At InitiatorOpening
 standing_of state.AwaitingSsid = At AwaitingSsid
-standing_of (state.ListenerIdle contact) = At (ListenerIdle (contact_of contact))
-standing_of (state.SpeakerIdle contact done) = At (SpeakerIdle (contact_of contact) done)
+standing_of (state.ListenerIdle contact) = At (ListenerIdle contact)
+standing_of (state.SpeakerIdle contact done) = At (SpeakerIdle contact done)
 standing_of (state.EndedHere reason) = At (EndedHere reason)
 standing_of (state.EndedThere reason) = At (EndedThere reason)
 standing_of state.Broken = Broken

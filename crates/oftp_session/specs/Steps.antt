@@ -14,12 +14,12 @@ use Rattle.oftp_session.specs.Speaker.{nothing_next}
 -- where a session begins: a responder greets, and an initiator waits for that
 abbrev pub opening : Option Partner → Phase
 opening None = ResponderOpening
-opening (Some partner) = InitiatorOpening partner
+opening (Some partner) = InitiatorOpening
 
 -- how many own commands may follow one another, and whether one is due
 abbrev pub turns_due : Phase → ℕ
 turns_due ResponderOpening = 1
-turns_due (InitiatorOpening partner) = 0
+turns_due InitiatorOpening = 0
 turns_due AwaitingSsid = 0
 turns_due (ListenerIdle contact) = 0
 turns_due (SpeakerIdle contact done) = 1
@@ -32,7 +32,7 @@ has_turn p = nat_lt 0 (turns_due p)
 -- the own command that is due, or nothing
 unfoldable pub turned : Setting → Phase → Register → Step
 turned setting ResponderOpening r = says AwaitingSsid Ssrm
-turned setting (InitiatorOpening partner) r = quiet (InitiatorOpening partner)
+turned setting InitiatorOpening r = quiet InitiatorOpening
 turned setting AwaitingSsid r = quiet AwaitingSsid
 turned setting (ListenerIdle contact) r = quiet (ListenerIdle contact)
 turned setting (SpeakerIdle contact done) r = nothing_next contact done
@@ -42,7 +42,7 @@ turned setting (EndedThere reason) r = quiet (EndedThere reason)
 -- what a command that comes makes of each phase
 unfoldable pub came : Setting → Phase → Register → Command → Step
 came setting ResponderOpening r command = unexpected command
-came setting (InitiatorOpening partner) r command = came_initiator_opening setting partner command
+came setting InitiatorOpening r command = came_initiator_opening setting command
 came setting AwaitingSsid r command = came_awaiting_ssid setting command
 came setting (ListenerIdle contact) r command = came_listener_idle setting contact r command
 came setting (SpeakerIdle contact done) r command = unexpected command
@@ -52,7 +52,7 @@ came setting (EndedThere reason) r command = quiet (EndedThere reason)
 -- what a phase says of the register
 abbrev pub Holds : Phase → Register → Type 0
 Holds ResponderOpening r = ⊤
-Holds (InitiatorOpening partner) r = ⊤
+Holds InitiatorOpening r = ⊤
 Holds AwaitingSsid r = ⊤
 Holds (ListenerIdle contact) r = ⊤
 Holds (SpeakerIdle contact done) r = ⊤
