@@ -1,3 +1,4 @@
+-- What a taker takes carries its rows, and what carries rows within the limits has no fault.
 use Rattle.std.proofs.Common.{◌≡◌, ◌≢◌, ℕ, suc, ◌+◌, ◌*◌, ◌/◌, ◌%◌, ◌<◌, ◌≤◌, Bool, true, false, cond, nat_le, eqb, ◌&&◌, Some, None, List, [], ◌∷◌, ◌++◌, length, get_or, take, drop, map, refl, sym, ap, ◌∙◌, subst, arith, append_assoc, All, not}
 use Rattle.std.specs.List.{flat_map}
 use Rattle.std.proofs.lemmas.Bool.{eq-eqb, eqb-true, leb-false, leb-true, le-leb, le-ltb, lt-leb, ltb-false, false≢true, not-false, not_from_true, or_from, or_parts}
@@ -11,7 +12,7 @@ use Rattle.oftp_vfile.specs.declared.format.Stage.TheVariants.{Fresh, Open, Ende
 use Rattle.oftp_vfile.specs.declared.format.TakeFault.{TakeFault}
 use Rattle.oftp_vfile.specs.Growth.{stream_rows, stream_tail}
 use Rattle.oftp_vfile.specs.Subrecord.{Subrecord, header, payload_of, octets_of, AreShort}
-use Rattle.oftp_vfile.specs.Taking.{Taking, is_ended, added, added_all, new_rows, is_too_big, is_wrong_size, fault_at, fault_of, IsAllowed, AreAllowed, Walked, FirstFault, new_taking, CarriesWithin, IsSameFile, Holds, Took}
+use Rattle.oftp_vfile.specs.Taking.{Taking, is_ended, added, added_all, new_rows, is_too_big, is_wrong_size, fault_at, fault_in, IsAllowed, AreAllowed, Walked, FirstFault, new_taking, CarriesWithin, IsSameFile, HasTaken, Took}
 use Rattle.oftp_vfile.specs.VirtualFile.{is_stream, octets_in}
 use Rattle.oftp_vfile.specs.Carries.{onto, pieces, IsStream, InBlocks, Carried, stage_of}
 use Rattle.oftp_vfile.proofs.TakingLemmas.{NoFault, last_of, no_fault, fault_none, not_too_big, added-rows_few, restored, restored-all}
@@ -28,14 +29,16 @@ some_piece (s ∷ ss) =
 abbrev Joins : List (List ℕ) → List (List ℕ) → List ℕ → List (List ℕ) → Type 0
 Joins xs xys p ps = (rows : List (List ℕ)) (tail : List ℕ) → xs ≡ rows ++ tail ∷ [] → xys ≡ rows ++ (tail ++ p) ∷ ps
 
-joins_ended : (octets : List ℕ) (xs xys : List (List ℕ)) (p : List ℕ) (ps : List (List ℕ)) → (q : List ℕ) (qs : List (List ℕ)) → xs ≡ q ∷ qs → Joins xs xys p ps → Joins (octets ∷ xs) (octets ∷ xys) p ps
+joins_ended : (octets : List ℕ) (xs xys : List (List ℕ)) (p : List ℕ) (ps : List (List ℕ)) → (q : List ℕ) (qs : List (List ℕ)) → xs ≡ q ∷ qs → Joins xs xys p ps
+    → Joins (octets ∷ xs) (octets ∷ xys) p ps
 joins_ended octets xs xys p ps q qs g ih [] tail e = absurd (let l : suc (length (q ∷ qs)) ≡ 1 = ap (λ (x : List (List ℕ)). suc (length x)) (sym g) ∙ ap length e in omega arith)
 joins_ended octets xs xys p ps q qs g ih (r ∷ rs) tail e =
     let h : octets ≡ r = cc in
     let t : xs ≡ rs ++ tail ∷ [] = cc in
     ap (λ (x : List ℕ). x ∷ xys) h ∙ ap (λ (x : List (List ℕ)). r ∷ x) (ih rs tail t)
 
-joins_open : (octets : List ℕ) (xs xys : List (List ℕ)) (p : List ℕ) (ps : List (List ℕ)) → (q : List ℕ) (qs : List (List ℕ)) → xs ≡ q ∷ qs → Joins xs xys p ps → Joins (onto octets xs) (onto octets xys) p ps
+joins_open : (octets : List ℕ) (xs xys : List (List ℕ)) (p : List ℕ) (ps : List (List ℕ)) → (q : List ℕ) (qs : List (List ℕ)) → xs ≡ q ∷ qs → Joins xs xys p ps
+    → Joins (onto octets xs) (onto octets xys) p ps
 joins_open octets xs xys p ps q qs g ih [] tail e =
     let f : (octets ++ q) ∷ qs ≡ tail ∷ [] = ap (onto octets) (sym g) ∙ e in
     let t : octets ++ q ≡ tail = cc in
@@ -49,25 +52,33 @@ joins_open octets xs xys p ps q qs g ih (r ∷ rs) tail e =
     let k : xys ≡ (q ∷ rs) ++ (tail ++ p) ∷ ps = ih (q ∷ rs) tail (g ∙ ap (λ (x : List (List ℕ)). q ∷ x) t) in
     ap (onto octets) k ∙ ap (λ (x : List ℕ). x ∷ (rs ++ (tail ++ p) ∷ ps)) h
 
--- What more subrecords add: the first of their pieces goes on from the open part.
-pub pieces_more : (xs ys : List Subrecord) (p : List ℕ) (ps : List (List ℕ)) → pieces ys ≡ p ∷ ps → (rows : List (List ℕ)) (tail : List ℕ) → pieces xs ≡ rows ++ tail ∷ [] → pieces (xs ++ ys) ≡ rows ++ (tail ++ p) ∷ ps
+-- what more subrecords add: the first of their pieces goes on from the open part
+pub pieces_more : (xs ys : List Subrecord) (p : List ℕ) (ps : List (List ℕ)) → pieces ys ≡ p ∷ ps → (rows : List (List ℕ)) (tail : List ℕ) → pieces xs ≡ rows ++ tail ∷ []
+    → pieces (xs ++ ys) ≡ rows ++ (tail ++ p) ∷ ps
 pieces_more [] ys p ps f rows tail e =
     let same = same_from_push [] rows [] tail e in
     f ∙ ap (λ (x : List ℕ). (x ++ p) ∷ ps) same.1 ∙ ap (λ (x : List (List ℕ)). x ++ (tail ++ p) ∷ ps) same.0
 pieces_more (s ∷ xs) ys p ps f rows tail e =
     let ih = pieces_more xs ys p ps f in
     let g = some_piece xs in
-    let P : Bool → Type 0 = λ b. cond b (s.octets ∷ pieces xs) (onto s.octets (pieces xs)) ≡ rows ++ tail ∷ [] → cond b (s.octets ∷ pieces (xs ++ ys)) (onto s.octets (pieces (xs ++ ys))) ≡ rows ++ (tail ++ p) ∷ ps in
-    let both : (b : Bool) → P b = λ b. elim b as P [ true ↦ joins_ended s.octets (pieces xs) (pieces (xs ++ ys)) p ps g.0 g.1 g.2 ih rows tail | false ↦ joins_open s.octets (pieces xs) (pieces (xs ++ ys)) p ps g.0 g.1 g.2 ih rows tail ] in
+    let P : Bool → Type 0 = λ b. cond b (s.octets ∷ pieces xs) (onto s.octets (pieces xs)) ≡ rows ++ tail ∷ []
+    → cond b (s.octets ∷ pieces (xs ++ ys)) (onto s.octets (pieces (xs ++ ys))) ≡ rows ++ (tail ++ p) ∷ ps in
+    let both : (b : Bool) → P b = λ b. elim b as P [
+      | true ↦ joins_ended s.octets (pieces xs) (pieces (xs ++ ys)) p ps g.0 g.1 g.2 ih rows tail
+      | false ↦ joins_open s.octets (pieces xs) (pieces (xs ++ ys)) p ps g.0 g.1 g.2 ih rows tail
+    ] in
     both s.ends e
 
 -- one more subrecord
-pub pieces_push : (ss : List Subrecord) (s : Subrecord) (rows : List (List ℕ)) (tail : List ℕ) → pieces ss ≡ rows ++ tail ∷ [] → pieces (ss ++ s ∷ []) ≡ (cond s.ends (rows ++ (tail ++ s.octets) ∷ []) rows) ++ (cond s.ends [] (tail ++ s.octets)) ∷ []
+pub pieces_push : (ss : List Subrecord) (s : Subrecord) (rows : List (List ℕ)) (tail : List ℕ) → pieces ss ≡ rows ++ tail ∷ []
+    → pieces (ss ++ s ∷ []) ≡ (cond s.ends (rows ++ (tail ++ s.octets) ∷ []) rows) ++ (cond s.ends [] (tail ++ s.octets)) ∷ []
 pieces_push ss s rows tail e =
     let P : Bool → Type 0 = λ b. (b ≡ s.ends) → pieces (ss ++ s ∷ []) ≡ (cond b (rows ++ (tail ++ s.octets) ∷ []) rows) ++ (cond b [] (tail ++ s.octets)) ∷ [] in
     let both : (b : Bool) → P b = λ b. elim b as P [
-      | true ↦ λ t. pieces_more ss (s ∷ []) s.octets ([] ∷ []) (ap (λ (x : Bool). cond x (s.octets ∷ [] ∷ []) ((s.octets ++ []) ∷ [])) (sym t)) rows tail e ∙ sym (append_assoc rows ((tail ++ s.octets) ∷ []) ([] ∷ []))
-      | false ↦ λ t. pieces_more ss (s ∷ []) s.octets [] (ap (λ (x : Bool). cond x (s.octets ∷ [] ∷ []) ((s.octets ++ []) ∷ [])) (sym t) ∙ ap (λ (x : List ℕ). x ∷ []) (append-nil s.octets)) rows tail e
+      | true ↦ λ t. pieces_more ss (s ∷ []) s.octets ([] ∷ []) (ap (λ (x : Bool). cond x (s.octets ∷ [] ∷ []) ((s.octets ++ []) ∷ [])) (sym t)) rows tail e
+          ∙ sym (append_assoc rows ((tail ++ s.octets) ∷ []) ([] ∷ []))
+      | false ↦ λ t. pieces_more ss (s ∷ []) s.octets [] (ap (λ (x : Bool). cond x (s.octets ∷ [] ∷ []) ((s.octets ++ []) ∷ [])) (sym t)
+          ∙ ap (λ (x : List ℕ). x ∷ []) (append-nil s.octets)) rows tail e
     ] in
     both s.ends refl
 
@@ -92,7 +103,8 @@ pub octets_in-push : (rows : List (List ℕ)) (r : List ℕ) → octets_in (rows
 octets_in-push rows r = flat_map-append (λ (x : List ℕ). x) rows (r ∷ []) ∙ ap (λ (x : List ℕ). octets_in rows ++ x) (append-nil r)
 
 -- more octets in blocks
-pub blocks_more : (octets more : List ℕ) (rows : List (List ℕ)) (tail : List ℕ) → InBlocks octets rows tail → length more < 64 → InBlocks (octets ++ more) (stream_rows rows (tail ++ more)) (stream_tail (tail ++ more))
+pub blocks_more : (octets more : List ℕ) (rows : List (List ℕ)) (tail : List ℕ) → InBlocks octets rows tail → length more < 64
+    → InBlocks (octets ++ more) (stream_rows rows (tail ++ more)) (stream_tail (tail ++ more))
 blocks_more octets more rows tail b h =
     let all : List ℕ = tail ++ more in
     let j : octets ++ more ≡ octets_in rows ++ all = ap (λ (x : List ℕ). x ++ more) b.joined ∙ append_assoc (octets_in rows) tail more in
@@ -100,7 +112,8 @@ blocks_more octets more rows tail b h =
     let P : Bool → Type 0 = λ t. (t ≡ nat_le 1024 (length all)) → InBlocks (octets ++ more) (cond t (rows ++ take 1024 all ∷ []) rows) (cond t (drop 1024 all) all) in
     let both : (t : Bool) → P t = λ t. elim t as P [
       | true ↦ λ e. (let q : 1024 ≤ length all = leb-true _ _ (sym e) in record {
-        joined = j ∙ ap (λ (x : List ℕ). octets_in rows ++ x) (sym (take-append-drop 1024 all)) ∙ sym (append_assoc (octets_in rows) (take 1024 all) (drop 1024 all)) ∙ ap (λ (x : List ℕ). x ++ drop 1024 all) (sym (octets_in-push rows (take 1024 all)));
+        joined = j ∙ ap (λ (x : List ℕ). octets_in rows ++ x) (sym (take-append-drop 1024 all)) ∙ sym (append_assoc (octets_in rows) (take 1024 all) (drop 1024 all))
+            ∙ ap (λ (x : List ℕ). x ++ drop 1024 all) (sym (octets_in-push rows (take 1024 all)));
         full = All-push (λ (r : List ℕ). length r ≡ 1024) rows (take 1024 all) b.full (length-take-le 1024 all q);
         rest = omega (arith, length-drop 1024 all, b.rest, h, l);
       })
@@ -127,46 +140,68 @@ tail_after format tail s = cond (is_stream format) (stream_tail (tail ++ s.octet
 
 carried_record : (longest : ℕ) (P : List ℕ → Type 0) (ss : List Subrecord) (s : Subrecord) (all : List (List ℕ)) (tail : List ℕ)
     → (pieces ss ≡ all ++ tail ∷ []) × All P all × (length tail ≤ longest) → (s.ends ≡ true → P (tail ++ s.octets)) → length tail + length s.octets ≤ longest
-    → (pieces (ss ++ s ∷ []) ≡ cond s.ends (all ++ (tail ++ s.octets) ∷ []) all ++ cond s.ends [] (tail ++ s.octets) ∷ []) × All P (cond s.ends (all ++ (tail ++ s.octets) ∷ []) all) × (length (cond s.ends [] (tail ++ s.octets)) ≤ longest)
+    → (pieces (ss ++ s ∷ []) ≡ cond s.ends (all ++ (tail ++ s.octets) ∷ []) all ++ cond s.ends [] (tail ++ s.octets) ∷ [])
+    × All P (cond s.ends (all ++ (tail ++ s.octets) ∷ []) all) × (length (cond s.ends [] (tail ++ s.octets)) ≤ longest)
 carried_record longest P ss s all tail c p h =
     let Q : Bool → Type 0 = λ b. (b ≡ s.ends) → All P (cond b (all ++ (tail ++ s.octets) ∷ []) all) × (length (cond b [] (tail ++ s.octets)) ≤ longest) in
     let both : (b : Bool) → Q b = λ b. elim b as Q [ true ↦ λ e. (All-push P all (tail ++ s.octets) c.1 (p (sym e)), omega arith) | false ↦ λ e. (c.1, omega (arith, length-append tail s.octets)) ] in
     let r = both s.ends refl in
     (pieces_push ss s all tail c.0, r.0, r.1)
 
-pub carried_added : (format : Format) (longest : ℕ) (ss : List Subrecord) (s : Subrecord) (all : List (List ℕ)) (tail : List ℕ) → Carried format longest ss all tail → (is_stream format && is_ended (stage_of ss)) ≡ false
-    → is_wrong_size format longest (length tail + length s.octets) s.ends ≡ false → length s.octets < 64 → Carried format longest (ss ++ s ∷ []) (all_after format all tail s) (tail_after format tail s)
+pub carried_added : (format : Format) (longest : ℕ) (ss : List Subrecord) (s : Subrecord) (all : List (List ℕ)) (tail : List ℕ) → Carried format longest ss all tail
+    → (is_stream format && is_ended (stage_of ss)) ≡ false
+    → is_wrong_size format longest (length tail + length s.octets) s.ends ≡ false → length s.octets < 64
+    → Carried format longest (ss ++ s ∷ []) (all_after format all tail s) (tail_after format tail s)
 carried_added Fixed longest ss s all tail c e w h =
     let b = or_parts _ _ w in
-    let size : s.ends ≡ true → length (tail ++ s.octets) ≡ longest = λ t. length-append tail s.octets ∙ eqb-true _ _ (not-false _ (ap (λ (x : Bool). x && not (eqb (length tail + length s.octets) longest)) (sym t) ∙ b.1)) in
+    let size : s.ends ≡ true → length (tail ++ s.octets) ≡ longest = λ t. length-append tail s.octets
+    ∙ eqb-true _ _ (not-false _ (ap (λ (x : Bool). x && not (eqb (length tail + length s.octets) longest)) (sym t) ∙ b.1)) in
     carried_record longest (λ (r : List ℕ). length r ≡ longest) ss s all tail c size (ltb-false _ _ b.0)
 carried_added Variable longest ss s all tail c e w h =
     let le : length tail + length s.octets ≤ longest = ltb-false _ _ w in
     carried_record longest (λ (r : List ℕ). length r ≤ longest) ss s all tail c (λ _. omega (arith, length-append tail s.octets)) le
-carried_added Unstructured longest ss s all tail c e w h = (is_stream-push ss s c.0 e, subst (λ (x : List ℕ). InBlocks x (stream_rows all (tail ++ s.octets)) (stream_tail (tail ++ s.octets))) (sym (octets_of-push ss s)) (blocks_more (octets_of ss) s.octets all tail c.1 h))
-carried_added Text longest ss s all tail c e w h = (is_stream-push ss s c.0 e, subst (λ (x : List ℕ). InBlocks x (stream_rows all (tail ++ s.octets)) (stream_tail (tail ++ s.octets))) (sym (octets_of-push ss s)) (blocks_more (octets_of ss) s.octets all tail c.1 h))
+carried_added Unstructured longest ss s all tail c e w h = (
+  is_stream-push ss s c.0 e,
+  subst (λ (x : List ℕ). InBlocks x (stream_rows all (tail ++ s.octets)) (stream_tail (tail ++ s.octets))) (sym (octets_of-push ss s)) (blocks_more (octets_of ss) s.octets all tail c.1 h),
+)
+carried_added Text longest ss s all tail c e w h = (
+  is_stream-push ss s c.0 e,
+  subst (λ (x : List ℕ). InBlocks x (stream_rows all (tail ++ s.octets)) (stream_tail (tail ++ s.octets))) (sym (octets_of-push ss s)) (blocks_more (octets_of ss) s.octets all tail c.1 h),
+)
 
 rows_after : (gone rows : List (List ℕ)) (tail : List ℕ) (s : Subrecord) (format : Format) → all_after format (gone ++ rows) tail s ≡ gone ++ all_after format rows tail s
 rows_after gone rows tail s format =
     let octets : List ℕ = tail ++ s.octets in
     let push : (r : List ℕ) → (gone ++ rows) ++ r ∷ [] ≡ gone ++ (rows ++ r ∷ []) = λ r. append_assoc gone rows (r ∷ []) in
-    let P : Bool → Bool → Bool → Type 0 = λ a b d. cond a (cond d ((gone ++ rows) ++ take 1024 octets ∷ []) (gone ++ rows)) (cond b ((gone ++ rows) ++ octets ∷ []) (gone ++ rows)) ≡ gone ++ cond a (cond d (rows ++ take 1024 octets ∷ []) rows) (cond b (rows ++ octets ∷ []) rows) in
-    let every : (a b d : Bool) → P a b d = λ a b d. elim a as (λ a. P a b d) [ true ↦ elim d as (λ d. P true b d) [ true ↦ push (take 1024 octets) | false ↦ refl ] | false ↦ elim b as (λ b. P false b d) [ true ↦ push octets | false ↦ refl ] ] in
+    let P : Bool → Bool → Bool → Type 0 =
+    λ a b d. cond a (cond d ((gone ++ rows) ++ take 1024 octets ∷ []) (gone ++ rows)) (cond b ((gone ++ rows) ++ octets ∷ []) (gone ++ rows))
+    ≡ gone ++ cond a (cond d (rows ++ take 1024 octets ∷ []) rows) (cond b (rows ++ octets ∷ []) rows) in
+    let every : (a b d : Bool) → P a b d = λ a b d. elim a as (λ a. P a b d) [
+      | true ↦ elim d as (λ d. P true b d) [ true ↦ push (take 1024 octets) | false ↦ refl ]
+      | false ↦
+          elim b as (λ b. P false b d) [
+            | true ↦ push octets
+            | false ↦ refl
+          ]
+    ] in
     every (is_stream format) s.ends (nat_le 1024 (length octets))
 
--- A taker that takes one more allowed subrecord holds it.
-pub holds_added : (t : Taking) (gone : List (List ℕ)) (ss : List Subrecord) (s : Subrecord) → Holds t gone ss → IsAllowed t s → Holds (added t s) gone (ss ++ s ∷ [])
+-- a taker that takes one more allowed subrecord holds it
+pub holds_added : (t : Taking) (gone : List (List ℕ)) (ss : List Subrecord) (s : Subrecord) → HasTaken t gone ss → IsAllowed t s → HasTaken (added t s) gone (ss ++ s ∷ [])
 holds_added t gone ss s h a =
     let f : NoFault t (header s) (length s.octets) = no_fault t (header s) (length s.octets) a.1 in
     let says = header_says s a.0 in
     let fits : is_too_big t s.ends (length s.octets) ≡ false = subst (λ (x : ℕ). is_too_big t s.ends x ≡ false) says.0 (subst (λ (x : Bool). is_too_big t x (header s % 64) ≡ false) says.1 f.fits) in
     let fit = not_too_big t s.ends (length s.octets) fits in
     let sized : is_wrong_size t.format t.longest (length t.tail + length s.octets) s.ends ≡ false =
-    subst (λ (x : ℕ). is_wrong_size t.format t.longest (length t.tail + x) s.ends ≡ false) says.0 (subst (λ (x : Bool). is_wrong_size t.format t.longest (length t.tail + header s % 64) x ≡ false) says.1 f.sized) in
+    let ends = subst (λ (x : Bool). is_wrong_size t.format t.longest (length t.tail + header s % 64) x ≡ false) says.1 f.sized in
+    subst (λ (x : ℕ). is_wrong_size t.format t.longest (length t.tail + x) s.ends ≡ false) says.0 ends in
     let on : (is_stream t.format && is_ended (stage_of ss)) ≡ false = subst (λ (x : Stage). (is_stream t.format && is_ended x) ≡ false) h.last f.on in
     let few = added-rows_few t s in
+    let carried = carried_added t.format t.longest ss s (gone ++ t.rows) t.tail h.carried on sized a.0 in
+    let P : List (List ℕ) → Type 0 = λ x. Carried t.format t.longest (ss ++ s ∷ []) x (tail_after t.format t.tail s) in
     record {
-      carried = subst (λ (x : List (List ℕ)). Carried t.format t.longest (ss ++ s ∷ []) x (tail_after t.format t.tail s)) (rows_after gone t.rows t.tail s t.format) (carried_added t.format t.longest ss s (gone ++ t.rows) t.tail h.carried on sized a.0);
+      carried = subst P (rows_after gone t.rows t.tail s t.format) carried;
       away = h.away;
       last = sym (stage_of-push ss s);
       units = ap (λ x. x + length s.octets) h.units ∙ sym (length-append (octets_of ss) s.octets) ∙ ap length (sym (octets_of-push ss s));
@@ -174,9 +209,10 @@ holds_added t gone ss s h a =
       few = omega (arith, fit.1, few, h.away);
     }
 
-pub holds_all : (t : Taking) (gone : List (List ℕ)) (ss rs : List Subrecord) → Holds t gone ss → AreAllowed t rs → Holds (added_all t rs) gone (ss ++ rs)
-holds_all t gone ss [] h a = subst (λ (x : List Subrecord). Holds t gone x) (sym (append-nil ss)) h
-holds_all t gone ss (r ∷ rs) h a = subst (λ (x : List Subrecord). Holds (added_all (added t r) rs) gone x) (append_assoc ss (r ∷ []) rs) (holds_all (added t r) gone (ss ++ r ∷ []) rs (holds_added t gone ss r h a.0) a.1)
+pub holds_all : (t : Taking) (gone : List (List ℕ)) (ss rs : List Subrecord) → HasTaken t gone ss → AreAllowed t rs → HasTaken (added_all t rs) gone (ss ++ rs)
+holds_all t gone ss [] h a = subst (λ (x : List Subrecord). HasTaken t gone x) (sym (append-nil ss)) h
+holds_all t gone ss (r ∷ rs) h a =
+    subst (λ (x : List Subrecord). HasTaken (added_all (added t r) rs) gone x) (append_assoc ss (r ∷ []) rs) (holds_all (added t r) gone (ss ++ r ∷ []) rs (holds_added t gone ss r h a.0) a.1)
 
 pub short-append : (xs ys : List Subrecord) → AreShort xs → AreShort ys → AreShort (xs ++ ys)
 short-append [] ys h k = k
@@ -197,15 +233,18 @@ allowed_short t (s ∷ ss) a = (a.0.0, allowed_short (added t s) ss a.1)
 flat-push : (subs : List (List Subrecord)) (ss : List Subrecord) → flat_map (λ (x : List Subrecord). x) (subs ++ ss ∷ []) ≡ flat_map (λ (x : List Subrecord). x) subs ++ ss
 flat-push subs ss = flat_map-append (λ (x : List Subrecord). x) subs (ss ∷ []) ∙ ap (λ (x : List Subrecord). flat_map (λ (y : List Subrecord). y) subs ++ x) (append-nil ss)
 
--- A taker that took payloads, and walks through one more, took it too.
+-- a taker that took payloads, and walks through one more, took it too
 pub took_walked : (old new : Taking) (gone payloads : List (List ℕ)) (payload : List ℕ) → Took old gone payloads → Walked old new payload [] → Took new gone (payloads ++ payload ∷ [])
 took_walked old new gone payloads payload t w =
     let flat : List Subrecord = flat_map (λ (x : List Subrecord). x) t.subs in
+    let all : HasTaken (added_all old w.subs) gone (flat ++ w.subs) = holds_all old gone flat w.subs t.holds w.allowed in
+    let holds : HasTaken new gone (flat ++ w.subs) = subst (λ (x : Taking). HasTaken x gone (flat ++ w.subs)) (sym w.after) all in
     record {
       subs = t.subs ++ w.subs ∷ [];
-      spelling = ap (λ (x : List (List ℕ)). x ++ payload ∷ []) t.spelling ∙ ap (λ (x : List ℕ). map payload_of t.subs ++ x ∷ []) (w.spelling ∙ append-nil (payload_of w.subs)) ∙ sym (map-append payload_of t.subs (w.subs ∷ []));
+      spelling = ap (λ (x : List (List ℕ)). x ++ payload ∷ []) t.spelling ∙ ap (λ (x : List ℕ). map payload_of t.subs ++ x ∷ []) (w.spelling ∙ append-nil (payload_of w.subs))
+          ∙ sym (map-append payload_of t.subs (w.subs ∷ []));
       short = subst AreShort (sym (flat-push t.subs w.subs)) (short-append flat w.subs t.short (allowed_short old w.subs w.allowed));
-      holds = subst (λ (x : List Subrecord). Holds new gone x) (sym (flat-push t.subs w.subs)) (subst (λ (x : Taking). Holds x gone (flat ++ w.subs)) (sym w.after) (holds_all old gone flat w.subs t.holds w.allowed));
+      holds = subst (λ (x : List Subrecord). HasTaken new gone x) (sym (flat-push t.subs w.subs)) holds;
     }
 
 pub took_new : (format : Format) (longest kept_rows kept_units limit : ℕ) → kept_rows ≤ 1000000 → Took (new_taking format longest kept_rows kept_units limit) [] []
@@ -259,7 +298,7 @@ same_lengths (a ∷ as') (b ∷ bs) x y l e =
     let r = same_lengths as' bs x y (omega arith) t in
     (ap (λ (z : ℕ). z ∷ as') h ∙ ap (λ (z : List ℕ). b ∷ z) r.0, r.1)
 
--- Subrecords are spelled in one way: what begins with them has them first.
+-- subrecords are spelled in one way: what begins with them has them first
 pub decode : (xs ys : List Subrecord) (rest : List ℕ) → AreShort xs → AreShort ys → payload_of xs ++ rest ≡ payload_of ys → (more : List Subrecord) × (ys ≡ xs ++ more) × (rest ≡ payload_of more)
 decode [] ys rest h k e = (ys, refl, e)
 decode (x ∷ xs) [] rest h k e = absurd (let q : header x ∷ (x.octets ++ payload_of xs ++ rest) ≡ [] = e in cc)
@@ -280,7 +319,8 @@ pub nothing_more : (ss : List Subrecord) → [] ≡ payload_of ss → ss ≡ []
 nothing_more [] e = refl
 nothing_more (s ∷ ss) e = absurd (let q : [] ≡ header s ∷ (s.octets ++ payload_of ss) = e in cc)
 
-decode_last : (xs ys : List (List Subrecord)) (payload : List ℕ) → AreShort (flat_map (λ (x : List Subrecord). x) xs) → AreShort (flat_map (λ (x : List Subrecord). x) ys) → map payload_of xs ++ payload ∷ [] ≡ map payload_of ys
+decode_last : (xs ys : List (List Subrecord)) (payload : List ℕ) → AreShort (flat_map (λ (x : List Subrecord). x) xs) → AreShort (flat_map (λ (x : List Subrecord). x) ys)
+    → map payload_of xs ++ payload ∷ [] ≡ map payload_of ys
     → (p : List Subrecord) × (flat_map (λ (x : List Subrecord). x) ys ≡ flat_map (λ (x : List Subrecord). x) xs ++ p) × (payload ≡ payload_of p)
 decode_last [] [] payload h k e = absurd (let q : payload ∷ [] ≡ [] = e in cc)
 decode_last [] (y ∷ []) payload h k e = (y, append-nil y, (let q : payload ∷ [] ≡ payload_of y ∷ [] = e in cc))
@@ -325,7 +365,8 @@ stream_on [] s ys h = refl
 stream_on (x ∷ []) s ys h = ap (λ (b : Bool). is_ended (cond b Ended Open)) h.0
 stream_on (x ∷ y ∷ xs) s ys h = stream_on (y ∷ xs) s ys h.1
 
-pub going_on : (format : Format) (longest : ℕ) (xs : List Subrecord) (s : Subrecord) (ys : List Subrecord) (rows : List (List ℕ)) (tail : List ℕ) → Carried format longest (xs ++ s ∷ ys) rows tail → (is_stream format && is_ended (stage_of xs)) ≡ false
+pub going_on : (format : Format) (longest : ℕ) (xs : List Subrecord) (s : Subrecord) (ys : List Subrecord) (rows : List (List ℕ)) (tail : List ℕ)
+    → Carried format longest (xs ++ s ∷ ys) rows tail → (is_stream format && is_ended (stage_of xs)) ≡ false
 going_on Fixed longest xs s ys rows tail c = refl
 going_on Variable longest xs s ys rows tail c = refl
 going_on Unstructured longest xs s ys rows tail c = stream_on xs s ys c.0
@@ -342,18 +383,21 @@ stage_some (x ∷ []) s ys e = stage_some [] s ys e
 stage_some (x ∷ y ∷ xs) s ys e = stage_some (y ∷ xs) s ys e
 
 -- the first piece of what goes on: the octets of the subrecord where it ends its record, and more pieces stand behind
-first_piece : (s : Subrecord) (ys : List Subrecord) → (p : List ℕ) × (ps : List (List ℕ)) × (more : List ℕ) × (pieces (s ∷ ys) ≡ p ∷ ps) × (p ≡ s.octets ++ more) × (s.ends ≡ true → (more ≡ []) × (0 < length ps))
+first_piece : (s : Subrecord) (ys : List Subrecord) → (p : List ℕ) × (ps : List (List ℕ)) × (more : List ℕ) × (pieces (s ∷ ys) ≡ p ∷ ps) × (p ≡ s.octets ++ more)
+    × (s.ends ≡ true → (more ≡ []) × (0 < length ps))
 first_piece s ys =
     let r = some_piece ys in
-    let P : Bool → Type 0 = λ b. (p : List ℕ) × (ps : List (List ℕ)) × (more : List ℕ) × (cond b (s.octets ∷ pieces ys) (onto s.octets (pieces ys)) ≡ p ∷ ps) × (p ≡ s.octets ++ more) × (b ≡ true → (more ≡ []) × (0 < length ps)) in
+    let P : Bool → Type 0 = λ b. (p : List ℕ) × (ps : List (List ℕ)) × (more : List ℕ) × (cond b (s.octets ∷ pieces ys) (onto s.octets (pieces ys)) ≡ p ∷ ps)
+    × (p ≡ s.octets ++ more) × (b ≡ true → (more ≡ []) × (0 < length ps)) in
     let both : (b : Bool) → P b = λ b. elim b as P [
       | true ↦ (s.octets, pieces ys, [], refl, sym (append-nil s.octets), λ _. (refl, subst (λ (x : List (List ℕ)). 0 < length x) (sym r.2) (omega arith)))
       | false ↦ (s.octets ++ r.0, r.1, r.0, ap (onto s.octets) r.2, refl, λ e. absurd (false≢true e))
     ] in
     both s.ends
 
--- A piece among rows and an open part is one of the rows, or the open part where nothing stands behind it.
-piece_among : (P : List ℕ → Type 0) (longest : ℕ) (rows all : List (List ℕ)) (tail p : List ℕ) (ps : List (List ℕ)) → rows ++ tail ∷ [] ≡ all ++ p ∷ ps → All P rows → ((r : List ℕ) → P r → length r ≤ longest) → length tail ≤ longest
+-- a piece among rows and an open part is one of the rows, or the open part where nothing stands behind it
+piece_among : (P : List ℕ → Type 0) (longest : ℕ) (rows all : List (List ℕ)) (tail p : List ℕ) (ps : List (List ℕ)) → rows ++ tail ∷ [] ≡ all ++ p ∷ ps → All P rows
+    → ((r : List ℕ) → P r → length r ≤ longest) → length tail ≤ longest
     → (length p ≤ longest) × (0 < length ps → P p) × (length all + length ps ≡ length rows)
 piece_among P longest rows all tail p [] e a b h =
     let s = same_from_push rows all tail p e in
@@ -386,7 +430,8 @@ record_on longest P xs s ys all rows tail tail1 e f a b h =
     let g = first_piece s ys in
     let k : rows ++ tail1 ∷ [] ≡ all ++ (tail ++ g.0) ∷ g.1 = sym f ∙ pieces_more xs (s ∷ ys) g.0 g.1 g.3 all tail e in
     let m = piece_among P longest rows all tail1 (tail ++ g.0) g.1 k a b h in
-    let l : length (tail ++ g.0) ≡ length tail + length s.octets + length g.2 = length-append tail g.0 ∙ ap (λ (x : List ℕ). length tail + length x) g.4 ∙ ap (λ n. length tail + n) (length-append s.octets g.2) ∙ omega arith in
+    let l : length (tail ++ g.0) ≡ length tail + length s.octets + length g.2 = length-append tail g.0 ∙ ap (λ (x : List ℕ). length tail + length x) g.4
+    ∙ ap (λ n. length tail + n) (length-append s.octets g.2) ∙ omega arith in
     let same : s.ends ≡ true → tail ++ g.0 ≡ tail ++ s.octets = λ t. ap (λ (x : List ℕ). tail ++ x) (g.4 ∙ ap (λ (x : List ℕ). s.octets ++ x) ((g.5 t).0) ∙ append-nil s.octets) in
     let Q : Bool → Type 0 = λ c. (c ≡ s.ends) → length all + cond c 1 0 ≤ length rows in
     let both : (c : Bool) → Q c = λ c. elim c as Q [ true ↦ λ t. (let q = (g.5 (sym t)).1 in omega (arith, q, m.2)) | false ↦ λ t. omega (arith, m.2) ] in
@@ -407,31 +452,40 @@ on_within Variable longest xs s ys all rows tail tail1 c d =
 on_within Unstructured longest xs s ys all rows tail tail1 c d =
     let a = blocks_length (octets_of xs) all tail c.1 in
     let b = blocks_length (octets_of (xs ++ s ∷ ys)) rows tail1 d.1 in
-    let l : length (octets_of (xs ++ s ∷ ys)) ≡ length (octets_of xs) + (length s.octets + length (octets_of ys)) = ap length (flat_map-append (λ (x : Subrecord). x.octets) xs (s ∷ ys)) ∙ length-append (octets_of xs) (s.octets ++ octets_of ys) ∙ ap (λ n. length (octets_of xs) + n) (length-append s.octets (octets_of ys)) in
+    let l : length (octets_of (xs ++ s ∷ ys)) ≡ length (octets_of xs) + (length s.octets + length (octets_of ys)) =
+    ap length (flat_map-append (λ (x : Subrecord). x.octets) xs (s ∷ ys)) ∙ length-append (octets_of xs) (s.octets ++ octets_of ys)
+    ∙ ap (λ n. length (octets_of xs) + n) (length-append s.octets (octets_of ys)) in
     (omega (arith, a, b, l, d.1.rest), refl)
 on_within Text longest xs s ys all rows tail tail1 c d =
     let a = blocks_length (octets_of xs) all tail c.1 in
     let b = blocks_length (octets_of (xs ++ s ∷ ys)) rows tail1 d.1 in
-    let l : length (octets_of (xs ++ s ∷ ys)) ≡ length (octets_of xs) + (length s.octets + length (octets_of ys)) = ap length (flat_map-append (λ (x : Subrecord). x.octets) xs (s ∷ ys)) ∙ length-append (octets_of xs) (s.octets ++ octets_of ys) ∙ ap (λ n. length (octets_of xs) + n) (length-append s.octets (octets_of ys)) in
+    let l : length (octets_of (xs ++ s ∷ ys)) ≡ length (octets_of xs) + (length s.octets + length (octets_of ys)) =
+    ap length (flat_map-append (λ (x : Subrecord). x.octets) xs (s ∷ ys)) ∙ length-append (octets_of xs) (s.octets ++ octets_of ys)
+    ∙ ap (λ n. length (octets_of xs) + n) (length-append s.octets (octets_of ys)) in
     (omega (arith, a, b, l, d.1.rest), refl)
 
--- Where what goes on so carries rows within the limits, the next subrecord has no fault.
-no_fault_within : (t : Taking) (gone : List (List ℕ)) (xs : List Subrecord) (s : Subrecord) (ys : List Subrecord) (rows : List (List ℕ)) (tail : List ℕ) → Holds t gone xs → Carried t.format t.longest (xs ++ s ∷ ys) rows tail → length s.octets < 64
+-- where what goes on so carries rows within the limits, the next subrecord has no fault
+no_fault_within : (t : Taking) (gone : List (List ℕ)) (xs : List Subrecord) (s : Subrecord) (ys : List Subrecord) (rows : List (List ℕ)) (tail : List ℕ) → HasTaken t gone xs
+    → Carried t.format t.longest (xs ++ s ∷ ys) rows tail → length s.octets < 64
     → t.kept_units + length (octets_in rows ++ tail) ≤ t.limit → t.kept_rows + length rows ≤ 1000000 → NoFault t (header s) (length (s.octets ++ payload_of ys))
 no_fault_within t gone xs s ys rows tail h c n o r =
     let says = header_says s n in
     let w = on_within t.format t.longest xs s ys (gone ++ t.rows) rows t.tail tail h.carried c in
-    let l : length (octets_of (xs ++ s ∷ ys)) ≡ length (octets_of xs) + (length s.octets + length (octets_of ys)) = ap length (flat_map-append (λ (x : Subrecord). x.octets) xs (s ∷ ys)) ∙ length-append (octets_of xs) (s.octets ++ octets_of ys) ∙ ap (λ n. length (octets_of xs) + n) (length-append s.octets (octets_of ys)) in
+    let l : length (octets_of (xs ++ s ∷ ys)) ≡ length (octets_of xs) + (length s.octets + length (octets_of ys)) =
+    ap length (flat_map-append (λ (x : Subrecord). x.octets) xs (s ∷ ys)) ∙ length-append (octets_of xs) (s.octets ++ octets_of ys)
+    ∙ ap (λ n. length (octets_of xs) + n) (length-append s.octets (octets_of ys)) in
     let j : length (octets_of (xs ++ s ∷ ys)) ≡ length (octets_in rows ++ tail) = ap length (carried-joined t.format t.longest (xs ++ s ∷ ys) rows tail c) in
     let d = length-append gone t.rows in
     let fits : is_too_big t s.ends (length s.octets) ≡ false = or_from _ _ (le-ltb t.limit (t.kept_units + t.units + length s.octets) (omega (arith, o, j, l, h.units)))
     (le-ltb 1000000 (t.kept_rows + t.away + length t.rows + new_rows t s.ends (length s.octets)) (omega (arith, r, w.0, d, h.away))) in
+    let ends : is_wrong_size t.format t.longest (length t.tail + length s.octets) (nat_le 128 (header s)) ≡ false =
+    subst (λ (x : Bool). is_wrong_size t.format t.longest (length t.tail + length s.octets) x ≡ false) (sym says.1) w.1 in
     record {
       plain = omega (arith, says.2, n);
       within = omega (arith, says.0, length-append s.octets (payload_of ys));
       fits = subst (λ (x : ℕ). is_too_big t (nat_le 128 (header s)) x ≡ false) (sym says.0) (subst (λ (x : Bool). is_too_big t x (length s.octets) ≡ false) (sym says.1) fits);
       on = subst (λ (x : Stage). (is_stream t.format && is_ended x) ≡ false) (sym h.last) (going_on t.format t.longest xs s ys rows tail c);
-      sized = subst (λ (x : ℕ). is_wrong_size t.format t.longest (length t.tail + x) (nat_le 128 (header s)) ≡ false) (sym says.0) (subst (λ (x : Bool). is_wrong_size t.format t.longest (length t.tail + length s.octets) x ≡ false) (sym says.1) w.1);
+      sized = subst (λ (x : ℕ). is_wrong_size t.format t.longest (length t.tail + x) (nat_le 128 (header s)) ≡ false) (sym says.0) ends;
     }
 
 same_limits : (t old : Taking) (payloads : List (List ℕ)) → restored t old ≡ old → CarriesWithin old payloads → CarriesWithin t payloads
@@ -439,8 +493,9 @@ same_limits t old payloads e c =
     let d : CarriesWithin (restored t old) payloads = subst (λ (x : Taking). CarriesWithin x payloads) (sym e) c in
     record { rows = d.rows; tail = d.tail; stage = d.stage; carries = d.carries; octets = d.octets; few = d.few }
 
-no_fault_next : (t : Taking) (gone : List (List ℕ)) (xs more : List Subrecord) (rows : List (List ℕ)) (tail : List ℕ) (stage : Stage) (f : TakeFault) → Holds t gone xs → AreShort more → Carried t.format t.longest (xs ++ more) rows tail → stage ≡ stage_of (xs ++ more)
-    → (stage ≢ Fresh → t.kept_units + length (octets_in rows ++ tail) ≤ t.limit) → t.kept_rows + length rows ≤ 1000000 → fault_of t (payload_of more) ≡ Some f → ⊥
+no_fault_next : (t : Taking) (gone : List (List ℕ)) (xs more : List Subrecord) (rows : List (List ℕ)) (tail : List ℕ) (stage : Stage) (f : TakeFault) → HasTaken t gone xs
+    → AreShort more → Carried t.format t.longest (xs ++ more) rows tail → stage ≡ stage_of (xs ++ more)
+    → (stage ≢ Fresh → t.kept_units + length (octets_in rows ++ tail) ≤ t.limit) → t.kept_rows + length rows ≤ 1000000 → fault_in t (payload_of more) ≡ Some f → ⊥
 no_fault_next t gone xs [] rows tail stage f h a c l o r e = let q : None ≡ Some f = e in cc
 no_fault_next t gone xs (s ∷ ys) rows tail stage f h a c l o r e =
     let n = no_fault_within t gone xs s ys rows tail h c a.0 (o (λ q. stage_some xs s ys (sym l ∙ q))) r in
@@ -448,8 +503,9 @@ no_fault_next t gone xs (s ∷ ys) rows tail stage f h a c l o r e =
     let q : None ≡ Some f = sym none ∙ e in
     cc
 
--- A payload that carries rows within the limits, after those before, has no fault.
-pub no_first_fault : (old : Taking) (gone payloads : List (List ℕ)) (payload : List ℕ) (f : TakeFault) → Took old gone payloads → CarriesWithin old (payloads ++ payload ∷ []) → FirstFault old payload f → ⊥
+-- a payload that carries rows within the limits, after those before, has no fault
+pub no_first_fault : (old : Taking) (gone payloads : List (List ℕ)) (payload : List ℕ) (f : TakeFault) → Took old gone payloads → CarriesWithin old (payloads ++ payload ∷ [])
+    → FirstFault old payload f → ⊥
 no_first_fault old gone payloads payload f k c ff =
     let mid : Taking = ff.0 in
     let rest : List ℕ = ff.1 in
@@ -462,13 +518,13 @@ no_first_fault old gone payloads payload f k c ff =
     let short : AreShort d.0 = short-right flat d.0 (subst AreShort d.1 m.carries.short) in
     let p = decode w.subs d.0 rest (allowed_short old w.subs w.allowed) short (sym w.spelling ∙ d.2) in
     let split : all ≡ (flat ++ w.subs) ++ p.0 = d.1 ∙ ap (λ (x : List Subrecord). flat ++ x) p.1 ∙ sym (append_assoc flat w.subs p.0) in
-    let holds : Holds mid gone (flat ++ w.subs) = subst (λ (x : Taking). Holds x gone (flat ++ w.subs)) (sym w.after) (holds_all old gone flat w.subs k.holds w.allowed) in
+    let holds : HasTaken mid gone (flat ++ w.subs) = subst (λ (x : Taking). HasTaken x gone (flat ++ w.subs)) (sym w.after) (holds_all old gone flat w.subs k.holds w.allowed) in
     let more : AreShort p.0 = short-right w.subs p.0 (subst AreShort p.1 short) in
     no_fault_next mid gone (flat ++ w.subs) p.0 m.rows m.tail m.stage f holds more
     (subst (λ (x : List Subrecord). Carried mid.format mid.longest x m.rows m.tail) split m.carries.carried)
-    (m.carries.last ∙ ap stage_of split) m.octets m.few (ap (fault_of mid) (sym p.2) ∙ ff.3)
+    (m.carries.last ∙ ap stage_of split) m.octets m.few (ap (fault_in mid) (sym p.2) ∙ ff.3)
 
--- What a taker took carries its rows within the limits.
+-- what a taker took carries its rows within the limits
 pub took_within : (t : Taking) (gone payloads : List (List ℕ)) → Took t gone payloads → CarriesWithin t payloads
 took_within t gone payloads k =
     let h = k.holds in
@@ -478,7 +534,8 @@ took_within t gone payloads k =
       tail = t.tail;
       stage = t.stage;
       carries = record { subs = k.subs; spelling = k.spelling; short = k.short; carried = h.carried; last = h.last };
-      octets = λ n. (let some : flat ≡ [] → ⊥ = λ e. n (h.last ∙ ap stage_of e) in let l = h.octets some in omega (arith, l, h.units, ap length (carried-joined t.format t.longest flat (gone ++ t.rows) t.tail h.carried)));
+      octets = λ n. (let some : flat ≡ [] → ⊥ = λ e. n (h.last ∙ ap stage_of e) in let l = h.octets some in
+          omega (arith, l, h.units, ap length (carried-joined t.format t.longest flat (gone ++ t.rows) t.tail h.carried)));
       few = omega (arith, length-append gone t.rows, h.few);
     }
 

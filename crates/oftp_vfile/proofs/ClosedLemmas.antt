@@ -1,3 +1,4 @@
+-- Where payloads are closed, they carry a file, whose counts the taker tells.
 use Rattle.std.proofs.Common.{◌≡◌, ℕ, ◌+◌, ◌≤◌, Bool, true, false, cond, List, [], ◌∷◌, ◌++◌, length, refl, sym, ap, ◌∙◌, subst, arith, append_assoc, All}
 use Rattle.std.specs.List.{flat_map}
 use Rattle.std.proofs.lemmas.Bool.{true≢false}
@@ -19,7 +20,7 @@ pub octets_in-closed : (rows : List (List ℕ)) (tail : List ℕ) → octets_in 
 octets_in-closed rows [] = sym (append-nil (octets_in rows))
 octets_in-closed rows (x ∷ xs) = octets_in-push rows (x ∷ xs)
 
--- The counts of a taker are those of the file so far.
+-- the counts of a taker are those of the file so far
 pub counts_file : (t : Taking) (kept gone payloads : List (List ℕ)) → Took t gone payloads → t.kept_rows ≡ length kept → t.kept_units ≡ units_in kept
     → counts_of t ≡ (records_in t.format (kept ++ (gone ++ t.rows)), units_in (closed (kept ++ (gone ++ t.rows)) t.tail))
 counts_file t kept gone payloads k r u =
@@ -28,12 +29,13 @@ counts_file t kept gone payloads k r u =
     let rows : List (List ℕ) = gone ++ t.rows in
     let taken : t.units ≡ length (octets_in rows ++ t.tail) = h.units ∙ ap length (carried-joined t.format t.longest ss rows t.tail h.carried) in
     let all : units_in (closed (kept ++ rows) t.tail) ≡ units_in kept + length (octets_in rows ++ t.tail) =
-    ap length (octets_in-closed (kept ++ rows) t.tail ∙ ap (λ (x : List ℕ). x ++ t.tail) (flat_map-append (λ (x : List ℕ). x) kept rows) ∙ append_assoc (octets_in kept) (octets_in rows) t.tail) ∙ length-append (octets_in kept) (octets_in rows ++ t.tail) in
+    ap length (octets_in-closed (kept ++ rows) t.tail ∙ ap (λ (x : List ℕ). x ++ t.tail) (flat_map-append (λ (x : List ℕ). x) kept rows)
+    ∙ append_assoc (octets_in kept) (octets_in rows) t.tail) ∙ length-append (octets_in kept) (octets_in rows ++ t.tail) in
     let units : t.kept_units + t.units ≡ units_in (closed (kept ++ rows) t.tail) = omega (arith, taken, all, u) in
     let count : t.kept_rows + t.away + length t.rows ≡ length (kept ++ rows) = omega (arith, r, h.away, length-append kept rows, length-append gone t.rows) in
     ap (λ (n : ℕ). (cond (is_stream t.format) 0 n, t.kept_units + t.units)) count ∙ ap (λ (n : ℕ). (records_in t.format (kept ++ rows), n)) units
 
--- Behind an end flag stands an open part without octets.
+-- behind an end flag stands an open part without octets
 last_ended : (s : Subrecord) (ss : List Subrecord) → is_open (stage_of (s ∷ ss)) ≡ false → (p : List ℕ) × (ps : List (List ℕ)) × (pieces (s ∷ ss) ≡ p ∷ (ps ++ [] ∷ []))
 last_ended s [] o = by_flag s.ends o
   where
@@ -50,19 +52,22 @@ pub ended_piece : (ss : List Subrecord) (rows : List (List ℕ)) (tail : List �
 ended_piece [] rows tail o e = sym ((same_from_push [] rows [] tail e).1)
 ended_piece (s ∷ ss) rows tail o e = let r = last_ended s ss o in sym ((same_from_push (r.0 ∷ r.1) rows [] tail (sym r.2 ∙ e)).1)
 
-closed_records : (P : List ℕ → Type 0) (ss : List Subrecord) (rows : List (List ℕ)) (tail : List ℕ) → is_open (stage_of ss) ≡ false → pieces ss ≡ rows ++ tail ∷ [] → All P rows → All P (closed rows tail)
+closed_records : (P : List ℕ → Type 0) (ss : List Subrecord) (rows : List (List ℕ)) (tail : List ℕ) → is_open (stage_of ss) ≡ false → pieces ss ≡ rows ++ tail ∷ [] → All P rows
+    → All P (closed rows tail)
 closed_records P ss rows tail o e a = subst (λ (x : List ℕ). All P (closed rows x)) (sym (ended_piece ss rows tail o e)) a
 
 closed_blocks : (octets : List ℕ) (rows : List (List ℕ)) (tail : List ℕ) → InBlocks octets rows tail → AreBlocks 1024 (closed rows tail)
 closed_blocks octets rows [] b = full_are_blocks 1024 rows (omega arith) b.full
 closed_blocks octets rows (x ∷ xs) b = blocks_push 1024 rows (x ∷ xs) b.full (omega arith) (omega (arith, b.rest))
 
-closed_carried : (format : Format) (longest : ℕ) (ss : List Subrecord) (rows : List (List ℕ)) (tail : List ℕ) → Carried format longest ss rows tail → is_open (stage_of ss) ≡ false → AreRows format longest (closed rows tail)
+closed_carried : (format : Format) (longest : ℕ) (ss : List Subrecord) (rows : List (List ℕ)) (tail : List ℕ) → Carried format longest ss rows tail → is_open (stage_of ss) ≡ false
+    → AreRows format longest (closed rows tail)
 closed_carried Fixed longest ss rows tail c o = closed_records (λ (r : List ℕ). length r ≡ longest) ss rows tail o c.0 c.1
 closed_carried Variable longest ss rows tail c o = closed_records (λ (r : List ℕ). length r ≤ longest) ss rows tail o c.0 c.1
 closed_carried Unstructured longest ss rows tail c o = closed_blocks (octets_of ss) rows tail c.1
 closed_carried Text longest ss rows tail c o = closed_blocks (octets_of ss) rows tail c.1
 
--- Where payloads are closed, what they carry are the rows of a file.
-pub closed_file : (format : Format) (longest : ℕ) (payloads rows : List (List ℕ)) (tail : List ℕ) (stage : Stage) → Carries format longest payloads rows tail stage → is_open stage ≡ false → AreRows format longest (closed rows tail)
+-- where payloads are closed, what they carry are the rows of a file
+pub closed_file : (format : Format) (longest : ℕ) (payloads rows : List (List ℕ)) (tail : List ℕ) (stage : Stage) → Carries format longest payloads rows tail stage
+    → is_open stage ≡ false → AreRows format longest (closed rows tail)
 closed_file format longest payloads rows tail stage c o = closed_carried format longest (flat_map (λ (x : List Subrecord). x) c.subs) rows tail c.carried (ap is_open (sym c.last) ∙ o)

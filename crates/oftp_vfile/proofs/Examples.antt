@@ -6,7 +6,7 @@ use Rattle.oftp_vfile.specs.declared.format.Stage.TheVariants.{Open, Ended}
 use Rattle.oftp_vfile.specs.declared.format.TakeFault.TheVariants.{Cut, Compressed, RecordSize, AfterEnd}
 use Rattle.oftp_vfile.specs.Subrecord.{Subrecord}
 use Rattle.oftp_vfile.specs.Carries.{pieces}
-use Rattle.oftp_vfile.specs.Taking.{Taking, new_taking, added_all, fault_of, counts_of}
+use Rattle.oftp_vfile.specs.Taking.{Taking, new_taking, added_all, fault_in, counts_of}
 use Rattle.oftp_vfile.specs.Fill.{packed, fill_from, payloads_of, wholly_sent}
 use Rattle.oftp_vfile.specs.LocalForm.{local_of}
 
@@ -61,25 +61,25 @@ fixed_records = refl
 fixed_pieces : pieces (sub true (65 ∷ 66 ∷ []) ∷ sub false (67 ∷ []) ∷ []) ≡ (65 ∷ 66 ∷ []) ∷ (67 ∷ []) ∷ []
 fixed_pieces = refl
 
-fixed_too_long : fault_of (added_all (fresh Fixed 2) (sub true (65 ∷ 66 ∷ []) ∷ sub false (67 ∷ []) ∷ [])) (130 ∷ 67 ∷ 68 ∷ []) ≡ Some RecordSize
+fixed_too_long : fault_in (added_all (fresh Fixed 2) (sub true (65 ∷ 66 ∷ []) ∷ sub false (67 ∷ []) ∷ [])) (130 ∷ 67 ∷ 68 ∷ []) ≡ Some RecordSize
 fixed_too_long = refl
 
-short_fixed_record : fault_of (fresh Fixed 3) (130 ∷ 65 ∷ 66 ∷ []) ≡ Some RecordSize
+short_fixed_record : fault_in (fresh Fixed 3) (130 ∷ 65 ∷ 66 ∷ []) ≡ Some RecordSize
 short_fixed_record = refl
 
-compressed : fault_of (fresh Unstructured 0) (65 ∷ 97 ∷ []) ≡ Some Compressed
+compressed : fault_in (fresh Unstructured 0) (65 ∷ 97 ∷ []) ≡ Some Compressed
 compressed = refl
 
-cut : fault_of (fresh Unstructured 0) (5 ∷ 65 ∷ 66 ∷ []) ≡ Some Cut
+cut : fault_in (fresh Unstructured 0) (5 ∷ 65 ∷ 66 ∷ []) ≡ Some Cut
 cut = refl
 
-after_the_end_flag : fault_of (added_all (fresh Unstructured 0) (sub true (65 ∷ []) ∷ [])) (128 ∷ []) ≡ Some AfterEnd
+after_the_end_flag : fault_in (added_all (fresh Unstructured 0) (sub true (65 ∷ []) ∷ [])) (128 ∷ []) ≡ Some AfterEnd
 after_the_end_flag = refl
 
 local_form : local_of Variable ((65 ∷ 66 ∷ 67 ∷ []) ∷ [] ∷ []) ≡ 48 ∷ 48 ∷ 48 ∷ 48 ∷ 51 ∷ 65 ∷ 66 ∷ 67 ∷ 48 ∷ 48 ∷ 48 ∷ 48 ∷ 48 ∷ []
 local_form = refl
 
--- 1,124 octets of a stream in payloads of 125: the full block counts, and the short one never.
+-- 1,124 octets of a stream in payloads of 125: the full block counts, and the short one never
 eight_payloads : wholly_sent Unstructured 127 (replicate 1024 1 ∷ replicate 100 2 ∷ []) 8 ≡ 0
 unfolding fill_from packed
 eight_payloads = refl

@@ -1,3 +1,4 @@
+-- What the filler's steps make of what is left.
 use Rattle.std.proofs.Common.{◌≡◌, ℕ, suc, zero, ◌+◌, ◌-◌, ◌<◌, ◌≤◌, Bool, true, false, cond, eqb, ◌&&◌, min, List, [], ◌∷◌, ◌++◌, length, get_or, take, drop, refl, sym, ap, ◌∙◌, subst, arith, inl, inr}
 use Rattle.std.proofs.lemmas.Bool.{and_parts, cases_lt, eq-eqb, eqb-true, false≢true}
 use Rattle.std.proofs.lemmas.List.{append-nil, length-append, length-drop, drop-append-le, drop_all, get_or-drop, nil_from_length}
@@ -8,7 +9,7 @@ use Rattle.oftp_vfile.specs.declared.format.Format.TheVariants.{Fixed, Variable,
 use Rattle.oftp_vfile.specs.Subrecord.{Subrecord, payload_of}
 use Rattle.oftp_vfile.specs.VirtualFile.{is_stream, octets_in, whole_count}
 use Rattle.oftp_vfile.specs.Filling.{advanced, Filling, from_offset, left_of, AreBehind, nothing_left, least, Reaches, IsInRows, Moves}
-use Rattle.oftp_vfile.specs.Fill.{needs, next_count, next_of, behind, IsFull, Packs}
+use Rattle.oftp_vfile.specs.Fill.{needs, next_length, next_subrecord, behind, IsFull, Packs}
 use Rattle.oftp_vfile.specs.Packing.{HasPacked, rest_at, IsTail, HasStreamed, HasEnded, PacksNext}
 use Rattle.oftp_vfile.proofs.PackingLemmas.{from_offset-zero, needs_most}
 
@@ -34,7 +35,8 @@ pub left_records : (f : Filling) (rows : List (List ℕ)) → is_stream f.format
 left_records f rows e = ap (λ (b : Bool). cond b (cond f.done [] (drop f.offset (octets_in rows) ∷ [])) (from_offset f.offset rows)) e
 
 -- where nothing fits any more of what was lent, nothing fits of what stands behind
-full_more : (format : Format) (last : Bool) (free : ℕ) (cur more : List (List ℕ)) → IsFull free cur → (cur ≡ [] → last ≡ false → free < needs (least format)) → AreBehind format last more → IsFull free (cur ++ more)
+full_more : (format : Format) (last : Bool) (free : ℕ) (cur more : List (List ℕ)) → IsFull free cur → (cur ≡ [] → last ≡ false → free < needs (least format))
+    → AreBehind format last more → IsFull free (cur ++ more)
 full_more format last free (x ∷ xs) more f g b = f
 full_more format true free [] more f g b = subst (λ (x : List (List ℕ)). IsFull free x) (sym b) tt
 full_more format false free [] [] f g b = tt
@@ -55,7 +57,8 @@ pub drop_place : (rows : List (List ℕ)) (row offset : ℕ) → (0 < offset →
 drop_place rows row offset h o = subst (λ (x : List ℕ). offset < length x) (ap (λ n. get_or rows n []) (omega arith) ∙ sym (get_or-drop row rows 0 [])) (h o)
 
 -- a filler that goes on to a place in the lent rows moves on within them
-pub moves_to : (f : Filling) (rows : List (List ℕ)) (row offset : ℕ) (last : Bool) → row ≤ length rows → (0 < offset → offset < length (get_or rows row [])) → (is_stream f.format ≡ true → f.done ≡ false) → Moves f (advanced f rows row offset) rows last
+pub moves_to : (f : Filling) (rows : List (List ℕ)) (row offset : ℕ) (last : Bool) → row ≤ length rows → (0 < offset → offset < length (get_or rows row []))
+    → (is_stream f.format ≡ true → f.done ≡ false) → Moves f (advanced f rows row offset) rows last
 moves_to f rows row offset last within place going =
     let gone : f.row + row - f.row ≡ row = omega arith in
     record {
@@ -78,7 +81,8 @@ records_next size f rows row offset free octets last e i j p full ends some more
     let start : from_offset f.offset rows ++ more ≡ left_of f (rows ++ more) = sym (from_offset-append f.offset rows more i) ∙ sym (left_records f (rows ++ more) e) in
     let n : f.row + row - f.row ≡ row = omega arith in
     let rest : cur ++ more ≡ left_of g (drop (f.row + row - f.row) rows ++ more) =
-    sym (from_offset-append offset (drop row rows) more (drop_place rows row offset j)) ∙ ap (λ x. from_offset offset (drop x rows ++ more)) (sym n) ∙ sym (left_records g (drop (f.row + row - f.row) rows ++ more) e) in
+    sym (from_offset-append offset (drop row rows) more (drop_place rows row offset j)) ∙ ap (λ x. from_offset offset (drop x rows ++ more)) (sym n)
+    ∙ sym (left_records g (drop (f.row + row - f.row) rows ++ more) e) in
     let packed : Packs size (from_offset f.offset rows ++ more) (p.0 ++ []) (cur ++ more) = p.2 more [] (cur ++ more) (refl, full_more f.format last free cur more full ends b) in
     let a : Packs size (left_of f (rows ++ more)) (p.0 ++ []) (cur ++ more) = subst (λ (x : List (List ℕ)). Packs size x (p.0 ++ []) (cur ++ more)) start packed in
     let d : Packs size (left_of f (rows ++ more)) p.0 (cur ++ more) = subst (λ (x : List Subrecord). Packs size (left_of f (rows ++ more)) x (cur ++ more)) (append-nil p.0) a in
@@ -91,7 +95,8 @@ least_behind Unstructured = omega arith
 least_behind Text = omega arith
 
 -- where something is left behind the least further row, no such row goes into the payload
-pub next_enough : (size : ℕ) (old new : Filling) (rows : List (List ℕ)) (last : Bool) (octets : List ℕ) → PacksNext size old new rows last octets → (left_of new (drop (new.row - old.row) rows ++ least old.format ∷ []) ≡ [] → ⊥) → last ≡ false → Reaches size old rows → ⊥
+pub next_enough : (size : ℕ) (old new : Filling) (rows : List (List ℕ)) (last : Bool) (octets : List ℕ) → PacksNext size old new rows last octets
+    → (left_of new (drop (new.row - old.row) rows ++ least old.format ∷ []) ≡ [] → ⊥) → last ≡ false → Reaches size old rows → ⊥
 next_enough size old new rows last octets n left e r =
     let b : AreBehind old.format last (least old.format ∷ []) = subst (λ (x : Bool). AreBehind old.format x (least old.format ∷ [])) (sym e) (least_behind old.format) in
     let p = n (least old.format ∷ []) b in
@@ -104,17 +109,17 @@ from_offset-some offset (x ∷ xs) y e = cc
 pub records_left : (f : Filling) (rows : List (List ℕ)) (y : List ℕ) → is_stream f.format ≡ false → left_of f (rows ++ y ∷ []) ≡ [] → ⊥
 records_left f rows y e h = from_offset-some f.offset rows y (sym (left_records f (rows ++ y ∷ []) e) ∙ h)
 
-least_count : (g : Format) (free : ℕ) → needs (least g) ≤ free → next_count (least g) free ≡ length (least g)
+least_count : (g : Format) (free : ℕ) → needs (least g) ≤ free → next_length (least g) free ≡ length (least g)
 least_count Fixed free q = omega arith
 least_count Variable free q = omega arith
 least_count Unstructured free q = omega arith
 least_count Text free q = omega arith
 
-least_packs : (format : Format) (free : ℕ) → needs (least format) ≤ free → Packs free (least format ∷ []) (next_of (least format) free ∷ []) []
+least_packs : (format : Format) (free : ℕ) → needs (least format) ≤ free → Packs free (least format ∷ []) (next_subrecord (least format) free ∷ []) []
 least_packs format free h =
     let r : List ℕ = least format in
-    let b : eqb (next_count r free) (length r) ≡ true = eq-eqb _ _ (least_count format free h) in
-    (h, refl, subst (λ (x : Bool). Packs (free - (1 + length (next_of r free).octets)) (cond x [] (drop (next_count r free) r ∷ [])) [] []) (sym b) (refl, tt))
+    let b : eqb (next_length r free) (length r) ≡ true = eq-eqb _ _ (least_count format free h) in
+    (h, refl, subst (λ (x : Bool). Packs (free - (1 + length (next_subrecord r free).octets)) (cond x [] (drop (next_length r free) r ∷ [])) [] []) (sym b) (refl, tt))
 
 -- the rows that were lent ended before the payload was full
 pub records_more : (size : ℕ) (f : Filling) (rows : List (List ℕ)) (row offset free : ℕ) (octets : List ℕ) → is_stream f.format ≡ false → IsInRows f rows
@@ -122,10 +127,11 @@ pub records_more : (size : ℕ) (f : Filling) (rows : List (List ℕ)) (row offs
 records_more size f rows row offset free octets e i n p h =
     let r : List ℕ = least f.format in
     let gone : from_offset offset (drop row rows) ≡ [] = ap (from_offset offset) (drop_all row rows (omega arith)) in
-    let one : Packs free (from_offset offset (drop row rows) ++ r ∷ []) (next_of r free ∷ []) [] = subst (λ (x : List (List ℕ)). Packs free (x ++ r ∷ []) (next_of r free ∷ []) []) (sym gone) (least_packs f.format free h) in
-    let all : Packs size (from_offset f.offset rows ++ r ∷ []) (p.0 ++ next_of r free ∷ []) [] = p.2 (r ∷ []) (next_of r free ∷ []) [] one in
+    let one : Packs free (from_offset offset (drop row rows) ++ r ∷ []) (next_subrecord r free ∷ []) [] =
+    subst (λ (x : List (List ℕ)). Packs free (x ++ r ∷ []) (next_subrecord r free ∷ []) []) (sym gone) (least_packs f.format free h) in
+    let all : Packs size (from_offset f.offset rows ++ r ∷ []) (p.0 ++ next_subrecord r free ∷ []) [] = p.2 (r ∷ []) (next_subrecord r free ∷ []) [] one in
     let start : from_offset f.offset rows ++ r ∷ [] ≡ left_of f (rows ++ r ∷ []) = sym (from_offset-append f.offset rows (r ∷ []) i) ∙ sym (left_records f (rows ++ r ∷ []) e) in
-    (p.0 ++ next_of r free ∷ [], omega (arith, length-append p.0 (next_of r free ∷ [])), subst (λ (x : List (List ℕ)). Packs size x (p.0 ++ next_of r free ∷ []) []) start all)
+    (p.0 ++ next_subrecord r free ∷ [], omega (arith, length-append p.0 (next_subrecord r free ∷ [])), subst (λ (x : List (List ℕ)). Packs size x (p.0 ++ next_subrecord r free ∷ []) []) start all)
 
 from_offset-none : (offset : ℕ) (rows : List (List ℕ)) → from_offset offset rows ≡ [] → rows ≡ []
 from_offset-none offset [] e = refl
@@ -140,7 +146,8 @@ no_subs [] e = refl
 no_subs (s ∷ ss) e = absurd (omega arith)
 
 -- nothing was written only if nothing is left
-pub records_done : (size : ℕ) (offset free : ℕ) (rows records' : List (List ℕ)) (octets : List ℕ) → HasPacked size (from_offset offset rows) octets free records' → length octets ≡ 0 → free ≡ size → 2 ≤ size → IsFull free records' → rows ≡ []
+pub records_done : (size : ℕ) (offset free : ℕ) (rows records' : List (List ℕ)) (octets : List ℕ) → HasPacked size (from_offset offset rows) octets free records'
+    → length octets ≡ 0 → free ≡ size → 2 ≤ size → IsFull free records' → rows ≡ []
 records_done size offset free rows records' octets p n f h full =
     let sofar : p.0 ≡ [] = no_subs p.0 (sym (ap length p.1) ∙ n) in
     let gone : records' ≡ [] = full_none free records' (omega arith) full in
@@ -155,14 +162,17 @@ packs_nothing free [] left s p = omega arith
 packs_nothing free (x ∷ xs) left s p = p
 
 -- something was written only if something is left
-pub records_some : (size : ℕ) (f : Filling) (new : Filling) (rows : List (List ℕ)) (octets : List ℕ) (last : Bool) → is_stream f.format ≡ false → PacksNext size f new rows last octets → nothing_left f rows last ≡ true → ⊥
+pub records_some : (size : ℕ) (f : Filling) (new : Filling) (rows : List (List ℕ)) (octets : List ℕ) (last : Bool) → is_stream f.format ≡ false
+    → PacksNext size f new rows last octets → nothing_left f rows last ≡ true → ⊥
 records_some size f new rows octets last e n h =
     let t : (eqb (length rows) 0 && last) ≡ true = sym (ap (λ (b : Bool). cond b f.done (eqb (length rows) 0 && last)) e) ∙ h in
     let both = and_parts (eqb (length rows) 0) last t in
     let none : rows ≡ [] = nil_from_length rows (eqb-true _ _ both.0) in
     let p = n [] (subst (λ (x : Bool). AreBehind f.format x []) (sym both.1) refl) in
-    let a : Packs size (left_of f ([] ++ [])) p.0 (left_of new (drop (new.row - f.row) rows ++ [])) = subst (λ (x : List (List ℕ)). Packs size (left_of f (x ++ [])) p.0 (left_of new (drop (new.row - f.row) rows ++ []))) none p.3 in
-    let b : Packs size [] p.0 (left_of new (drop (new.row - f.row) rows ++ [])) = subst (λ (x : List (List ℕ)). Packs size x p.0 (left_of new (drop (new.row - f.row) rows ++ []))) (left_records f [] e) a in
+    let a : Packs size (left_of f ([] ++ [])) p.0 (left_of new (drop (new.row - f.row) rows ++ [])) =
+    subst (λ (x : List (List ℕ)). Packs size (left_of f (x ++ [])) p.0 (left_of new (drop (new.row - f.row) rows ++ []))) none p.3 in
+    let b : Packs size [] p.0 (left_of new (drop (new.row - f.row) rows ++ [])) =
+    subst (λ (x : List (List ℕ)). Packs size x p.0 (left_of new (drop (new.row - f.row) rows ++ []))) (left_records f [] e) a in
     packs_nothing size p.0 (left_of new (drop (new.row - f.row) rows ++ [])) p.2 b
 
 pub nothing_records : (f : Filling) (rows : List (List ℕ)) (last : Bool) → is_stream f.format ≡ false → rows ≡ [] → last ≡ true → nothing_left f rows last ≡ true
@@ -174,7 +184,8 @@ coming_some f rows last e t = ap (λ (b : Bool). cond b f.done (eqb (length rows
 pub going_some : (f : Filling) (rows : List (List ℕ)) (last : Bool) → is_stream f.format ≡ true → f.done ≡ false → nothing_left f rows last ≡ false
 going_some f rows last e going = ap (λ (b : Bool). cond b f.done (eqb (length rows) 0 && last)) e ∙ going
 
-pub full_all : (rows : List (List ℕ)) (row offset free : ℕ) → row ≤ length rows → (row < length rows → IsFull free (from_offset offset (drop row rows))) → IsFull free (from_offset offset (drop row rows))
+pub full_all : (rows : List (List ℕ)) (row offset free : ℕ) → row ≤ length rows → (row < length rows → IsFull free (from_offset offset (drop row rows)))
+    → IsFull free (from_offset offset (drop row rows))
 full_all rows row offset free h f =
     elim (cases_lt row (length rows)) [ inl l ↦ f l | inr g ↦ subst (λ (x : List (List ℕ)). IsFull free (from_offset offset x)) (sym (drop_all row rows g)) tt ]
 
@@ -193,9 +204,11 @@ in_octets rows zero h = omega arith
 in_octets [] (suc k) h = absurd (let q : suc k < 0 = h (omega arith) in omega arith)
 in_octets (r ∷ rs) (suc k) h = let q : suc k < length r = h (omega arith) in omega (arith, q, length-append r (octets_in rs))
 
-rest_append : (rows : List (List ℕ)) (row offset : ℕ) (more : List (List ℕ)) → (0 < offset → offset < length (get_or rows row [])) → rest_at rows row offset ++ octets_in more ≡ drop offset (octets_in (drop row rows ++ more))
+rest_append : (rows : List (List ℕ)) (row offset : ℕ) (more : List (List ℕ)) → (0 < offset → offset < length (get_or rows row []))
+    → rest_at rows row offset ++ octets_in more ≡ drop offset (octets_in (drop row rows ++ more))
 rest_append rows row offset more h =
-    sym (drop-append-le offset (octets_in (drop row rows)) (octets_in more) (in_octets (drop row rows) offset (drop_place rows row offset h))) ∙ ap (drop offset) (sym (flat_map-append (λ r. r) (drop row rows) more))
+    sym (drop-append-le offset (octets_in (drop row rows)) (octets_in more) (in_octets (drop row rows) offset (drop_place rows row offset h)))
+    ∙ ap (drop offset) (sym (flat_map-append (λ r. r) (drop row rows) more))
 
 behind_tail : (format : Format) (last : Bool) (more : List (List ℕ)) → is_stream format ≡ true → AreBehind format last more → IsTail last (octets_in more)
 behind_tail format true more e b = ap octets_in b
@@ -223,7 +236,8 @@ stream_next size f rows row offset free octets last e d i j p full goes some mor
     let n : f.row + row - f.row ≡ row = omega arith in
     let start : (rest_at rows 0 f.offset ++ tail) ∷ [] ≡ left_of f (rows ++ more) = ap (λ (x : List ℕ). x ∷ []) (rest_append rows 0 f.offset more i) ∙ sym (left_stream f (rows ++ more) e d) in
     let rest : (cur ++ tail) ∷ [] ≡ left_of g (drop (f.row + row - f.row) rows ++ more) =
-    ap (λ (x : List ℕ). x ∷ []) (rest_append rows row offset more j) ∙ ap (λ x. drop offset (octets_in (drop x rows ++ more)) ∷ []) (sym n) ∙ sym (left_stream g (drop (f.row + row - f.row) rows ++ more) e d) in
+    ap (λ (x : List ℕ). x ∷ []) (rest_append rows row offset more j) ∙ ap (λ x. drop offset (octets_in (drop x rows ++ more)) ∷ []) (sym n)
+    ∙ sym (left_stream g (drop (f.row + row - f.row) rows ++ more) e d) in
     let packed : Packs size ((rest_at rows 0 f.offset ++ tail) ∷ []) (p.0 ++ []) ((cur ++ tail) ∷ []) = p.2 tail [] ((cur ++ tail) ∷ []) t (refl, full_stream last free cur tail full t goes) in
     let a : Packs size (left_of f (rows ++ more)) (p.0 ++ []) ((cur ++ tail) ∷ []) = subst (λ (x : List (List ℕ)). Packs size x (p.0 ++ []) ((cur ++ tail) ∷ [])) start packed in
     let c : Packs size (left_of f (rows ++ more)) p.0 ((cur ++ tail) ∷ []) = subst (λ (x : List Subrecord). Packs size (left_of f (rows ++ more)) x ((cur ++ tail) ∷ [])) (append-nil p.0) a in
@@ -238,9 +252,14 @@ pub stream_ended : (size : ℕ) (f : Filling) (rows : List (List ℕ)) (row offs
 stream_ended size f rows row offset octets last e d l p more b =
     let g : Filling = advanced (record f { done = true }) rows row offset in
     let none : more ≡ [] = subst (λ (x : Bool). AreBehind f.format x more) l b in
-    let start : rest_at rows 0 f.offset ∷ [] ≡ left_of f (rows ++ more) = ap (λ (x : List (List ℕ)). drop f.offset (octets_in x) ∷ []) (sym (append-nil rows) ∙ ap (λ (x : List (List ℕ)). rows ++ x) (sym none)) ∙ sym (left_stream f (rows ++ more) e d) in
-    let rest : [] ≡ left_of g (drop (f.row + row - f.row) rows ++ more) = ap (λ (b : Bool). cond b [] (from_offset offset (drop (f.row + row - f.row) rows ++ more))) (sym e) in
-    (p.0, p.1, ended_some size (rest_at rows 0 f.offset) p.0 p.2, subst (λ (x : List (List ℕ)). Packs size (left_of f (rows ++ more)) p.0 x) rest (subst (λ (x : List (List ℕ)). Packs size x p.0 []) start p.2))
+    let start : rest_at rows 0 f.offset ∷ [] ≡ left_of f (rows ++ more) =
+    ap (λ (x : List (List ℕ)). drop f.offset (octets_in x) ∷ []) (sym (append-nil rows) ∙ ap (λ (x : List (List ℕ)). rows ++ x) (sym none)) ∙ sym (left_stream f (rows ++ more) e d) in
+    let rest : [] ≡ left_of g (drop (f.row + row - f.row) rows ++ more) = ap (λ (b : Bool). cond b [] (from_offset offset (drop (f.row + row - f.row) rows ++ more))) (sym e) in (
+      p.0,
+      p.1,
+      ended_some size (rest_at rows 0 f.offset) p.0 p.2,
+      subst (λ (x : List (List ℕ)). Packs size (left_of f (rows ++ more)) p.0 x) rest (subst (λ (x : List (List ℕ)). Packs size x p.0 []) start p.2),
+    )
 
 pub stream_left : (f : Filling) (rows : List (List ℕ)) → is_stream f.format ≡ true → f.done ≡ false → left_of f rows ≡ [] → ⊥
 stream_left f rows e d h = let q : drop f.offset (octets_in rows) ∷ [] ≡ [] = sym (left_stream f rows e d) ∙ h in cc
@@ -252,22 +271,23 @@ least_stream Unstructured e = refl
 least_stream Text e = refl
 
 -- one octet behind octets that fit
-one_packs : (free : ℕ) (cur : List ℕ) → length cur < min 63 (free - 1) → Packs free ((cur ++ 0 ∷ []) ∷ []) (next_of (cur ++ 0 ∷ []) free ∷ []) []
+one_packs : (free : ℕ) (cur : List ℕ) → length cur < min 63 (free - 1) → Packs free ((cur ++ 0 ∷ []) ∷ []) (next_subrecord (cur ++ 0 ∷ []) free ∷ []) []
 one_packs free cur h =
     let r : List ℕ = cur ++ 0 ∷ [] in
     let n : length r ≡ length cur + 1 = length-append cur (0 ∷ []) in
     let two : 2 ≤ free = omega arith in
-    let c : next_count r free ≡ length r = omega (arith, n) in
-    let b : eqb (next_count r free) (length r) ≡ true = eq-eqb _ _ c in
-    (omega (arith, needs_most r), refl, subst (λ (x : Bool). Packs (free - (1 + length (next_of r free).octets)) (cond x [] (drop (next_count r free) r ∷ [])) [] []) (sym b) (refl, tt))
+    let c : next_length r free ≡ length r = omega (arith, n) in
+    let b : eqb (next_length r free) (length r) ≡ true = eq-eqb _ _ c in
+    (omega (arith, needs_most r), refl, subst (λ (x : Bool). Packs (free - (1 + length (next_subrecord r free).octets)) (cond x [] (drop (next_length r free) r ∷ [])) [] []) (sym b) (refl, tt))
 
 pub stream_more : (size : ℕ) (f : Filling) (rows : List (List ℕ)) (row offset free : ℕ) (octets : List ℕ) (last : Bool) → is_stream f.format ≡ true → f.done ≡ false → IsInRows f rows
     → last ≡ false → length (rest_at rows row offset) < min 63 (free - 1) → HasStreamed last size (rest_at rows 0 f.offset) octets free (rest_at rows row offset) → Reaches size f rows
 stream_more size f rows row offset free octets last e d i l h p =
     let cur : List ℕ = rest_at rows row offset in
-    let s : Subrecord = next_of (cur ++ 0 ∷ []) free in
+    let s : Subrecord = next_subrecord (cur ++ 0 ∷ []) free in
     let t : IsTail last (0 ∷ []) = subst (λ (x : Bool). IsTail x (0 ∷ [])) (sym l) (omega arith) in
     let all : Packs size ((rest_at rows 0 f.offset ++ 0 ∷ []) ∷ []) (p.0 ++ s ∷ []) [] = p.2 (0 ∷ []) (s ∷ []) [] t (one_packs free cur h) in
     let start : (rest_at rows 0 f.offset ++ 0 ∷ []) ∷ [] ≡ left_of f (rows ++ least f.format ∷ []) =
-    ap (λ (x : List ℕ). x ∷ []) (rest_append rows 0 f.offset ((0 ∷ []) ∷ []) i) ∙ ap (λ (x : List ℕ). drop f.offset (octets_in (rows ++ x ∷ [])) ∷ []) (sym (least_stream f.format e)) ∙ sym (left_stream f (rows ++ least f.format ∷ []) e d) in
+    ap (λ (x : List ℕ). x ∷ []) (rest_append rows 0 f.offset ((0 ∷ []) ∷ []) i)
+    ∙ ap (λ (x : List ℕ). drop f.offset (octets_in (rows ++ x ∷ [])) ∷ []) (sym (least_stream f.format e)) ∙ sym (left_stream f (rows ++ least f.format ∷ []) e d) in
     (p.0 ++ s ∷ [], omega (arith, length-append p.0 (s ∷ [])), subst (λ (x : List (List ℕ)). Packs size x (p.0 ++ s ∷ []) []) start all)

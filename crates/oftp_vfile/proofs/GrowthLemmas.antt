@@ -1,18 +1,19 @@
+-- Rows and a tail that have grown can be put back.
 use Rattle.std.proofs.Common.{◌≡◌, ℕ, suc, ◌+◌, ◌<◌, ◌≤◌, List, [], ◌∷◌, ◌++◌, length, get_or, take, drop, refl, sym, ap, ◌∙◌, arith, append_assoc, Result, Ok, Err, OnErr}
 use Rattle.std.proofs.lemmas.List.{append-nil, take_at, length-append, take-append-le, nil_from_length, same_from_push, get_or_at, get_or_append_left, drop_at, drop-drop}
 use Rattle.std.proofs.Math.Seq.{take-append-add}
-use Rattle.oftp_vfile.specs.Growth.{GoesOn}
+use Rattle.oftp_vfile.specs.Growth.{HasGrown}
 
 -- nothing was added
-pub goes_on_same : (rows : List (List ℕ)) (tail : List ℕ) (rows' : List (List ℕ)) (tail' : List ℕ) → rows' ≡ rows → tail' ≡ tail → GoesOn rows tail rows' tail'
+pub goes_on_same : (rows : List (List ℕ)) (tail : List ℕ) (rows' : List (List ℕ)) (tail' : List ℕ) → rows' ≡ rows → tail' ≡ tail → HasGrown rows tail rows' tail'
 goes_on_same rows tail rows' tail' r t = ([], [], rw (r, t, append-nil) refl)
 
 -- the tail is longer
-pub goes_on_longer : (rows : List (List ℕ)) (tail : List ℕ) (rows' : List (List ℕ)) (tail' more : List ℕ) → rows' ≡ rows → tail' ≡ tail ++ more → GoesOn rows tail rows' tail'
+pub goes_on_longer : (rows : List (List ℕ)) (tail : List ℕ) (rows' : List (List ℕ)) (tail' more : List ℕ) → rows' ≡ rows → tail' ≡ tail ++ more → HasGrown rows tail rows' tail'
 goes_on_longer rows tail rows' tail' more r t = (more, [], rw (r, t) refl)
 
 -- the tail became a row
-pub goes_on_closed : (rows : List (List ℕ)) (tail : List ℕ) (rows' : List (List ℕ)) (tail' more : List ℕ) → rows' ≡ rows ++ (tail ++ more) ∷ [] → GoesOn rows tail rows' tail'
+pub goes_on_closed : (rows : List (List ℕ)) (tail : List ℕ) (rows' : List (List ℕ)) (tail' more : List ℕ) → rows' ≡ rows ++ (tail ++ more) ∷ [] → HasGrown rows tail rows' tail'
 goes_on_closed rows tail rows' tail' more r = (more, tail' ∷ [], rw (r, append_assoc) refl)
 
 -- a fact is a fact at an error
@@ -21,7 +22,8 @@ at_error (Ok x) p = tt
 at_error (Err e) p = p
 
 -- the rows before, of rows that go on, where none is new
-pub rows_before : (old : List (List ℕ)) (front : List ℕ) (rows : List (List ℕ)) (tail : List ℕ) → GoesOn old front rows tail → length rows ≤ length old → (rows ≡ old) × (take (length front) tail ≡ front)
+pub rows_before : (old : List (List ℕ)) (front : List ℕ) (rows : List (List ℕ)) (tail : List ℕ) → HasGrown old front rows tail → length rows ≤ length old → (rows ≡ old)
+    × (take (length front) tail ≡ front)
 rows_before old front rows tail g h =
     let e : rows ++ tail ∷ [] ≡ old ++ (front ++ g.0) ∷ g.1 = g.2 in
     let l : length rows + 1 ≡ length old + suc (length g.1) = sym (length-append rows (tail ∷ [])) ∙ ap length e ∙ length-append old ((front ++ g.0) ∷ g.1) in
@@ -31,7 +33,8 @@ rows_before old front rows tail g h =
     (same.0, ap (take (length front)) same.1 ∙ take_at front g.0 (length front) refl)
 
 -- the first new row holds the old tail
-pub first_new : (old : List (List ℕ)) (front : List ℕ) (rows : List (List ℕ)) (tail : List ℕ) → GoesOn old front rows tail → length old < length rows → (take (length old) rows ≡ old) × ((d : List ℕ) → take (length front) (get_or rows (length old) d) ≡ front)
+pub first_new : (old : List (List ℕ)) (front : List ℕ) (rows : List (List ℕ)) (tail : List ℕ) → HasGrown old front rows tail → length old < length rows
+    → (take (length old) rows ≡ old) × ((d : List ℕ) → take (length front) (get_or rows (length old) d) ≡ front)
 first_new old front rows tail g h =
     let e : rows ++ tail ∷ [] ≡ old ++ (front ++ g.0) ∷ g.1 = g.2 in
     let l : length old ≤ length rows = omega arith in

@@ -1,3 +1,4 @@
+-- Lemmas that answers and the crates above cite.
 pub mod GrowthLemmas
 pub mod TakingLemmas
 pub mod PackingLemmas

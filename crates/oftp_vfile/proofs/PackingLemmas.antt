@@ -1,3 +1,4 @@
+-- What the filler's loops write is what the filling rule packs.
 use Rattle.std.proofs.Common.{◌≡◌, ℕ, suc, zero, ◌+◌, ◌-◌, ◌<◌, ◌≤◌, Bool, true, false, cond, eqb, min, List, [], ◌∷◌, ◌++◌, length, get_or, set, take, drop, refl, sym, ap, ◌∙◌, subst, arith, append_assoc, ◌⊎◌, inl, inr, All}
 use Rattle.std.proofs.lemmas.Bool.{eq-eqb, eqb-false, ne_eqb}
 use Rattle.std.proofs.lemmas.List.{append-nil, length-append, length-take-le, length-drop, drop-drop, drop_more, take_more_set, take-append-le, drop-append-le, length-set, drop-set-lt, drop_at, get_or_default}
@@ -6,7 +7,7 @@ use Rattle.std.proofs.lemmas.Slice.{take-put_mid, take-put_mid_below}
 use Rattle.std.proofs.Math.Seq.{take-add}
 use borrow.Rule.Slice.PartMut.{put_mid, post_of}
 use Rattle.oftp_vfile.specs.Subrecord.{Subrecord, spelled, payload_of}
-use Rattle.oftp_vfile.specs.Fill.{needs, next_count, next_of, behind, Packs}
+use Rattle.oftp_vfile.specs.Fill.{needs, next_length, next_subrecord, behind, Packs}
 use Rattle.oftp_vfile.specs.Filling.{from_offset}
 use Rattle.oftp_vfile.specs.VirtualFile.{octets_in}
 use Rattle.oftp_vfile.specs.Packing.{HasPacked, rest_at, IsTail, HasStreamed, HasEnded}
@@ -19,7 +20,8 @@ octets_in-drop rows i d h = ap octets_in (drop_more rows i d h)
 pub gather_step : (rows : List (List ℕ)) (row offset at n k : ℕ) (out all ys octets : List ℕ)
     → row < length rows → octets ≡ get_or rows row octets → offset + n ≤ length octets → at ≤ length out
     → take at out ≡ take at all → drop offset (octets_in (drop row rows)) ≡ drop at all → ys ≡ take n (drop offset octets)
-    → (take (at + n) (put_mid at k out ys) ≡ take (at + n) all) × (drop (offset + n) octets ++ octets_in (drop (row + 1) rows) ≡ drop (at + n) all) × (drop (offset + n) (octets_in (drop row rows)) ≡ drop (at + n) all) × (at ≤ length all → at + n ≤ length all)
+    → (take (at + n) (put_mid at k out ys) ≡ take (at + n) all) × (drop (offset + n) octets ++ octets_in (drop (row + 1) rows) ≡ drop (at + n) all)
+    × (drop (offset + n) (octets_in (drop row rows)) ≡ drop (at + n) all) × (at ≤ length all → at + n ≤ length all)
 gather_step rows row offset at n k out all ys octets h o w r t e y =
     let next : List ℕ = octets_in (drop (row + 1) rows) in
     let z : octets_in (drop row rows) ≡ octets ++ next = octets_in-drop rows row octets h ∙ ap (λ (x : List ℕ). x ++ next) (sym o) in
@@ -41,7 +43,8 @@ put_step out part ys at h k r y =
     let l : at < length out = omega arith in
     let s : length (set out at h) ≡ length out = length-set out at h in
     let n : at + (1 + length part) ≡ at + 1 + length ys = omega (arith, ap length y) in
-    take-put_mid (at + 1) k (set out at h) ys (at + (1 + length part)) n (omega arith) ∙ ap (λ (x : List ℕ). x ++ ys) (take_more_set out at h l) ∙ append_assoc (take at out) (h ∷ []) ys ∙ ap (λ (x : List ℕ). take at out ++ h ∷ x) y
+    take-put_mid (at + 1) k (set out at h) ys (at + (1 + length part)) n (omega arith) ∙ ap (λ (x : List ℕ). x ++ ys) (take_more_set out at h l)
+    ∙ append_assoc (take at out) (h ∷ []) ys ∙ ap (λ (x : List ℕ). take at out ++ h ∷ x) y
 
 -- the element that was read, at another default
 pub get_or_same : (rows : List (List ℕ)) (i : ℕ) (x y : List ℕ) → i < length rows → x ≡ get_or rows i x → y ≡ x → y ≡ get_or rows i y
@@ -52,7 +55,8 @@ from_offset-zero [] = refl
 from_offset-zero (r ∷ rs) = refl
 
 -- the rows from a place on
-pub from_offset-drop : (rows : List (List ℕ)) (row offset : ℕ) (octets : List ℕ) → row < length rows → octets ≡ get_or rows row octets → from_offset offset (drop row rows) ≡ drop offset octets ∷ drop (row + 1) rows
+pub from_offset-drop : (rows : List (List ℕ)) (row offset : ℕ) (octets : List ℕ) → row < length rows → octets ≡ get_or rows row octets
+    → from_offset offset (drop row rows) ≡ drop offset octets ∷ drop (row + 1) rows
 from_offset-drop rows row offset octets h e = ap (from_offset offset) (drop_more rows row octets h ∙ ap (λ (x : List ℕ). x ∷ drop (row + 1) rows) (sym e))
 
 pub needs_le : (octets : List ℕ) (free : ℕ) → (free ≡ 0 → ⊥) → (free ≡ 1 → length octets ≡ 0) → needs octets ≤ free
@@ -67,27 +71,28 @@ needs_gt (x ∷ xs) free (inr a) = omega (arith, a.0)
 
 behind-append : (octets : List ℕ) (records more : List (List ℕ)) (free : ℕ) → behind octets records free ++ more ≡ behind octets (records ++ more) free
 behind-append octets records more free =
-    let P : Bool → Type 0 = λ b. cond b records (drop (next_count octets free) octets ∷ records) ++ more ≡ cond b (records ++ more) (drop (next_count octets free) octets ∷ (records ++ more)) in
+    let P : Bool → Type 0 = λ b. cond b records (drop (next_length octets free) octets ∷ records) ++ more ≡ cond b (records ++ more) (drop (next_length octets free) octets ∷ (records ++ more)) in
     let both : (b : Bool) → P b = λ b. elim b as P [ true ↦ refl | false ↦ refl ] in
-    both (eqb (next_count octets free) (length octets))
+    both (eqb (next_length octets free) (length octets))
 
 pub payload_of-push : (ss : List Subrecord) (s : Subrecord) → payload_of (ss ++ s ∷ []) ≡ payload_of ss ++ spelled s
 payload_of-push ss s = flat_map-append spelled ss (s ∷ []) ∙ ap (λ (x : List ℕ). payload_of ss ++ x) (append-nil (spelled s))
 
-next_count-le : (octets : List ℕ) (free : ℕ) → length (take (next_count octets free) octets) ≡ next_count octets free
-next_count-le octets free = length-take-le (next_count octets free) octets (omega arith)
+next_count-le : (octets : List ℕ) (free : ℕ) → length (take (next_length octets free) octets) ≡ next_length octets free
+next_count-le octets free = length-take-le (next_length octets free) octets (omega arith)
 
 -- one more subrecord was written
 pub packed_more : (size : ℕ) (records : List (List ℕ)) (octets : List ℕ) (free : ℕ) (r : List ℕ) (rs : List (List ℕ)) → HasPacked size records octets free (r ∷ rs) → needs r ≤ free
-    → HasPacked size records (octets ++ spelled (next_of r free)) (free - (1 + next_count r free)) (behind r rs free)
+    → HasPacked size records (octets ++ spelled (next_subrecord r free)) (free - (1 + next_length r free)) (behind r rs free)
 packed_more size records octets free r rs p h =
-    let s : Subrecord = next_of r free in
-    let n : length s.octets ≡ next_count r free = next_count-le r free in (
+    let s : Subrecord = next_subrecord r free in
+    let n : length s.octets ≡ next_length r free = next_count-le r free in (
       p.0 ++ s ∷ [],
       ap (λ (x : List ℕ). x ++ spelled s) p.1 ∙ sym (payload_of-push p.0 s),
       λ more ss left q.
+          let sized = subst (λ (x : ℕ). Packs (free - (1 + x)) (behind r rs free ++ more) ss left) (sym n) q in
           let q' : Packs (free - (1 + length s.octets)) (behind r (rs ++ more) free) ss left =
-          subst (λ (x : List (List ℕ)). Packs (free - (1 + length s.octets)) x ss left) (behind-append r rs more free) (subst (λ (x : ℕ). Packs (free - (1 + x)) (behind r rs free ++ more) ss left) (sym n) q) in
+          subst (λ (x : List (List ℕ)). Packs (free - (1 + length s.octets)) x ss left) (behind-append r rs more free) sized in
           subst (λ (x : List Subrecord). Packs size (records ++ more) x left) (sym (append_assoc p.0 (s ∷ []) ss)) (p.2 more (s ∷ ss) left (h, refl, q')),
     )
 
@@ -95,30 +100,52 @@ pub packed_none : (size : ℕ) (records : List (List ℕ)) → HasPacked size re
 packed_none size records = ([], refl, λ more ss left p. p)
 
 -- in terms of rows and places
-pub packed_ends : (size : ℕ) (start : List (List ℕ)) (octets : List ℕ) (free : ℕ) (rows : List (List ℕ)) (row offset count : ℕ) (r written : List ℕ) (ends : Bool)
+packed_ends : (size : ℕ) (start : List (List ℕ)) (octets : List ℕ) (free : ℕ) (rows : List (List ℕ)) (row offset count : ℕ) (r written : List ℕ) (ends : Bool)
     → row < length rows → r ≡ get_or rows row r → HasPacked size start octets free (from_offset offset (drop row rows)) → needs (drop offset r) ≤ free
-    → count ≡ next_count (drop offset r) free → ends ≡ eqb count (length (drop offset r)) → written ≡ octets ++ spelled (record { ends = ends; octets = take count (drop offset r) })
+    → count ≡ next_length (drop offset r) free → ends ≡ eqb count (length (drop offset r)) → written ≡ octets ++ spelled (record { ends = ends; octets = take count (drop offset r) })
     → HasPacked size start written (free - (1 + count)) (cond ends (drop (row + 1) rows) (drop count (drop offset r) ∷ drop (row + 1) rows))
 packed_ends size start octets free rows row offset count r written ends h e p f n b w =
     let rest : List ℕ = drop offset r in
     let rs : List (List ℕ) = drop (row + 1) rows in
     let p' : HasPacked size start octets free (rest ∷ rs) = subst (λ (x : List (List ℕ)). HasPacked size start octets free x) (from_offset-drop rows row offset r h e) p in
     let m = packed_more size start octets free rest rs p' f in
-    let t : ends ≡ eqb (next_count rest free) (length rest) = b ∙ ap (λ x. eqb x (length rest)) n in
-    let v : written ≡ octets ++ spelled (next_of rest free) =
-    w ∙ ap (λ (x : Bool). octets ++ spelled (record { ends = x; octets = take count rest })) t ∙ ap (λ (x : ℕ). octets ++ spelled (record { ends = eqb (next_count rest free) (length rest); octets = take x rest })) n in
-    let m1 : HasPacked size start written (free - (1 + next_count rest free)) (behind rest rs free) = subst (λ (x : List ℕ). HasPacked size start x (free - (1 + next_count rest free)) (behind rest rs free)) (sym v) m in
+    let t : ends ≡ eqb (next_length rest free) (length rest) = b ∙ ap (λ x. eqb x (length rest)) n in
+    let v : written ≡ octets ++ spelled (next_subrecord rest free) =
+    w ∙ ap (λ (x : Bool). octets ++ spelled (record { ends = x; octets = take count rest })) t
+    ∙ ap (λ (x : ℕ). octets ++ spelled (record { ends = eqb (next_length rest free) (length rest); octets = take x rest })) n in
+    let m1 : HasPacked size start written (free - (1 + next_length rest free)) (behind rest rs free) =
+    subst (λ (x : List ℕ). HasPacked size start x (free - (1 + next_length rest free)) (behind rest rs free)) (sym v) m in
     let m2 : HasPacked size start written (free - (1 + count)) (behind rest rs free) = subst (λ (x : ℕ). HasPacked size start written (free - (1 + x)) (behind rest rs free)) (sym n) m1 in
-    let g : behind rest rs free ≡ cond ends rs (drop count rest ∷ rs) = ap (λ (x : Bool). cond x rs (drop (next_count rest free) rest ∷ rs)) (sym t) ∙ ap (λ (x : ℕ). cond ends rs (drop x rest ∷ rs)) (sym n) in
+    let g : behind rest rs free ≡ cond ends rs (drop count rest ∷ rs) = ap (λ (x : Bool). cond x rs (drop (next_length rest free) rest ∷ rs)) (sym t)
+    ∙ ap (λ (x : ℕ). cond ends rs (drop x rest ∷ rs)) (sym n) in
     subst (λ (x : List (List ℕ)). HasPacked size start written (free - (1 + count)) x) g m2
 
-pub packed_done : (size size' at count free : ℕ) (start records records' : List (List ℕ)) (written : List ℕ) → size' ≡ size → free ≡ size - at → HasPacked size start written (free - (1 + count)) records → records ≡ records'
+pub packed_done : (size size' at count free : ℕ) (start records records' : List (List ℕ)) (written : List ℕ) → size' ≡ size → free ≡ size - at
+    → HasPacked size start written (free - (1 + count)) records → records ≡ records'
     → HasPacked size' start written (size' - (at + (1 + count))) records'
 packed_done size size' at count free start records records' written e f p r =
     let n : free - (1 + count) ≡ size - (at + (1 + count)) = omega arith in
     let a : HasPacked size start written (size - (at + (1 + count))) records = subst (λ (x : ℕ). HasPacked size start written x records) n p in
     let b : HasPacked size' start written (size' - (at + (1 + count))) records = subst (λ (x : ℕ). HasPacked x start written (x - (at + (1 + count))) records) (sym e) a in
     subst (λ (x : List (List ℕ)). HasPacked size' start written (size' - (at + (1 + count))) x) r b
+
+-- the loop wrote the next subrecord, which is the part in front of what is left of its record
+pub packed_step : (size : ℕ) (start rows : List (List ℕ)) (row offset at count : ℕ) (r rest part out out' : List ℕ)
+    → row < length rows → r ≡ get_or rows row r → rest ≡ drop offset r → part ≡ take count rest → length part ≡ count
+    → HasPacked size start (take at out) (size - at) (from_offset offset (drop row rows))
+    → needs rest ≤ size - at → count ≡ next_length rest (size - at)
+    → take (at + (1 + length part)) out' ≡ take at out ++ spelled (record { ends = eqb count (length rest); octets = part })
+    → HasPacked size start (take (at + (1 + count)) out') (size - at - (1 + count))
+    (cond (eqb count (length rest)) (drop (row + 1) rows) (drop count (drop offset r) ∷ drop (row + 1) rows))
+packed_step size start rows row offset at count r rest part out out' h e back front len p f n w =
+    let ends : Bool = eqb count (length rest) in
+    let sub : List ℕ → List ℕ = λ x. take at out ++ spelled (record { ends = ends; octets = x }) in
+    let written : take (at + (1 + count)) out' ≡ sub (take count (drop offset r)) =
+    ap (λ x. take (at + (1 + x)) out') (sym len) ∙ w ∙ ap sub front ∙ ap (λ (x : List ℕ). sub (take count x)) back in
+    let fits : needs (drop offset r) ≤ size - at = subst (λ (x : List ℕ). needs x ≤ size - at) back f in
+    let sized : count ≡ next_length (drop offset r) (size - at) = n ∙ ap (λ (x : List ℕ). next_length x (size - at)) back in
+    let last : ends ≡ eqb count (length (drop offset r)) = ap (λ (x : List ℕ). eqb count (length x)) back in
+    packed_ends size start (take at out) (size - at) rows row offset count r (take (at + (1 + count)) out') ends h e p fits sized last written
 
 -- a place in a row is in the row
 pub in_row : (offset n : ℕ) → (0 < offset → offset < n) → offset ≤ n
@@ -150,7 +177,8 @@ below_row zero n s h = s
 below_row (suc k) n s h = h (omega arith)
 
 -- where a row is left, octets are
-pub rest_some : (rows : List (List ℕ)) (row offset : ℕ) → row < length rows → All (λ (r : List ℕ). 0 < length r) rows → (0 < offset → offset < length (get_or rows row [])) → 0 < length (rest_at rows row offset)
+pub rest_some : (rows : List (List ℕ)) (row offset : ℕ) → row < length rows → All (λ (r : List ℕ). 0 < length r) rows → (0 < offset → offset < length (get_or rows row []))
+    → 0 < length (rest_at rows row offset)
 rest_some rows row offset h a p =
     let r : List ℕ = get_or rows row [] in
     let next : List ℕ = octets_in (drop (row + 1) rows) in
@@ -172,7 +200,8 @@ tail_length true cur tail count want t e f = e ∙ ap (λ (x : List ℕ). min wa
 tail_length false cur tail count want t e f = let l = length-append cur tail in let g : want ≤ length cur = f refl in omega (arith, l, g, e)
 
 tail_some : (last : Bool) (cur tail : List ℕ) (count : ℕ) → IsTail last tail → count ≤ length cur → (last ≡ true → 0 < length (drop count cur)) → eqb count (length (cur ++ tail)) ≡ false
-tail_some true cur tail count t h f = let l = length-append cur tail in let d = length-drop count cur in let g : 0 < length (drop count cur) = f refl in ne_eqb count (length (cur ++ tail)) (λ e. omega (arith, l, d, g, e))
+tail_some true cur tail count t h f = let l = length-append cur tail in let d = length-drop count cur in let g : 0 < length (drop count cur) = f refl in
+    ne_eqb count (length (cur ++ tail)) (λ e. omega (arith, l, d, g, e))
 tail_some false cur tail count t h f = let l = length-append cur tail in let s : 0 < length tail = t in ne_eqb count (length (cur ++ tail)) (λ e. omega (arith, l, s, h, e))
 
 -- one more subrecord of a stream was written, and it isn't the last
@@ -187,12 +216,13 @@ streamed_more last size start octets free cur count p f n m g =
       λ tail ss left t q.
           let all : List ℕ = cur ++ tail in
           let long : count ≡ min (min 63 (free - 1)) (length all) = tail_length last cur tail count (min 63 (free - 1)) t n m in
-          let counted : count ≡ next_count all free = omega (arith, long) in
-          let b : eqb (next_count all free) (length all) ≡ false = ap (λ x. eqb x (length all)) (sym counted) ∙ tail_some last cur tail count t le g in
-          let o : take count cur ≡ take (next_count all free) all = sym (take-append-le count cur tail le) ∙ ap (λ x. take x all) counted in
-          let is : s ≡ next_of all free = ap (λ (x : List ℕ). record { ends = false; octets = x }) o ∙ ap (λ (x : Bool). record { ends = x; octets = take (next_count all free) all }) (sym b) in
-          let rest : drop count cur ++ tail ≡ drop (next_count all free) all = sym (drop-append-le count cur tail le) ∙ ap (λ x. drop x all) counted in
-          let is_behind : (drop count cur ++ tail) ∷ [] ≡ behind all [] free = ap (λ (x : List ℕ). x ∷ []) rest ∙ ap (λ (x : Bool). cond x [] (drop (next_count all free) all ∷ [])) (sym b) in
+          let counted : count ≡ next_length all free = omega (arith, long) in
+          let b : eqb (next_length all free) (length all) ≡ false = ap (λ x. eqb x (length all)) (sym counted) ∙ tail_some last cur tail count t le g in
+          let o : take count cur ≡ take (next_length all free) all = sym (take-append-le count cur tail le) ∙ ap (λ x. take x all) counted in
+          let is : s ≡ next_subrecord all free = ap (λ (x : List ℕ). record { ends = false; octets = x }) o
+          ∙ ap (λ (x : Bool). record { ends = x; octets = take (next_length all free) all }) (sym b) in
+          let rest : drop count cur ++ tail ≡ drop (next_length all free) all = sym (drop-append-le count cur tail le) ∙ ap (λ x. drop x all) counted in
+          let is_behind : (drop count cur ++ tail) ∷ [] ≡ behind all [] free = ap (λ (x : List ℕ). x ∷ []) rest ∙ ap (λ (x : Bool). cond x [] (drop (next_length all free) all ∷ [])) (sym b) in
           let len : length s.octets ≡ count = length-take-le count cur le in
           let q1 : Packs (free - (1 + length s.octets)) ((drop count cur ++ tail) ∷ []) ss left = subst (λ (x : ℕ). Packs (free - (1 + x)) ((drop count cur ++ tail) ∷ []) ss left) (sym len) q in
           let q2 : Packs (free - (1 + length s.octets)) (behind all [] free) ss left = subst (λ (x : List (List ℕ)). Packs (free - (1 + length s.octets)) x ss left) is_behind q1 in
@@ -210,10 +240,12 @@ streamed_end size start octets free cur count p f n z =
     let le : count ≤ length cur = omega (arith, n) in
     let all : count ≡ length cur = omega (arith, d) in
     let e : cur ++ [] ≡ cur = append-nil cur in
-    let counted : count ≡ next_count cur free = omega (arith, n) in
-    let b : eqb (next_count cur free) (length cur) ≡ true = eq-eqb (next_count cur free) (length cur) (omega (arith, counted, all)) in
-    let is : s ≡ next_of cur free = ap (λ (x : ℕ). record { ends = true; octets = take x cur }) counted ∙ ap (λ (x : Bool). record { ends = x; octets = take (next_count cur free) cur }) (sym b) in
-    let done : Packs (free - (1 + length s.octets)) (behind cur [] free) [] [] = subst (λ (x : Bool). Packs (free - (1 + length s.octets)) (cond x [] (drop (next_count cur free) cur ∷ [])) [] []) (sym b) (refl, tt) in
+    let counted : count ≡ next_length cur free = omega (arith, n) in
+    let b : eqb (next_length cur free) (length cur) ≡ true = eq-eqb (next_length cur free) (length cur) (omega (arith, counted, all)) in
+    let is : s ≡ next_subrecord cur free = ap (λ (x : ℕ). record { ends = true; octets = take x cur }) counted
+    ∙ ap (λ (x : Bool). record { ends = x; octets = take (next_length cur free) cur }) (sym b) in
+    let done : Packs (free - (1 + length s.octets)) (behind cur [] free) [] [] =
+    subst (λ (x : Bool). Packs (free - (1 + length s.octets)) (cond x [] (drop (next_length cur free) cur ∷ [])) [] []) (sym b) (refl, tt) in
     let fits : needs cur ≤ free = omega (arith, needs_most cur) in
     let packed : Packs free (cur ∷ []) (s ∷ []) [] = (fits, is, done) in
     let packed' : Packs free ((cur ++ []) ∷ []) (s ∷ []) [] = subst (λ (x : List ℕ). Packs free (x ∷ []) (s ∷ []) []) (sym e) packed in (
@@ -225,7 +257,8 @@ streamed_end size start octets free cur count p f n z =
 pub streamed_none : (last : Bool) (size : ℕ) (start : List ℕ) → HasStreamed last size start [] size start
 streamed_none last size start = ([], refl, λ tail ss left t p. p)
 
-pub streamed_done : (last : Bool) (size size' at count free : ℕ) (start octets written stream stream' : List ℕ) → size' ≡ size → free ≡ size - at → HasStreamed last size start octets (free - (1 + count)) stream → written ≡ octets → stream' ≡ stream
+pub streamed_done : (last : Bool) (size size' at count free : ℕ) (start octets written stream stream' : List ℕ) → size' ≡ size → free ≡ size - at
+    → HasStreamed last size start octets (free - (1 + count)) stream → written ≡ octets → stream' ≡ stream
     → HasStreamed last size' start written (size' - (at + (1 + count))) stream'
 streamed_done last size size' at count free start octets written stream stream' e f p w r =
     let n : free - (1 + count) ≡ size - (at + (1 + count)) = omega arith in

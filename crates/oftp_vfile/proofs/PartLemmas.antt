@@ -5,7 +5,7 @@ use Rattle.std.proofs.lemmas.List.Concat.{flat_map-append}
 use Rattle.oftp_vfile.specs.declared.format.Format.{Format}
 use Rattle.oftp_vfile.specs.declared.format.Format.TheVariants.{Fixed, Variable, Unstructured, Text}
 use Rattle.oftp_vfile.specs.declared.format.Stage.{Stage}
-use Rattle.oftp_vfile.specs.VirtualFile.{octets_in, units_in, records_in, closed, Begins, AreRows}
+use Rattle.oftp_vfile.specs.VirtualFile.{octets_in, units_in, records_in, closed, BeginsWith, AreRows}
 use Rattle.oftp_vfile.specs.Subrecord.{Subrecord, payload_of, octets_of, AreShort}
 use Rattle.oftp_vfile.specs.Carries.{pieces, InBlocks, Carries, CarriesWhole, is_open, stage_of}
 use Rattle.oftp_vfile.specs.Fill.{payloads_of, records_of, fill_from, weight}
@@ -39,7 +39,7 @@ go_on format longest payloads next rows found tail end stage last c w =
 
 -- pieces in front of others: the finished rows of the first begin those of all
 rows_in_front : (rows found : List (List ℕ)) (tail end : List ℕ) (subs all rest : List Subrecord)
-    → pieces all ≡ found ++ end ∷ [] → pieces subs ≡ rows ++ tail ∷ [] → all ≡ subs ++ rest → Begins found rows
+    → pieces all ≡ found ++ end ∷ [] → pieces subs ≡ rows ++ tail ∷ [] → all ≡ subs ++ rest → BeginsWith found rows
 rows_in_front rows found tail end subs all rest e f g =
     let q = some_piece rest in
     let whole : found ++ end ∷ [] ≡ rows ++ (tail ++ q.0) ∷ q.1 = sym e ∙ ap pieces g ∙ pieces_more subs rest q.0 q.1 q.2 rows tail f in
@@ -48,16 +48,16 @@ rows_in_front rows found tail end subs all rest e f g =
     ap (λ (x : List (List ℕ)). rows ++ x) r.2 ∙ sym (append_assoc rows r.0 (r.1 ∷ [])) in
     (r.0, (same_from_push found (rows ++ r.0) end r.1 (whole ∙ last)).0)
 
-closed_begins : (found : List (List ℕ)) (end : List ℕ) → Begins (closed found end) found
+closed_begins : (found : List (List ℕ)) (end : List ℕ) → BeginsWith (closed found end) found
 closed_begins found [] = ([], sym (append-nil found))
 closed_begins found (x ∷ xs) = ((x ∷ xs) ∷ [], refl)
 
-begins_trans : (a b c : List (List ℕ)) → Begins a b → Begins b c → Begins a c
+begins_trans : (a b c : List (List ℕ)) → BeginsWith a b → BeginsWith b c → BeginsWith a c
 begins_trans a b c h k = (k.0 ++ h.0, h.1 ∙ ap (λ x. x ++ h.0) k.1 ∙ append_assoc c k.0 h.0)
 
 -- full blocks in front of others
 blocks_in_front : (rows found : List (List ℕ)) (behind end : List ℕ) → All (λ (r : List ℕ). length r ≡ 1024) rows
-    → All (λ (r : List ℕ). length r ≡ 1024) found → length end < 1024 → octets_in found ++ end ≡ octets_in rows ++ behind → Begins found rows
+    → All (λ (r : List ℕ). length r ≡ 1024) found → length end < 1024 → octets_in found ++ end ≡ octets_in rows ++ behind → BeginsWith found rows
 blocks_in_front [] found behind end a b l e = (found, refl)
 blocks_in_front (r ∷ rs) [] behind end a b l e =
     let n : length r ≡ 1024 = a 0 [] (omega arith) in
@@ -71,7 +71,7 @@ blocks_in_front (r ∷ rs) (q ∷ qs) behind end a b l e =
     (ih.0, ap (λ (x : List ℕ). x ∷ qs) s.0 ∙ ap (λ (x : List (List ℕ)). r ∷ x) ih.1)
 
 stream_in_front : (rows found : List (List ℕ)) (tail end : List ℕ) (subs all rest : List Subrecord)
-    → InBlocks (octets_of all) found end → InBlocks (octets_of subs) rows tail → all ≡ subs ++ rest → Begins found rows
+    → InBlocks (octets_of all) found end → InBlocks (octets_of subs) rows tail → all ≡ subs ++ rest → BeginsWith found rows
 stream_in_front rows found tail end subs all rest w c g =
     let parts : octets_of all ≡ octets_of subs ++ octets_of rest = ap octets_of g ∙ flat_map-append (λ (x : Subrecord). x.octets) subs rest in
     let split : octets_in found ++ end ≡ octets_in rows ++ (tail ++ octets_of rest) =
@@ -79,11 +79,11 @@ stream_in_front rows found tail end subs all rest w c g =
     blocks_in_front rows found (tail ++ octets_of rest) end c.full w.full w.rest split
 
 in_front : (format : Format) (longest : ℕ) (payloads next rows found : List (List ℕ)) (tail end : List ℕ) (stage last : Stage)
-    → Carries format longest payloads rows tail stage → Carries format longest (payloads ++ next) found end last → Begins found rows
+    → Carries format longest payloads rows tail stage → Carries format longest (payloads ++ next) found end last → BeginsWith found rows
 in_front format longest payloads next rows found tail end stage last c w = by format c w (go_on format longest payloads next rows found tail end stage last c w)
   where
     by : (format : Format) → (c : Carries format longest payloads rows tail stage) → (w : Carries format longest (payloads ++ next) found end last)
-        → (rest : List Subrecord) × (flat w.subs ≡ flat c.subs ++ rest) → Begins found rows
+        → (rest : List Subrecord) × (flat w.subs ≡ flat c.subs ++ rest) → BeginsWith found rows
     by Fixed c w g = rows_in_front rows found tail end (flat c.subs) (flat w.subs) g.0 w.carried.0 c.carried.0 g.1
     by Variable c w g = rows_in_front rows found tail end (flat c.subs) (flat w.subs) g.0 w.carried.0 c.carried.0 g.1
     by Unstructured c w g = stream_in_front rows found tail end (flat c.subs) (flat w.subs) g.0 w.carried.1 c.carried.1 g.1
@@ -91,21 +91,21 @@ in_front format longest payloads next rows found tail end stage last c w = by fo
 
 -- what a part carries, cut anywhere, begins the rows
 pub part_begins : (format : Format) (longest : ℕ) (file payloads next rows : List (List ℕ)) (tail : List ℕ) (stage : Stage)
-    → CarriesWhole format longest (payloads ++ next) file → Carries format longest payloads rows tail stage → Begins file rows
+    → CarriesWhole format longest (payloads ++ next) file → Carries format longest payloads rows tail stage → BeginsWith file rows
 part_begins format longest file payloads next rows tail stage w c =
-    let whole : Begins file w.found = subst (λ f. Begins f w.found) w.same (closed_begins w.found w.tail) in
+    let whole : BeginsWith file w.found = subst (λ f. BeginsWith f w.found) w.same (closed_begins w.found w.tail) in
     begins_trans file w.found rows whole (in_front format longest payloads next rows w.found tail w.tail stage w.stage c w.carries)
 
 -- what the first payloads that fill makes of a file carry begins its rows
 pub carried_begins : (format : Format) (longest size : ℕ) (file payloads next rows : List (List ℕ)) (tail : List ℕ) (stage : Stage)
     → 2 ≤ size → AreRows format longest file → payloads ++ next ≡ payloads_of format size file
-    → Carries format longest payloads rows tail stage → Begins file rows
+    → Carries format longest payloads rows tail stage → BeginsWith file rows
 carried_begins format longest size file payloads next rows tail stage h a split c =
     let whole = subst (λ x. CarriesWhole format longest x file) (sym split) (fill_whole format longest size file h a) in
     part_begins format longest file payloads next rows tail stage whole c
 
 -- a beginning with as many rows is all
-begins_all : (file rows : List (List ℕ)) → Begins file rows → length rows ≡ length file → rows ≡ file
+begins_all : (file rows : List (List ℕ)) → BeginsWith file rows → length rows ≡ length file → rows ≡ file
 begins_all file rows (more, is) l = by more is
   where
     by : (more : List (List ℕ)) → file ≡ rows ++ more → rows ≡ file
@@ -113,7 +113,7 @@ begins_all file rows (more, is) l = by more is
     by (x ∷ xs) e = absurd (omega (arith, ap length e, length-append rows (x ∷ xs), l))
 
 records_close : (file rows : List (List ℕ)) (tail : List ℕ) (ss : List Subrecord)
-    → is_open (stage_of ss) ≡ false → pieces ss ≡ rows ++ tail ∷ [] → Begins file rows → length rows ≡ length file → closed rows tail ≡ file
+    → is_open (stage_of ss) ≡ false → pieces ss ≡ rows ++ tail ∷ [] → BeginsWith file rows → length rows ≡ length file → closed rows tail ≡ file
 records_close file rows tail ss o e b l = ap (closed rows) (ended_piece ss rows tail o e) ∙ begins_all file rows b l
 
 nothing_behind : (a b : List ℕ) → length (a ++ b) ≡ length a → a ++ b ≡ a
@@ -140,7 +140,7 @@ part_closes format longest file payloads next rows tail stage w c o records unit
     by format w c (part_begins format longest file payloads next rows tail stage w c)
     (go_on format longest payloads next rows w.found tail w.tail stage w.stage c w.carries) records
   where
-    by : (format : Format) → (w : CarriesWhole format longest (payloads ++ next) file) → (c : Carries format longest payloads rows tail stage) → Begins file rows
+    by : (format : Format) → (w : CarriesWhole format longest (payloads ++ next) file) → (c : Carries format longest payloads rows tail stage) → BeginsWith file rows
         → (rest : List Subrecord) × (flat w.carries.subs ≡ flat c.subs ++ rest) → records_in format rows ≡ records_in format file → closed rows tail ≡ file
     by Fixed w c b g n = records_close file rows tail (flat c.subs) (ap is_open (sym c.last) ∙ o) c.carried.0 b n
     by Variable w c b g n = records_close file rows tail (flat c.subs) (ap is_open (sym c.last) ∙ o) c.carried.0 b n

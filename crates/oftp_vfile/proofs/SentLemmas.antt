@@ -1,3 +1,4 @@
+-- How many rows are wholly sent, and the filler's mark.
 use Rattle.std.proofs.Common.{◌≡◌, ℕ, suc, zero, ◌+◌, ◌-◌, ◌*◌, ◌/◌, ◌<◌, ◌≤◌, Bool, true, false, cond, eqb, ◌&&◌, List, [], ◌∷◌, ◌++◌, length, get_or, take, drop, map, count_by, refl, sym, ap, ◌∙◌, subst, arith, append_assoc, inl, inr}
 use Rattle.std.proofs.Math.Seq.{take-add}
 use Rattle.std.proofs.lemmas.Bool.{cases_lt, eq-eqb, eqb-true, false≢true, and_parts}
@@ -41,7 +42,7 @@ whole_count-append Variable xs ys = length-append xs ys
 whole_count-append Unstructured xs ys = sum_by-append (λ (r : List ℕ). cond (eqb (length r) 1024) 1 0) xs ys
 whole_count-append Text xs ys = sum_by-append (λ (r : List ℕ). cond (eqb (length r) 1024) 1 0) xs ys
 
--- A filler that begins has sent nothing.
+-- a filler that begins has sent nothing
 pub sent_new : (format : Format) (size from : ℕ) (rows : List (List ℕ)) → Sent (new_filling format from) size from rows []
 sent_new format size from rows =
     let z : from - from ≡ 0 = omega arith in
@@ -61,7 +62,7 @@ in_front (x ∷ xs) ys n q = q
 none_behind : (format : Format) (last : Bool) (more : List (List ℕ)) → last ≡ true → AreBehind format last more → more ≡ []
 none_behind format last more e b = subst (λ (x : Bool). AreBehind format x more) e b
 
--- One more payload is the next of the file's.
+-- one more payload is the next of the file's
 pub sent_step : (size : ℕ) (old new : Filling) (from : ℕ) (file lent payloads : List (List ℕ)) (last : Bool) (octets : List ℕ) → Sent old size from file payloads → AreLent old from file lent last
     → IsFirstPayload size old new lent last octets → Moves old new lent last → Sent new size from file (payloads ++ octets ∷ [])
 sent_step size old new from file lent payloads last octets s a f m =
@@ -76,19 +77,23 @@ sent_step size old new from file lent payloads last octets s a f m =
     ap (λ (x : List (List ℕ)). fill size (left_of old x)) e ∙ f more a.2 ∙ ap (λ (x : List (List ℕ)). octets ∷ fill size (left_of new x)) same in
     let long : length lent + length more ≡ length file - before = sym (length-append lent more) ∙ ap length (sym e) ∙ length-drop before file in
     let front : take (new.row - from) file ≡ take before file ++ take k lent =
-    ap (λ n. take n file) (sym at) ∙ take-add before k file ∙ ap (λ (x : List (List ℕ)). take before file ++ take k x) e ∙ ap (λ (x : List (List ℕ)). take before file ++ x) (take-append-le k lent more le) in
+    ap (λ n. take n file) (sym at) ∙ take-add before k file ∙ ap (λ (x : List (List ℕ)). take before file ++ take k x) e
+    ∙ ap (λ (x : List (List ℕ)). take before file ++ x) (take-append-le k lent more le) in
     let counted : whole_count new.format (take (new.row - from) file) ≡ whole_count old.format (take before file) + whole_count old.format (take k lent) =
     ap (λ (x : Format). whole_count x (take (new.row - from) file)) m.format ∙ ap (whole_count old.format) front ∙ whole_count-append old.format (take before file) (take k lent) in
     record {
       began = omega (arith, s.began, m.ahead);
       within = omega (arith, long, m.within, s.within, s.began);
       place = λ o. subst (λ (x : List (List ℕ)). new.offset < length (get_or x 0 [])) same (in_front (drop k lent) more new.offset (m.place o));
-      split = append_assoc payloads (octets ∷ []) (fill size (left_of new (drop (new.row - from) file))) ∙ ap (λ (x : List (List ℕ)). payloads ++ x) (sym first) ∙ s.split ∙ ap (λ (x : Format). payloads_of x size file) (sym m.format);
+      split = append_assoc payloads (octets ∷ []) (fill size (left_of new (drop (new.row - from) file))) ∙ ap (λ (x : List (List ℕ)). payloads ++ x) (sym first) ∙ s.split
+          ∙ ap (λ (x : Format). payloads_of x size file) (sym m.format);
       mark = omega (arith, m.mark, s.mark, counted);
-      over = λ t d. (let o = m.over (ap is_stream (sym m.format) ∙ t) d in let n : length more ≡ 0 = ap length (none_behind old.format last more o.0 a.2) in omega (arith, o.1, n, long, s.within, s.began));
+      over = λ t d. (let o = m.over (ap is_stream (sym m.format) ∙ t) d in let n : length more ≡ 0 = ap length (none_behind old.format last more o.0 a.2) in
+          omega (arith, o.1, n, long, s.within, s.began));
     }
 
-pub sent_if : (size : ℕ) (old new : Filling) (from : ℕ) (file lent payloads : List (List ℕ)) (last : Bool) (out : List ℕ) (r : Filled) → Sent old size from file payloads → AreLent old from file lent last
+pub sent_if : (size : ℕ) (old new : Filling) (from : ℕ) (file lent payloads : List (List ℕ)) (last : Bool) (out : List ℕ) (r : Filled) → Sent old size from file payloads
+    → AreLent old from file lent last
     → IfBuffer r (λ n. (n ≤ size) × IsFirstPayload size old new lent last (take n out)) → FillsNext size old new lent last r → IfBuffer r (λ n. Sent new size from file (payloads ++ take n out ∷ []))
 sent_if size old new from file lent payloads last out (Buffer n) s a f h = sent_step size old new from file lent payloads last (take n out) s a f.1 h.moves
 sent_if size old new from file lent payloads last out Done s a f h = tt
@@ -101,19 +106,22 @@ nothing_filled size f lent more last n behind =
     let P : Bool → Type 0 = λ b. cond b f.done (eqb (length lent) 0 && last) ≡ true → fill size (cond b (cond f.done [] (drop f.offset (octets_in rest) ∷ [])) (from_offset f.offset rest)) ≡ [] in
     let both : (b : Bool) → P b = λ b. elim b as P [
       | true ↦ λ d. ap (λ (x : Bool). fill size (cond x [] (drop f.offset (octets_in rest) ∷ []))) d
-      | false ↦ λ d. (let t = and_parts _ _ d in let none : rest ≡ [] = ap (λ (x : List (List ℕ)). x ++ more) (nil_from_length lent (eqb-true _ _ t.0)) ∙ none_behind f.format last more t.1 behind in ap (λ (x : List (List ℕ)). fill size (from_offset f.offset x)) none)
+      | false ↦ λ d. (let t = and_parts _ _ d in let none : rest ≡ [] = ap (λ (x : List (List ℕ)). x ++ more) (nil_from_length lent (eqb-true _ _ t.0))
+          ∙ none_behind f.format last more t.1 behind in ap (λ (x : List (List ℕ)). fill size (from_offset f.offset x)) none)
     ] in
     both (is_stream f.format) n
 
--- Where nothing is left all payloads were made.
-sent_all : (size : ℕ) (f : Filling) (from : ℕ) (file lent payloads : List (List ℕ)) (last : Bool) → Sent f size from file payloads → AreLent f from file lent last → nothing_left f lent last ≡ true → payloads ≡ payloads_of f.format size file
+-- where nothing is left all payloads were made
+sent_all : (size : ℕ) (f : Filling) (from : ℕ) (file lent payloads : List (List ℕ)) (last : Bool) → Sent f size from file payloads → AreLent f from file lent last
+    → nothing_left f lent last ≡ true → payloads ≡ payloads_of f.format size file
 sent_all size f from file lent payloads last s a n =
     sym (append-nil payloads) ∙ ap (λ (x : List (List ℕ)). payloads ++ x) (sym (ap (λ (x : List (List ℕ)). fill size (left_of f x)) a.1 ∙ nothing_filled size f lent a.0 last n a.2)) ∙ s.split
 
-pub sent_done : (size : ℕ) (f new : Filling) (from : ℕ) (file lent payloads : List (List ℕ)) (last : Bool) (r : Filled) → Sent f size from file payloads → AreLent f from file lent last → FillsNext size f new lent last r → r ≡ Done → payloads ≡ payloads_of f.format size file
+pub sent_done : (size : ℕ) (f new : Filling) (from : ℕ) (file lent payloads : List (List ℕ)) (last : Bool) (r : Filled) → Sent f size from file payloads
+    → AreLent f from file lent last → FillsNext size f new lent last r → r ≡ Done → payloads ≡ payloads_of f.format size file
 sent_done size f new from file lent payloads last r s a h d = sent_all size f from file lent payloads last s a (subst (λ (x : Filled). FillsNext size f new lent last x) d h).none
 
--- Each end flag makes one more piece.
+-- each end flag makes one more piece
 pieces_length : (ss : List Subrecord) → length (pieces ss) ≡ suc (count_by (λ (s : Subrecord). s.ends) ss)
 pieces_length [] = refl
 pieces_length (s ∷ ss) =
@@ -121,7 +129,10 @@ pieces_length (s ∷ ss) =
     let r = some_piece ss in
     let more : count_by (λ (x : Subrecord). x.ends) (s ∷ ss) ≡ cond {A = ℕ} s.ends 1 0 + count_by (λ (x : Subrecord). x.ends) ss = sum_by-cons (λ (x : Subrecord). cond {A = ℕ} x.ends 1 0) s ss in
     let P : Bool → Type 0 = λ b. length (cond b (s.octets ∷ pieces ss) (onto s.octets (pieces ss))) ≡ suc (cond {A = ℕ} b 1 0 + count_by (λ (x : Subrecord). x.ends) ss) in
-    let both : (b : Bool) → P b = λ b. elim b as P [ true ↦ omega (arith, ih) | false ↦ (let l : length (onto s.octets (pieces ss)) ≡ length (pieces ss) = ap (λ (x : List (List ℕ)). length (onto s.octets x)) r.2 ∙ ap length (sym r.2) in omega (arith, l, ih)) ] in
+    let both : (b : Bool) → P b = λ b. elim b as P [
+      | true ↦ omega (arith, ih)
+      | false ↦ (let l : length (onto s.octets (pieces ss)) ≡ length (pieces ss) = ap (λ (x : List (List ℕ)). length (onto s.octets x)) r.2 ∙ ap length (sym r.2) in omega (arith, l, ih))
+    ] in
     both s.ends ∙ ap suc (sym more)
 
 found_records : (ss : List Subrecord) (found : List (List ℕ)) (tail : List ℕ) → pieces ss ≡ found ++ tail ∷ [] → length found ≡ count_by (λ (s : Subrecord). s.ends) ss
@@ -130,21 +141,22 @@ found_records ss found tail e = let l : length (pieces ss) ≡ length found + 1 
 blocks_found : (octets : List ℕ) (found : List (List ℕ)) (tail : List ℕ) → length octets ≡ 1024 * length found + length tail → length tail < 1024 → length found ≡ length octets / 1024
 blocks_found octets found tail e h = omega arith
 
--- The rows that subrecords carry are those that they bring to an end.
+-- the rows that subrecords carry are those that they bring to an end
 found_ended : (format : Format) (longest : ℕ) (ss : List Subrecord) (found : List (List ℕ)) (tail : List ℕ) → Carried format longest ss found tail → length found ≡ rows_ended format ss
 found_ended Fixed longest ss found tail c = found_records ss found tail c.0
 found_ended Variable longest ss found tail c = found_records ss found tail c.0
 found_ended Unstructured longest ss found tail c = blocks_found (octets_of ss) found tail (blocks_length (octets_of ss) found tail c.1) c.1.rest
 found_ended Text longest ss found tail c = blocks_found (octets_of ss) found tail (blocks_length (octets_of ss) found tail c.1) c.1.rest
 
--- The subrecords of the first k payloads are short.
+-- the subrecords of the first k payloads are short
 front_short : (size k : ℕ) (records : List (List ℕ)) (all : List (List Subrecord)) → Fills size records all → AreShort (flat (take k all))
 front_short size k records all f =
     let e : flat all ≡ flat (take k all) ++ flat (drop k all) = ap flat (sym (take-append-drop k all)) ∙ flat-append (take k all) (drop k all) in
     short-left (flat (take k all)) (flat (drop k all)) (subst AreShort e (fills_short size records all f))
 
--- How many rows the first k payloads of a file carry.
-pub sent_found : (format : Format) (longest size k : ℕ) (rows found : List (List ℕ)) (tail : List ℕ) (stage : Stage) → 2 ≤ size → Carries format longest (take k (payloads_of format size rows)) found tail stage → length found ≡ wholly_sent format size rows k
+-- how many rows the first k payloads of a file carry
+pub sent_found : (format : Format) (longest size k : ℕ) (rows found : List (List ℕ)) (tail : List ℕ) (stage : Stage) → 2 ≤ size
+    → Carries format longest (take k (payloads_of format size rows)) found tail stage → length found ≡ wholly_sent format size rows k
 sent_found format longest size k rows found tail stage h c =
     let records : List (List ℕ) = records_of format rows in
     let all : List (List Subrecord) = fill_from (weight records) size records in
@@ -161,7 +173,8 @@ sent_octets : (size : ℕ) (records left : List (List ℕ)) (subs all rest : Lis
 sent_octets size records left subs all rest a b s e =
     let short : AreShort (flat (subs ++ rest)) = subst AreShort (sym (flat-append subs rest)) (short-append (flat subs) (flat rest) s (fills_short size left rest b)) in
     let same : flat (subs ++ rest) ≡ flat all = decode_all (subs ++ rest) all short (fills_short size records all a) (map-append' subs rest ∙ e) in
-    let whole : octets_of (flat subs) ++ octets_of (flat rest) ≡ octets_of (flat all) = sym (flat_map-append (λ (x : Subrecord). x.octets) (flat subs) (flat rest)) ∙ ap octets_of (sym (flat-append subs rest) ∙ same) in
+    let whole : octets_of (flat subs) ++ octets_of (flat rest) ≡ octets_of (flat all) = sym (flat_map-append (λ (x : Subrecord). x.octets) (flat subs) (flat rest))
+    ∙ ap octets_of (sym (flat-append subs rest) ∙ same) in
     omega (arith, length-append (octets_of (flat subs)) (octets_of (flat rest)), ap length whole, ap length (octets_filled size left rest b), ap length (octets_filled size records all a))
   where
     map-append' : (xs ys : List (List Subrecord)) → map payload_of (xs ++ ys) ≡ map payload_of xs ++ map payload_of ys
@@ -172,9 +185,10 @@ sent_octets size records left subs all rest a b s e =
 counted : (r : List ℕ) (rs : List (List ℕ)) → count_by (λ (x : List ℕ). eqb (length x) 1024) (r ∷ rs) ≡ cond {A = ℕ} (eqb (length r) 1024) 1 0 + count_by (λ (x : List ℕ). eqb (length x) 1024) rs
 counted r rs = sum_by-cons (λ (x : List ℕ). cond {A = ℕ} (eqb (length x) 1024) 1 0) r rs
 
--- The first rows of a stream: full blocks, and, where these are all rows, a shorter one.
+-- the first rows of a stream: full blocks, and, where these are all rows, a shorter one
 blocks_front : (rows : List (List ℕ)) (k : ℕ) → AreBlocks 1024 rows → k ≤ length rows
-    → (rest : ℕ) × (length (octets_in (take k rows)) ≡ 1024 * count_by (λ (r : List ℕ). eqb (length r) 1024) (take k rows) + rest) × (rest < 1024) × (k < length rows → (rest ≡ 0) × (length (get_or rows k []) ≤ 1024))
+    → (rest : ℕ) × (length (octets_in (take k rows)) ≡ 1024 * count_by (λ (r : List ℕ). eqb (length r) 1024) (take k rows) + rest) × (rest < 1024)
+    × (k < length rows → (rest ≡ 0) × (length (get_or rows k []) ≤ 1024))
 blocks_front rows zero a h = (0, omega arith, omega arith, λ l. (refl, first rows a l))
   where
     first : (rows : List (List ℕ)) → AreBlocks 1024 rows → 0 < length rows → length (get_or rows 0 []) ≤ 1024
@@ -184,8 +198,18 @@ blocks_front rows zero a h = (0, omega arith, omega arith, λ l. (refl, first ro
 blocks_front [] (suc k) a h = absurd (omega arith)
 blocks_front (r ∷ []) (suc zero) a h =
     elim (eqb_tells (length r) 1024) [
-      | inl e ↦ (0, (let b : cond {A = ℕ} (eqb (length r) 1024) 1 0 ≡ 1 = ap (λ (x : Bool). cond {A = ℕ} x 1 0) e.0 in omega (arith, b, e.1, length-append r [], counted r [])), omega arith, λ l. absurd (omega arith))
-      | inr e ↦ (length r, (let b : cond {A = ℕ} (eqb (length r) 1024) 1 0 ≡ 0 = ap (λ (x : Bool). cond {A = ℕ} x 1 0) e.0 in omega (arith, b, length-append r [], counted r [])), (let n : length r ≡ 1024 → ⊥ = e.1 in omega (arith, a.1)), λ l. absurd (omega arith))
+      | inl e ↦ (
+        0,
+        (let b : cond {A = ℕ} (eqb (length r) 1024) 1 0 ≡ 1 = ap (λ (x : Bool). cond {A = ℕ} x 1 0) e.0 in omega (arith, b, e.1, length-append r [], counted r [])),
+        omega arith,
+        λ l. absurd (omega arith),
+      )
+      | inr e ↦ (
+        length r,
+        (let b : cond {A = ℕ} (eqb (length r) 1024) 1 0 ≡ 0 = ap (λ (x : Bool). cond {A = ℕ} x 1 0) e.0 in omega (arith, b, length-append r [], counted r [])),
+        (let n : length r ≡ 1024 → ⊥ = e.1 in omega (arith, a.1)),
+        λ l. absurd (omega arith),
+      )
     ]
 blocks_front (r ∷ []) (suc (suc k)) a h = absurd (omega arith)
 blocks_front (r ∷ q ∷ rs) (suc k) a h =
@@ -202,7 +226,8 @@ below zero m q r = omega arith
 below (suc j) m q r = let x : suc j < m = r (omega arith) in omega arith
 
 -- what stands behind the full blocks that were sent is less than one
-small_rest : (rows : List (List ℕ)) (k o rest : ℕ) → (0 < o → o < length (get_or (drop k rows) 0 [])) → rest < 1024 → (k < length rows → (rest ≡ 0) × (length (get_or rows k []) ≤ 1024)) → rest + o < 1024
+small_rest : (rows : List (List ℕ)) (k o rest : ℕ) → (0 < o → o < length (get_or (drop k rows) 0 [])) → rest < 1024
+    → (k < length rows → (rest ≡ 0) × (length (get_or rows k []) ≤ 1024)) → rest + o < 1024
 small_rest rows k o rest p r g =
     elim (cases_lt k (length rows)) [
       | inl l ↦ (let b = g l in
@@ -226,19 +251,28 @@ stream_mark f size from rows payloads subs e a s n =
     let le : k ≤ length rows = omega (arith, s.within, s.began) in
     let b = blocks_front rows k a le in
     let total : length (octets_in rows) ≡ length (octets_in (take k rows)) + length (octets_in (drop k rows)) =
-    ap (λ (x : List (List ℕ)). length (octets_in x)) (sym (take-append-drop k rows)) ∙ ap length (flat_map-append (λ (x : List ℕ). x) (take k rows) (drop k rows)) ∙ length-append (octets_in (take k rows)) (octets_in (drop k rows)) in
+    ap (λ (x : List (List ℕ)). length (octets_in x)) (sym (take-append-drop k rows)) ∙ ap length (flat_map-append (λ (x : List ℕ). x) (take k rows) (drop k rows))
+    ∙ length-append (octets_in (take k rows)) (octets_in (drop k rows)) in
     let S : ℕ = length (octets_of (flat subs)) in
     let P : Bool → Type 0 = λ d. (d ≡ f.done) → S / 1024 ≡ count_by (λ (r : List ℕ). eqb (length r) 1024) (take k rows) in
     let both : (d : Bool) → P d = λ d. elim d as P [
       | true ↦ λ t.
-          let none : left_of f (drop k rows) ≡ [] = ap (λ (x : Bool). cond x (cond f.done [] (drop f.offset (octets_in (drop k rows)) ∷ [])) (from_offset f.offset (drop k rows))) e ∙ ap (λ (x : Bool). cond x [] (drop f.offset (octets_in (drop k rows)) ∷ [])) (sym t) in
+          let none : left_of f (drop k rows) ≡ [] = ap (λ (x : Bool). cond x (cond f.done [] (drop f.offset (octets_in (drop k rows)) ∷ [])) (from_offset f.offset (drop k rows))) e
+          ∙ ap (λ (x : Bool). cond x [] (drop f.offset (octets_in (drop k rows)) ∷ [])) (sym t) in
           let over : f.row ≡ from + length rows = s.over e (sym t) in
           let gone : drop k rows ≡ [] = drop_all k rows (omega (arith, over)) in
-          filled_blocks S (length (octets_in (take k rows))) b.0 _ 0 (omega (arith, n, total, ap (λ (x : List (List ℕ)). length (octets_in x)) none, ap (λ (x : List (List ℕ)). length (octets_in x)) gone)) b.1 (omega (arith, b.2))
+          filled_blocks S (length (octets_in (take k rows))) b.0 _ 0 (omega (
+            arith,
+            n,
+            total,
+            ap (λ (x : List (List ℕ)). length (octets_in x)) none,
+            ap (λ (x : List (List ℕ)). length (octets_in x)) gone,
+          )) b.1 (omega (arith, b.2))
       | false ↦ λ t.
           let left : left_of f (drop k rows) ≡ drop f.offset (octets_in (drop k rows)) ∷ [] = left_stream f (drop k rows) e (sym t) in
           let within : f.offset ≤ length (octets_in (drop k rows)) = in_octets (drop k rows) f.offset s.place in
-          let o : length (octets_in (left_of f (drop k rows))) ≡ length (octets_in (drop k rows)) - f.offset = ap (λ (x : List (List ℕ)). length (octets_in x)) left ∙ ap length (append-nil (drop f.offset (octets_in (drop k rows)))) ∙ length-drop f.offset (octets_in (drop k rows)) in
+          let o : length (octets_in (left_of f (drop k rows))) ≡ length (octets_in (drop k rows)) - f.offset = ap (λ (x : List (List ℕ)). length (octets_in x)) left
+          ∙ ap length (append-nil (drop f.offset (octets_in (drop k rows)))) ∙ length-drop f.offset (octets_in (drop k rows)) in
           filled_blocks S (length (octets_in (take k rows))) b.0 _ f.offset (omega (arith, n, total, o, within)) b.1 (small_rest rows k f.offset b.0 s.place b.2 b.3)
     ] in
     both f.done refl
@@ -267,8 +301,9 @@ records_mark f size from rows payloads subs all rest e s a b short j =
     let l2 : length (records_of f.format rows) ≡ length rows = ap (λ (x : Bool). length (cond x (octets_in rows ∷ []) rows)) e in
     omega (arith, n, l1, l2, le, length-take-le k rows le, found_records (flat subs) l.0 l.1 p)
 
--- The mark of a filler is the row that it began at and the rows wholly sent since.
-pub mark_sent : (f : Filling) (longest size from : ℕ) (rows payloads : List (List ℕ)) → 2 ≤ size → AreRows f.format longest rows → Sent f size from rows payloads → f.mark ≡ from + wholly_sent f.format size rows (length payloads)
+-- the mark of a filler is the row that it began at and the rows wholly sent since
+pub mark_sent : (f : Filling) (longest size from : ℕ) (rows payloads : List (List ℕ)) → 2 ≤ size → AreRows f.format longest rows → Sent f size from rows payloads
+    → f.mark ≡ from + wholly_sent f.format size rows (length payloads)
 mark_sent f longest size from rows payloads h a s =
     let records : List (List ℕ) = records_of f.format rows in
     let k : ℕ = f.row - from in
@@ -282,9 +317,12 @@ mark_sent f longest size from rows payloads h a s =
     let front : payloads ≡ map payload_of subs = sym (take_at payloads (fill size left) n refl) ∙ ap (take n) s.split ∙ take-map payload_of n all in
     let short : AreShort (flat subs) = front_short size n records all fa in
     let joined : map payload_of subs ++ map payload_of rest ≡ map payload_of all = ap (λ (x : List (List ℕ)). x ++ map payload_of rest) (sym front) ∙ s.split in
-    let P : Bool → Type 0 = λ b. (b ≡ is_stream f.format) → cond b (count_by (λ (r : List ℕ). eqb (length r) 1024) (take k rows)) (length (take k rows)) ≡ cond b (length (octets_of (flat subs)) / 1024) (count_by (λ (s : Subrecord). s.ends) (flat subs)) in
+    let P : Bool → Type 0 = λ b. (b ≡ is_stream f.format)
+    → cond b (count_by (λ (r : List ℕ). eqb (length r) 1024) (take k rows)) (length (take k rows))
+    ≡ cond b (length (octets_of (flat subs)) / 1024) (count_by (λ (s : Subrecord). s.ends) (flat subs)) in
     let both : (b : Bool) → P b = λ b. elim b as P [
-      | true ↦ λ e. (let o : length (octets_in records) ≡ length (octets_in rows) = ap (λ (x : Bool). length (octets_in (cond x (octets_in rows ∷ []) rows))) (sym e) ∙ ap length (append-nil (octets_in rows)) in
+      | true ↦ λ e. (let o : length (octets_in records) ≡ length (octets_in rows) = ap (λ (x : Bool). length (octets_in (cond x (octets_in rows ∷ []) rows))) (sym e)
+          ∙ ap length (append-nil (octets_in rows)) in
           sym (stream_mark f size from rows payloads subs (sym e) (stream_blocks f.format longest rows (sym e) a) s (sent_octets size records left subs all rest fa fl short joined ∙ o)))
       | false ↦ λ e. records_mark f size from rows payloads subs all rest (sym e) s fa fl short joined
     ] in

@@ -1,5 +1,6 @@
 -- A taker from which rows were taken away goes on as it would with them.
 use Rattle.std.proofs.Common.{◌≡◌, ℕ, zero, suc, ◌+◌, ◌≤◌, Bool, true, false, cond, nat_le, nat_lt, ◌&&◌, ◌||◌, Option, None, Some, Result, Ok, Err, List, [], ◌∷◌, ◌++◌, length, take, drop, refl, sym, ap, ◌∙◌, arith}
+use Rattle.std.specs.Option.{option_or}
 use Rattle.std.proofs.lemmas.List.{length-drop, drop-append-le}
 use Rattle.std.proofs.Math.Seq.{drop-length}
 use Rattle.oftp_vfile.specs.declared.format.TakeFault.{TakeFault}
@@ -7,7 +8,7 @@ use Rattle.oftp_vfile.specs.declared.format.TakeFault.TheVariants as fault
 use Rattle.oftp_vfile.specs.VirtualFile.{is_stream}
 use Rattle.oftp_vfile.specs.Subrecord.{Subrecord, has_end, has_compression, count_in}
 use Rattle.oftp_vfile.specs.Taking.{Taking, added, is_ended, is_too_big, is_wrong_size, new_rows, fault_at, counts_of}
-use Rattle.oftp_vfile.specs.Reading.{subrecord_in, unless_fault, then_go_on, take_subrecords, taken, shed, shed_in}
+use Rattle.oftp_vfile.specs.Reading.{subrecord_in, fault_before, unless_fault, then_go_on, take_subrecords, taken, shed, shed_in}
 use Rattle.oftp_vfile.proofs.ReadingLemmas.{added_rows}
 
 shed_count : (k : ℕ) (t : Taking) (a : ℕ) → k ≤ length t.rows → a + (t.away + k) + length (drop k t.rows) ≡ a + t.away + length t.rows
@@ -52,8 +53,8 @@ shed_walk (suc n) k t (header ∷ rest) h =
     let s = subrecord_in header rest in
     let more = added_rows t s in
     let go : Taking → Result Taking TakeFault = λ after. take_subrecords n after (drop (count_in header) rest) in
-    ap (λ (x : Option TakeFault). then_go_on (unless_fault x (added (shed k t) s)) go) (shed_fault k t header (length rest) h)
-    ∙ shed_one k (fault_at t header (length rest)) (added (shed k t) s) (added t s) go (shed_added k t s h) (shed_walk n k (added t s) (drop (count_in header) rest) (omega (arith, h, more)))
+    ap (λ (x : Option TakeFault). then_go_on (unless_fault (option_or x (cond (nat_le 256 header) (Some fault.Cut) None)) (added (shed k t) s)) go) (shed_fault k t header (length rest) h)
+    ∙ shed_one k (fault_before t header (length rest)) (added (shed k t) s) (added t s) go (shed_added k t s h) (shed_walk n k (added t s) (drop (count_in header) rest) (omega (arith, h, more)))
 
 pub shed_taken : (k : ℕ) (t : Taking) (payload : List ℕ) → k ≤ length t.rows → taken (shed k t) payload ≡ shed_in k (taken t payload)
 shed_taken k t payload h = shed_walk (length payload) k t payload h

@@ -1,9 +1,10 @@
+-- What a taker makes of subrecords, one after another, and how it is put back.
 use Rattle.std.proofs.Common.{◌≡◌, ℕ, ◌+◌, ◌-◌, ◌<◌, ◌≤◌, ◌%◌, ◌/◌, Bool, true, false, cond, nat_le, ◌&&◌, Option, Some, None, List, [], ◌∷◌, ◌++◌, length, take, drop, refl, sym, ap, ◌∙◌, subst, arith, append_assoc}
 use Rattle.std.proofs.lemmas.Bool.{leb-false, ltb-false, lt-leb, le-ltb, leb-true, or_parts}
 use Rattle.std.proofs.lemmas.List.{append-nil, length-append, length-take-le, length_push, same_from_push, length-drop, take-append-drop}
 use Rattle.std.proofs.lemmas.List.Concat.{flat_map-append}
 use Rattle.oftp_vfile.proofs.GrowthLemmas.{goes_on_same, goes_on_longer, goes_on_closed, filled_block}
-use Rattle.oftp_vfile.specs.Growth.{GoesOn, stream_rows, stream_tail}
+use Rattle.oftp_vfile.specs.Growth.{HasGrown, stream_rows, stream_tail}
 use Rattle.oftp_vfile.specs.Subrecord.{Subrecord, header, spelled, payload_of}
 use Rattle.oftp_vfile.specs.Taking.{Taking, is_ended, added, added_all, new_rows, is_too_big, is_wrong_size, fault_at, IsAllowed, AreAllowed, Walked}
 use Rattle.oftp_vfile.specs.VirtualFile.{is_stream}
@@ -42,7 +43,10 @@ fault_none t h room n =
 header_again : (h : ℕ) (octets : List ℕ) → h < 256 → h % 128 < 64 → length octets ≡ h % 64 → header (record { ends = nat_le 128 h; octets = octets }) ≡ h
 header_again h octets b p n =
     let P : Bool → Type 0 = λ t. (t ≡ nat_le 128 h) → cond t (128 + length octets) (length octets) ≡ h in
-    let both : (t : Bool) → P t = λ t. elim t as P [ true ↦ λ e. (let q : 128 ≤ h = leb-true 128 h (sym e) in omega arith) | false ↦ λ e. (let q : h < 128 = leb-false 128 h (sym e) in omega arith) ] in
+    let both : (t : Bool) → P t = λ t. elim t as P [
+      | true ↦ λ e. (let q : 128 ≤ h = leb-true 128 h (sym e) in omega arith)
+      | false ↦ λ e. (let q : h < 128 = leb-false 128 h (sym e) in omega arith)
+    ] in
     both (nat_le 128 h) refl
 
 pub are_allowed_more : (t : Taking) (ss : List Subrecord) (s : Subrecord) → AreAllowed t ss → IsAllowed (added_all t ss) s → AreAllowed t (ss ++ s ∷ [])
@@ -73,7 +77,8 @@ walked_more old mid new payload after h w e b n =
     let allowed : IsAllowed mid s = (short, none) in
     record {
       subs = w.subs ++ s ∷ [];
-      spelling = w.spelling ∙ ap (λ x. payload_of w.subs ++ x) (ap (λ x. h ∷ x) (sym (take-append-drop (h % 64) after)) ∙ ap (λ x. x ∷ (octets ++ drop (h % 64) after)) (sym again) ∙ ap (λ x. (header s ∷ x) ++ drop (h % 64) after) (sym (append-nil octets)))
+      spelling = w.spelling ∙ ap (λ x. payload_of w.subs ++ x) (ap (λ x. h ∷ x) (sym (take-append-drop (h % 64) after)) ∙ ap (λ x. x ∷ (octets ++ drop (h % 64) after)) (sym again)
+          ∙ ap (λ x. (header s ∷ x) ++ drop (h % 64) after) (sym (append-nil octets)))
           ∙ sym (append_assoc (payload_of w.subs) (payload_of (s ∷ [])) (drop (h % 64) after)) ∙ ap (λ x. x ++ drop (h % 64) after) (sym (payload_of-append w.subs (s ∷ [])));
       allowed = are_allowed_more old w.subs s w.allowed (subst (λ (x : Taking). IsAllowed x s) w.after allowed);
       after = n ∙ ap (λ (x : Taking). added x s) w.after ∙ sym (added_all-append old w.subs (s ∷ []));
@@ -94,7 +99,10 @@ stream_tail_short octets h =
 pub stream_rows_few : (rows : List (List ℕ)) (octets : List ℕ) → length (stream_rows rows octets) ≤ length rows + length octets / 1024
 stream_rows_few rows octets =
     let P : Bool → Type 0 = λ t. (t ≡ nat_le 1024 (length octets)) → length (cond t (rows ++ take 1024 octets ∷ []) rows) ≤ length rows + length octets / 1024 in
-    let both : (t : Bool) → P t = λ t. elim t as P [ true ↦ λ e. (let q : 1024 ≤ length octets = leb-true _ _ (sym e) in omega (arith, length_push rows (take 1024 octets))) | false ↦ λ e. omega arith ] in
+    let both : (t : Bool) → P t = λ t. elim t as P [
+      | true ↦ λ e. (let q : 1024 ≤ length octets = leb-true _ _ (sym e) in omega (arith, length_push rows (take 1024 octets)))
+      | false ↦ λ e. omega arith
+    ] in
     both (nat_le 1024 (length octets)) refl
 
 -- how long a taker's open tail may be
@@ -109,12 +117,14 @@ added-tail_short t s n h e =
 pub added-rows_few : (t : Taking) (s : Subrecord) → length (added t s).rows ≤ length t.rows + new_rows t s.ends (length s.octets)
 added-rows_few t s =
     let octets : List ℕ = t.tail ++ s.octets in
-    let P : Bool → Bool → Type 0 = λ b d. length (cond b (stream_rows t.rows octets) (cond d (t.rows ++ octets ∷ []) t.rows)) ≤ length t.rows + cond b ((length t.tail + length s.octets) / 1024) (cond d 1 0) in
-    let few : length (stream_rows t.rows octets) ≤ length t.rows + (length t.tail + length s.octets) / 1024 = let f = stream_rows_few t.rows octets in let l = length-append t.tail s.octets in subst (λ (n : ℕ). length (stream_rows t.rows octets) ≤ length t.rows + n / 1024) l f in
+    let P : Bool → Bool → Type 0 =
+    λ b d. length (cond b (stream_rows t.rows octets) (cond d (t.rows ++ octets ∷ []) t.rows)) ≤ length t.rows + cond b ((length t.tail + length s.octets) / 1024) (cond d 1 0) in
+    let few : length (stream_rows t.rows octets) ≤ length t.rows + (length t.tail + length s.octets) / 1024 = let f = stream_rows_few t.rows octets in let l =
+    length-append t.tail s.octets in subst (λ (n : ℕ). length (stream_rows t.rows octets) ≤ length t.rows + n / 1024) l f in
     let both : (b d : Bool) → P b d = λ b d. elim b as (λ b. P b d) [ true ↦ few | false ↦ elim d as (λ d. P false d) [ true ↦ omega (arith, length_push t.rows octets) | false ↦ omega arith ] ] in
     both (is_stream t.format) s.ends
 
--- A taker as it was before some subrecords: what never changes is kept.
+-- a taker as it was before some subrecords: what never changes is kept
 abbrev pub restored : Taking → Taking → Taking
 restored t old = record t { rows = old.rows; tail = old.tail; units = old.units; stage = old.stage }
 
@@ -127,7 +137,8 @@ pub last_of : {A : Type 0} (x : A) (xs : List A) → (front : List A) × (last :
 last_of x [] = ([], x, refl)
 last_of x (y ∷ ys) = let r = last_of y ys in (x ∷ r.0, r.1, ap (λ zs. x ∷ zs) r.2)
 
-goes_on-then : (a : List (List ℕ)) (x : List ℕ) (b : List (List ℕ)) (y : List ℕ) (c : List (List ℕ)) (z : List ℕ) (m : List ℕ) (k : List (List ℕ)) → b ++ y ∷ [] ≡ a ++ (x ++ m) ∷ k → GoesOn b y c z → GoesOn a x c z
+goes_on-then : (a : List (List ℕ)) (x : List ℕ) (b : List (List ℕ)) (y : List ℕ) (c : List (List ℕ)) (z : List ℕ) (m : List ℕ) (k : List (List ℕ)) → b ++ y ∷ [] ≡ a ++ (x ++ m) ∷ k
+    → HasGrown b y c z → HasGrown a x c z
 goes_on-then a x b y c z m [] e h =
     let same : (b ≡ a) × (y ≡ x ++ m) = same_from_push b a y (x ++ m) e in
     (m ++ h.0, h.1, h.2 ∙ ap (λ (q : List (List ℕ)). q ++ (y ++ h.0) ∷ h.1) same.0 ∙ ap (λ (q : List ℕ). a ++ (q ++ h.0) ∷ h.1) same.1 ∙ ap (λ (q : List ℕ). a ++ q ∷ h.1) (append_assoc x m h.0))
@@ -137,15 +148,15 @@ goes_on-then a x b y c z m (r ∷ rs) e h =
     same_from_push b (a ++ (x ++ m) ∷ l.0) y l.1 (e ∙ ap (λ (q : List (List ℕ)). a ++ (x ++ m) ∷ q) l.2 ∙ sym (append_assoc a ((x ++ m) ∷ l.0) (l.1 ∷ []))) in
     (m, l.0 ++ (y ++ h.0) ∷ h.1, h.2 ∙ ap (λ (q : List (List ℕ)). q ++ (y ++ h.0) ∷ h.1) same.0 ∙ append_assoc a ((x ++ m) ∷ l.0) ((y ++ h.0) ∷ h.1))
 
-goes_on-trans : (a : List (List ℕ)) (x : List ℕ) (b : List (List ℕ)) (y : List ℕ) (c : List (List ℕ)) (z : List ℕ) → GoesOn a x b y → GoesOn b y c z → GoesOn a x c z
+goes_on-trans : (a : List (List ℕ)) (x : List ℕ) (b : List (List ℕ)) (y : List ℕ) (c : List (List ℕ)) (z : List ℕ) → HasGrown a x b y → HasGrown b y c z → HasGrown a x c z
 goes_on-trans a x b y c z g h = goes_on-then a x b y c z g.0 g.1 g.2 h
 
-goes_on-stream : (rows : List (List ℕ)) (tail octets : List ℕ) → length tail < 1024 → GoesOn rows tail (stream_rows rows (tail ++ octets)) (stream_tail (tail ++ octets))
+goes_on-stream : (rows : List (List ℕ)) (tail octets : List ℕ) → length tail < 1024 → HasGrown rows tail (stream_rows rows (tail ++ octets)) (stream_tail (tail ++ octets))
 goes_on-stream rows tail octets h =
     let all : List ℕ = tail ++ octets in
     let room : ℕ = 1024 - length tail in
     let e : length tail + room ≡ 1024 = omega arith in
-    let P : Bool → Type 0 = λ t. GoesOn rows tail (cond t (rows ++ take 1024 all ∷ []) rows) (cond t (drop 1024 all) all) in
+    let P : Bool → Type 0 = λ t. HasGrown rows tail (cond t (rows ++ take 1024 all ∷ []) rows) (cond t (drop 1024 all) all) in
     let both : (t : Bool) → P t = λ t. elim t as P [
       | true ↦ goes_on_closed rows tail _ (drop 1024 all) (take room octets) (ap (λ (x : List ℕ). rows ++ x ∷ []) (filled_block tail octets room e))
       | false ↦ goes_on_longer rows tail rows all octets refl refl
@@ -153,37 +164,44 @@ goes_on-stream rows tail octets h =
     both (nat_le 1024 (length all))
 
 goes_on-grown : (rows : List (List ℕ)) (tail octets : List ℕ) (b d : Bool) → (b ≡ true → length tail < 1024)
-    → GoesOn rows tail (cond b (stream_rows rows (tail ++ octets)) (cond d (rows ++ (tail ++ octets) ∷ []) rows)) (cond b (stream_tail (tail ++ octets)) (cond d [] (tail ++ octets)))
+    → HasGrown rows tail (cond b (stream_rows rows (tail ++ octets)) (cond d (rows ++ (tail ++ octets) ∷ []) rows)) (cond b (stream_tail (tail ++ octets)) (cond d [] (tail ++ octets)))
 goes_on-grown rows tail octets true d h = goes_on-stream rows tail octets (h refl)
 goes_on-grown rows tail octets false true h = goes_on_closed rows tail _ [] octets refl
 goes_on-grown rows tail octets false false h = goes_on_longer rows tail rows (tail ++ octets) octets refl refl
 
-goes_on-added : (t : Taking) (s : Subrecord) → (is_stream t.format ≡ true → length t.tail < 1024) → GoesOn t.rows t.tail (added t s).rows (added t s).tail
+goes_on-added : (t : Taking) (s : Subrecord) → (is_stream t.format ≡ true → length t.tail < 1024) → HasGrown t.rows t.tail (added t s).rows (added t s).tail
 goes_on-added t s h = goes_on-grown t.rows t.tail s.octets (is_stream t.format) s.ends h
 
-pub goes_on-all : (t : Taking) (ss : List Subrecord) → AreAllowed t ss → (is_stream t.format ≡ true → length t.tail < 1024) → GoesOn t.rows t.tail (added_all t ss).rows (added_all t ss).tail
+pub goes_on-all : (t : Taking) (ss : List Subrecord) → AreAllowed t ss → (is_stream t.format ≡ true → length t.tail < 1024) → HasGrown t.rows t.tail (added_all t ss).rows (added_all t ss).tail
 goes_on-all t [] a h = goes_on_same t.rows t.tail t.rows t.tail refl refl
-goes_on-all t (s ∷ ss) a h = goes_on-trans t.rows t.tail (added t s).rows (added t s).tail (added_all t (s ∷ ss)).rows (added_all t (s ∷ ss)).tail (goes_on-added t s h) (goes_on-all (added t s) ss a.1 (added-tail_short t s a.0.0 h))
+goes_on-all t (s ∷ ss) a h =
+    let u = added t s in
+    let v = added_all t (s ∷ ss) in
+    goes_on-trans t.rows t.tail u.rows u.tail v.rows v.tail (goes_on-added t s h) (goes_on-all u ss a.1 (added-tail_short t s a.0.0 h))
 
--- After some subrecords of a payload the taker can be put back.
-pub walked_back : (old mid : Taking) (payload rest : List ℕ) → Walked old mid payload rest → (is_stream old.format ≡ true → length old.tail < 1024) → GoesOn old.rows old.tail mid.rows mid.tail × (restored mid old ≡ old)
+-- after some subrecords of a payload the taker can be put back
+pub walked_back : (old mid : Taking) (payload rest : List ℕ) → Walked old mid payload rest → (is_stream old.format ≡ true → length old.tail < 1024)
+    → HasGrown old.rows old.tail mid.rows mid.tail × (restored mid old ≡ old)
 walked_back old mid payload rest w h = (
-  subst (λ (x : Taking). GoesOn old.rows old.tail x.rows x.tail) (sym w.after) (goes_on-all old w.subs w.allowed h),
+  subst (λ (x : Taking). HasGrown old.rows old.tail x.rows x.tail) (sym w.after) (goes_on-all old w.subs w.allowed h),
   ap (λ (x : Taking). restored x old) w.after ∙ restored-all old w.subs,
 )
 
 -- what the call that puts a taker back leaves
 pub put_back : (v old w mid : Taking) (payload rest : List ℕ) (rows : List (List ℕ)) (tail : List ℕ) (row_count tail_len : ℕ) → v ≡ old → w ≡ mid
     → Walked old mid payload rest → (is_stream v.format ≡ true → length v.tail < 1024)
-    → ((r : List (List ℕ)) → (f : List ℕ) → GoesOn r f w.rows w.tail → length r ≡ row_count → length f ≡ tail_len → (rows ≡ r) × (tail ≡ f))
+    → ((r : List (List ℕ)) → (f : List ℕ) → HasGrown r f w.rows w.tail → length r ≡ row_count → length f ≡ tail_len → (rows ≡ r) × (tail ≡ f))
     → length v.rows ≡ row_count → length v.tail ≡ tail_len
-    → (record w { rows = rows; tail = tail; units = v.units; stage = v.stage } ≡ old) × (rows ≡ v.rows) × (tail ≡ v.tail) × (w.limit ≡ v.limit) × (w.kept_rows ≡ v.kept_rows) × (w.kept_units ≡ v.kept_units) × (w.away ≡ v.away) × (w.format ≡ v.format)
+    → (record w { rows = rows; tail = tail; units = v.units; stage = v.stage } ≡ old) × (rows ≡ v.rows) × (tail ≡ v.tail) × (w.limit ≡ v.limit) × (w.kept_rows ≡ v.kept_rows)
+    × (w.kept_units ≡ v.kept_units) × (w.away ≡ v.away) × (w.format ≡ v.format)
 put_back v old w mid payload rest rows tail row_count tail_len ve we walked h back n m =
     let b = walked_back old mid payload rest walked (subst (λ (x : Taking). is_stream x.format ≡ true → length x.tail < 1024) ve h) in
-    let g : GoesOn v.rows v.tail w.rows w.tail = subst (λ (x : Taking). GoesOn v.rows v.tail x.rows x.tail) (sym we) (subst (λ (x : Taking). GoesOn x.rows x.tail mid.rows mid.tail) (sym ve) b.0) in
+    let g : HasGrown v.rows v.tail w.rows w.tail =
+    subst (λ (x : Taking). HasGrown v.rows v.tail x.rows x.tail) (sym we) (subst (λ (x : Taking). HasGrown x.rows x.tail mid.rows mid.tail) (sym ve) b.0) in
     let same = back v.rows v.tail g n m in
     let r : restored w v ≡ v = ap (λ (x : Taking). restored x v) we ∙ ap (λ (x : Taking). restored mid x) ve ∙ b.1 ∙ sym ve in (
-      ap (λ (x : List (List ℕ)). record w { rows = x; tail = tail; units = v.units; stage = v.stage }) same.0 ∙ ap (λ (x : List ℕ). record w { rows = v.rows; tail = x; units = v.units; stage = v.stage }) same.1 ∙ r ∙ ve,
+      ap (λ (x : List (List ℕ)). record w { rows = x; tail = tail; units = v.units; stage = v.stage }) same.0
+          ∙ ap (λ (x : List ℕ). record w { rows = v.rows; tail = x; units = v.units; stage = v.stage }) same.1 ∙ r ∙ ve,
       same.0,
       same.1,
       ap (λ x. x.limit) r,
@@ -194,12 +212,14 @@ put_back v old w mid payload rest rows tail row_count tail_len ve we walked h ba
     )
 
 -- the rows and the tail that a subrecord leaves
-pub grown_stream : (t : Taking) (s : Subrecord) (rows : List (List ℕ)) (tail : List ℕ) → is_stream t.format ≡ true → rows ≡ stream_rows t.rows (t.tail ++ s.octets) → tail ≡ stream_tail (t.tail ++ s.octets) → (rows ≡ (added t s).rows) × (tail ≡ (added t s).tail)
+pub grown_stream : (t : Taking) (s : Subrecord) (rows : List (List ℕ)) (tail : List ℕ) → is_stream t.format ≡ true → rows ≡ stream_rows t.rows (t.tail ++ s.octets)
+    → tail ≡ stream_tail (t.tail ++ s.octets) → (rows ≡ (added t s).rows) × (tail ≡ (added t s).tail)
 grown_stream t s rows tail e r q =
     let octets : List ℕ = t.tail ++ s.octets in
     (r ∙ ap (λ (b : Bool). cond b (stream_rows t.rows octets) (cond s.ends (t.rows ++ octets ∷ []) t.rows)) (sym e), q ∙ ap (λ (b : Bool). cond b (stream_tail octets) (cond s.ends [] octets)) (sym e))
 
-pub grown_record : (t : Taking) (s : Subrecord) (rows : List (List ℕ)) (tail : List ℕ) → is_stream t.format ≡ false → rows ≡ cond s.ends (t.rows ++ (t.tail ++ s.octets) ∷ []) t.rows → tail ≡ cond s.ends [] (t.tail ++ s.octets) → (rows ≡ (added t s).rows) × (tail ≡ (added t s).tail)
+pub grown_record : (t : Taking) (s : Subrecord) (rows : List (List ℕ)) (tail : List ℕ) → is_stream t.format ≡ false
+    → rows ≡ cond s.ends (t.rows ++ (t.tail ++ s.octets) ∷ []) t.rows → tail ≡ cond s.ends [] (t.tail ++ s.octets) → (rows ≡ (added t s).rows) × (tail ≡ (added t s).tail)
 grown_record t s rows tail e r q =
     let octets : List ℕ = t.tail ++ s.octets in
     (r ∙ ap (λ (b : Bool). cond b (stream_rows t.rows octets) (cond s.ends (t.rows ++ octets ∷ []) t.rows)) (sym e), q ∙ ap (λ (b : Bool). cond b (stream_tail octets) (cond s.ends [] octets)) (sym e))
@@ -211,7 +231,8 @@ pub record Bounded (t : Taking) : Type 0 where
   pub taken : t.units ≤ t.limit
   pub few : t.kept_rows + t.away + length t.rows ≤ 1000000
 
-pub bounded_added : (t : Taking) (s : Subrecord) (rows : List (List ℕ)) (tail : List ℕ) → Bounded t → length s.octets < 64 → is_too_big t s.ends (length s.octets) ≡ false → (rows ≡ (added t s).rows) × (tail ≡ (added t s).tail)
+pub bounded_added : (t : Taking) (s : Subrecord) (rows : List (List ℕ)) (tail : List ℕ) → Bounded t → length s.octets < 64 → is_too_big t s.ends (length s.octets) ≡ false
+    → (rows ≡ (added t s).rows) × (tail ≡ (added t s).tail)
     → Bounded (record t { rows = rows; tail = tail; units = t.units + length s.octets })
 bounded_added t s rows tail b n f e =
     let fit = not_too_big t s.ends (length s.octets) f in

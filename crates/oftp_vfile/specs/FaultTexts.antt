@@ -1,10 +1,11 @@
+-- What is printed of faults.
 use Rattle.std.specs.Prelude.{ℕ, List, codes}
 use Rattle.oftp_vfile.specs.declared.format.LocalFault.{LocalFault}
 use Rattle.oftp_vfile.specs.declared.format.LocalFault.TheVariants as local
 use Rattle.oftp_vfile.specs.declared.format.TakeFault.{TakeFault}
 use Rattle.oftp_vfile.specs.declared.format.TakeFault.TheVariants.{Cut, Compressed, RecordSize, AfterEnd, TooBig, Memory}
 
--- What is printed of a fault of a taker.
+-- what is printed of a fault of a taker
 abbrev pub take_text : TakeFault → List ℕ
 take_text Cut = codes "a subrecord passes the end of its buffer"
 take_text Compressed = codes "a subrecord is compressed"
@@ -13,7 +14,7 @@ take_text AfterEnd = codes "a subrecord comes after the end of the file"
 take_text TooBig = codes "the file is too big"
 take_text Memory = codes "out of memory"
 
--- What is printed of a fault of the local form.
+-- what is printed of a fault of the local form
 abbrev pub local_text : LocalFault → List ℕ
 local_text local.NotLocal = codes "the content is no file of this format"
 local_text local.Memory = codes "out of memory"

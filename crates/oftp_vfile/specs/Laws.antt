@@ -1,8 +1,9 @@
+-- Laws of these definitions.
 use Rattle.std.specs.Prelude.{◌≡◌, ℕ, false, List, ◌++◌, ◌+◌, ◌<◌, ◌≤◌, length, map, take, All, Bool, true, drop, ◌-◌}
 use Rattle.oftp_vfile.specs.declared.format.Format.{Format}
 use Rattle.oftp_vfile.specs.declared.format.Stage.{Stage}
 use Rattle.oftp_vfile.specs.declared.format.TakeFault.{TakeFault}
-use Rattle.oftp_vfile.specs.VirtualFile.{is_stream, AreRows, IsLongest, closed, records_in, units_in, Begins}
+use Rattle.oftp_vfile.specs.VirtualFile.{is_stream, AreRows, IsLongest, closed, records_in, units_in, BeginsWith}
 use Rattle.oftp_vfile.specs.Subrecord.{Subrecord, payload_of}
 use Rattle.oftp_vfile.specs.Carries.{Carries, CarriesWhole, is_open}
 use Rattle.oftp_vfile.specs.Taking.{Taking, Took, CarriesWithin, FirstFault, counts_of}
@@ -11,46 +12,46 @@ use Rattle.oftp_vfile.specs.Fill.{Fills, fill_from, weight, fill, payloads_of, w
 use Rattle.oftp_vfile.specs.Filling.{Filling, AreLent, IsInRows, Sent}
 use Rattle.oftp_vfile.specs.LocalForm.{IsLocal}
 
--- There is one list of payloads that follows the filling rule, and it is fill.
+-- there is one list of payloads that follows the filling rule, and it is fill
 abbrev pub FillIsOne : Type 0
 FillIsOne = (size : ℕ) (records : List (List ℕ)) → 2 ≤ size → Fills size records (fill_from (weight records) size records)
     × ((subs : List (List Subrecord)) → Fills size records subs → map payload_of subs ≡ fill size records)
 
--- The payloads of fill aren't empty, and have at most size octets.
+-- the payloads of fill aren't empty, and have at most size octets
 abbrev pub FillFits : Type 0
 FillFits = (size : ℕ) (records : List (List ℕ)) → 2 ≤ size → All (λ (p : List ℕ). (0 < length p) × (length p ≤ size)) (fill size records)
 
--- The payloads of a file carry exactly its rows, to the end.
+-- the payloads of a file carry exactly its rows, to the end
 abbrev pub FillIsWhole : Type 0
 FillIsWhole = (format : Format) (longest size : ℕ) (rows : List (List ℕ)) → 2 ≤ size → AreRows format longest rows
     → CarriesWhole format longest (payloads_of format size rows) rows
 
--- Payloads carry one thing only.
+-- payloads carry one thing only
 abbrev pub OneReading : Type 0
 OneReading = (format : Format) (longest : ℕ) (payloads rows rows' : List (List ℕ)) (tail tail' : List ℕ) (stage stage' : Stage)
     → Carries format longest payloads rows tail stage → Carries format longest payloads rows' tail' stage'
     → (rows ≡ rows') × (tail ≡ tail') × (stage ≡ stage')
 
--- A taker that took the payloads of fill holds exactly these rows, with those taken away, and is closed.
+-- a taker that took the payloads of fill holds exactly these rows, with those taken away, and is closed
 abbrev pub FillIsTaken : Type 0
 FillIsTaken = (t : Taking) (gone : List (List ℕ)) (size : ℕ) (rows : List (List ℕ)) → 2 ≤ size → AreRows t.format t.longest rows
     → Took t gone (payloads_of t.format size rows) → (closed (gone ++ t.rows) t.tail ≡ rows) × (is_open t.stage ≡ false)
 
--- The rows that the first k payloads carry are as many as are wholly sent after them.
+-- the rows that the first k payloads carry are as many as are wholly sent after them
 abbrev pub WhollySent : Type 0
 WhollySent = (format : Format) (longest size k : ℕ) (rows found : List (List ℕ)) (tail : List ℕ) (stage : Stage) → 2 ≤ size
     → Carries format longest (take k (payloads_of format size rows)) found tail stage → length found ≡ wholly_sent format size rows k
 
--- The mark of a filler is the row that it began at and the rows wholly sent since.
+-- the mark of a filler is the row that it began at and the rows wholly sent since
 abbrev pub MarkIsSent : Type 0
 MarkIsSent = (f : Filling) (longest size from : ℕ) (rows payloads : List (List ℕ)) → 2 ≤ size → AreRows f.format longest rows
     → Sent f size from rows payloads → f.mark ≡ from + wholly_sent f.format size rows (length payloads)
 
--- The rows of a file from one on are rows of a file.
+-- the rows of a file from one on are rows of a file
 abbrev pub RowsFrom : Type 0
 RowsFrom = (format : Format) (longest c : ℕ) (rows : List (List ℕ)) → AreRows format longest rows → AreRows format longest (drop c rows)
 
--- The next n rows from the filler's row on, or all that are left where these are fewer, are lent as it asks.
+-- the next n rows from the filler's row on, or all that are left where these are fewer, are lent as it asks
 abbrev pub LendsRows : Type 0
 LendsRows = (f : Filling) (longest size from n : ℕ) (rows payloads : List (List ℕ)) (last : Bool)
     → IsLongest f.format longest → AreRows f.format longest rows → Sent f size from rows payloads → 0 < n
@@ -59,26 +60,26 @@ LendsRows = (f : Filling) (longest size from n : ℕ) (rows payloads : List (Lis
     × IsInRows f (take n (drop (f.row - from) rows))
     × (is_stream f.format ≡ true → All (λ (r : List ℕ). 0 < length r) (take n (drop (f.row - from) rows)))
 
--- What a taker took carries its rows within the limits.
+-- what a taker took carries its rows within the limits
 abbrev pub TookIsWithin : Type 0
 TookIsWithin = (t : Taking) (gone payloads : List (List ℕ)) → Took t gone payloads
     → Carries t.format t.longest payloads (gone ++ t.rows) t.tail t.stage × CarriesWithin t payloads
 
--- The counts of a taker are those of the file so far: of the rows kept before, those that it took, and its open part.
+-- the counts of a taker are those of the file so far: of the rows kept before, those that it took, and its open part
 abbrev pub CountsAreFile : Type 0
 CountsAreFile = (t : Taking) (kept gone payloads : List (List ℕ)) → Took t gone payloads → t.kept_rows ≡ length kept → t.kept_units ≡ units_in kept
     → counts_of t ≡ (records_in t.format (kept ++ (gone ++ t.rows)), units_in (closed (kept ++ (gone ++ t.rows)) t.tail))
 
--- Where payloads are closed, what they carry are the rows of a file, the open part of a stream as the last.
+-- where payloads are closed, what they carry are the rows of a file, the open part of a stream as the last
 abbrev pub ClosedIsFile : Type 0
 ClosedIsFile = (format : Format) (longest : ℕ) (payloads rows : List (List ℕ)) (tail : List ℕ) (stage : Stage)
     → Carries format longest payloads rows tail stage → is_open stage ≡ false → AreRows format longest (closed rows tail)
 
--- A payload has one first fault only.
+-- a payload has one first fault only
 abbrev pub OneFault : Type 0
 OneFault = (t : Taking) (payload : List ℕ) (f g : TakeFault) → FirstFault t payload f → FirstFault t payload g → f ≡ g
 
--- A content is the local form of one file only.
+-- a content is the local form of one file only
 abbrev pub OneFile : Type 0
 OneFile = (format : Format) (longest : ℕ) (content : List ℕ) (rows rows' : List (List ℕ)) → IsLongest format longest
     → IsLocal format longest content rows → IsLocal format longest content rows' → rows ≡ rows'
@@ -86,13 +87,13 @@ OneFile = (format : Format) (longest : ℕ) (content : List ℕ) (rows rows' : L
 -- what a part of a file's payloads carries, cut anywhere, begins the rows of the file
 abbrev pub PartBegins : Type 0
 PartBegins = (format : Format) (longest : ℕ) (file payloads next rows : List (List ℕ)) (tail : List ℕ) (stage : Stage)
-    → CarriesWhole format longest (payloads ++ next) file → Carries format longest payloads rows tail stage → Begins file rows
+    → CarriesWhole format longest (payloads ++ next) file → Carries format longest payloads rows tail stage → BeginsWith file rows
 
 -- what the first payloads of a file carry, as the filling rule makes them, begins its rows
 abbrev pub CarriedBegins : Type 0
 CarriedBegins = (format : Format) (longest size : ℕ) (file payloads next rows : List (List ℕ)) (tail : List ℕ) (stage : Stage)
     → 2 ≤ size → AreRows format longest file → payloads ++ next ≡ payloads_of format size file
-    → Carries format longest payloads rows tail stage → Begins file rows
+    → Carries format longest payloads rows tail stage → BeginsWith file rows
 
 -- a part of a file's payloads that is closed, and has the counts of the file, carries all of it
 abbrev pub PartCloses : Type 0

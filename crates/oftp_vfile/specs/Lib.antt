@@ -1,3 +1,4 @@
+-- What this crate's contracts speak in.
 pub mod VirtualFile
 pub mod Growth
 pub mod Subrecord

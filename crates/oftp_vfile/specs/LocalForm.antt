@@ -1,32 +1,33 @@
+-- The local form of files: what an operator hands in and fetches.
 use Rattle.std.specs.Prelude.{◌≡◌, ◌≤◌, ◌+◌, ◌/◌, ◌%◌, ◌++◌, ◌∷◌, [], ℕ, List, length}
 use Rattle.std.specs.List.{flat_map}
 use Rattle.oftp_vfile.specs.declared.format.Format.{Format}
 use Rattle.oftp_vfile.specs.declared.format.Format.TheVariants.{Fixed, Variable, Unstructured, Text}
 use Rattle.oftp_vfile.specs.VirtualFile.{AreRows}
 
--- A decimal digit of a number, as a character: how often a power of ten is in it, the tens left out.
+-- a decimal digit of a number, as a character: how often a power of ten is in it, the tens left out
 abbrev pub digit_of : ℕ → ℕ → ℕ
 digit_of n place = 48 + n / place % 10
 
--- The five decimal digits of a number below 100,000.
+-- the five decimal digits of a number below 100,000
 abbrev pub digits_of : ℕ → List ℕ
 digits_of n = digit_of n 10000 ∷ digit_of n 1000 ∷ digit_of n 100 ∷ digit_of n 10 ∷ digit_of n 1 ∷ []
 
--- A row in the local form: a record of V after five digits of its length, any other row as it is.
+-- a row in the local form: a record of V after five digits of its length, any other row as it is
 abbrev pub local_row : Format → List ℕ → List ℕ
 local_row Fixed row = row
 local_row Variable row = digits_of (length row) ++ row
 local_row Unstructured row = row
 local_row Text row = row
 
--- The local form of rows: one after another.
+-- the local form of rows: one after another
 abbrev pub local_of : Format → List (List ℕ) → List ℕ
 local_of format rows = flat_map (local_row format) rows
 
--- The content is the local form of these rows of a file.
+-- the content is the local form of these rows of a file
 abbrev pub IsLocal : Format → ℕ → List ℕ → List (List ℕ) → Type 0
 IsLocal format longest content rows = AreRows format longest rows × (content ≡ local_of format rows)
 
--- The content of a V file begins with this record, and has this rest.
+-- the content of a V file begins with this record, and has this rest
 abbrev pub IsFirstRecord : ℕ → List ℕ → List ℕ → List ℕ → Type 0
 IsFirstRecord longest content row rest = (content ≡ local_row Variable row ++ rest) × (length row ≤ longest)

@@ -1,36 +1,37 @@
+-- What the filler's loops have written so far.
 use Rattle.std.specs.Prelude.{◌≡◌, ℕ, Bool, true, false, List, [], ◌∷◌, ◌++◌, ◌-◌, ◌<◌, length, drop}
 use Rattle.oftp_vfile.specs.VirtualFile.{octets_in}
 use Rattle.oftp_vfile.specs.Subrecord.{Subrecord, payload_of}
 use Rattle.oftp_vfile.specs.Fill.{Packs}
 use Rattle.oftp_vfile.specs.Filling.{Filling, left_of, AreBehind}
 
--- These octets are subrecords of the records, as far as they went: whatever packs what is left, and the records behind, packs
--- all of them after these.
+-- these octets are subrecords of the records, as far as they went: whatever packs what is left, and the records behind, packs
+-- all of them after these
 abbrev pub HasPacked : ℕ → List (List ℕ) → List ℕ → ℕ → List (List ℕ) → Type 0
 HasPacked free records octets free' records' =
     (sofar : List Subrecord) × (octets ≡ payload_of sofar)
     × ((more : List (List ℕ)) (ss : List Subrecord) (left : List (List ℕ)) → Packs free' (records' ++ more) ss left → Packs free (records ++ more) (sofar ++ ss) left)
 
--- The octets of the rows from a place on.
+-- the octets of the rows from a place on
 abbrev pub rest_at : List (List ℕ) → ℕ → ℕ → List ℕ
 rest_at rows row offset = drop offset (octets_in (drop row rows))
 
--- The octets behind those that were lent: none where these were the last, else some.
+-- the octets behind those that were lent: none where these were the last, else some
 abbrev pub IsTail : Bool → List ℕ → Type 0
 IsTail true tail = tail ≡ []
 IsTail false tail = 0 < length tail
 
--- The same as HasPacked for a stream, one record of which more octets may stand behind.
+-- the same as HasPacked for a stream, one record of which more octets may stand behind
 abbrev pub HasStreamed : Bool → ℕ → List ℕ → List ℕ → ℕ → List ℕ → Type 0
 HasStreamed last free stream octets free' stream' =
     (sofar : List Subrecord) × (octets ≡ payload_of sofar)
     × ((tail : List ℕ) (ss : List Subrecord) (left : List (List ℕ)) → IsTail last tail → Packs free' ((stream' ++ tail) ∷ []) ss left → Packs free ((stream ++ tail) ∷ []) (sofar ++ ss) left)
 
--- A stream was packed to its end.
+-- a stream was packed to its end
 abbrev pub HasEnded : ℕ → List ℕ → List ℕ → Type 0
 HasEnded free stream octets = (sofar : List Subrecord) × (octets ≡ payload_of sofar) × Packs free (stream ∷ []) sofar []
 
--- These octets are subrecords that the filling rule packs of what is left, up to what is left behind them, whatever rows stand
+-- these octets are subrecords that the filling rule packs of what is left, up to what is left behind them, whatever rows stand
 -- behind those that were lent. So says the rule itself; IsFirstPayload says it of the list that fill makes.
 abbrev pub PacksNext : ℕ → Filling → Filling → List (List ℕ) → Bool → List ℕ → Type 0
 PacksNext size old new rows last octets =

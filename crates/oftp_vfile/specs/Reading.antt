@@ -1,7 +1,9 @@
 -- What a taker makes of payloads, as functions (RFC 5024, section 7.2).
-use Rattle.std.specs.Prelude.{ℕ, zero, suc, List, [], ◌∷◌, ◌+◌, length, take, drop, fold, Option, None, Some, Result, Ok, Err}
+use Rattle.std.specs.Prelude.{ℕ, zero, suc, List, [], ◌∷◌, ◌+◌, length, take, drop, fold, nat_le, if◌then◌else◌, Option, None, Some, Result, Ok, Err}
+use Rattle.std.specs.Option.{option_or}
 use Rattle.std.specs.Result.{result_unwrap_or}
 use Rattle.oftp_vfile.specs.declared.format.TakeFault.{TakeFault}
+use Rattle.oftp_vfile.specs.declared.format.TakeFault.TheVariants.{Cut}
 use Rattle.oftp_vfile.specs.Subrecord.{Subrecord, has_end, count_in}
 use Rattle.oftp_vfile.specs.Taking.{Taking, added, fault_at}
 
@@ -19,12 +21,17 @@ abbrev pub then_go_on : {A B : Type 0} → Result A TakeFault → (A → Result 
 then_go_on (Ok x) f = f x
 then_go_on (Err fault) f = Err fault
 
--- what a taker holds after the first n subrecords of a payload, or after all where these are fewer, or the fault of the first faulty one
+-- the fault of a header with so many octets behind it; a number that is no octet begins no subrecord
+abbrev pub fault_before : Taking → ℕ → ℕ → Option TakeFault
+fault_before t header room = option_or (fault_at t header room) (if nat_le 256 header then Some Cut else None)
+
+-- what a taker holds after the first n subrecords of a payload, or after all where these are fewer, or the fault of the first
+-- faulty one
 unfoldable pub take_subrecords : ℕ → Taking → List ℕ → Result Taking TakeFault
 take_subrecords zero t payload = Ok t
 take_subrecords (suc n) t [] = Ok t
 take_subrecords (suc n) t (header ∷ rest) =
-    then_go_on (unless_fault (fault_at t header (length rest)) (added t (subrecord_in header rest)))
+    then_go_on (unless_fault (fault_before t header (length rest)) (added t (subrecord_in header rest)))
     (λ after. take_subrecords n after (drop (count_in header) rest))
 
 -- what a taker holds after a payload, or the fault of its first faulty subrecord

@@ -1,5 +1,7 @@
+-- A taker: what it holds, what it refuses, and what it took.
 use Rattle.std.specs.Prelude.{◌≡◌, ◌≢◌, ℕ, Bool, true, false, Option, Some, None, List, [], ◌∷◌, ◌++◌, ◌+◌, ◌/◌, ◌<◌, ◌≤◌, length, map, nat_lt, ◌==◌, ◌&&◌, ◌||◌, not, if◌then◌else◌}
 use Rattle.std.specs.List.{flat_map}
+use Rattle.oftp_vfile.specs.declared.format.TheConstants.{BLOCK, MOST_ROWS}
 use Rattle.oftp_vfile.specs.declared.format.Format.{Format}
 use Rattle.oftp_vfile.specs.declared.format.Format.TheVariants.{Fixed, Variable, Unstructured, Text}
 use Rattle.oftp_vfile.specs.declared.format.Stage.{Stage}
@@ -11,8 +13,8 @@ use Rattle.oftp_vfile.specs.Growth.{stream_rows, stream_tail}
 use Rattle.oftp_vfile.specs.Subrecord.{Subrecord, header, payload_of, octets_of, has_end, has_compression, count_in, AreShort}
 use Rattle.oftp_vfile.specs.Carries.{Carried, Carries, stage_of}
 
--- What a taker holds: the file and its limit, what was kept of it before, how many rows were taken away, the rows and the open
--- tail that it has, the octets that it took, and whether a subrecord came and ended.
+-- what a taker holds: the file and its limit, what was kept of it before, how many rows were taken away, the rows and the open
+-- tail that it has, the octets that it took, and whether a subrecord came and ended
 pub record Taking : Type 0 where
   pub format : Format
   pub longest : ℕ
@@ -25,7 +27,7 @@ pub record Taking : Type 0 where
   pub units : ℕ
   pub stage : Stage
 
--- A taker that has taken nothing.
+-- a taker that has taken nothing
 abbrev pub new_taking : Format → ℕ → ℕ → ℕ → ℕ → Taking
 new_taking format longest kept_rows kept_units limit = record {
   format = format;
@@ -40,17 +42,17 @@ new_taking format longest kept_rows kept_units limit = record {
   stage = Fresh;
 }
 
--- The record count and the unit count of the whole file so far (RFC 5024, section 5.3.8).
+-- the record count and the unit count of the whole file so far (RFC 5024, section 5.3.8)
 abbrev pub counts_of : Taking → ℕ × ℕ
 counts_of t = (if is_stream t.format then 0 else t.kept_rows + t.away + length t.rows, t.kept_units + t.units)
 
--- Whether the last subrecord has the end flag.
+-- whether the last subrecord has the end flag
 abbrev pub is_ended : Stage → Bool
 is_ended Fresh = false
 is_ended Open = false
 is_ended Ended = true
 
--- What a taker holds after one more subrecord.
+-- what a taker holds after one more subrecord
 abbrev pub added : Taking → Subrecord → Taking
 added t s =
     let octets = t.tail ++ s.octets in
@@ -61,28 +63,28 @@ added t s =
       stage = if s.ends then Ended else Open;
     }
 
--- What a taker holds after these subrecords.
+-- what a taker holds after these subrecords
 abbrev pub added_all : Taking → List Subrecord → Taking
 added_all t [] = t
 added_all t (s ∷ ss) = added_all (added t s) ss
 
--- How many rows a subrecord of n octets finishes.
+-- how many rows a subrecord of n octets finishes
 abbrev pub new_rows : Taking → Bool → ℕ → ℕ
-new_rows t ends n = if is_stream t.format then (length t.tail + n) / 1024 else if ends then 1 else 0
+new_rows t ends n = if is_stream t.format then (length t.tail + n) / BLOCK else if ends then 1 else 0
 
--- Whether the file passes its limit of octets, or of 1,000,000 rows, by a subrecord of n octets.
+-- whether the file passes its limit of octets, or of 1,000,000 rows, by a subrecord of n octets
 abbrev pub is_too_big : Taking → Bool → ℕ → Bool
 is_too_big t ends n =
-    nat_lt t.limit (t.kept_units + t.units + n) || nat_lt 1000000 (t.kept_rows + t.away + length t.rows + new_rows t ends n)
+    nat_lt t.limit (t.kept_units + t.units + n) || nat_lt MOST_ROWS (t.kept_rows + t.away + length t.rows + new_rows t ends n)
 
--- Whether a record, so far of n octets, breaks the rule on its length.
+-- whether a record, so far of n octets, breaks the rule on its length
 abbrev pub is_wrong_size : Format → ℕ → ℕ → Bool → Bool
 is_wrong_size Fixed longest n ends = nat_lt longest n || (ends && not (n == longest))
 is_wrong_size Variable longest n ends = nat_lt longest n
 is_wrong_size Unstructured longest n ends = false
 is_wrong_size Text longest n ends = false
 
--- The fault of a subrecord with this header where so many octets stand behind it. The order decides where two faults fit.
+-- the fault of a subrecord with this header where so many octets stand behind it. The order decides where two faults fit.
 abbrev pub fault_at : Taking → ℕ → ℕ → Option TakeFault
 fault_at t h room =
     if is_stream t.format && is_ended t.stage then Some AfterEnd
@@ -92,57 +94,57 @@ fault_at t h room =
     else if is_wrong_size t.format t.longest (length t.tail + count_in h) (has_end h) then Some RecordSize
     else None
 
--- The fault of the subrecord that these octets begin with, if there is one.
-abbrev pub fault_of : Taking → List ℕ → Option TakeFault
-fault_of t [] = None
-fault_of t (h ∷ rest) = fault_at t h (length rest)
+-- the fault of the subrecord that these octets begin with, if there is one
+abbrev pub fault_in : Taking → List ℕ → Option TakeFault
+fault_in t [] = None
+fault_in t (h ∷ rest) = fault_at t h (length rest)
 
--- A subrecord that a taker takes.
+-- a subrecord that a taker takes
 abbrev pub IsAllowed : Taking → Subrecord → Type 0
 IsAllowed t s = (length s.octets < 64) × (fault_at t (header s) (length s.octets) ≡ None)
 
--- Subrecords that a taker takes, one after another.
+-- subrecords that a taker takes, one after another
 abbrev pub AreAllowed : Taking → List Subrecord → Type 0
 AreAllowed t [] = Unit {0}
 AreAllowed t (s ∷ ss) = IsAllowed t s × AreAllowed (added t s) ss
 
--- The front of a payload, up to a rest, was taken.
+-- the front of a payload, up to a rest, was taken
 pub record Walked (old new : Taking) (payload rest : List ℕ) : Type 0 where
   pub subs : List Subrecord
   pub spelling : payload ≡ payload_of subs ++ rest
   pub allowed : AreAllowed old subs
   pub after : new ≡ added_all old subs
 
--- The first faulty subrecord of a payload has this fault.
+-- the first faulty subrecord of a payload has this fault
 abbrev pub FirstFault : Taking → List ℕ → TakeFault → Type 0
-FirstFault t payload f = (mid : Taking) × (rest : List ℕ) × Walked t mid payload rest × (fault_of mid rest ≡ Some f)
+FirstFault t payload f = (mid : Taking) × (rest : List ℕ) × Walked t mid payload rest × (fault_in mid rest ≡ Some f)
 
--- What a taker holds of the subrecords that came, where these rows were taken away.
-pub record Holds (t : Taking) (gone : List (List ℕ)) (ss : List Subrecord) : Type 0 where
+-- what a taker holds of the subrecords that came, where these rows were taken away
+pub record HasTaken (t : Taking) (gone : List (List ℕ)) (ss : List Subrecord) : Type 0 where
   pub carried : Carried t.format t.longest ss (gone ++ t.rows) t.tail
   pub away : t.away ≡ length gone
   pub last : t.stage ≡ stage_of ss
   pub units : t.units ≡ length (octets_of ss)
   pub octets : ss ≢ [] → t.kept_units + t.units ≤ t.limit
-  pub few : t.kept_rows + (length gone + length t.rows) ≤ 1000000
+  pub few : t.kept_rows + (length gone + length t.rows) ≤ MOST_ROWS
 
--- A taker took these payloads, and these rows were taken away from it.
+-- a taker took these payloads, and these rows were taken away from it
 pub record Took (t : Taking) (gone payloads : List (List ℕ)) : Type 0 where
   pub subs : List (List Subrecord)
   pub spelling : payloads ≡ map payload_of subs
   pub short : AreShort (flat_map (λ ss. ss) subs)
-  pub holds : Holds t gone (flat_map (λ ss. ss) subs)
+  pub holds : HasTaken t gone (flat_map (λ ss. ss) subs)
 
--- These payloads carry rows within the limits of a taker's file.
+-- these payloads carry rows within the limits of a taker's file
 pub record CarriesWithin (t : Taking) (payloads : List (List ℕ)) : Type 0 where
   pub rows : List (List ℕ)
   pub tail : List ℕ
   pub stage : Stage
   pub carries : Carries t.format t.longest payloads rows tail stage
   pub octets : stage ≢ Fresh → t.kept_units + length (octets_in rows ++ tail) ≤ t.limit
-  pub few : t.kept_rows + length rows ≤ 1000000
+  pub few : t.kept_rows + length rows ≤ MOST_ROWS
 
--- What a payload never changes in a taker.
+-- what a payload never changes in a taker
 abbrev pub IsSameFile : Taking → Taking → Type 0
 IsSameFile s t =
     (t.format ≡ s.format) × (t.longest ≡ s.longest) × (t.limit ≡ s.limit) × (t.kept_rows ≡ s.kept_rows)

@@ -1,59 +1,61 @@
+-- Virtual files: their formats, their rows and their counts (RFC 5024, section 1.5).
 use Rattle.std.specs.Prelude.{◌≡◌, ◌<◌, ◌≤◌, ◌==◌, ◌++◌, ◌∷◌, [], ℕ, Bool, true, false, List, length, count_by, All, if◌then◌else◌}
 use Rattle.std.specs.List.{flat_map}
+use Rattle.oftp_vfile.specs.declared.format.TheConstants.{BLOCK, LONGEST_RECORD}
 use Rattle.oftp_vfile.specs.declared.format.Format.{Format}
 use Rattle.oftp_vfile.specs.declared.format.Format.TheVariants.{Fixed, Variable, Unstructured, Text}
 
--- Whether a file is one stream of octets, and no list of records (RFC 5024, section 1.5.3).
+-- whether a file is one stream of octets, and no list of records (RFC 5024, section 1.5.3)
 abbrev pub is_stream : Format → Bool
 is_stream Fixed = false
 is_stream Variable = false
 is_stream Unstructured = true
 is_stream Text = true
 
--- The octets of rows, one row after another.
+-- the octets of rows, one row after another
 abbrev pub octets_in : List (List ℕ) → List ℕ
 octets_in rows = flat_map (λ r. r) rows
 
--- The unit count of a file: its octets (RFC 5024, section 5.3.8).
+-- the unit count of a file: its octets (RFC 5024, section 5.3.8)
 abbrev pub units_in : List (List ℕ) → ℕ
 units_in rows = length (octets_in rows)
 
--- The record count of a file: its records in F and V, and 0 in U and T (RFC 5024, section 5.3.8).
+-- the record count of a file: its records in F and V, and 0 in U and T (RFC 5024, section 5.3.8)
 abbrev pub records_in : Format → List (List ℕ) → ℕ
 records_in format rows = if is_stream format then 0 else length rows
 
--- How many of these rows, wholly sent, count where a transfer is taken up: all records, and full blocks alone of a stream
--- (RFC 5024, section 1.5.4).
+-- how many of these rows, wholly sent, count where a transfer is taken up: all records, and full blocks alone of a stream (RFC
+-- 5024, section 1.5.4)
 abbrev pub whole_count : Format → List (List ℕ) → ℕ
-whole_count format rows = if is_stream format then count_by (λ (r : List ℕ). length r == 1024) rows else length rows
+whole_count format rows = if is_stream format then count_by (λ (r : List ℕ). length r == BLOCK) rows else length rows
 
--- The longest record that a file of this format may have, in octets: 1 to 16,384 in F and V, and 0 in U and T, which have no
--- records.
+-- the longest record that a file of this format may have, in octets: 1 to 16,384 in F and V, and 0 in U and T, which have no
+-- records
 abbrev pub IsLongest : Format → ℕ → Type 0
-IsLongest Fixed longest = (0 < longest) × (longest ≤ 16384)
-IsLongest Variable longest = (0 < longest) × (longest ≤ 16384)
+IsLongest Fixed longest = (0 < longest) × (longest ≤ LONGEST_RECORD)
+IsLongest Variable longest = (0 < longest) × (longest ≤ LONGEST_RECORD)
 IsLongest Unstructured longest = longest ≡ 0
 IsLongest Text longest = longest ≡ 0
 
--- Rows of this size each, the last of which may be shorter and isn't empty.
+-- rows of this size each, the last of which may be shorter and isn't empty
 abbrev pub AreBlocks : ℕ → List (List ℕ) → Type 0
 AreBlocks size [] = Unit {0}
 AreBlocks size (r ∷ []) = (0 < length r) × (length r ≤ size)
 AreBlocks size (r ∷ q ∷ rs) = (length r ≡ size) × AreBlocks size (q ∷ rs)
 
--- The rows of a virtual file: records of exactly the longest length in F and of at most that in V (RFC 5024, section 1.5.3), and
--- in U and T the octets in rows of 1024, the last of which may be shorter (RFC 5024, section 1.5.4).
+-- the rows of a virtual file: records of exactly the longest length in F and of at most that in V (RFC 5024, section 1.5.3),
+-- and in U and T the octets in rows of 1024, the last of which may be shorter (RFC 5024, section 1.5.4)
 abbrev pub AreRows : Format → ℕ → List (List ℕ) → Type 0
 AreRows Fixed longest rows = All (λ (r : List ℕ). length r ≡ longest) rows
 AreRows Variable longest rows = All (λ (r : List ℕ). length r ≤ longest) rows
-AreRows Unstructured longest rows = AreBlocks 1024 rows
-AreRows Text longest rows = AreBlocks 1024 rows
+AreRows Unstructured longest rows = AreBlocks BLOCK rows
+AreRows Text longest rows = AreBlocks BLOCK rows
 
--- The rows of a file that is closed: an open part that isn't empty is the last row.
+-- the rows of a file that is closed: an open part that isn't empty is the last row
 abbrev pub closed : List (List ℕ) → List ℕ → List (List ℕ)
 closed rows [] = rows
 closed rows (x ∷ xs) = rows ++ (x ∷ xs) ∷ []
 
 -- these rows begin a list
-abbrev pub Begins : List (List ℕ) → List (List ℕ) → Type 0
-Begins all first = (more : List (List ℕ)) × (all ≡ first ++ more)
+abbrev pub BeginsWith : List (List ℕ) → List (List ℕ) → Type 0
+BeginsWith all first = (more : List (List ℕ)) × (all ≡ first ++ more)

@@ -1,5 +1,6 @@
 //! Rows in, payloads out.
 ghost use Rattle.std.specs.Prelude.{◌≡◌, ◌+◌, ◌<◌, ◌≤◌, ◌++◌, ◌∷◌, [], ℕ, List, length, take, slice_index_or, true, false, All};
+ghost use Rattle.oftp_vfile.specs.declared.format.TheConstants.{MOST_ROWS};
 ghost use Rattle.oftp_vfile.specs.VirtualFile.{is_stream, whole_count};
 ghost use Rattle.oftp_vfile.specs.Fill.{needs, payloads_of};
 ghost use Rattle.oftp_vfile.specs.Filling.{Filling, AreLent, FillsNext, IfBuffer, IsFirstPayload, IsInRows, Sent, advanced, least, new_filling};
@@ -107,7 +108,7 @@ impl Filler {
     /// takes no memory.
     pub fn next_buffer(&mut self, rows: &[Row], last: bool, out: &mut [u8]) -> Filled
         requires room { 2 ≤ length out.old }
-        requires few { self.old.row + length rows.now ≤ 1000000 }
+        requires few { self.old.row + length rows.now ≤ MOST_ROWS }
         requires place { IsInRows self.old rows.now }
         requires some { is_stream self.old.format ≡ true → All (λ r. 0 < length r) rows.now }
 
@@ -140,7 +141,7 @@ impl Filler {
     /// Goes on to a place in the lent rows.
     fn advance(&mut self, rows: &[Row], place: Place)
         requires row { place.row ≤ length rows.now }
-        requires few { self.old.row + length rows.now ≤ 1000000 }
+        requires few { self.old.row + length rows.now ≤ MOST_ROWS }
         ensures { self.new ≡ advanced self.old rows.now place.row place.offset }
     {
         let (sent, _) = rows.split_at(place.row);
@@ -153,7 +154,7 @@ impl Filler {
     fn next_of_records(&mut self, rows: &[Row], last: bool, out: &mut [u8]) -> Filled
         requires records { is_stream self.old.format ≡ false }
         requires room { 2 ≤ length out.old }
-        requires few { self.old.row + length rows.now ≤ 1000000 }
+        requires few { self.old.row + length rows.now ≤ MOST_ROWS }
         requires place { IsInRows self.old rows.now }
         ensures buffer { IfBuffer result (λ n. (n ≤ length out.old)
             × PacksNext (length out.old) self.old self.new rows.now last (take n out.new)) }
@@ -174,7 +175,7 @@ impl Filler {
     fn next_of_stream(&mut self, rows: &[Row], last: bool, out: &mut [u8]) -> Filled
         requires stream { is_stream self.old.format ≡ true }
         requires room { 2 ≤ length out.old }
-        requires few { self.old.row + length rows.now ≤ 1000000 }
+        requires few { self.old.row + length rows.now ≤ MOST_ROWS }
         requires place { IsInRows self.old rows.now }
         requires some { All (λ r. 0 < length r) rows.now }
         ensures buffer { IfBuffer result (λ n. (n ≤ length out.old)

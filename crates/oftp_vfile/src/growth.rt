@@ -1,6 +1,6 @@
 //! Rows and an open tail, as they grow.
 ghost use Rattle.std.specs.Prelude.{◌≡◌, ◌+◌, ◌<◌, ◌≤◌, ◌++◌, ◌∷◌, [], ℕ, List, length, take, drop, OnOk, OnErr, vec_len, vec_capacity, false, if◌then◌else◌};
-ghost use Rattle.oftp_vfile.specs.Growth.{GoesOn, stream_rows, stream_tail};
+ghost use Rattle.oftp_vfile.specs.Growth.{HasGrown, stream_rows, stream_tail};
 
 use crate::content::Row;
 use crate::format::BLOCK;
@@ -38,7 +38,7 @@ fn grow_record(
         → vec_capacity tail.old < vec_len tail.old + length part.now
         → size ≤ vec_capacity tail.new) }
     ensures err { OnErr result
-        (GoesOn rows.old.items tail.old.items rows.new.items tail.new.items) }
+        (HasGrown rows.old.items tail.old.items rows.new.items tail.new.items) }
 {
     append(tail, part, size)?;
     if ends {
@@ -72,15 +72,15 @@ fn grow_stream(
     tail: &mut Vec<u8>,
     part: &[u8],
 ) -> Result<(), AllocError>
-    requires open { length tail.old.items < 1024 }
-    requires short { length part.now < 1024 }
-    ensures filled { OnOk result (1024 ≤ length tail.old.items + length part.now
-        → (rows.new.items ≡ rows.old.items ++ take 1024 (tail.old.items ++ part.now) ∷ [])
-        × (tail.new.items ≡ drop 1024 (tail.old.items ++ part.now))) }
-    ensures short { OnOk result (length tail.old.items + length part.now < 1024
+    requires open { length tail.old.items < BLOCK }
+    requires short { length part.now < BLOCK }
+    ensures filled { OnOk result (BLOCK ≤ length tail.old.items + length part.now
+        → (rows.new.items ≡ rows.old.items ++ take BLOCK (tail.old.items ++ part.now) ∷ [])
+        × (tail.new.items ≡ drop BLOCK (tail.old.items ++ part.now))) }
+    ensures short { OnOk result (length tail.old.items + length part.now < BLOCK
         → (rows.new.items ≡ rows.old.items) × (tail.new.items ≡ tail.old.items ++ part.now)) }
     ensures err { OnErr result
-        (GoesOn rows.old.items tail.old.items rows.new.items tail.new.items) }
+        (HasGrown rows.old.items tail.old.items rows.new.items tail.new.items) }
 {
     let room = BLOCK - tail.len();
     if part.len() < room {
@@ -97,7 +97,7 @@ fn grow_stream(
 /// Goes back to so many rows and so long a tail, where all that came since stands behind them.
 pub fn back_to(rows: &mut Vec<Row>, tail: &mut Vec<u8>, row_count: usize, tail_len: usize)
     ensures { (old : List (List ℕ)) → (front : List ℕ)
-        → GoesOn old front rows.old.items tail.old.items
+        → HasGrown old front rows.old.items tail.old.items
         → length old ≡ row_count → length front ≡ tail_len
         → (rows.new.items ≡ old) × (tail.new.items ≡ front) }
 {
@@ -145,8 +145,8 @@ pub fn add_to_stream(
     tail: &mut Vec<u8>,
     part: &[u8],
 ) -> Result<(), AllocError>
-    requires below { length tail.old.items < 1024 }
-    requires short { length part.now < 1024 }
+    requires below { length tail.old.items < BLOCK }
+    requires short { length part.now < BLOCK }
     ensures rows { OnOk result
         (rows.new.items ≡ stream_rows rows.old.items (tail.old.items ++ part.now)) }
     ensures tail { OnOk result (tail.new.items ≡ stream_tail (tail.old.items ++ part.now)) }

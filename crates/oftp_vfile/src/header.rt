@@ -1,6 +1,6 @@
 //! The header octet of a subrecord (RFC 5024, section 7.2).
 ghost use Rattle.std.specs.Prelude.{◌≡◌, ◌<◌};
-ghost use Rattle.oftp_vfile.specs.Subrecord.{count_in, has_compression, has_end, header_of};
+ghost use Rattle.oftp_vfile.specs.Subrecord.{count_in, has_compression, has_end, header_octet};
 
 /// The flag of the end of a record, or of a stream.
 const END: u8 = 0x80;
@@ -15,9 +15,9 @@ const COUNT: u8 = 0x3f;
 pub const MOST_COUNT: usize = 63;
 
 /// The header of a subrecord that isn't compressed.
-pub fn header_of(ends: bool, count: usize) -> u8
+pub fn header_octet(ends: bool, count: usize) -> u8
     requires { count < 64 }
-    ensures { result ≡ header_of ends count }
+    ensures { result ≡ header_octet ends count }
 {
     if ends { END + count as u8 } else { count as u8 }
 }

@@ -7,7 +7,7 @@ ghost use Rattle.oftp_vfile.specs.VirtualFile.{octets_in};
 ghost use Rattle.oftp_vfile.specs.Packing.{HasPacked, rest_at, HasStreamed, HasEnded};
 
 use crate::content::Row;
-use crate::header::{MOST_COUNT, header_of};
+use crate::header::{MOST_COUNT, header_octet};
 
 /// Writes a subrecord.
 fn put(out: &mut [u8], at: usize, ends: bool, part: &[u8])
@@ -17,7 +17,7 @@ fn put(out: &mut [u8], at: usize, ends: bool, part: &[u8])
         ≡ take at out.old ++ spelled (record { ends = ends; octets = part.now }) }
 {
     let count = part.len();
-    out[at] = header_of(ends, count);
+    out[at] = header_octet(ends, count);
     out[at + 1..at + 1 + count].copy_from_slice(part);
 }
 
@@ -153,7 +153,7 @@ fn put_from(rows: &[Row], from: Place, last: bool, out: &mut [u8], at: usize) ->
         return None;
     }
     let ends = last && next.row == rows.len();
-    out[at] = header_of(ends, count);
+    out[at] = header_octet(ends, count);
     Some(Written { count, ends, next })
 }
 

@@ -4,7 +4,7 @@ ghost use Rattle.oftp_vfile.specs.Subrecord.{Subrecord};
 ghost use Rattle.oftp_vfile.specs.Carries.{is_open};
 ghost use Rattle.oftp_vfile.specs.VirtualFile.{closed};
 ghost use Rattle.oftp_vfile.specs.Reading.{taken};
-ghost use Rattle.oftp_vfile.specs.Taking.{Taking, CarriesWithin, FirstFault, IsSameFile, Took, Walked, added, counts_of, fault_at, fault_of, is_ended, is_too_big, is_wrong_size, new_taking};
+ghost use Rattle.oftp_vfile.specs.Taking.{Taking, CarriesWithin, FirstFault, IsSameFile, Took, Walked, added, counts_of, fault_at, fault_in, is_ended, is_too_big, is_wrong_size, new_taking};
 
 use crate::content::{Row, Rows};
 use crate::format::{BLOCK, Format, Limits, MOST_ROWS, Stage, TakeFault};
@@ -40,6 +40,7 @@ pub struct Taker {
 
 impl Model for Taker {
     ghost use Rattle.std.specs.Prelude.{◌≡◌, ◌+◌, ◌<◌, ◌≤◌, ◌^◌, true, length};
+    ghost use Rattle.oftp_vfile.specs.declared.format.TheConstants.{BLOCK, MOST_ROWS};
     ghost use Rattle.oftp_vfile.specs.Taking.{Taking};
     ghost use Rattle.oftp_vfile.specs.VirtualFile.{is_stream};
 
@@ -58,9 +59,9 @@ impl Model for Taker {
       stage = t.stage;
     } };
 
-    ghost invariant = { λ t. (is_stream t.format ≡ true → length t.tail.items < 1024)
+    ghost invariant = { λ t. (is_stream t.format ≡ true → length t.tail.items < BLOCK)
         × (t.kept_units + t.limit < 2 ^ 63) × (t.units ≤ t.limit)
-        × (t.kept_rows + t.away + length t.rows.items ≤ 1000000) };
+        × (t.kept_rows + t.away + length t.rows.items ≤ MOST_ROWS) };
 }
 
 fn is_ended(stage: Stage) -> bool
@@ -94,7 +95,7 @@ impl Taker {
         kept_units: u64,
         limits: Limits,
     ) -> Taker
-        requires rows { kept_rows ≤ 1000000 }
+        requires rows { kept_rows ≤ MOST_ROWS }
         requires fits { kept_units + limits.octets < 2 ^ 63 }
         ensures value { result ≡ new_taking format longest kept_rows kept_units limits.octets }
         ensures took { Took result [] [] }
@@ -222,7 +223,7 @@ impl Taker {
     fn walk(&mut self, payload: &[u8]) -> Result<(), TakeFault>
         ensures ok { OnOk result (Walked self.old self.new payload.now []) }
         ensures err { IfErr result (λ f. (rest : List ℕ) × Walked self.old self.new payload.now rest
-            × ((f ≡ TakeFault.Memory) ⊎ (fault_of self.new rest ≡ Some f))) }
+            × ((f ≡ TakeFault.Memory) ⊎ (fault_in self.new rest ≡ Some f))) }
     {
         let mut rest = payload;
         while let [header, after @ ..] = rest {

@@ -19,7 +19,8 @@ returns c = λ old front g n m.
           let t = w.tail-is in
           let last = c.truncate-2.ensures.items in (
             ap (λ v. v.items) r ∙ cut ∙ ap (take c.args.row_count) gone ∙ ap (λ n. take n (remove c.args.rows.now.items n)) (sym n) ∙ kept ∙ f.0,
-            last ∙ ap (λ n. take n c.if-row_count-len.tail.items) (sym m) ∙ ap (λ v. take (length front) v.items) t ∙ ap (take (length front)) (octets ∙ first ∙ ap (λ n. get_or c.args.rows.now.items n w.remove.result) (sym n)) ∙ f.1 w.remove.result,
+            last ∙ ap (λ n. take n c.if-row_count-len.tail.items) (sym m) ∙ ap (λ v. take (length front) v.items) t
+                ∙ ap (take (length front)) (octets ∙ first ∙ ap (λ n. get_or c.args.rows.now.items n w.remove.result) (sym n)) ∙ f.1 w.remove.result,
           )
       | else-row_count-len w ↦
           let f = rows_before old front _ _ g (omega arith) in

@@ -6,7 +6,8 @@ use Rattle.oftp_vfile.proofs.LocalLemmas.{goes_on, goes_wrong, some_left, read_m
 use Rattle.oftp_vfile.proofs.local.read_records.Goals as goal
 
 pub returns-in_default-clause-err : goal.returns-in_default-clause-err
-returns-in_default-clause-err c = λ _ rows i. goes_wrong c.args.longest c.args.content.now c.loop-rest.rest.now c.loop-rest.invariant.goes (some_left _ _ c.is_empty.ensures c.loop-rest-test.true) c.in_default.ensures.none rows i
+returns-in_default-clause-err c =
+    λ _ rows i. goes_wrong c.args.longest c.args.content.now c.loop-rest.rest.now c.loop-rest.invariant.goes (some_left _ _ c.is_empty.ensures c.loop-rest-test.true) c.in_default.ensures.none rows i
 
 pub loop-rest-preserved : goal.loop-rest-preserved
 loop-rest-preserved c =

@@ -12,8 +12,19 @@ loop-row-preserved-then-offset-octets c =
     let n = c.min-count.result in
     let row : octets ≡ get_or c.args.rows.now l.row octets = get_or_same c.args.rows.now l.row _ octets (omega arith) c.index-rows-row.is c.octets-octets.ensures in
     let part : c.copy_from_slice.new.self ≡ take n (drop l.offset octets) = c.copy_from_slice.ensures.after ∙ ap (λ m. take m (drop l.offset octets)) (omega arith) in
-    let s = gather_step c.args.rows.now l.row l.offset l.at n (l.at + n - l.at) l.out (drop c.args.from.offset (octets_in (drop c.args.from.row c.args.rows.now))) _ octets (omega arith) row (omega arith) i.room i.octets i.rest part in
-    record { octets = s.0; rest = sym (ap (λ (x : List ℕ). x ++ octets_in (drop (l.row + 1) c.args.rows.now)) (drop_all (l.offset + n) octets (omega arith))) ∙ s.1; within = s.3 i.within; room = search rules; row = omega arith; offset = λ h. omega arith }
+    let start = c.args.from in
+    let all = drop start.offset (octets_in (drop start.row c.args.rows.now)) in
+    let k = l.at + n - l.at in
+    let s = gather_step c.args.rows.now l.row l.offset l.at n k l.out all _ octets (omega arith) row (omega arith) i.room i.octets i.rest part in
+    record {
+      octets = s.0;
+      rest = sym (ap (λ (x : List ℕ). x ++ octets_in (drop (l.row + 1) c.args.rows.now)) (drop_all (l.offset + n) octets (omega arith))) ∙ s.1;
+      within =
+          s.3 i.within;
+      room = search rules;
+      row = omega arith;
+      offset = λ h. omega arith;
+    }
 
 pub loop-row-preserved : goal.loop-row-preserved
 loop-row-preserved c =
@@ -29,5 +40,8 @@ loop-row-preserved c =
     let within : l.offset + n ≤ length octets = omega arith in
     let ne : l.offset + n ≡ length octets → ⊥ = c.if-offset-octets.false in
     let part : c.copy_from_slice.new.self ≡ take n (drop l.offset octets) = c.copy_from_slice.ensures.after ∙ ap (λ m. take m (drop l.offset octets)) (omega arith) in
-    let s = gather_step c.args.rows.now l.row l.offset l.at n (l.at + n - l.at) l.out (drop c.args.from.offset (octets_in (drop c.args.from.row c.args.rows.now))) _ octets (omega arith) row (omega arith) i.room i.octets i.rest part in
+    let start = c.args.from in
+    let all = drop start.offset (octets_in (drop start.row c.args.rows.now)) in
+    let k = l.at + n - l.at in
+    let s = gather_step c.args.rows.now l.row l.offset l.at n k l.out all _ octets (omega arith) row (omega arith) i.room i.octets i.rest part in
     record { octets = s.0; rest = s.2; within = s.3 i.within; room = search rules; row = omega arith; offset = λ h. subst (λ (x : List ℕ). l.offset + n < length x) same (omega (arith, within, ne)) }

@@ -48,9 +48,14 @@ returns-then-at-eq0-clause-fills c =
     let written : length octets ≡ 0 = length-take-le at c.pack_records-at.new.out (omega arith) ∙ zero in
     let none = records_done size f.offset free rows _ _ p written (omega arith) c.requires.room full in
     let last : c.args.last ≡ true = elim c.else-place-rows.branch [
-      | else-place-rows-via-then-place-rows+then-not-last+else-out-at w ↦ absurd (omega (arith, w.least_need.ensures, w.if-out-at.false, long, needs_most (least c.self.inside.format), c.requires.room, zero))
+      | else-place-rows-via-then-place-rows+then-not-last+else-out-at w ↦
+          absurd (omega (arith, w.least_need.ensures, w.if-out-at.false, long, needs_most (least c.self.inside.format), c.requires.room, zero))
       | else-place-rows-via-then-place-rows+else-not-last w ↦ w.if-not-last.false
-      | else-place-rows-via-else-place-rows w ↦ absurd (row_left rows place.row place.offset c.pack_records-at.ensures.row w.if-place-rows.false (full_none free _ (omega (arith, c.requires.room, zero)) full))
+      | else-place-rows-via-else-place-rows w ↦ absurd (row_left rows place.row place.offset c.pack_records-at.ensures.row w.if-place-rows.false (full_none free _ (omega (
+        arith,
+        c.requires.room,
+        zero,
+      )) full))
     ] in
     record {
       none = nothing_records f rows c.args.last c.requires.records none last;
@@ -74,16 +79,20 @@ returns c =
     let written : length octets ≡ at = length-take-le at c.pack_records-at.new.out (omega arith) in
     let some : 0 < length octets = omega (arith, written, c.if-at-eq0.false) in
     let ends : from_offset place.offset (drop place.row rows) ≡ [] → c.args.last ≡ false → free < needs (least f.format) = λ e t. elim c.else-place-rows.branch [
-      | else-place-rows-via-then-place-rows+then-not-last+else-out-at w ↦ subst (λ (x : Format). free < needs (least x)) (ap (λ x. x.format) was) (omega (arith, w.least_need.ensures, w.if-out-at.false, long))
+      | else-place-rows-via-then-place-rows+then-not-last+else-out-at w ↦
+          subst (λ (x : Format). free < needs (least x)) (ap (λ x. x.format) was) (omega (arith, w.least_need.ensures, w.if-out-at.false, long))
       | else-place-rows-via-then-place-rows+else-not-last w ↦ absurd (true≢false (sym w.if-not-last.false ∙ t))
       | else-place-rows-via-else-place-rows w ↦ absurd (row_left rows place.row place.offset c.pack_records-at.ensures.row w.if-place-rows.false e)
     ] in
     let new : Filling = advanced f rows place.row place.offset in
-    let next : PacksNext size f new rows c.args.last octets = records_next size f rows place.row place.offset free octets c.args.last c.requires.records c.requires.place c.pack_records-at.ensures.offset p full ends some in
+    let next : PacksNext size f new rows c.args.last octets =
+    records_next size f rows place.row place.offset free octets c.args.last c.requires.records c.requires.place c.pack_records-at.ensures.offset p full ends some in
+    let to = c.pack_records-at.ensures in
+    let moves = moves_to f rows place.row place.offset c.args.last to.row to.offset (λ stream. absurd (true≢false (sym stream ∙ c.requires.records))) in
     record {
       buffer = (c.pack_records-at.ensures.room, subst (λ (x : Filling). PacksNext size f x rows c.args.last octets) (sym c.advance.ensures) next);
       fills = record {
-        moves = subst (λ (x : Filling). Moves f x rows c.args.last) (sym c.advance.ensures) (moves_to f rows place.row place.offset c.args.last c.pack_records-at.ensures.row c.pack_records-at.ensures.offset (λ stream. absurd (true≢false (sym stream ∙ c.requires.records))));
+        moves = subst (λ (x : Filling). Moves f x rows c.args.last) (sym c.advance.ensures) moves;
         some = false_from_ne_true (nothing_left f rows c.args.last) (records_some size f new rows octets c.args.last c.requires.records next);
         full = next_enough size f new rows c.args.last octets next (records_left new (drop (new.row - f.row) rows) (least f.format) c.requires.records);
       };

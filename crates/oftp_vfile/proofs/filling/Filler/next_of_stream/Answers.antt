@@ -44,11 +44,14 @@ returns-in-Full c =
     let written : length octets ≡ at = length-take-le at c.pack_stream-at.new.out (omega arith) in
     let some : 0 < length octets = omega (arith, written, told.0, c.requires.room) in
     let new : Filling = advanced f rows place.row place.offset in
-    let next : PacksNext size f new rows c.args.last octets = stream_next size f rows place.row place.offset free octets c.args.last c.requires.stream going c.requires.place c.pack_stream-at.ensures.offset p told.0 told.1 some in
+    let next : PacksNext size f new rows c.args.last octets =
+    stream_next size f rows place.row place.offset free octets c.args.last c.requires.stream going c.requires.place c.pack_stream-at.ensures.offset p told.0 told.1 some in
+    let to = c.pack_stream-at.ensures in
+    let moves = moves_to f rows place.row place.offset c.args.last to.row to.offset (λ _. going) in
     record {
       buffer = (c.pack_stream-at.ensures.room, subst (λ (x : Filling). PacksNext size f x rows c.args.last octets) (sym c.advance.ensures) next);
       fills = record {
-        moves = subst (λ (x : Filling). Moves f x rows c.args.last) (sym c.advance.ensures) (moves_to f rows place.row place.offset c.args.last c.pack_stream-at.ensures.row c.pack_stream-at.ensures.offset (λ _. going));
+        moves = subst (λ (x : Filling). Moves f x rows c.args.last) (sym c.advance.ensures) moves;
         some = going_some f rows c.args.last c.requires.stream going;
         full = next_enough size f new rows c.args.last octets next (stream_left new (drop (new.row - f.row) rows ++ least f.format ∷ []) c.requires.stream going);
       };

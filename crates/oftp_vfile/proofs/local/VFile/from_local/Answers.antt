@@ -6,7 +6,7 @@ use Rattle.oftp_vfile.proofs.LocalLemmas.{blocks_local, fixed_local, fixed_no, o
 use Rattle.oftp_vfile.proofs.local.VFile.from_local.Goals as goal
 use Rattle.oftp_vfile.proofs.local.VFile.from_local.Goals.{in-Fixed+in_ok-rows-in-Fixed, in-Variable+in_ok-rows-in-Variable, in-Unstructured+in_ok-rows-in-Unstructured}
 
--- The rows that were read are the content's.
+-- the rows that were read are the content's
 is_file : (c : goal.After-new) → IsLocal c.args.format c.args.longest c.args.content.now c.new.result
 is_file c =
     let longest = c.args.longest in
@@ -17,7 +17,9 @@ is_file c =
           let h = subst (λ (x : Format). IsLongest x longest) w.in-Fixed.is c.requires in
           let even = fixed_no longest content there.0 (subst (λ (x : Format). IsLocal x longest content there.0) w.in-Fixed.is there.1) in
           let read = w.in_ok-rows-in-Fixed.ensures in
-          rw w.rows-is (subst (λ (x : Format). IsLocal x longest content w.in_ok-rows-in-Fixed.rows.items) (sym w.in-Fixed.is) (fixed_local longest content w.in_ok-rows-in-Fixed.rows.items h.0 even read.0 read.1))
+          let rows = w.in_ok-rows-in-Fixed.rows.items in
+          let fixed = fixed_local longest content rows h.0 even read.0 read.1 in
+          rw w.rows-is (subst (λ (x : Format). IsLocal x longest content rows) (sym w.in-Fixed.is) fixed)
       | in-Variable+in_ok-rows-in-Variable w ↦
           rw w.rows-is (subst (λ (x : Format). IsLocal x longest content w.in_ok-rows-in-Variable.rows.items) (sym w.in-Variable.is) w.in_ok-rows-in-Variable.ensures.ok)
       | in-Unstructured+in_ok-rows-in-Unstructured w ↦

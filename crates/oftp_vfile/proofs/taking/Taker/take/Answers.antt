@@ -8,7 +8,13 @@ use Rattle.oftp_vfile.proofs.taking.Taker.take.Goals as goal
 pub invariant_of-self : goal.invariant_of-self
 invariant_of-self c =
     let e = c.in-Err.ensures.err in
-    let b = put_back _ c.args.self.now _ c.walk.new.self c.args.payload.now e.0 c.back_to.new.rows.items c.back_to.new.tail.items c.len-row_count.result c.len-tail_len.result c.self.view_is c.self-2.view_is e.1 c.self.invariant.0 c.back_to.ensures (omega arith) (omega arith) in
+    let was = c.args.self.now in
+    let mid = c.walk.new.self in
+    let now = c.back_to.new in
+    let rows = c.len-row_count.result in
+    let tail = c.len-tail_len.result in
+    let back = put_back _ was _ mid c.args.payload.now e.0 now.rows.items now.tail.items rows tail c.self.view_is c.self-2.view_is e.1 in
+    let b = back c.self.invariant.0 c.back_to.ensures (omega arith) (omega arith) in
     let i = c.self.invariant in (
       λ e. subst (λ (x : List ℕ). length x < 1024) (sym b.2) (i.0 (ap is_stream (sym b.7) ∙ e)),
       omega (arith, b.3, b.5, i.1),
@@ -19,7 +25,13 @@ invariant_of-self c =
 pub returns-in-Err-clause-err : goal.returns-in-Err-clause-err
 returns-in-Err-clause-err c =
     let e = c.in-Err.ensures.err in
-    let b = put_back _ c.args.self.now _ c.walk.new.self c.args.payload.now e.0 c.back_to.new.rows.items c.back_to.new.tail.items c.len-row_count.result c.len-tail_len.result c.self.view_is c.self-2.view_is e.1 c.self.invariant.0 c.back_to.ensures (omega arith) (omega arith) in
+    let was = c.args.self.now in
+    let mid = c.walk.new.self in
+    let now = c.back_to.new in
+    let rows = c.len-row_count.result in
+    let tail = c.len-tail_len.result in
+    let back = put_back _ was _ mid c.args.payload.now e.0 now.rows.items now.tail.items rows tail c.self.view_is c.self-2.view_is e.1 in
+    let b = back c.self.invariant.0 c.back_to.ensures (omega arith) (omega arith) in
     b.0
 
 pub returns-in-Ok-clause-took : goal.returns-in-Ok-clause-took

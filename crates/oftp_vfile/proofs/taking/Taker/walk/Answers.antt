@@ -20,6 +20,7 @@ loop-rest-preserved c =
     let w = subst (λ (x : List ℕ). Walked old mid payload x) split c.loop-rest.invariant in
     let front : c.split_at.result.0.now ≡ take (count_in h) after = c.split_at.ensures.front ∙ ap (λ n. take n after) c.count_in.ensures in
     let back : c.split_at.result.1.now ≡ drop (count_in h) after = c.split_at.ensures.back ∙ ap (λ n. drop n after) c.count_in.ensures in
-    let grown = c.in_ok-add.ensures.ok ∙ ap (λ (b : Bool). added mid (record { ends = b; octets = c.split_at.result.0.now })) c.has_end.ensures ∙ ap (λ (x : List ℕ). added mid (record { ends = has_end h; octets = x })) front in
+    let grown = c.in_ok-add.ensures.ok ∙ ap (λ (b : Bool). added mid (record { ends = b; octets = c.split_at.result.0.now })) c.has_end.ensures
+    ∙ ap (λ (x : List ℕ). added mid (record { ends = has_end h; octets = x })) front in
     let done = walked_more old mid new payload after h w (sym c.in_default-fault_at.ensures) (omega arith) grown in
     subst (λ (x : List ℕ). Walked old new payload x) (sym back) done
