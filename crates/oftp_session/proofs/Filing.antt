@@ -13,10 +13,12 @@ accepted : (b : Bool) (after : Register) (cause : Cause) → b ≡ false → is_
 accepted true after cause h = absurd (let no : ⊥ = cc in no)
 accepted false after cause h = refl
 
-pub files_new : (r : Register) (kind : ResponseKind) (identity : Identity) (reason : ℕ) (creator text : List ℕ) → has_received r kind identity ≡ false → IsAccepted r (File kind identity reason creator text)
+pub files_new : (r : Register) (kind : ResponseKind) (identity : Identity) (reason : ℕ) (creator text : List ℕ)
+    → has_received r kind identity ≡ false → IsAccepted r (File kind identity reason creator text)
 unfolding apply
 files_new r kind identity reason creator text new = accepted (has_received r kind identity) _ _ new
 
-pub files_fit : (r : Register) (kind : ResponseKind) (identity : Identity) (reason : ℕ) (creator text : List ℕ) → IsResponse kind reason creator text → IsFit r (File kind identity reason creator text)
+pub files_fit : (r : Register) (kind : ResponseKind) (identity : Identity) (reason : ℕ) (creator text : List ℕ)
+    → IsResponse kind reason creator text → IsFit r (File kind identity reason creator text)
 unfolding IsFit
 files_fit r kind identity reason creator text fit = fit

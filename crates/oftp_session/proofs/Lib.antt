@@ -1,4 +1,4 @@
 pub mod Framing
 pub mod Filing
 pub mod Phases
-pub mod Allowed
+pub mod Proceeding

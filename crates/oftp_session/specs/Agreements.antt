@@ -5,9 +5,9 @@ use Rattle.oftp_session.specs.declared.opening.Agreement.{Agreement as Lent}
 use Rattle.oftp_session.specs.Opening.{Agreement}
 
 -- an agreement, without where its partner lies in memory
-abbrev pub shown : Result Lent SessionReason → Result Agreement SessionReason
-shown (Ok a) = Ok (record { partner = a.partner.now; link = a.link })
-shown (Err reason) = Err reason
-
 abbrev pub terms : Lent → Agreement
 terms a = record { partner = a.partner.now; link = a.link }
+
+abbrev pub shown : Result Lent SessionReason → Result Agreement SessionReason
+shown (Ok a) = Ok (terms a)
+shown (Err reason) = Err reason

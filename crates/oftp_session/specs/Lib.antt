@@ -4,6 +4,7 @@ pub mod Opening
 pub mod Listener
 pub mod Speaker
 pub mod Steps
+pub mod Standings
 pub mod Calls
 pub mod Agreements
 pub mod Responses

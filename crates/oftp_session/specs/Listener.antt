@@ -5,17 +5,16 @@ use Rattle.oftp_wire.specs.declared.command.Eerp.{Eerp}
 use Rattle.oftp_wire.specs.declared.command.Nerp.{Nerp}
 use Rattle.oftp_wire.specs.declared.command.Command.{Command}
 use Rattle.oftp_wire.specs.declared.command.Command.TheVariants as command
-use Rattle.oftp_wire.specs.declared.reason.SessionReason.TheVariants.{ProtocolViolation, InvalidData}
-use Rattle.oftp_partners.specs.declared.partner.Partner.{Partner}
+use Rattle.oftp_wire.specs.declared.reason.SessionReason.TheVariants.{InvalidData}
 use Rattle.oftp_register.specs.declared.change.Change.{Change}
 use Rattle.oftp_register.specs.declared.change.Change.TheVariants.{File}
 use Rattle.oftp_register.specs.declared.entry.Identity.{Identity}
 use Rattle.oftp_register.specs.declared.entry.ResponseKind.TheVariants.{EndResponse, NegativeEndResponse}
 use Rattle.oftp_register.specs.Register.{Register, Received, has_received}
-use Rattle.oftp_session.specs.declared.link.Link.{Link}
 use Rattle.oftp_session.specs.declared.link.WhenDone.TheVariants.{EndSession}
+use Rattle.oftp_session.specs.declared.state.Contact.{Contact}
 use Rattle.oftp_session.specs.Settings.{Setting}
-use Rattle.oftp_session.specs.Phases.{ListenerIdle, SpeakerIdle, Step, quiet, answers, fails, leaves}
+use Rattle.oftp_session.specs.Phases.{ListenerIdle, SpeakerIdle, Step, quiet, answers, fails, unexpected}
 
 -- an end response as it is filed. It answers a file that went from the response's destination to its originator
 abbrev pub end_response : Eerp → Received
@@ -42,22 +41,21 @@ abbrev pub file_of : Received → Change
 file_of r = File r.kind r.identity r.reason r.creator r.text
 
 -- the answered file went from the station to the partner
-abbrev pub is_between : Setting → Partner → Identity → Bool
-is_between setting partner file = bytes_eq file.originator setting.book.station.code && bytes_eq file.destination partner.code
+abbrev pub is_between : Setting → Contact → Identity → Bool
+is_between setting contact file = bytes_eq file.originator setting.book.station.code && bytes_eq file.destination contact.code
 
 -- a response is filed where it is new
 abbrev pub filing : Register → Received → Option Change
 filing r response = if has_received r response.kind response.identity then None else Some (file_of response)
 
 -- a response is filed, if it is new, and answered
-unfoldable pub response_step : Setting → Partner → Link → Register → Received → Step
-response_step setting partner link r response = if is_between setting partner response.identity
-    then answers (ListenerIdle partner link) (filing r response) command.Rtr
+unfoldable pub response_step : Setting → Contact → Register → Received → Step
+response_step setting contact r response = if is_between setting contact response.identity
+    then answers (ListenerIdle contact) (filing r response) command.Rtr
     else fails InvalidData
 
-unfoldable pub came_listener_idle : Setting → Partner → Link → Register → Command → Step
-came_listener_idle setting partner link r (command.Eerp eerp) = response_step setting partner link r (end_response eerp)
-came_listener_idle setting partner link r (command.Nerp nerp) = response_step setting partner link r (negative_end_response nerp)
-came_listener_idle setting partner link r command.Cd = quiet (SpeakerIdle partner link EndSession)
-came_listener_idle setting partner link r (command.Esid esid) = leaves esid.reason
-came_listener_idle setting partner link r _ = fails ProtocolViolation
+unfoldable pub came_listener_idle : Setting → Contact → Register → Command → Step
+came_listener_idle setting contact r (command.Eerp eerp) = response_step setting contact r (end_response eerp)
+came_listener_idle setting contact r (command.Nerp nerp) = response_step setting contact r (negative_end_response nerp)
+came_listener_idle setting contact r command.Cd = quiet (SpeakerIdle contact EndSession)
+came_listener_idle setting contact r other = unexpected other

@@ -12,8 +12,9 @@ use Rattle.oftp_partners.specs.Book.{BookData, partner_at}
 use Rattle.oftp_partners.specs.declared.partner.Partner.{Partner}
 use Rattle.oftp_session.specs.declared.link.Link.{Link}
 use Rattle.oftp_session.specs.declared.link.WhenDone.TheVariants.{ChangeDirection}
+use Rattle.oftp_session.specs.declared.state.Contact.{Contact}
 use Rattle.oftp_session.specs.Settings.{Setting}
-use Rattle.oftp_session.specs.Phases.{AwaitingSsid, ListenerIdle, SpeakerIdle, Step, quiet, says, fails, leaves}
+use Rattle.oftp_session.specs.Phases.{AwaitingSsid, ListenerIdle, SpeakerIdle, Step, quiet, says, fails, unexpected}
 
 -- whether a station in one mode sends what the other receives
 abbrev pub flows : Mode → Mode → Bool
@@ -53,13 +54,13 @@ called_as code partners (Some partner) = if bytes_eq code partner.code then Some
 abbrev pub partner_for : Setting → List ℕ → Option Partner
 partner_for setting code = called_as code setting.book.partners setting.called
 
+abbrev pub is_initiator : Setting → Bool
+is_initiator setting = is_some setting.called
+
 -- the partner of a session and what is agreed with it
 pub record Agreement : Type 0 where
   pub partner : Partner
   pub link : Link
-
-abbrev pub is_initiator : Setting → Bool
-is_initiator setting = is_some setting.called
 
 -- what is agreed once the code is looked up: the tests after the code, in their order
 abbrev pub agreement : Setting → Ssid → Option Partner → Result Agreement SessionReason
@@ -110,28 +111,30 @@ abbrev pub calling_ssid : BookData → Partner → Ssid
 calling_ssid book partner =
     ssid_with book partner book.station.buffer book.station.credit book.station.restart partner.mode
 
+-- an open session, in which nothing was tried yet
+abbrev pub contact_of : Agreement → Contact
+contact_of a = record { code = a.partner.code; link = a.link; tried = record { response = 0; file = 0 } }
+
 -- a responder answers and listens; an initiator speaks
 abbrev pub open_step : Setting → Mode → Agreement → Option Partner → Step
-open_step setting letter a None = says (ListenerIdle a.partner a.link) (command.Ssid (answering_ssid setting.book letter a))
-open_step setting letter a (Some partner) = quiet (SpeakerIdle a.partner a.link ChangeDirection)
+open_step setting letter a None = says (ListenerIdle (contact_of a)) (command.Ssid (answering_ssid setting.book letter a))
+open_step setting letter a (Some partner) = quiet (SpeakerIdle (contact_of a) ChangeDirection)
 
 abbrev pub opened_step : Setting → Mode → Result Agreement SessionReason → Step
 opened_step setting letter (Ok a) = open_step setting letter a setting.called
 opened_step setting letter (Err reason) = fails reason
 
--- what comes before the own ready message went out
-unfoldable pub came_responder_opening : Command → Step
-came_responder_opening (command.Esid esid) = leaves esid.reason
-came_responder_opening _ = fails ProtocolViolation
+-- an initiator offers the session to the partner that it calls
+abbrev pub offer_step : Setting → Option Partner → Step
+offer_step setting (Some partner) = says AwaitingSsid (command.Ssid (calling_ssid setting.book partner))
+offer_step setting None = fails ProtocolViolation
 
 -- what comes where the called partner's ready message is awaited
-unfoldable pub came_initiator_opening : Setting → Partner → Command → Step
-came_initiator_opening setting partner command.Ssrm = says AwaitingSsid (command.Ssid (calling_ssid setting.book partner))
-came_initiator_opening setting partner (command.Esid esid) = leaves esid.reason
-came_initiator_opening setting partner _ = fails ProtocolViolation
+unfoldable pub came_initiator_opening : Setting → Command → Step
+came_initiator_opening setting command.Ssrm = offer_step setting setting.called
+came_initiator_opening setting other = unexpected other
 
 -- what comes where the partner's SSID is awaited
 unfoldable pub came_awaiting_ssid : Setting → Command → Step
 came_awaiting_ssid setting (command.Ssid ssid) = opened_step setting ssid.mode (ssid_verdict setting ssid)
-came_awaiting_ssid setting (command.Esid esid) = leaves esid.reason
-came_awaiting_ssid setting _ = fails ProtocolViolation
+came_awaiting_ssid setting other = unexpected other

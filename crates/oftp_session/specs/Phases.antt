@@ -1,34 +1,49 @@
 -- Where a session stands, and what one step of it does.
-use Rattle.std.specs.Prelude.{ℕ, List, [], Option, None, Some}
+use Rattle.std.specs.Prelude.{ℕ, List, [], Bool, Option, None, Some, is_some}
 use Rattle.std.specs.Result.{result_unwrap_or}
 use Rattle.oftp_wire.specs.Header.{frame}
 use Rattle.oftp_wire.specs.Spelling.{Canon}
 use Rattle.oftp_wire.specs.Reasons.{session_number}
 use Rattle.oftp_wire.specs.declared.command.Command.{Command}
-use Rattle.oftp_wire.specs.declared.command.Command.TheVariants.{Esid}
+use Rattle.oftp_wire.specs.declared.command.Command.TheVariants as command
 use Rattle.oftp_wire.specs.declared.reason.SessionReason.{SessionReason}
+use Rattle.oftp_wire.specs.declared.reason.SessionReason.TheVariants.{ProtocolViolation}
 use Rattle.oftp_register.specs.declared.change.Change.{Change}
 use Rattle.oftp_register.specs.Register.{Register}
 use Rattle.oftp_register.specs.Changes.{apply}
-use Rattle.oftp_session.specs.declared.link.Link.{Link}
 use Rattle.oftp_session.specs.declared.link.WhenDone.{WhenDone}
-use Rattle.oftp_partners.specs.declared.partner.Partner.{Partner}
+use Rattle.oftp_session.specs.declared.state.Contact.{Contact}
+use Rattle.oftp_session.specs.declared.session.Ending.{Ending}
+use Rattle.oftp_session.specs.declared.session.Ending.TheVariants as ended
 
 -- where a session stands (RFC 5024, section 9)
 pub data Phase : Type 0 where
   ResponderOpening : Phase
-  InitiatorOpening : (partner : Partner) → Phase
+  InitiatorOpening : Phase
   AwaitingSsid : Phase
-  ListenerIdle : (partner : Partner) (link : Link) → Phase
-  SpeakerIdle : (partner : Partner) (link : Link) (done : WhenDone) → Phase
+  ListenerIdle : (contact : Contact) → Phase
+  SpeakerIdle : (contact : Contact) (done : WhenDone) → Phase
   EndedHere : (reason : SessionReason) → Phase
   EndedThere : (reason : ℕ) → Phase
 
--- what one step does: the phase after it, its change if it makes one, and the frame that it sends, [] for none
+-- how a session ended, if it did
+abbrev pub ending_of : Phase → Option Ending
+ending_of ResponderOpening = None
+ending_of InitiatorOpening = None
+ending_of AwaitingSsid = None
+ending_of (ListenerIdle contact) = None
+ending_of (SpeakerIdle contact done) = None
+ending_of (EndedHere reason) = Some (ended.Own reason)
+ending_of (EndedThere reason) = Some (ended.Partner reason)
+
+abbrev pub is_over : Phase → Bool
+is_over p = is_some (ending_of p)
+
+-- what one step does: the phase after it, its change if it makes one, and the command that it sends, if it sends one
 pub record Step : Type 0 where
   pub phase : Phase
   pub change : Option Change
-  pub output : List ℕ
+  pub output : Option Command
 
 -- the register after a step's change; a change that is refused leaves it as it was
 abbrev pub register_after : Register → Option Change → Register
@@ -39,13 +54,18 @@ register_after r (Some change) = result_unwrap_or (apply r change) r
 unfoldable pub frame_of : Command → List ℕ
 frame_of command = frame (Canon command)
 
+-- the frame of a step's output, [] for none
+abbrev pub framed : Option Command → List ℕ
+framed None = []
+framed (Some command) = frame_of command
+
 -- nothing is sent and nothing is changed
 abbrev pub quiet : Phase → Step
-quiet phase = record { phase = phase; change = None; output = [] }
+quiet phase = record { phase = phase; change = None; output = None }
 
 -- a change, if it is due, and then an answer
 abbrev pub answers : Phase → Option Change → Command → Step
-answers phase change command = record { phase = phase; change = change; output = frame_of command }
+answers phase change command = record { phase = phase; change = change; output = Some command }
 
 -- a command is sent, and nothing is changed
 abbrev pub says : Phase → Command → Step
@@ -53,7 +73,7 @@ says phase command = answers phase None command
 
 -- the end of a session, with no text (RFC 5024, section 5.3.11)
 abbrev pub esid_of : SessionReason → Command
-esid_of reason = Esid (record { reason = session_number reason; text = [] })
+esid_of reason = command.Esid (record { reason = session_number reason; text = [] })
 
 -- the session ends itself, for this reason
 abbrev pub fails : SessionReason → Step
@@ -62,3 +82,8 @@ fails reason = says (EndedHere reason) (esid_of reason)
 -- the partner ends it
 abbrev pub leaves : ℕ → Step
 leaves reason = quiet (EndedThere reason)
+
+-- what a command does that has no place in a phase: the partner may end the session in each, and all else violates the protocol
+unfoldable pub unexpected : Command → Step
+unexpected (command.Esid esid) = leaves esid.reason
+unexpected _ = fails ProtocolViolation

@@ -5,9 +5,9 @@ ghost use Rattle.oftp_wire.specs.Spelling.{is_data};
 ghost use Rattle.oftp_wire.specs.declared.command.Command.TheVariants.{Ssid as an_ssid};
 ghost use Rattle.oftp_session.specs.Phases.{frame_of, esid_of};
 ghost use Rattle.oftp_session.specs.Opening.{answering_ssid, calling_ssid, ssid_with};
+ghost use Rattle.oftp_session.specs.Agreements.{terms};
 
-use crate::link::Link;
-use crate::opening::answered_mode;
+use crate::opening::{Agreement, answered_mode};
 use oftp_partners::{Book, Partner};
 use oftp_wire::{Command, Count, Esid, Mode, SessionReason, Ssid, Text, X, encode, header};
 
@@ -53,23 +53,21 @@ fn ssid_with<'b>(
     }
 }
 
-/// The responder's SSID: what was agreed with a partner of this mode letter.
+/// The responder's SSID: what is agreed with a partner of this mode letter.
 pub(crate) fn answering_ssid<'b>(
     book: &'b Book,
     letter: Mode,
-    partner: &'b Partner,
-    link: &Link,
+    agreement: &Agreement<'b>,
 ) -> Command<'b>
-    ensures { result ≡ an_ssid (answering_ssid book.entry.now letter
-        (record { partner = partner.entry.now; link = link.now })) }
+    ensures { result ≡ an_ssid (answering_ssid book.entry.now letter (terms agreement.now)) }
 {
     Command::Ssid(ssid_with(
         book,
-        partner,
-        link.buffer,
-        link.credit,
-        link.restart,
-        answered_mode(partner.mode, letter),
+        agreement.partner,
+        agreement.link.buffer,
+        agreement.link.credit,
+        agreement.link.restart,
+        answered_mode(agreement.partner.mode, letter),
     ))
 }
 

@@ -5,12 +5,16 @@
 #![tactic(auto)]
 
 mod commands;
+mod frame;
 mod link;
+mod listener;
 mod opening;
 mod responses;
 mod session;
+mod speaker;
+mod state;
 #[cfg(test)]
 mod tests;
 
 pub use link::{Link, WhenDone};
-pub use session::{Ending, Out, Session, SessionFault, State};
+pub use session::{Ending, Out, Session, SessionFault};

@@ -1,19 +1,47 @@
-//! What a station agrees to when a session opens.
+//! How a session opens (RFC 5024, sections 4.2, 5.3.1 and 5.3.2).
 
 ghost use Rattle.std.specs.Prelude.{◌≡◌, ◌≤◌, ℕ, min, option_map};
-ghost use Rattle.oftp_session.specs.Settings.{Setting};
-ghost use Rattle.oftp_session.specs.Opening.{agreed, answered_mode, answering_ssid, calling_ssid, called_as, flows, is_opposed, ssid_verdict};
-ghost use Rattle.oftp_session.specs.Agreements.{shown};
+ghost use Rattle.oftp_session.specs.Settings.{setting_of};
+ghost use Rattle.oftp_session.specs.Opening.{agreed, answered_mode, called_as, came_awaiting_ssid, came_initiator_opening, contact_of, flows, is_opposed, offer_step, open_step, opened_step, ssid_verdict};
+ghost use Rattle.oftp_session.specs.Agreements.{shown, terms};
+ghost use Rattle.oftp_session.specs.Calls.{Goes};
 
-use crate::link::Link;
+use crate::commands::{answering_ssid, calling_ssid};
+use crate::frame::Frame;
+use crate::link::{Link, WhenDone};
+use crate::state::{Contact, State};
 use oftp_partners::{Book, Partner};
+use oftp_register::{Cursor, Name};
 use oftp_wire::{Command, Count, Mode, SessionReason, Ssid, X};
 
-/// The partner of a session, and what was agreed with it.
+/// What doesn't change in a session: the book, and the partner that an initiator calls.
+#[derive(Clone, Copy, Drop)]
+pub(crate) struct Setting<'b> {
+    pub(crate) book: &'b Book,
+    pub(crate) called: Option<&'b Partner>,
+}
+
+/// The partner of a session, and what is agreed with it.
 #[derive(Clone, Copy, Drop)]
 pub(crate) struct Agreement<'b> {
     pub(crate) partner: &'b Partner,
     pub(crate) link: Link,
+}
+
+impl<'b> Agreement<'b> {
+    /// An open session, in which nothing was tried yet.
+    fn contact(&self) -> Contact
+        ensures { result ≡ contact_of (terms self.now) }
+    {
+        Contact {
+            code: Name::of(&self.partner.code.field()),
+            link: self.link,
+            tried: Cursor {
+                response: 0,
+                file: 0,
+            },
+        }
+    }
 }
 
 /// Whether a station in one mode sends what the other receives.
@@ -94,13 +122,8 @@ fn partner_for<'b>(
 
 /// What is agreed with a partner who sends this SSID, or why the session ends.
 #[tactic(auto, unfolding(crate::specs::Opening::ssid_verdict))]
-pub(crate) fn ssid_verdict<'b>(
-    book: &'b Book,
-    called: Option<&'b Partner>,
-    ssid: &Ssid<'_>,
-) -> Result<Agreement<'b>, SessionReason>
-    ensures { shown result ≡ ssid_verdict
-        (record { book = book.entry.now; called = option_map (λ p. p.now) called.entry }) ssid.now }
+fn ssid_verdict<'b>(setting: Setting<'b>, ssid: &Ssid<'_>) -> Result<Agreement<'b>, SessionReason>
+    ensures { shown result ≡ ssid_verdict (setting_of setting.entry) ssid.now }
 {
     if ssid.level.get() != 5 {
         return Err(SessionReason::ModeIncompatible);
@@ -108,13 +131,13 @@ pub(crate) fn ssid_verdict<'b>(
     if ssid.buffer.get() < 128 || ssid.credit.get() == 0 {
         return Err(SessionReason::InvalidData);
     }
-    let Some(partner) = partner_for(book, called, &ssid.code) else {
+    let Some(partner) = partner_for(setting.book, setting.called, &ssid.code) else {
         return Err(SessionReason::UserCodeNotKnown);
     };
     if ssid.password.octets() != partner.expects.field().octets() {
         return Err(SessionReason::InvalidPassword);
     }
-    if called.is_some() && (ssid.compression || ssid.special_logic) {
+    if setting.called.is_some() && (ssid.compression || ssid.special_logic) {
         return Err(SessionReason::ModeIncompatible);
     }
     if is_opposed(partner.mode, ssid.mode) {
@@ -125,6 +148,73 @@ pub(crate) fn ssid_verdict<'b>(
     }
     Ok(Agreement {
         partner,
-        link: agreed(book, partner, ssid),
+        link: agreed(setting.book, partner, ssid),
     })
+}
+
+/// Goes on with a partner with whom this is agreed: a responder answers, an initiator speaks.
+fn agree(setting: Setting<'_>, letter: Mode, agreement: &Agreement<'_>, frame: &mut Frame) -> State
+    ensures { let known = setting_of setting.entry in
+        Goes (open_step known letter (terms agreement.now) known.called) result frame.new }
+{
+    if setting.called.is_some() {
+        frame.hush();
+        return State::SpeakerIdle(agreement.contact(), WhenDone::ChangeDirection);
+    }
+    frame.say(&answering_ssid(setting.book, letter, agreement));
+    State::ListenerIdle(agreement.contact())
+}
+
+/// Opens the session with a partner who sends this SSID, or ends it.
+fn open(setting: Setting<'_>, ssid: &Ssid<'_>, frame: &mut Frame) -> State
+    ensures { let known = setting_of setting.entry in
+        Goes (opened_step known ssid.now.mode (ssid_verdict known ssid.now)) result frame.new }
+{
+    match ssid_verdict(setting, ssid) {
+        Ok(agreement) => agree(setting, ssid.mode, &agreement, frame),
+        Err(reason) => State::ended_here(reason, frame),
+    }
+}
+
+/// Offers the session to the partner that is called.
+fn offer(setting: Setting<'_>, frame: &mut Frame) -> State
+    ensures { let known = setting_of setting.entry in Goes (offer_step known known.called) result frame.new }
+{
+    match setting.called {
+        Some(partner) => {
+            frame.say(&calling_ssid(setting.book, partner));
+            State::AwaitingSsid
+        }
+        None => State::ended_here(SessionReason::ProtocolViolation, frame),
+    }
+}
+
+/// Takes a command that comes while the ready message of the partner that is called is awaited.
+#[tactic(auto, unfolding(crate::specs::Opening::came_initiator_opening))]
+pub(crate) fn in_initiator_opening(
+    setting: Setting<'_>,
+    command: &Command<'_>,
+    frame: &mut Frame,
+) -> State
+    ensures { Goes (came_initiator_opening (setting_of setting.entry) command.now) result frame.new }
+{
+    match command {
+        Command::Ssrm => offer(setting, frame),
+        _ => State::unexpected(command, frame),
+    }
+}
+
+/// Takes a command that comes while the partner's SSID is awaited.
+#[tactic(auto, unfolding(crate::specs::Opening::came_awaiting_ssid))]
+pub(crate) fn in_awaiting_ssid(
+    setting: Setting<'_>,
+    command: &Command<'_>,
+    frame: &mut Frame,
+) -> State
+    ensures { Goes (came_awaiting_ssid (setting_of setting.entry) command.now) result frame.new }
+{
+    match command {
+        Command::Ssid(ssid) => open(setting, ssid, frame),
+        _ => State::unexpected(command, frame),
+    }
 }

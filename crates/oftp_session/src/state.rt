@@ -1,0 +1,116 @@
+//! Where a session stands, and what it holds there.
+
+ghost use Rattle.std.specs.Prelude.{◌≡◌};
+ghost use Rattle.oftp_session.specs.Phases.{fails, leaves, unexpected};
+ghost use Rattle.oftp_session.specs.Standings.{ended_as, is_closed, is_due, standing_of};
+ghost use Rattle.oftp_session.specs.Calls.{Goes};
+
+use crate::commands::esid;
+use crate::frame::Frame;
+use crate::link::{Link, WhenDone};
+use crate::session::Ending;
+use oftp_register::{Cursor, Name};
+use oftp_wire::{Command, Count, SessionReason};
+
+/// The partner of an open session by its code, what is agreed with it, and up to which numbers responses and files were tried.
+#[derive(Drop)]
+pub(crate) struct Contact {
+    pub(crate) code: Name<25>,
+    pub(crate) link: Link,
+    pub(crate) tried: Cursor,
+}
+
+/// Where a session stands (RFC 5024, section 9).
+#[derive(Drop)]
+pub(crate) enum State {
+    /// A responder, whose ready message is due.
+    ResponderOpening,
+    /// An initiator, who awaits the partner's ready message.
+    InitiatorOpening,
+    /// The partner's SSID is awaited.
+    AwaitingSsid,
+    /// The partner speaks, and no file is being received.
+    ListenerIdle(Contact),
+    /// The station speaks, and waits for nothing.
+    SpeakerIdle(Contact, WhenDone),
+    /// The station ended the session.
+    EndedHere(SessionReason),
+    /// The partner ended the session, and may give a number that no listed reason has.
+    EndedThere(Count<2>),
+    /// The office or memory failed.
+    Broken,
+}
+
+impl State {
+    /// Ends the session by an ESID of this reason.
+    pub(crate) fn ended_here(reason: SessionReason, frame: &mut Frame) -> State
+        ensures { Goes (fails reason) result frame.new }
+    {
+        frame.say(&esid(reason));
+        State::EndedHere(reason)
+    }
+
+    /// The partner ended the session.
+    fn ended_there(reason: Count<2>, frame: &mut Frame) -> State
+        ensures { Goes (leaves reason) result frame.new }
+    {
+        frame.hush();
+        State::EndedThere(reason)
+    }
+
+    /// Takes a command that has no place in a phase.
+    #[tactic(auto, unfolding(crate::specs::Phases::unexpected))]
+    pub(crate) fn unexpected(command: &Command<'_>, frame: &mut Frame) -> State
+        ensures { Goes (unexpected command.now) result frame.new }
+    {
+        match command {
+            Command::Esid(esid) => State::ended_there(esid.reason, frame),
+            _ => State::ended_here(SessionReason::ProtocolViolation, frame),
+        }
+    }
+
+    /// How the session ended, if it did.
+    pub(crate) fn ended(&self) -> Option<Ending>
+        ensures { result ≡ ended_as (standing_of self.now) }
+    {
+        match self {
+            State::EndedHere(reason) => Some(Ending::Own(*reason)),
+            State::EndedThere(reason) => Some(Ending::Partner(*reason)),
+            State::ResponderOpening
+            | State::InitiatorOpening
+            | State::AwaitingSsid
+            | State::ListenerIdle(_)
+            | State::SpeakerIdle(_, _)
+            | State::Broken => None,
+        }
+    }
+
+    /// Whether it ended or broke.
+    pub(crate) fn is_closed(&self) -> bool
+        ensures { result ≡ is_closed (standing_of self.now) }
+    {
+        match self {
+            State::EndedHere(_) | State::EndedThere(_) | State::Broken => true,
+            State::ResponderOpening
+            | State::InitiatorOpening
+            | State::AwaitingSsid
+            | State::ListenerIdle(_)
+            | State::SpeakerIdle(_, _) => false,
+        }
+    }
+
+    /// Whether an own command is due.
+    pub(crate) fn is_due(&self) -> bool
+        ensures { result ≡ is_due (standing_of self.now) }
+    {
+        match self {
+            State::ResponderOpening | State::SpeakerIdle(_, _) => true,
+            State::InitiatorOpening
+            | State::AwaitingSsid
+            | State::ListenerIdle(_)
+            | State::EndedHere(_)
+            | State::EndedThere(_)
+            | State::Broken => false,
+        }
+    }
+}
