@@ -8,17 +8,18 @@ use Rattle.oftp_register.specs.Changes.{apply_all}
 use Rattle.oftp_register.specs.declared.change.Change.{Change}
 use Rattle.oftp_register.proofs.PrefixLemmas.{apply_all-push}
 use Rattle.oftp_wire.specs.Kinds.{command_of}
+use Rattle.oftp_wire.specs.declared.command.Command.{Command}
 use Rattle.oftp_wire.specs.Stream.{front, command_in, IsWithin}
 use Rattle.oftp_wire.specs.Stream.{Head, Whole, Waits, Bad}
 use Rattle.oftp_wire.proofs.Streams.{front_within}
-use Rattle.oftp_session.specs.Phases.{Phase, Step, register_after, fails}
-use Rattle.oftp_session.specs.Steps.{has_turn, turned, turns_due, is_over}
-use Rattle.oftp_session.specs.Calls.{Allows}
-use Rattle.oftp_session.proofs.Allowed.{turn_allowed}
+use Rattle.oftp_session.specs.Phases.{is_over, Phase, Step, frame_of, register_after, fails}
+use Rattle.oftp_session.specs.Steps.{has_turn, turned, turns_due, Suits}
+use Rattle.oftp_session.specs.Calls.{Allows, Proceeds}
+use Rattle.oftp_session.proofs.Proceeding.{turned_proceeds}
 use Rattle.oftp_session.proofs.Phases.{turn_falls, over_no_turn}
 use Rattle.oftp_engine.specs.Runs.{Course, Output, octets_of, with_change, with_output, advance, came_in, turned_in, is_stopped, turns, settled, on_front, next_in, run_by, run}
 use Rattle.oftp_engine.specs.Serving.{Grows, Sound, Counted}
-use Rattle.oftp_engine.proofs.Phases.{step_allowed}
+use Rattle.oftp_engine.proofs.Phases.{step_proceeds, fails_proceed}
 
 -- a course that grows
 
@@ -38,9 +39,9 @@ grows_either : (c d e : Course) (b : Bool) → Grows c d → Grows c e → Grows
 grows_either c d e true g h = g
 grows_either c d e false g h = h
 
-output_later : (outputs : List Output) (o : List ℕ) (n : ℕ) → (later : List Output) × (with_output outputs o n ≡ outputs ++ later)
-output_later outputs [] n = ([], sym (append-nil outputs))
-output_later outputs (x ∷ xs) n = (record { octets = x ∷ xs; after = n } ∷ [], refl)
+output_later : (outputs : List Output) (o : Option Command) (n : ℕ) → (later : List Output) × (with_output outputs o n ≡ outputs ++ later)
+output_later outputs None n = ([], sym (append-nil outputs))
+output_later outputs (Some command) n = (record { octets = frame_of command; after = n } ∷ [], refl)
 
 change_later : (changes : List Change) (k : Option Change) → (later : List Change) × (with_change changes k ≡ changes ++ later)
 change_later changes None = ([], sym (append-nil changes))
@@ -58,27 +59,31 @@ counted_push : (n : ℕ) (outputs : List Output) (o : Output) → o.after ≤ n 
 counted_push n [] o le h = (le, tt)
 counted_push n (x ∷ outputs) o le h = (h.0, counted_push n outputs o le h.1)
 
-counted_output : (n : ℕ) (outputs : List Output) (o : List ℕ) → Counted n outputs → Counted n (with_output outputs o n)
-counted_output n outputs [] h = h
-counted_output n outputs (x ∷ xs) h = counted_push n outputs (record { octets = x ∷ xs; after = n }) (omega arith) h
+counted_output : (n : ℕ) (outputs : List Output) (o : Option Command) → Counted n outputs → Counted n (with_output outputs o n)
+counted_output n outputs None h = h
+counted_output n outputs (Some command) h = counted_push n outputs (record { octets = frame_of command; after = n }) (omega arith) h
 
 more_changes : (ks : List Change) (k : Option Change) → length ks ≤ length (with_change ks k)
 more_changes ks None = omega arith
 more_changes ks (Some k) = omega (arith, length-append ks (k ∷ []))
 
-sound_step : (r : Register) (c : Course) (s : Step) → Allows c.register s.change → Sound r c → Sound r (advance c s)
+sound_step : (r : Register) (c : Course) (s : Step) → (Suits c.phase c.register → Proceeds c.register s) → Sound r c → Sound r (advance c s)
 unfolding advance
-sound_step r c s allows h = record {
-  replay = replay_step r c.register c.changes s.change h.replay allows;
-  counted = counted_output (length (with_change c.changes s.change)) c.outputs s.output (counted_more (length c.changes) (length (with_change c.changes s.change)) c.outputs (more_changes c.changes s.change) h.counted);
-}
+sound_step r c s proceeds h =
+    let p = proceeds h.suits in
+    let changes = with_change c.changes s.change in
+    record {
+      replay = replay_step r c.register c.changes s.change h.replay p.allowed;
+      counted = counted_output (length changes) c.outputs s.output (counted_more (length c.changes) (length changes) c.outputs (more_changes c.changes s.change) h.counted);
+      suits = p.suits;
+    }
 
-pub grows_step : (c : Course) (s : Step) → Allows c.register s.change → Grows c (advance c s)
+pub grows_step : (c : Course) (s : Step) → (Suits c.phase c.register → Proceeds c.register s) → Grows c (advance c s)
 unfolding advance
-grows_step c s allows =
+grows_step c s proceeds =
     let o = output_later c.outputs s.output (length (with_change c.changes s.change)) in
     let k = change_later c.changes s.change in
-    record { later_outputs = o.0; outputs = o.1; later_changes = k.0; changes = k.1; sound = λ r h. sound_step r c s allows h }
+    record { later_outputs = o.0; outputs = o.1; later_changes = k.0; changes = k.1; sound = λ r h. sound_step r c s proceeds h }
 
 pub phase_step : (c : Course) (s : Step) → (advance c s).phase ≡ s.phase
 unfolding advance
@@ -153,7 +158,7 @@ settle_stopped limit c h = quiet_turns (turns_due c.phase) limit c (and_right (h
 turns_grow : (n : ℕ) (limit : Option ℕ) (c : Course) → Grows c (turns n limit c)
 unfolding turns
 turns_grow zero limit c = grows_none c
-turns_grow (suc n) limit c = grows_either c (turns n limit (turned_in c)) c (has_turn c.phase && not (is_stopped limit c)) (grows_on c (turned_in c) _ (grows_step c (turned c.setting c.phase c.register) (turn_allowed c.setting c.phase c.register)) (turns_grow n limit (turned_in c))) (grows_none c)
+turns_grow (suc n) limit c = grows_either c (turns n limit (turned_in c)) c (has_turn c.phase && not (is_stopped limit c)) (grows_on c (turned_in c) _ (grows_step c (turned c.setting c.phase c.register) (λ h. turned_proceeds c.setting c.phase c.register h)) (turns_grow n limit (turned_in c))) (grows_none c)
 
 settled_grows : (limit : Option ℕ) (c : Course) → Grows c (settled limit c)
 unfolding settled
@@ -229,9 +234,9 @@ run_stopped limit s c stopped =
 
 front_grows : (go_on : List ℕ → Course → Course) (s : List ℕ) (d : Course) (f : Head) → ((t : List ℕ) (e : Course) → Grows e (go_on t e)) → Grows d (on_front go_on s d f)
 unfolding on_front
-front_grows go_on s d (Whole k) h = grows_on d (came_in d (command_in k s)) _ (grows_step d _ (step_allowed d.setting d.phase d.register (command_of (command_in k s)))) (h (drop k s) (came_in d (command_in k s)))
+front_grows go_on s d (Whole k) h = grows_on d (came_in d (command_in k s)) _ (grows_step d _ (step_proceeds d.setting d.phase d.register (command_of (command_in k s)))) (h (drop k s) (came_in d (command_in k s)))
 front_grows go_on s d Waits h = grows_none d
-front_grows go_on s d (Bad fault) h = grows_step d (fails ProtocolViolation) refl
+front_grows go_on s d (Bad fault) h = grows_step d (fails ProtocolViolation) (fails_proceed d.phase d.register ProtocolViolation)
 
 run_by_grows : (n : ℕ) (limit : Option ℕ) (s : List ℕ) (c : Course) → Grows c (run_by n limit s c)
 unfolding run_by next_in

@@ -9,7 +9,9 @@ use Rattle.oftp_register.specs.declared.change.Change.{Change}
 use Rattle.oftp_register.specs.Register.{Register}
 use Rattle.oftp_register.specs.Changes.{apply_all}
 use Rattle.oftp_register.specs.Offices.{View, Only, WithOrWithout}
-use Rattle.oftp_session.specs.Phases.{Step, register_after}
+use Rattle.oftp_register.specs.Soundness.{IsSound}
+use Rattle.oftp_session.proofs.Phases.{opening_suits}
+use Rattle.oftp_session.specs.Phases.{framed, Step, register_after}
 use Rattle.oftp_session.specs.Steps.{has_turn}
 use Rattle.oftp_session.specs.Settings.{Setting}
 use Rattle.oftp_session.specs.declared.session.Ending.{Ending}
@@ -24,20 +26,27 @@ use Rattle.oftp_engine.proofs.Phases.{over_from}
 use Rattle.oftp_engine.proofs.Progress.{octets_step}
 use Rattle.oftp_engine.proofs.Stepping.{made_register}
 
+-- what the law gives of an office that stood and is clean: its register was sound, and where it stands a stop leaves its register alone
+pub record IsLawful (old new : View) : Type 0 where
+  pub stood : old.stands
+  pub sound : IsSound old.register
+  pub alone : new.stands → Only new.register new
+
 answered_most : (outputs : List Output) (n most : ℕ) → Counted most outputs → answered outputs n ≤ most
 answered_most [] n most h = omega arith
 answered_most (o ∷ outputs) zero most h = omega arith
 answered_most (o ∷ outputs) (suc n) most h = let p = answered_most outputs (suc n - length o.octets) most h.1 in let q = h.0 in omega arith
 
-sound_start : (setting : Setting) (r : Register) → Sound r (started setting r)
-sound_start setting r = record { replay = refl; counted = tt }
+sound_start : (setting : Setting) (r : Register) → IsSound r → Sound r (started setting r)
+sound_start setting r sound = record { replay = refl; counted = tt; suits = opening_suits r setting.called sound }
 
-run_sound : (limit : Option ℕ) (setting : Setting) (given : List ℕ) (r : Register) → Sound r (run limit given (started setting r))
-run_sound limit setting given r = (run_grows limit given (started setting r)).sound r (sound_start setting r)
+run_sound : (limit : Option ℕ) (setting : Setting) (given : List ℕ) (r : Register) → IsSound r → Sound r (run limit given (started setting r))
+run_sound limit setting given r sound = (run_grows limit given (started setting r)).sound r (sound_start setting r sound)
 
 -- the register is the one after all the run's changes
-pub replay_all : (limit : Option ℕ) (setting : Setting) (given : List ℕ) (r now : Register) → now ≡ (run limit given (started setting r)).register → apply_all r (run limit given (started setting r)).changes ≡ Ok now
-replay_all limit setting given r now same = (run_sound limit setting given r).replay ∙ ap Ok (sym same)
+pub replay_all : (limit : Option ℕ) (setting : Setting) (given : List ℕ) (r now : Register) → IsSound r → now ≡ (run limit given (started setting r)).register
+    → apply_all r (run limit given (started setting r)).changes ≡ Ok now
+replay_all limit setting given r now sound same = (run_sound limit setting given r sound).replay ∙ ap Ok (sym same)
 
 -- what the run over all the octets comes to
 whole_is : (setting : Setting) (given t : List ℕ) (r : Register) (d : Course) → Leads (started setting r) given d t → run None (t ++ []) d ≡ d → whole setting given r ≡ d
@@ -50,13 +59,13 @@ whole_over setting given t seen old new end h = whole_is setting given t old.off
 pub whole_waits : (setting : Setting) (given t : List ℕ) (seen : Seen) (old new : Scene) (h : Comes (started setting old.office.register) given t seen old new) → has_turn h.at.phase ≡ false → front 100003 t ≡ Waits → whole setting given old.office.register ≡ h.at
 whole_waits setting given t seen old new h turn waits = whole_is setting given t old.office.register h.at h.went.leads (ap (λ (x : List ℕ). run None x h.at) (append-nil t) ∙ run_waits None t h.at turn waits)
 
-pub is_whole : (setting : Setting) (given t : List ℕ) (seen : Seen) (old new : Scene) (fine : old.office.stands) (alone : new.office.stands → Only new.office.register new.office) (h : Comes (started setting old.office.register) given t seen old new) → whole setting given old.office.register ≡ h.at → IsWhole setting given old new
-is_whole setting given t seen old new fine alone h e = record {
+pub is_whole : (setting : Setting) (given t : List ℕ) (seen : Seen) (old new : Scene) (law : IsLawful old.office new.office) (h : Comes (started setting old.office.register) given t seen old new) → whole setting given old.office.register ≡ h.at → IsWhole setting given old new
+is_whole setting given t seen old new law h e = record {
   out = subst (λ (x : List ℕ). Took old new x) (sym h.went.outputs ∙ ap (λ (c : Course). octets_of c.outputs) (sym e)) h.went.took;
   register = h.now.register ∙ ap (λ (c : Course). c.register) (sym e);
-  replay = replay_all None setting given old.office.register new.office.register (h.now.register ∙ ap (λ (c : Course). c.register) (sym e));
-  stands = h.went.stands fine;
-  left = alone (h.went.stands fine);
+  replay = replay_all None setting given old.office.register new.office.register law.sound (h.now.register ∙ ap (λ (c : Course). c.register) (sym e));
+  stands = h.went.stands law.stood;
+  left = law.alone (h.went.stands law.stood);
   faults = h.went.faults;
   told = h.went.told;
 }
@@ -67,29 +76,29 @@ not_stopped : (c : Course) (n : ℕ) → is_stopped (Some (length (octets_of c.o
 unfolding is_stopped
 not_stopped c n = le-ltb (length (octets_of c.outputs) + n) (length (octets_of c.outputs)) (omega arith)
 
-stopped_now : (c : Course) (s : Step) (n : ℕ) → n < length s.output → is_stopped (Some (length (octets_of c.outputs) + n)) (advance c s) ≡ true
+stopped_now : (c : Course) (s : Step) (n : ℕ) → n < length (framed s.output) → is_stopped (Some (length (octets_of c.outputs) + n)) (advance c s) ≡ true
 unfolding is_stopped
-stopped_now c s n lt = lt-ltb (length (octets_of c.outputs) + n) (length (octets_of (advance c s).outputs)) (omega (arith, ap (λ (x : List ℕ). length x) (octets_step c s), length-append (octets_of c.outputs) s.output))
+stopped_now c s n lt = lt-ltb (length (octets_of c.outputs) + n) (length (octets_of (advance c s).outputs)) (omega (arith, ap (λ (x : List ℕ). length x) (octets_step c s), length-append (octets_of c.outputs) (framed s.output)))
 
 take_past : (xs ys : List ℕ) (n : ℕ) → take (length xs + n) (xs ++ ys) ≡ xs ++ take n ys
 take_past xs ys n = take-add (length xs) n (xs ++ ys) ∙ ap (λ (x : List ℕ). x ++ take n (drop (length xs) (xs ++ ys))) (take_at xs ys (length xs) refl) ∙ ap (λ (x : List ℕ). xs ++ take n x) (drop_at xs ys (length xs) refl)
 
-pub is_broken_off : (setting : Setting) (given : List ℕ) (old new : Scene) (fine : old.office.stands) (alone : new.office.stands → Only new.office.register new.office) → BreaksOff (started setting old.office.register) given old new → IsBrokenOff setting given old new
-is_broken_off setting given old new fine alone h =
+pub is_broken_off : (setting : Setting) (given : List ℕ) (old new : Scene) (law : IsLawful old.office new.office) → BreaksOff (started setting old.office.register) given old new → IsBrokenOff setting given old new
+is_broken_off setting given old new law h =
     let before : List ℕ = octets_of h.at.outputs in
     let taken : ℕ = length before + h.count in
     let end : Course = advance h.at h.step in
     let r = h.reaches.same [] (Some taken) (not_stopped h.at h.count) in
     let e : broken_off setting taken given old.office.register ≡ end = ap (λ (x : List ℕ). run (Some taken) x (started setting old.office.register)) (sym (append-nil given)) ∙ r.1 ∙ run_stopped (Some taken) r.0 end (stopped_now h.at h.step h.count h.short) in
-    let octets : octets_of (broken_off setting taken given old.office.register).outputs ≡ before ++ h.step.output = ap (λ (c : Course). octets_of c.outputs) e ∙ octets_step h.at h.step in
+    let octets : octets_of (broken_off setting taken given old.office.register).outputs ≡ before ++ framed h.step.output = ap (λ (c : Course). octets_of c.outputs) e ∙ octets_step h.at h.step in
     record {
       taken = taken;
       short = subst (λ (x : List ℕ). taken < length x) (sym octets) (rw length-append (omega (arith, h.short)));
-      out = subst (λ (x : List ℕ). Took old new x) (ap (λ (x : List ℕ). x ++ take h.count h.step.output) (sym h.outputs) ∙ sym (take_past before h.step.output h.count) ∙ ap (λ (x : List ℕ). take taken x) (sym octets)) h.took;
+      out = subst (λ (x : List ℕ). Took old new x) (ap (λ (x : List ℕ). x ++ take h.count (framed h.step.output)) (sym h.outputs) ∙ sym (take_past before (framed h.step.output) h.count) ∙ ap (λ (x : List ℕ). take taken x) (sym octets)) h.took;
       register = h.register ∙ ap (λ (c : Course). c.register) (sym e);
-      replay = replay_all (Some taken) setting given old.office.register new.office.register (h.register ∙ ap (λ (c : Course). c.register) (sym e));
-      stands = h.stands fine;
-      left = alone (h.stands fine);
+      replay = replay_all (Some taken) setting given old.office.register new.office.register law.sound (h.register ∙ ap (λ (c : Course). c.register) (sym e));
+      stands = h.stands law.stood;
+      left = law.alone (h.stands law.stood);
       faults = h.faults;
       told = h.told;
     }
@@ -145,12 +154,12 @@ leaves_prefix r d w step (Some change) least left e g h sd se le only = λ k l.
           }
     ]
 
-pub is_office_fault : (setting : Setting) (given : List ℕ) (old new : Scene) → OfficeFails (started setting old.office.register) given old new → IsOfficeFault setting given old new
-is_office_fault setting given old new h =
+pub is_office_fault : (setting : Setting) (given : List ℕ) (old new : Scene) → IsSound old.office.register → OfficeFails (started setting old.office.register) given old new → IsOfficeFault setting given old new
+is_office_fault setting given old new sound h =
     let r : Register = old.office.register in
     let w : Course = whole setting given r in
-    let sd : Sound r h.at = h.reaches.grows.sound r (sound_start setting r) in
-    let step : Grows h.at (advance h.at h.step) = grows_step h.at h.step h.allows in
+    let sd : Sound r h.at = h.reaches.grows.sound r (sound_start setting r sound) in
+    let step : Grows h.at (advance h.at h.step) = grows_step h.at h.step (λ _. h.proceeds) in
     let se : Sound r (advance h.at h.step) = step.sound r sd in
     let g : Grows h.at w = goes_on setting given r h.at (advance h.at h.step) h.reaches step in
     let ge : Grows (advance h.at h.step) w = goes_past setting given r h.at (advance h.at h.step) h.reaches in
@@ -188,11 +197,11 @@ is_office_fault setting given old new h =
       }
     ]
 
-pub is_out_of_memory : (setting : Setting) (given : List ℕ) (old new : Scene) (fine : old.office.stands) (alone : new.office.stands → Only new.office.register new.office) → IsShort (started setting old.office.register) given old new → IsOutOfMemory setting given old new
-is_out_of_memory setting given old new fine alone h =
+pub is_out_of_memory : (setting : Setting) (given : List ℕ) (old new : Scene) (law : IsLawful old.office new.office) → IsShort (started setting old.office.register) given old new → IsOutOfMemory setting given old new
+is_out_of_memory setting given old new law h =
     let r : Register = old.office.register in
     let w : Course = whole setting given r in
-    let sd : Sound r h.at = h.reaches.grows.sound r (sound_start setting r) in
+    let sd : Sound r h.at = h.reaches.grows.sound r (sound_start setting r law.sound) in
     let se : Sound r h.next = h.later.sound r sd in
     let g : Grows h.at w = goes_on setting given r h.at h.next h.reaches h.later in
     let ge : Grows h.next w = goes_past setting given r h.at h.next h.reaches in
@@ -209,8 +218,8 @@ is_out_of_memory setting given old new fine alone h =
         kept = kept;
         few = few h.at w g;
         register = replayed r h.at w g sd ∙ ap Ok (sym same);
-        stands = h.stands fine;
-        left = alone (h.stands fine);
+        stands = h.stands law.stood;
+        left = law.alone (h.stands law.stood);
         faults = h.faults;
         told = h.told;
       }
@@ -223,16 +232,16 @@ is_out_of_memory setting given old new fine alone h =
         kept = omega arith;
         few = few h.next w ge;
         register = replayed r h.next w ge se ∙ ap Ok (sym same);
-        stands = h.stands fine;
-        left = alone (h.stands fine);
+        stands = h.stands law.stood;
+        left = law.alone (h.stands law.stood);
         faults = h.faults;
         told = h.told;
       }
     ]
 
 -- each fault
-pub serves_from : (setting : Setting) (given : List ℕ) (old new : Scene) (fine : old.office.stands) (alone : new.office.stands → Only new.office.register new.office) (f : RunFault) → Fails (started setting old.office.register) given old new f → ServesErr setting given old new f
-serves_from setting given old new fine alone fault.Read h = absurd h
-serves_from setting given old new fine alone fault.Write h = is_broken_off setting given old new fine alone h
-serves_from setting given old new fine alone fault.Office h = is_office_fault setting given old new h
-serves_from setting given old new fine alone fault.Memory h = is_out_of_memory setting given old new fine alone h
+pub serves_from : (setting : Setting) (given : List ℕ) (old new : Scene) (law : IsLawful old.office new.office) (f : RunFault) → Fails (started setting old.office.register) given old new f → ServesErr setting given old new f
+serves_from setting given old new law fault.Read h = absurd h
+serves_from setting given old new law fault.Write h = is_broken_off setting given old new law h
+serves_from setting given old new law fault.Office h = is_office_fault setting given old new law.sound h
+serves_from setting given old new law fault.Memory h = is_out_of_memory setting given old new law h

@@ -3,11 +3,11 @@ use Rattle.std.proofs.Common.{◌≡◌, ℕ, suc, ◌+◌, ◌-◌, ◌<◌, Bo
 use Rattle.std.proofs.lemmas.List.{drop_at, take_at}
 use Rattle.std.proofs.lemmas.List.Elements.{All-drop}
 use Rattle.std.specs.List.{All, AllByRecursion, flat_map}
+use Rattle.oftp_session.specs.Phases.{is_over}
 use Rattle.oftp_wire.specs.declared.frame_fault.FrameFault.{FrameFault}
 use Rattle.oftp_wire.specs.Header.{frame, header_of, IsCommand}
 use Rattle.oftp_wire.specs.Stream.{Whole, front, command_in, head_of, Reads}
 use Rattle.oftp_wire.proofs.Fronts.{front_frame, front_rest}
-use Rattle.oftp_session.specs.Steps.{is_over}
 use Rattle.oftp_engine.specs.Runs.{Course, came_in, is_stopped, settled, on_front, next_in, run_by, run}
 use Rattle.oftp_engine.specs.Frames.{at_rest, over_commands}
 use Rattle.oftp_engine.proofs.Courses.{run_enough}

@@ -4,35 +4,39 @@ use Rattle.std.proofs.lemmas.Bool.{false≢true}
 use Rattle.oftp_wire.specs.declared.command.Command.{Command}
 use Rattle.oftp_wire.specs.declared.fault.WireFault.{WireFault}
 use Rattle.oftp_wire.specs.declared.reason.SessionReason.{SessionReason}
+use Rattle.oftp_wire.specs.declared.reason.SessionReason.TheVariants.{CommandNotRecognised}
 use Rattle.oftp_wire.specs.Reasons.{reason_of}
 use Rattle.oftp_register.specs.Register.{Register}
 use Rattle.oftp_session.specs.Settings.{Setting}
-use Rattle.oftp_session.specs.Phases.{Phase}
-use Rattle.oftp_session.specs.Steps.{is_over}
-use Rattle.oftp_session.specs.Calls.{Allows, ending_of}
+use Rattle.oftp_session.specs.Phases.{is_over, ending_of, Phase, fails}
+use Rattle.oftp_session.specs.Steps.{Suits}
+use Rattle.oftp_session.specs.Calls.{Proceeds}
 use Rattle.oftp_session.specs.declared.session.Ending.{Ending}
-use Rattle.oftp_session.proofs.Allowed.{came_allowed}
-use Rattle.oftp_session.proofs.Phases.{over_told}
+use Rattle.oftp_session.proofs.Proceeding.{came_proceeds}
 use Rattle.oftp_engine.specs.declared.serving.End.TheVariants.{Input}
 use Rattle.oftp_engine.specs.Runs.{step_on, refusal, ended_as, end_of, ending}
 
-refusal_allowed : (reason : Option SessionReason) (r : Register) → Allows r (refusal reason).change
-refusal_allowed (Some reason) r = refl
-refusal_allowed None r = refl
+-- each register suits the end of a session as it suited the phase before
+pub fails_proceed : (p : Phase) (r : Register) (reason : SessionReason) → Suits p r → Proceeds r (fails reason)
+fails_proceed p r reason suits = record { allowed = refl; suits = record { sound = suits.sound; holds = tt } }
 
-pub step_allowed : (setting : Setting) (p : Phase) (r : Register) (c : Result Command WireFault) → Allows r (step_on setting p r c).change
-step_allowed setting p r (Ok c) = came_allowed setting p r c
-step_allowed setting p r (Err fault) = refusal_allowed (reason_of fault) r
+refusal_proceeds : (p : Phase) (r : Register) (reason : Option SessionReason) → Suits p r → Proceeds r (refusal reason)
+refusal_proceeds p r (Some reason) suits = fails_proceed p r reason suits
+refusal_proceeds p r None suits = fails_proceed p r CommandNotRecognised suits
+
+pub step_proceeds : (setting : Setting) (p : Phase) (r : Register) (c : Result Command WireFault) → Suits p r → Proceeds r (step_on setting p r c)
+step_proceeds setting p r (Ok c) suits = came_proceeds setting p r c suits
+step_proceeds setting p r (Err fault) suits = refusal_proceeds p r (reason_of fault) suits
 
 pub over_from : (p : Phase) (e : Ending) → Some e ≡ ending_of p → is_over p ≡ true
-over_from p e h = sym (over_told p) ∙ ap is_some (sym h)
+over_from p e h = ap is_some (sym h)
 
 pub live_from : (p : Phase) (e : Option Ending) → e ≡ ending_of p → e ≡ None → is_over p ≡ false
-live_from p e h none = sym (over_told p) ∙ ap is_some (sym h ∙ none)
+live_from p e h none = ap is_some (sym h ∙ none)
 
 -- where octets are awaited, the end of the input is how the session ends
 pub input_ending : (p : Phase) → is_over p ≡ false → Input ≡ ending p
-input_ending p h = at (ending_of p) (over_told p ∙ h)
+input_ending p h = at (ending_of p) h
   where
     at : (e : Option Ending) → is_some e ≡ false → Input ≡ end_of e
     at None live = refl

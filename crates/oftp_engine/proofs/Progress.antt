@@ -1,16 +1,17 @@
 -- How far the engine has come, one part after another.
 use Rattle.oftp_wire.specs.declared.reason.SessionReason.TheVariants.{ProtocolViolation}
-use Rattle.std.proofs.Common.{◌≡◌, ℕ, ◌-◌, ◌≤◌, true, false, List, [], ◌∷◌, ◌++◌, length, take, drop, Option, refl, sym, ap, ◌∙◌, subst, arith, append_assoc, length-append, length-drop, inl, inr}
+use Rattle.std.proofs.Common.{◌≡◌, ℕ, ◌-◌, ◌≤◌, true, false, List, [], ◌∷◌, ◌++◌, length, take, drop, Option, None, Some, refl, sym, ap, ◌∙◌, subst, arith, append_assoc, length-append, length-drop, inl, inr}
 use Rattle.std.proofs.lemmas.List.{append-nil, take-append-le, drop-append-le}
+use Rattle.oftp_wire.specs.declared.command.Command.{Command}
 use Rattle.oftp_wire.specs.Stream.{front, command_in, IsWithin}
 use Rattle.oftp_wire.specs.Stream.{Whole, Bad}
 use Rattle.oftp_wire.specs.declared.frame_fault.FrameFault.{FrameFault}
 use Rattle.oftp_wire.proofs.Streams.{front_within, front_more, IsTold}
 use Rattle.oftp_register.specs.Offices.{next_count}
-use Rattle.oftp_session.specs.Phases.{Step, fails}
-use Rattle.oftp_session.specs.Steps.{has_turn, is_over, turned}
-use Rattle.oftp_session.specs.Calls.{Allows, Seen}
-use Rattle.oftp_session.proofs.Allowed.{turn_allowed}
+use Rattle.oftp_session.specs.Phases.{is_over, Step, fails, framed, frame_of}
+use Rattle.oftp_session.specs.Steps.{has_turn, turned, Suits}
+use Rattle.oftp_session.specs.Calls.{Proceeds, Seen}
+use Rattle.oftp_session.proofs.Proceeding.{turned_proceeds}
 use Rattle.oftp_engine.specs.declared.serving.RunFault.{RunFault}
 use Rattle.oftp_engine.specs.declared.serving.RunFault.TheVariants as fault
 use Rattle.oftp_engine.specs.Runs.{Course, Output, advance, run, is_stopped, octets_of, with_output, with_change, turned_in, came_in}
@@ -29,11 +30,12 @@ took_on a b c xs ys p q = record {
   taken = count_on a.taken b.taken c.taken (length xs) (length ys) (length (xs ++ ys)) p.taken q.taken (length-append xs ys);
 }
 
-output_octets : (outputs : List Output) (o : List ℕ) (n : ℕ) → octets_of (with_output outputs o n) ≡ octets_of outputs ++ o
-output_octets outputs [] n = sym (append-nil (octets_of outputs))
-output_octets outputs (x ∷ xs) n = octets-append outputs (record { octets = x ∷ xs; after = n } ∷ []) ∙ ap (λ (z : List ℕ). octets_of outputs ++ z) (append-nil (x ∷ xs))
+output_octets : (outputs : List Output) (o : Option Command) (n : ℕ) → octets_of (with_output outputs o n) ≡ octets_of outputs ++ framed o
+output_octets outputs None n = sym (append-nil (octets_of outputs))
+output_octets outputs (Some command) n =
+    octets-append outputs (record { octets = frame_of command; after = n } ∷ []) ∙ ap (λ (z : List ℕ). octets_of outputs ++ z) (append-nil (frame_of command))
 
-pub octets_step : (c : Course) (s : Step) → octets_of (advance c s).outputs ≡ octets_of c.outputs ++ s.output
+pub octets_step : (c : Course) (s : Step) → octets_of (advance c s).outputs ≡ octets_of c.outputs ++ framed s.output
 unfolding advance
 octets_step c s = output_octets c.outputs s.output (length (with_change c.changes s.change))
 
@@ -60,9 +62,9 @@ pub reaches_itself : (c : Course) (s : List ℕ) → Reaches c s c c
 reaches_itself c s = record { grows = grows_none c; same = λ more limit h. (s ++ more, refl) }
 
 -- what led to a step leads past it
-pub leads_step : (c : Course) (step : Step) (s t : List ℕ) → Allows c.register step.change → ((more : List ℕ) (limit : Option ℕ) → is_stopped limit c ≡ false → run limit (s ++ more) c ≡ run limit (t ++ more) (advance c step)) → Leads c s (advance c step) t
-leads_step c step s t allows h =
-    let grows = grows_step c step allows in
+pub leads_step : (c : Course) (step : Step) (s t : List ℕ) → (Suits c.phase c.register → Proceeds c.register step) → ((more : List ℕ) (limit : Option ℕ) → is_stopped limit c ≡ false → run limit (s ++ more) c ≡ run limit (t ++ more) (advance c step)) → Leads c s (advance c step) t
+leads_step c step s t proceeds h =
+    let grows = grows_step c step proceeds in
     record { grows = grows; same = λ more limit stopped. h more limit (stopped_before limit c (advance c step) grows stopped) }
 
 pub reaches_step : (c : Course) (step : Step) (s t : List ℕ) → ((more : List ℕ) (limit : Option ℕ) → is_stopped limit c ≡ false → run limit (s ++ more) c ≡ run limit (t ++ more) (advance c step)) → Reaches c s c (advance c step)
@@ -95,7 +97,7 @@ went_on c d e s t u a b z p q = record {
 pub went_step : (c : Course) (step : Step) (s t : List ℕ) (seen : Seen) (a b : Scene) → Leads c s (advance c step) t → Made c step seen a b → Went c s (advance c step) t a b
 went_step c step s t seen a b leads made = record {
   leads = leads;
-  between = step.output;
+  between = framed step.output;
   outputs = octets_step c step;
   took = made.took;
   stands = made.stands;
@@ -103,9 +105,9 @@ went_step c step s t seen a b leads made = record {
   told = made.told;
 }
 
-pub fails_step : (c : Course) (step : Step) (s : List ℕ) (a b : Scene) (f : RunFault) → Allows c.register step.change → Reaches c s c (advance c step) → StepFails c step a b f → Fails c s a b f
-fails_step c step s a b fault.Read allows r h = absurd h
-fails_step c step s a b fault.Write allows r h = record {
+pub fails_step : (c : Course) (step : Step) (s : List ℕ) (a b : Scene) (f : RunFault) → Proceeds c.register step → Reaches c s c (advance c step) → StepFails c step a b f → Fails c s a b f
+fails_step c step s a b fault.Read proceeds r h = absurd h
+fails_step c step s a b fault.Write proceeds r h = record {
   at = c;
   step = step;
   count = h.count;
@@ -119,7 +121,7 @@ fails_step c step s a b fault.Write allows r h = record {
   faults = h.faults;
   told = h.told;
 }
-fails_step c step s a b fault.Office allows r h = record {
+fails_step c step s a b fault.Office proceeds r h = record {
   at = c;
   step = step;
   count = h.count;
@@ -128,15 +130,15 @@ fails_step c step s a b fault.Office allows r h = record {
   outputs = sym (append-nil (octets_of c.outputs));
   took = h.took;
   said = h.said;
-  allows = allows;
+  proceeds = proceeds;
   cases = h.cases;
   faults = h.faults;
 }
-fails_step c step s a b fault.Memory allows r h = record {
+fails_step c step s a b fault.Memory proceeds r h = record {
   at = c;
   next = advance c step;
   reaches = r;
-  later = grows_step c step allows;
+  later = grows_step c step (λ _. proceeds);
   between = [];
   outputs = sym (append-nil (octets_of c.outputs));
   took = h.took;
@@ -165,7 +167,7 @@ fails_later c d s t a b z fault.Write w h = record {
   short = h.short;
   between = w.between ++ h.between;
   outputs = outputs_later c d _ w.between h.between w.outputs h.outputs;
-  took = took_later a b z w.between h.between (take h.count h.step.output) w.took h.took;
+  took = took_later a b z w.between h.between (take h.count (framed h.step.output)) w.took h.took;
   register = h.register;
   stands = λ o. h.stands (w.stands o);
   faults = h.faults ∙ w.faults;
@@ -180,7 +182,7 @@ fails_later c d s t a b z fault.Office w h = record {
   outputs = outputs_later c d _ w.between h.between w.outputs h.outputs;
   took = took_later a b z w.between h.between _ w.took h.took;
   said = said_later a b z h.count w.told h.said;
-  allows = h.allows;
+  proceeds = h.proceeds;
   cases = h.cases;
   faults = h.faults ∙ ap next_count w.faults;
 }
@@ -201,7 +203,7 @@ fails_later c d s t a b z fault.Memory w h = record {
 -- a due turn, whatever is there to be read
 
 pub leads_turn : (c : Course) (s : List ℕ) → has_turn c.phase ≡ true → Leads c s (turned_in c) s
-leads_turn c s h = leads_step c (turned c.setting c.phase c.register) s s (turn_allowed c.setting c.phase c.register) (λ more limit stopped. run_turn limit (s ++ more) c h stopped)
+leads_turn c s h = leads_step c (turned c.setting c.phase c.register) s s (turned_proceeds c.setting c.phase c.register) (λ more limit stopped. run_turn limit (s ++ more) c h stopped)
 
 pub reaches_turn : (c : Course) (s : List ℕ) → has_turn c.phase ≡ true → Reaches c s c (turned_in c)
 reaches_turn c s h = reaches_step c (turned c.setting c.phase c.register) s s (λ more limit stopped. run_turn limit (s ++ more) c h stopped)
@@ -271,7 +273,7 @@ fails_with c s a b fault.Office h = record {
   outputs = h.outputs;
   took = h.took;
   said = h.said;
-  allows = h.allows;
+  proceeds = h.proceeds;
   cases = h.cases;
   faults = h.faults;
 }

@@ -11,13 +11,13 @@ use Rattle.oftp_wire.specs.Stream.{Stream, front, command_in, next_of, left_of, 
 use Rattle.oftp_wire.specs.declared.frame_fault.FrameFault.{FrameFault}
 use Rattle.oftp_wire.specs.Stream.{Whole, Waits, Bad}
 use Rattle.oftp_session.specs.declared.session.Ending.TheVariants.{Own}
-use Rattle.oftp_session.specs.Phases.{Step, fails}
-use Rattle.oftp_session.specs.Steps.{has_turn, is_over}
-use Rattle.oftp_session.specs.Calls.{Seen, ending_of}
+use Rattle.oftp_session.specs.Phases.{is_over, ending_of, Step, fails}
+use Rattle.oftp_session.specs.Steps.{has_turn}
+use Rattle.oftp_session.specs.Calls.{Seen}
 use Rattle.oftp_engine.specs.declared.serving.RunFault.{RunFault}
 use Rattle.oftp_engine.specs.Runs.{Course, advance, run, is_stopped, step_on}
 use Rattle.oftp_engine.specs.Serving.{Scene, Fails, Made, StepFails, Stepped, Settles, Comes, IsOver}
-use Rattle.oftp_engine.proofs.Phases.{step_allowed}
+use Rattle.oftp_engine.proofs.Phases.{step_proceeds, fails_proceed}
 use Rattle.oftp_engine.proofs.Progress.{went_on, went_with, went_step, fails_step, fails_later, fails_with, leads_step, reaches_step, leads_frame, leads_bad}
 
 -- while it pumps: how far it came, and that the stream told no fault
@@ -53,14 +53,14 @@ frame_on k s t x n seen0 seen1 a b z p turn over whole same made =
     let step = step_on p.at.setting p.at.phase p.at.register (command_of x) in
     record {
       at = advance p.at step;
-      went = went_on k p.at (advance p.at step) s t (drop n t) a b z p.went (went_step p.at step t (drop n t) seen1 b z (leads_step p.at step t (drop n t) (step_allowed p.at.setting p.at.phase p.at.register (command_of x)) (frame_run p.at t x n turn over whole same)) made);
+      went = went_on k p.at (advance p.at step) s t (drop n t) a b z p.went (went_step p.at step t (drop n t) seen1 b z (leads_step p.at step t (drop n t) (step_proceeds p.at.setting p.at.phase p.at.register (command_of x)) (frame_run p.at t x n turn over whole same)) made);
       now = made.now;
     }
 
 pub frame_fails : (k : Course) (s t x : List ℕ) (n : ℕ) (seen0 : Seen) (a b z : Scene) (f : RunFault) (p : Comes k s t seen0 a b) → has_turn p.at.phase ≡ false → is_over p.at.phase ≡ false → front 100003 t ≡ Whole n → command_in n t ≡ x → StepFails p.at (step_on p.at.setting p.at.phase p.at.register (command_of x)) b z f → Fails k s a z f
 frame_fails k s t x n seen0 a b z f p turn over whole same h =
     let step = step_on p.at.setting p.at.phase p.at.register (command_of x) in
-    fails_later k p.at s t a b z f p.went (fails_step p.at step t b z f (step_allowed p.at.setting p.at.phase p.at.register (command_of x)) (reaches_step p.at step t (drop n t) (frame_run p.at t x n turn over whole same)) h)
+    fails_later k p.at s t a b z f p.went (fails_step p.at step t b z f (step_proceeds p.at.setting p.at.phase p.at.register (command_of x) p.now.suits) (reaches_step p.at step t (drop n t) (frame_run p.at t x n turn over whole same)) h)
 
 over_after : (c : Course) (reason : SessionReason) → Some (Own reason) ≡ ending_of (advance c (fails reason)).phase
 unfolding advance
@@ -71,7 +71,7 @@ pub bad_on : (k : Course) (s t : List ℕ) (x : FrameFault) (seen0 seen1 : Seen)
 bad_on k s t x seen0 seen1 a b z p turn over bad made = record {
   come = record {
     at = advance p.at (fails ProtocolViolation);
-    went = went_on k p.at (advance p.at (fails ProtocolViolation)) s t t a b z p.went (went_step p.at (fails ProtocolViolation) t t seen1 b z (leads_step p.at (fails ProtocolViolation) t t refl (leads_bad p.at t x turn over bad)) made);
+    went = went_on k p.at (advance p.at (fails ProtocolViolation)) s t t a b z p.went (went_step p.at (fails ProtocolViolation) t t seen1 b z (leads_step p.at (fails ProtocolViolation) t t (fails_proceed p.at.phase p.at.register ProtocolViolation) (leads_bad p.at t x turn over bad)) made);
     now = made.now;
   };
   ends = over_after p.at ProtocolViolation;
@@ -79,7 +79,7 @@ bad_on k s t x seen0 seen1 a b z p turn over bad made = record {
 
 pub bad_fails : (k : Course) (s t : List ℕ) (x : FrameFault) (seen0 : Seen) (a b z : Scene) (f : RunFault) (p : Comes k s t seen0 a b) → has_turn p.at.phase ≡ false → is_over p.at.phase ≡ false → front 100003 t ≡ Bad x → StepFails p.at (fails ProtocolViolation) b z f → Fails k s a z f
 bad_fails k s t x seen0 a b z f p turn over bad h =
-    fails_later k p.at s t a b z f p.went (fails_step p.at (fails ProtocolViolation) t b z f refl (reaches_step p.at (fails ProtocolViolation) t t (leads_bad p.at t x turn over bad)) h)
+    fails_later k p.at s t a b z f p.went (fails_step p.at (fails ProtocolViolation) t b z f (fails_proceed p.at.phase p.at.register ProtocolViolation p.now.suits) (reaches_step p.at (fails ProtocolViolation) t t (leads_bad p.at t x turn over bad)) h)
 
 -- what `next` showed
 

@@ -4,6 +4,7 @@ use Rattle.std.proofs.lemmas.List.{append-nil, length-take-le}
 use Rattle.std.proofs.lemmas.Bool.{false≢true}
 use Rattle.std.specs.Result.{OnOk}
 use Rattle.std.specs.Io.KnownBytes.{Consumes}
+use Rattle.oftp_session.specs.Phases.{is_over}
 use Rattle.oftp_wire.specs.Stream.{Stream}
 use Rattle.oftp_session.specs.declared.session.Ending.{Ending}
 use Rattle.oftp_session.specs.Settings.{Setting}
@@ -14,7 +15,6 @@ use Rattle.oftp_engine.specs.Runs.{Course, started, run, is_stopped}
 use Rattle.oftp_engine.specs.Serving.{Leads, Scene, Comes, IsOver, IsWaiting, IsShort}
 use Rattle.oftp_engine.proofs.Pumping.{IsPumping}
 use Rattle.oftp_engine.specs.Served.{Gave, IsNeeded}
-use Rattle.oftp_session.specs.Steps.{is_over}
 use Rattle.oftp_engine.proofs.Ending.{whole_waits}
 use Rattle.oftp_engine.proofs.Bytes.{consumes_on, keeps_consumes}
 use Rattle.oftp_engine.proofs.Courses.{grows_none}

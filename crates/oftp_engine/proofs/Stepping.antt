@@ -8,13 +8,14 @@ use Rattle.oftp_session.specs.Phases.{frame_of}
 use Rattle.oftp_session.specs.Phases.{esid_of}
 use Rattle.oftp_register.specs.declared.change.Change.{Change}
 use Rattle.oftp_register.specs.Register.{Register}
+use Rattle.oftp_register.specs.Soundness.{IsSound}
 use Rattle.std.specs.Result.{result_unwrap_or}
 use Rattle.oftp_register.specs.Offices.{View, Only, WithOrWithout}
 use Rattle.oftp_session.specs.declared.session.Out.{Out}
 use Rattle.oftp_session.specs.declared.session.SessionFault.{SessionFault}
 use Rattle.oftp_session.specs.declared.session.SessionFault.TheVariants as session
 use Rattle.oftp_session.specs.Phases.{Step, EndedHere, fails, register_after}
-use Rattle.oftp_session.specs.Steps.{Holds}
+use Rattle.oftp_session.specs.Steps.{Suits}
 use Rattle.oftp_session.specs.Settings.{Setting}
 use Rattle.oftp_session.specs.Calls.{Makes, IsMade, IsBefore, IsAfter, IsBroken, IsUndone, Does, DoesNot, Seen, Stands, said as said_of}
 use Rattle.oftp_engine.proofs.Bytes.{appends_none}
@@ -23,7 +24,7 @@ use Rattle.oftp_engine.specs.declared.serving.RunFault.{RunFault}
 use Rattle.oftp_engine.specs.declared.serving.RunFault.TheVariants as fault
 use Rattle.oftp_engine.specs.Ports.{Sent}
 use Rattle.oftp_engine.specs.Runs.{Course, advance}
-use Rattle.oftp_engine.specs.Serving.{LastWords, last_frame, NotMade, NoMemory, Stepped, StepFails, Scene, scene, Took, IsAt, StaysBefore, StaysAfter}
+use Rattle.oftp_engine.specs.Serving.{BrokeOff, IsOwn, LastWords, last_frame, run_fault, NotMade, NoMemory, Stepped, StepFails, Scene, scene, Took, IsAt, StaysBefore, StaysAfter}
 
 pub last_from : {W : Type 0} (contents : W → Option (List ℕ)) (a d : Port W) (said : List ℕ) (all : Bool) → said ≡ last_frame → Sent contents a d said all → LastWords contents a d
 last_from contents a d said all e s = (all, subst (λ (x : List ℕ). Sent contents a d x all) e s)
@@ -43,19 +44,19 @@ made_register (Some k) r new h = sym (ap (λ (x : Result Register Cause). result
 
 -- a call that did its step, and the write of what it said
 pub stepped_ok : {T W : Type 0} (contents : W → Option (List ℕ)) (a d : Port W) (x y : View) (c : Course) (step : Step) (seen : Seen) (said : List ℕ) (result : Result T RunFault) →
-    seen.setting ≡ c.setting → IsMade step.change step.output x y said → x.register ≡ c.register → Holds step.phase (register_after c.register step.change) → Stands step.phase seen → Sent contents a d said (is_ok result) → IfErr result (λ f. f ≡ fault.Write) →
+    seen.setting ≡ c.setting → IsMade step.change step.output x y said → x.register ≡ c.register → Suits step.phase (register_after c.register step.change) → Stands step.phase seen → Sent contents a d said (is_ok result) → IfErr result (λ f. f ≡ fault.Write) →
     Stepped c step seen (scene contents x a) (scene contents y d) result
 unfolding advance
-stepped_ok contents a d x y c step seen said (Ok t) setting made same holds stands sent err =
+stepped_ok contents a d x y c step seen said (Ok t) setting made same suits stands sent err =
     let makes : Makes step.change c.register y.register = subst (λ (r : Register). Makes step.change r y.register) same made.register in
     record {
-      now = record { setting = setting; stands = stands; register = made_register step.change c.register y.register makes; holds = holds };
+      now = record { setting = setting; stands = stands; register = made_register step.change c.register y.register makes; suits = suits };
       took = subst (Took (scene contents x a) (scene contents y d)) made.said (record { contents = sent.wrote.contents; taken = sent.wrote.moved });
       stands = λ _. made.stands;
       faults = made.faults;
       told = sent.faults;
     }
-stepped_ok contents a d x y c step seen said (Err f) setting made same holds stands sent err =
+stepped_ok contents a d x y c step seen said (Err f) setting made same suits stands sent err =
     let makes : Makes step.change c.register y.register = subst (λ (r : Register). Makes step.change r y.register) same made.register in
     let old = scene contents x a in
     let new = scene contents y d in
@@ -71,17 +72,17 @@ stepped_ok contents a d x y c step seen said (Err f) setting made same holds sta
 
 -- an ESID of the engine's own, which leaves the office alone
 pub stepped_refuse : {T W : Type 0} (contents : W → Option (List ℕ)) (a d : Port W) (x : View) (c : Course) (reason : SessionReason) (seen : Seen) (result : Result T RunFault) →
-    seen.setting ≡ c.setting → x.register ≡ c.register → OnOk result (Stands (EndedHere reason) seen) → Sent contents a d (frame_of (esid_of reason)) (is_ok result) → IfErr result (λ f. f ≡ fault.Write) →
+    seen.setting ≡ c.setting → x.register ≡ c.register → IsSound c.register → OnOk result (Stands (EndedHere reason) seen) → Sent contents a d (frame_of (esid_of reason)) (is_ok result) → IfErr result (λ f. f ≡ fault.Write) →
     Stepped c (fails reason) seen (scene contents x a) (scene contents x d) result
 unfolding advance
-stepped_refuse contents a d x c reason seen (Ok t) setting same stands sent err = record {
-  now = record { setting = setting; stands = stands; register = same; holds = tt };
+stepped_refuse contents a d x c reason seen (Ok t) setting same sound stands sent err = record {
+  now = record { setting = setting; stands = stands; register = same; suits = record { sound = sound; holds = tt } };
   took = record { contents = sent.wrote.contents; taken = sent.wrote.moved };
   stands = λ h. h;
   faults = refl;
   told = sent.faults;
 }
-stepped_refuse contents a d x c reason seen (Err f) setting same stands sent err =
+stepped_refuse contents a d x c reason seen (Err f) setting same sound stands sent err =
     let old = scene contents x a in
     let new = scene contents x d in
     subst (StepFails c (fails reason) old new) (sym err) (record {
@@ -158,19 +159,24 @@ module _ {W : Type 0} (contents : W → Option (List ℕ)) (a d : Port W) (x y :
 
   -- the step is made
   pub called_ok : {T : Type 0} (next : Seen) (out : Out) (result : Result T RunFault) →
-      next.setting ≡ seen.setting → Does (step seen.setting x.register) x y (Ok (said_of out)) → Holds (step c.setting c.register).phase (register_after c.register (step c.setting c.register).change) →
+      next.setting ≡ seen.setting → Does (step seen.setting x.register) x y (Ok (said_of out)) → Suits (step c.setting c.register).phase (register_after c.register (step c.setting c.register).change) →
       Stands (step seen.setting x.register).phase next → Sent contents a d (said_of out) (is_ok result) → IfErr result (λ f. f ≡ fault.Write) →
       Stepped c (step c.setting c.register) next (scene contents x a) (scene contents y d) result
-  called_ok next out result setting made holds stands sent err =
+  called_ok next out result setting made suits stands sent err =
       stepped_ok contents a d x y c (step c.setting c.register) next (said_of out) result (setting ∙ at.setting)
-      (here (λ (s : Step). IsMade s.change s.output x y (said_of out)) made) at.register holds (here (λ (s : Step). Stands s.phase next) stands) sent err
+      (here (λ (s : Step). IsMade s.change s.output x y (said_of out)) made) at.register suits (here (λ (s : Step). Stands s.phase next) stands) sent err
 
-  -- the office told a fault
-  pub called_office : DoesNot (step seen.setting x.register).change x y session.Office → LastWords contents a d →
-      NotMade c (step c.setting c.register) (scene contents x a) (scene contents y d)
-  called_office broken words = stepped_office contents a d x y c (step c.setting c.register) (here (λ (s : Step). IsBroken s.change x y) broken) at.register words
+  -- it isn't made
+  pub called_err : (f : SessionFault) → DoesNot (step seen.setting x.register).change x y f → BrokeOff contents a d f
+      → StepFails c (step c.setting c.register) (scene contents x a) (scene contents y d) (run_fault f)
+  called_err session.Ended h broke = absurd h
+  called_err session.Office h broke = stepped_office contents a d x y c (step c.setting c.register) (here (λ (s : Step). IsBroken s.change x y) h) at.register broke
+  called_err session.Memory h broke =
+      subst (λ (p : Port W). NoMemory c (step c.setting c.register) (scene contents x a) (scene contents y p)) (sym broke)
+      (stepped_memory contents a x y c (step c.setting c.register) (here (λ (s : Step). IsUndone s.change x y) h) at.register)
 
-  -- memory ran out
-  pub called_memory : DoesNot (step seen.setting x.register).change x y session.Memory →
-      NoMemory c (step c.setting c.register) (scene contents x a) (scene contents y a)
-  called_memory undone = stepped_memory contents a x y c (step c.setting c.register) (here (λ (s : Step). IsUndone s.change x y) undone) at.register
+-- a fault of the session's is none of the reader's
+pub run_fault_own : (f : SessionFault) → IsOwn (run_fault f)
+run_fault_own session.Ended = tt
+run_fault_own session.Office = tt
+run_fault_own session.Memory = tt

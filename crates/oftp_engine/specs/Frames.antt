@@ -2,8 +2,7 @@
 use Rattle.std.specs.Prelude.{ℕ, ◌||◌, if◌then◌else◌, List, [], ◌∷◌, Option, None, Some}
 use Rattle.oftp_wire.specs.declared.frame_fault.FrameFault.{FrameFault}
 use Rattle.oftp_wire.specs.declared.reason.SessionReason.TheVariants.{ProtocolViolation}
-use Rattle.oftp_session.specs.Phases.{fails}
-use Rattle.oftp_session.specs.Steps.{is_over}
+use Rattle.oftp_session.specs.Phases.{is_over, fails}
 use Rattle.oftp_engine.specs.Runs.{Course, advance, came_in, is_stopped, settled}
 
 -- behind the last command: a fault of the stream ends the session

@@ -11,9 +11,8 @@ use Rattle.oftp_wire.specs.declared.reason.SessionReason.TheVariants.{CommandNot
 use Rattle.oftp_register.specs.declared.change.Change.{Change}
 use Rattle.oftp_register.specs.Register.{Register}
 use Rattle.oftp_session.specs.Settings.{Setting}
-use Rattle.oftp_session.specs.Phases.{Phase, Step, register_after, fails}
-use Rattle.oftp_session.specs.Steps.{has_turn, turned, turns_due, came, is_over, opening}
-use Rattle.oftp_session.specs.Calls.{ending_of}
+use Rattle.oftp_session.specs.Phases.{Phase, Step, ending_of, fails, frame_of, is_over, register_after}
+use Rattle.oftp_session.specs.Steps.{has_turn, turned, turns_due, came, opening}
 use Rattle.oftp_session.specs.declared.session.Ending.{Ending}
 use Rattle.oftp_session.specs.declared.session.Ending.TheVariants as ended
 use Rattle.oftp_engine.specs.declared.serving.End.{End}
@@ -43,9 +42,10 @@ abbrev pub with_change : List Change → Option Change → List Change
 with_change changes None = changes
 with_change changes (Some change) = changes ++ change ∷ []
 
-abbrev pub with_output : List Output → List ℕ → ℕ → List Output
-with_output outputs [] after = outputs
-with_output outputs (x ∷ xs) after = outputs ++ record { octets = x ∷ xs; after = after } ∷ []
+-- a command that is sent goes out as a frame
+abbrev pub with_output : List Output → Option Command → ℕ → List Output
+with_output outputs None after = outputs
+with_output outputs (Some command) after = outputs ++ record { octets = frame_of command; after = after } ∷ []
 
 -- the course after a step: its change first, and then its output
 unfoldable pub advance : Course → Step → Course

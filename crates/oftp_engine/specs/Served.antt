@@ -1,12 +1,12 @@
 -- What a served session leaves, and what it has out: the whole run over the octets that the reader gave.
 use Rattle.std.specs.Prelude.{◌≡◌, false, ℕ, ◌+◌, ◌-◌, ◌<◌, ◌≤◌, ◌⊎◌, ⊤, List, ◌++◌, length, take, Option, None, Some, Result, Ok, Err}
 use Rattle.std.specs.Io.KnownBytes.{Consumes}
+use Rattle.oftp_session.specs.Phases.{is_over}
 use Rattle.oftp_register.specs.Register.{Register}
 use Rattle.oftp_register.specs.Changes.{apply_all}
 use Rattle.oftp_register.specs.Offices.{View, Only, next_count}
 use Rattle.oftp_engine.specs.declared.serving.End.{End}
 use Rattle.oftp_session.specs.Settings.{Setting}
-use Rattle.oftp_session.specs.Steps.{is_over}
 use Rattle.oftp_partners.specs.Book.{BookData}
 use Rattle.oftp_partners.specs.declared.partner.Partner.{Partner as Entry}
 use Rattle.oftp_engine.specs.declared.serving.Role.{Role}

@@ -8,10 +8,12 @@ use Rattle.oftp_register.specs.declared.change.Change.{Change}
 use Rattle.oftp_register.specs.Register.{Register}
 use Rattle.oftp_register.specs.Changes.{apply_all}
 use Rattle.oftp_register.specs.Offices.{View, Only, WithOrWithout, next_count}
-use Rattle.oftp_session.specs.Phases.{Step, frame_of, esid_of}
-use Rattle.oftp_session.specs.Steps.{has_turn, is_over, Holds}
-use Rattle.oftp_session.specs.Calls.{Allows, Seen, Stands, ending_of}
+use Rattle.oftp_session.specs.Phases.{is_over, ending_of, Step, framed, frame_of, esid_of}
+use Rattle.oftp_session.specs.Steps.{has_turn, Suits}
+use Rattle.oftp_session.specs.Calls.{Proceeds, Seen, Stands}
 use Rattle.oftp_session.specs.declared.session.Ending.{Ending}
+use Rattle.oftp_session.specs.declared.session.SessionFault.{SessionFault}
+use Rattle.oftp_session.specs.declared.session.SessionFault.TheVariants as session
 use Rattle.oftp_engine.specs.Runs.{Course, Output, run, is_stopped, advance, octets_of}
 use Rattle.oftp_engine.specs.declared.port.Port.{Port}
 use Rattle.oftp_engine.specs.Ports.{Sent}
@@ -23,10 +25,11 @@ abbrev pub Counted : ℕ → List Output → Type 0
 Counted most [] = Unit {0}
 Counted most (o ∷ outputs) = (o.after ≤ most) × Counted most outputs
 
--- the register is the one after the changes, from r on, all of them made
+-- the register is the one after the changes, from r on, all of them made, and suits the phase
 pub record Sound (r : Register) (c : Course) : Type 0 where
   pub replay : apply_all r c.changes ≡ Ok c.register
   pub counted : Counted (length c.changes) c.outputs
+  pub suits : Suits c.phase c.register
 
 -- what is said last after a fault of the office
 abbrev pub last_frame : List ℕ
@@ -72,7 +75,7 @@ pub record IsAt (c : Course) (seen : Seen) (scene : Scene) : Type 0 where
   pub setting : seen.setting ≡ c.setting
   pub stands : Stands c.phase seen
   pub register : scene.office.register ≡ c.register
-  pub holds : Holds c.phase c.register
+  pub suits : Suits c.phase c.register
 
 -- the engine came from c with the octets s to d with t, and what went out between is out
 pub record Went (c : Course) (s : List ℕ) (d : Course) (t : List ℕ) (old new : Scene) : Type 0 where
@@ -90,10 +93,10 @@ pub record BreaksOff (c : Course) (s : List ℕ) (old new : Scene) : Type 0 wher
   pub step : Step
   pub count : ℕ
   pub reaches : Reaches c s at (advance at step)
-  pub short : count < length step.output
+  pub short : count < length (framed step.output)
   pub between : List ℕ
   pub outputs : octets_of at.outputs ≡ octets_of c.outputs ++ between
-  pub took : Took old new (between ++ take count step.output)
+  pub took : Took old new (between ++ take count (framed step.output))
   pub register : new.office.register ≡ (advance at step).register
   pub stands : old.office.stands → new.office.stands
   pub faults : new.office.told ≡ old.office.told
@@ -119,7 +122,7 @@ pub record OfficeFails (c : Course) (s : List ℕ) (old new : Scene) : Type 0 wh
   pub outputs : octets_of at.outputs ≡ octets_of c.outputs ++ between
   pub took : Took old new (between ++ take count last_frame)
   pub said : IsSaid old new count
-  pub allows : Allows at.register step.change
+  pub proceeds : Proceeds at.register step
   pub cases : StaysBefore at step new.office ⊎ StaysAfter at step new.office
   pub faults : new.office.told ≡ next_count old.office.told
 
@@ -147,7 +150,7 @@ Fails c s old new fault.Memory = IsShort c s old new
 -- one step at a course: it is made and its output is out
 pub record Made (c : Course) (step : Step) (seen : Seen) (old new : Scene) : Type 0 where
   pub now : IsAt (advance c step) seen new
-  pub took : Took old new step.output
+  pub took : Took old new (framed step.output)
   pub stands : old.office.stands → new.office.stands
   pub faults : new.office.told ≡ old.office.told
   pub told : new.told ≡ old.told
@@ -155,8 +158,8 @@ pub record Made (c : Course) (step : Step) (seen : Seen) (old new : Scene) : Typ
 -- one step at a course: it is made, and the writer told a fault within its output
 pub record MadePart (c : Course) (step : Step) (old new : Scene) : Type 0 where
   pub count : ℕ
-  pub short : count < length step.output
-  pub took : Took old new (take count step.output)
+  pub short : count < length (framed step.output)
+  pub took : Took old new (take count (framed step.output))
   pub register : new.office.register ≡ (advance c step).register
   pub stands : old.office.stands → new.office.stands
   pub faults : new.office.told ≡ old.office.told
@@ -238,3 +241,15 @@ IsOwn fault.Read = ⊥
 IsOwn fault.Write = ⊤
 IsOwn fault.Office = ⊤
 IsOwn fault.Memory = ⊤
+
+-- the fault that a session's fault is to its caller
+abbrev pub run_fault : SessionFault → RunFault
+run_fault session.Ended = fault.Memory
+run_fault session.Office = fault.Office
+run_fault session.Memory = fault.Memory
+
+-- after a session's fault the last words are out where the office told it, and else nothing
+abbrev pub BrokeOff : {W : Type 0} → (W → Option (List ℕ)) → Port W → Port W → SessionFault → Type 0
+BrokeOff contents old new session.Ended = new ≡ old
+BrokeOff contents old new session.Office = LastWords contents old new
+BrokeOff contents old new session.Memory = new ≡ old

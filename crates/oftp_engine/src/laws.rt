@@ -8,6 +8,7 @@ ghost use Rattle.oftp_engine.specs.Runs.{Course, run, started};
 ghost use Rattle.oftp_session.specs.Settings.{Setting};
 ghost use Rattle.oftp_register.specs.Register.{Register};
 ghost use Rattle.oftp_register.specs.Changes.{apply_all};
+ghost use Rattle.oftp_register.specs.Soundness.{IsSound};
 
 /// A run over the octets of a stream is the fold over the commands of its frames and the fault behind them.
 pub fn folds_over_frames()
@@ -16,8 +17,8 @@ pub fn folds_over_frames()
         → run limit stream c ≡ over_commands limit commands fault c }
 {}
 
-/// The changes of a run are all made, one after another.
+/// The changes of a run from a sound register are all made, one after another.
 pub fn changes_are_made()
-    ensures { (limit : Option ℕ) (setting : Setting) (given : List ℕ) (r : Register)
+    ensures { (limit : Option ℕ) (setting : Setting) (given : List ℕ) (r : Register) → IsSound r
         → apply_all r (run limit given (started setting r)).changes ≡ Ok (run limit given (started setting r)).register }
 {}

@@ -3,14 +3,14 @@
 ghost use Rattle.std.specs.Prelude.{◌≡◌, ◌<◌, ◌+◌, ℕ, true, false, List, None, OnOk, IfErr, is_ok};
 ghost use Rattle.oftp_wire.specs.Kinds.{command_of};
 ghost use Rattle.oftp_register.specs.Plain.{view_of};
-ghost use Rattle.oftp_session.specs.Phases.{Phase, frame_of, esid_of};
-ghost use Rattle.oftp_session.specs.Steps.{came, has_turn, is_over, opening, turned};
-ghost use Rattle.oftp_session.specs.Calls.{Stands, is_due, said, turns_left};
-ghost use Rattle.oftp_session.specs.declared.session.State.TheVariants as state;
+ghost use Rattle.oftp_session.specs.Phases.{is_over, Phase, frame_of, esid_of};
+ghost use Rattle.oftp_session.specs.Steps.{came, has_turn, opening, turned};
+ghost use Rattle.oftp_session.specs.Calls.{Stands, said};
+ghost use Rattle.oftp_session.specs.Standings.{Broken, is_due, turns_left};
 ghost use Rattle.oftp_engine.specs.Ports.{Sent, Puts};
 ghost use Rattle.oftp_engine.specs.Runs.{Course, ended_as, step_on};
 ghost use Rattle.oftp_engine.specs.Served.{Gave, InputEnded, ReaderTold, Serves, setting_of, WriterErr, WriterTold};
-ghost use Rattle.oftp_engine.specs.Serving.{IsAt, IsOwn, LastWords, Pumped, Stepped, TurnsTaken, scene};
+ghost use Rattle.oftp_engine.specs.Serving.{BrokeOff, IsAt, IsOwn, LastWords, Pumped, Stepped, TurnsTaken, run_fault, scene};
 
 use crate::port::{Port, read, send};
 use oftp_partners::{Book, Partner};
@@ -115,7 +115,7 @@ fn refuse<W: Write>(
 // After a fault of the office, the session's last words. A fault of this write isn't told.
 #[tactic(auto, using(crate::proofs::Puts::puts_none, crate::proofs::Puts::puts_on, crate::proofs::Puts::puts_sent))]
 fn last_words<W: Write>(session: &mut Session<'_>, port: &mut Port<W>)
-    ensures words { session.old.state ≡ state.Broken → LastWords W.contents port.old port.new }
+    ensures words { session.old.standing ≡ Broken → LastWords W.contents port.old port.new }
     ensures out { Puts W.contents port.old port.new }
     ensures told { WriterErr port.old port.new RunFault.Office }
 {
@@ -124,8 +124,30 @@ fn last_words<W: Write>(session: &mut Session<'_>, port: &mut Port<W>)
     }
 }
 
-// Makes the own turn that is due, and writes it.
+// After a session's fault: its last words, where the office told it.
 #[tactic(auto, using(crate::proofs::Puts::puts_none, crate::proofs::Puts::puts_on, crate::proofs::Puts::puts_sent))]
+fn break_off<W: Write>(
+    session: &mut Session<'_>,
+    port: &mut Port<W>,
+    fault: SessionFault,
+) -> RunFault
+    ensures fault { result ≡ run_fault fault }
+    ensures broke { session.old.standing ≡ Broken → BrokeOff W.contents port.old port.new fault }
+    ensures out { Puts W.contents port.old port.new }
+    ensures told { WriterErr port.old port.new result }
+{
+    match fault {
+        SessionFault::Office => {
+            last_words(session, port);
+            RunFault::Office
+        }
+        // `Ended` never comes: a session that has ended isn't asked.
+        SessionFault::Memory | SessionFault::Ended => RunFault::Memory,
+    }
+}
+
+// Makes the own turn that is due, and writes it.
+#[tactic(auto, using(crate::proofs::Puts::puts_none, crate::proofs::Puts::puts_on, crate::proofs::Puts::puts_sent, crate::proofs::Stepping::run_fault_own))]
 fn take_turn<O: Office, W: Write>(
     session: &mut Session<'_>,
     office: &mut O,
@@ -133,29 +155,23 @@ fn take_turn<O: Office, W: Write>(
 ) -> Result<(), RunFault>
     ensures clean { (O.view office.new).clean → (O.view office.old).clean }
     ensures own { IfErr result IsOwn }
-    ensures fewer { is_due session.old.state ≡ true → OnOk result (turns_left session.new.state < turns_left session.old.state) }
+    ensures fewer { is_due session.old.standing ≡ true
+        → OnOk result (turns_left session.new.standing < turns_left session.old.standing) }
     ensures steps { (O.view office.new).clean → (O.view office.old).stands → (c : Course) → has_turn c.phase ≡ true
         → IsAt c session.old (scene W.contents (O.view office.old) writer.old)
         → Stepped c (turned c.setting c.phase c.register) session.new
-        (scene W.contents (O.view office.old) writer.old)
-        (scene W.contents (O.view office.new) writer.new) result }
+        (scene W.contents (O.view office.old) writer.old) (scene W.contents (O.view office.new) writer.new) result }
     ensures out { Puts W.contents writer.old writer.new }
     ensures told { WriterTold writer.old writer.new result }
 {
     match session.turn(office) {
         Ok(out) => write_out(writer, out),
-        Err(SessionFault::Office) => {
-            last_words(session, writer);
-            Err(RunFault::Office)
-        }
-        Err(SessionFault::Memory) => Err(RunFault::Memory),
-        // It never comes: a session that has ended isn't asked.
-        Err(SessionFault::Ended) => Err(RunFault::Memory),
+        Err(fault) => Err(break_off(session, writer, fault)),
     }
 }
 
 // Takes a command that came, and writes the answer.
-#[tactic(auto, using(crate::proofs::Puts::puts_none, crate::proofs::Puts::puts_on, crate::proofs::Puts::puts_sent))]
+#[tactic(auto, using(crate::proofs::Puts::puts_none, crate::proofs::Puts::puts_on, crate::proofs::Puts::puts_sent, crate::proofs::Stepping::run_fault_own))]
 fn obey<O: Office, W: Write>(
     session: &mut Session<'_>,
     office: &mut O,
@@ -167,20 +183,13 @@ fn obey<O: Office, W: Write>(
     ensures steps { (O.view office.new).clean → (O.view office.old).stands → (c : Course) → is_over c.phase ≡ false
         → IsAt c session.old (scene W.contents (O.view office.old) writer.old)
         → Stepped c (came c.setting c.phase c.register command.now) session.new
-        (scene W.contents (O.view office.old) writer.old)
-        (scene W.contents (O.view office.new) writer.new) result }
+        (scene W.contents (O.view office.old) writer.old) (scene W.contents (O.view office.new) writer.new) result }
     ensures out { Puts W.contents writer.old writer.new }
     ensures told { WriterTold writer.old writer.new result }
 {
     match session.on_command(office, command) {
         Ok(out) => write_out(writer, out),
-        Err(SessionFault::Office) => {
-            last_words(session, writer);
-            Err(RunFault::Office)
-        }
-        Err(SessionFault::Memory) => Err(RunFault::Memory),
-        // It never comes: a session that has ended isn't asked.
-        Err(SessionFault::Ended) => Err(RunFault::Memory),
+        Err(fault) => Err(break_off(session, writer, fault)),
     }
 }
 

@@ -1,7 +1,8 @@
 use Rattle.oftp_session.specs.Calls.{said}
-use Rattle.std.proofs.Common.{is_ok}
+use Rattle.std.proofs.Common.{ap, is_ok}
+use Rattle.oftp_session.specs.Standings.{ended_as}
 use Rattle.oftp_engine.proofs.Stepping.{last_from, ok_same}
 use Rattle.oftp_engine.proofs.serving.last_words.Goals as goal
 
 pub returns-in-Ok-clause-words : goal.returns-in-Ok-clause-words
-returns-in-Ok-clause-words g c = λ broken. last_from g.W.Write.contents c.args.port.now c.write_out.new.port (said c.in-Ok.out) (is_ok c.write_out.result) (ok_same _ _ (c.in-Ok.ensures.broken broken)) c.write_out.ensures.sent
+returns-in-Ok-clause-words g c = λ broken. last_from g.W.Write.contents c.args.port.now c.write_out.new.port (said c.in-Ok.out) (is_ok c.write_out.result) (ok_same _ _ (c.in-Ok.ensures.open (ap ended_as broken))) c.write_out.ensures.sent

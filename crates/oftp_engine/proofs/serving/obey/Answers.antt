@@ -1,45 +1,34 @@
-use Rattle.std.proofs.Common.{subst, sym, Result}
+use Rattle.std.proofs.Common.{◌≡◌, Result, subst, sym}
+use Rattle.std.specs.Result.{OnErr, OnOk}
 use Rattle.oftp_session.specs.declared.session.Out.{Out}
 use Rattle.oftp_session.specs.declared.session.SessionFault.{SessionFault}
 use Rattle.oftp_session.specs.Steps.{came, Holds}
-use Rattle.oftp_session.proofs.Phases.{holds_came}
-use Rattle.oftp_session.specs.Calls.{DoesNot, Goes}
-use Rattle.oftp_engine.proofs.Stepping.{called_ok, called_office, called_memory}
+use Rattle.oftp_session.proofs.Phases.{stands_open}
+use Rattle.oftp_session.proofs.Proceeding.{came_proceeds}
+use Rattle.oftp_session.specs.Calls.{Stands}
+use Rattle.oftp_session.specs.Standings.{Broken}
+use Rattle.oftp_engine.specs.declared.serving.RunFault.{RunFault}
+use Rattle.oftp_engine.specs.Serving.{StepFails, scene}
+use Rattle.oftp_engine.proofs.Stepping.{called_ok, called_err}
 use Rattle.oftp_engine.proofs.serving.obey.Goals as goal
 
 pub returns-in-Ok-clause-steps : goal.returns-in-Ok-clause-steps
 returns-in-Ok-clause-steps g c = λ clean stood k live at.
-    let before = g.O.Office.view c.args.office.now in
-    let after = g.O.Office.view c.on_command.new.office in
-    let held = subst (Holds k.phase) (sym at.register) at.holds in
-    let next = c.on_command.follows.lender-at-none in
+    let r = (g.O.Office.view c.args.office.now).register in
+    let held = subst (Holds k.phase) (sym at.register) at.suits.holds in
     let done = c.on_command.follows.holds-at-none in
-    let stands = subst (λ (x : Result Out SessionFault). Goes (came c.args.session.now.setting k.phase (g.O.Office.view c.args.office.now).register c.args.command.now).phase x next) c.in-Ok.is (done.1 k.phase held live at.stands) in
-    called_ok g.W.Write.contents c.args.writer.now c.write_out.new.port before after k c.args.session.now (λ setting r. came setting k.phase r c.args.command.now) at next c.in-Ok.out c.write_out.result
-    done.0 (c.in-Ok.ensures.does clean stood k.phase held live at.stands) (holds_came k.setting k.phase k.register c.args.command.now at.holds) stands c.write_out.ensures.sent c.write_out.ensures.err
+    let stands = subst (λ (x : Result Out SessionFault). OnOk x (Stands (came c.args.session.now.setting k.phase r c.args.command.now).phase c.on_command.follows.lender-at-none)) c.in-Ok.is
+    (done.1 clean stood k.phase held live at.stands) in
+    called_ok g.W.Write.contents c.args.writer.now c.write_out.new.port _ _ k c.args.session.now (λ setting r. came setting k.phase r c.args.command.now) at _ c.in-Ok.out c.write_out.result
+    done.0 (c.in-Ok.ensures.does clean stood k.phase held live at.stands) (came_proceeds k.setting k.phase k.register c.args.command.now at.suits).suits stands c.write_out.ensures.sent c.write_out.ensures.err
 
-pub returns-in-Err-Office-clause-steps : goal.returns-in-Err-Office-clause-steps
-returns-in-Err-Office-clause-steps g c = λ clean stood k live at.
-    let before = g.O.Office.view c.args.office.now in
-    let after = g.O.Office.view c.on_command.new.office in
-    let held = subst (Holds k.phase) (sym at.register) at.holds in
-    let next = c.on_command.follows.lender-at-none in
+pub returns-in-Err-clause-steps : goal.returns-in-Err-clause-steps
+returns-in-Err-clause-steps g c = λ clean stood k live at.
+    let old = scene g.W.Write.contents (g.O.Office.view c.args.office.now) c.args.writer.now in
+    let new = scene g.W.Write.contents (g.O.Office.view c.on_command.new.office) c.break_off.new.port in
+    let held = subst (Holds k.phase) (sym at.register) at.suits.holds in
     let done = c.on_command.follows.holds-at-none in
-    let broken = subst (λ (x : Result Out SessionFault). Goes (came c.args.session.now.setting k.phase (g.O.Office.view c.args.office.now).register c.args.command.now).phase x next) c.in-Err-Office.is (done.1 k.phase held live at.stands) in
-    called_office g.W.Write.contents c.args.writer.now c.last_words.new.port before after k c.args.session.now (λ setting r. came setting k.phase r c.args.command.now) at
-    (subst (DoesNot (came c.args.session.now.setting k.phase (g.O.Office.view c.args.office.now).register c.args.command.now).change before after) c.in-Err-Office.field-0-is (c.in-Err-Office.ensures.does clean stood k.phase held live at.stands)) (c.last_words.ensures.words broken)
-
-pub returns-in-Err-Memory-clause-steps : goal.returns-in-Err-Memory-clause-steps
-returns-in-Err-Memory-clause-steps g c = λ clean stood k live at.
-    let before = g.O.Office.view c.args.office.now in
-    let after = g.O.Office.view c.on_command.new.office in
-    let held = subst (Holds k.phase) (sym at.register) at.holds in
-    called_memory g.W.Write.contents c.args.writer.now c.args.writer.now before after k c.args.session.now (λ setting r. came setting k.phase r c.args.command.now) at
-    (subst (DoesNot (came c.args.session.now.setting k.phase (g.O.Office.view c.args.office.now).register c.args.command.now).change before after) c.in-Err-Memory.field-0-is (c.in-Err-Memory.ensures.does clean stood k.phase held live at.stands))
-
-pub returns-in-Err-Ended-clause-steps : goal.returns-in-Err-Ended-clause-steps
-returns-in-Err-Ended-clause-steps g c = λ clean stood k live at.
-    let before = g.O.Office.view c.args.office.now in
-    let after = g.O.Office.view c.on_command.new.office in
-    let held = subst (Holds k.phase) (sym at.register) at.holds in
-    absurd (subst (DoesNot (came c.args.session.now.setting k.phase (g.O.Office.view c.args.office.now).register c.args.command.now).change before after) c.in-Err-Ended.field-0-is (c.in-Err-Ended.ensures.does clean stood k.phase held live at.stands))
+    let broken = subst (λ (x : Result Out SessionFault). OnErr x (c.on_command.follows.lender-at-none.standing ≡ Broken)) c.in-Err.is (done.2 (stands_open k.phase c.args.session.now.standing at.stands live)) in
+    subst (λ (x : RunFault). StepFails k (came k.setting k.phase k.register c.args.command.now) old new x) (sym c.break_off.ensures.fault)
+    (called_err g.W.Write.contents c.args.writer.now c.break_off.new.port _ _ k c.args.session.now (λ setting r. came setting k.phase r c.args.command.now) at c.in-Err.fault
+    (c.in-Err.ensures.does clean stood k.phase held live at.stands) (c.break_off.ensures.broke broken))

@@ -139,7 +139,7 @@ returns-in-Err-clause-steps g c = λ clean stood k lim told at.
     let h = next_err c.frames.stream c.in-Err.field-0 p.told (sym c.in-Err.ensures.value) in
     let bad = limit_front c.frames.stream (Bad c.in-Err.field-0) p.limit h.0 in
     let new = scene g.W.Write.contents (g.O.Office.view c.take_turns.new.office) c.refuse.new.port in
-    let st = stepped_refuse g.W.Write.contents c.take_turns.new.writer c.refuse.new.port (g.O.Office.view c.take_turns.new.office) q.at ProtocolViolation c.refuse.new.session c.refuse.result (c.refuse.ensures.setting ∙ q.now.setting) q.now.register (c.refuse.ensures.over q.at.phase over q.now.stands) (c.refuse.ensures.sent q.at.phase over q.now.stands) (c.refuse.ensures.err q.at.phase over q.now.stands) in
+    let st = stepped_refuse g.W.Write.contents c.take_turns.new.writer c.refuse.new.port (g.O.Office.view c.take_turns.new.office) q.at ProtocolViolation c.refuse.new.session c.refuse.result (c.refuse.ensures.setting ∙ q.now.setting) q.now.register q.now.suits.sound (c.refuse.ensures.over q.at.phase over q.now.stands) (c.refuse.ensures.sent q.at.phase over q.now.stands) (c.refuse.ensures.err q.at.phase over q.now.stands) in
     let made = ok_at q.at (fails ProtocolViolation) c.refuse.new.session mid new c.refuse.result c.in_ok-refuse-in-Err.field-0 st c.in_ok-refuse-in-Err.was in
     subst (λ (x : Stream). IsOver k s x.rest c.refuse.new.session first new (Own ProtocolViolation)) (sym (c.next.follows.holds-at-none ∙ h.1)) (bad_on k s t c.in-Err.field-0 c.take_turns.new.session c.refuse.new.session first mid new q r.done over bad made)
 
@@ -157,7 +157,7 @@ returns-in_err-refuse-in-Err-clause-steps g c = λ clean stood k lim told at.
     let h = next_err c.frames.stream c.in-Err.field-0 p.told (sym c.in-Err.ensures.value) in
     let bad = limit_front c.frames.stream (Bad c.in-Err.field-0) p.limit h.0 in
     let new = scene g.W.Write.contents (g.O.Office.view c.take_turns.new.office) c.refuse.new.port in
-    let st = stepped_refuse g.W.Write.contents c.take_turns.new.writer c.refuse.new.port (g.O.Office.view c.take_turns.new.office) q.at ProtocolViolation c.refuse.new.session c.refuse.result (c.refuse.ensures.setting ∙ q.now.setting) q.now.register (c.refuse.ensures.over q.at.phase over q.now.stands) (c.refuse.ensures.sent q.at.phase over q.now.stands) (c.refuse.ensures.err q.at.phase over q.now.stands) in
+    let st = stepped_refuse g.W.Write.contents c.take_turns.new.writer c.refuse.new.port (g.O.Office.view c.take_turns.new.office) q.at ProtocolViolation c.refuse.new.session c.refuse.result (c.refuse.ensures.setting ∙ q.now.setting) q.now.register q.now.suits.sound (c.refuse.ensures.over q.at.phase over q.now.stands) (c.refuse.ensures.sent q.at.phase over q.now.stands) (c.refuse.ensures.err q.at.phase over q.now.stands) in
     let f = c.in_err-refuse-in-Err.field-0.0 in
     let failed = err_at q.at (fails ProtocolViolation) c.refuse.new.session mid new c.refuse.result f st c.in_err-refuse-in-Err.was in
     let e = err_from_is_err_and c.from_residual-in_err-refuse-in-Err.result c.from_residual-in_err-refuse-in-Err.ensures.1 in

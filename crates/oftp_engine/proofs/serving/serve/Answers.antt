@@ -1,13 +1,13 @@
 use Rattle.std.proofs.Common.{rules, [], ◌++◌, take, refl, sym, ap, ◌∙◌, subst, Err, arith}
 use Rattle.std.proofs.lemmas.Result.{err_from_is_err_and}
 use Rattle.oftp_wire.specs.Stream.{Stream}
-use Rattle.oftp_session.specs.Steps.{opening}
-use Rattle.oftp_session.proofs.Phases.{holds_all}
+use Rattle.oftp_session.proofs.Phases.{opening_suits}
 use Rattle.oftp_engine.specs.declared.serving.RunFault.{RunFault}
 use Rattle.oftp_engine.specs.Runs.{started}
 use Rattle.oftp_engine.specs.Served.{setting_of, Serves, WriterTold}
 use Rattle.oftp_engine.specs.Serving.{scene}
 use Rattle.oftp_engine.proofs.Bytes.{consumes_none}
+use Rattle.oftp_engine.proofs.Ending.{IsLawful}
 use Rattle.oftp_engine.proofs.Progress.{went_none}
 use Rattle.oftp_engine.proofs.Pumping.{IsPumping}
 use Rattle.oftp_engine.proofs.Puts.{puts_none, puts_on, told_on}
@@ -29,7 +29,7 @@ pieces-init g c =
         gave = record { bytes = consumes_none (g.R.Read.remaining c.args.reader.now.inner) []; count = omega arith; within = omega arith; most = refl };
         faults = refl;
         pumping = λ clean stood. subst (λ (x : Stream). IsPumping k [] x c.opened-session.result first first) (sym c.new-stream.ensures) (record {
-          come = record { at = k; went = went_none k [] first; now = record { setting = c.opened-session.ensures.setting; stands = c.opened-session.ensures.stands; register = refl; holds = holds_all (opening setting.called) (g.O.Office.view c.args.office.now).register } };
+          come = record { at = k; went = went_none k [] first; now = record { setting = c.opened-session.ensures.setting; stands = c.opened-session.ensures.stands; register = refl; suits = opening_suits (g.O.Office.view c.args.office.now).register setting.called (g.met.O.Office.sound c.args.office.now clean stood) } };
           limit = refl;
           told = refl;
         });
@@ -46,9 +46,14 @@ returns-in_err-ending-clause-serves g c =
       h.given,
       h.gave,
       λ clean stood.
+          let law : IsLawful (g.O.Office.view c.args.office.now) (g.O.Office.view c.pump.new.office) = record {
+            stood = stood;
+            sound = g.met.O.Office.sound c.args.office.now (c.pieces.invariant.clean (c.pump.ensures.clean clean)) stood;
+            alone = λ fine. g.met.O.Office.alone c.pump.new.office clean fine;
+          } in
           let p = h.pumping (c.pump.ensures.clean clean) stood in
           subst (Serves (setting_of c.args.book.now c.args.role) h.given first new) (sym (e.1 ∙ ap (λ (x : RunFault). Err x) e.2))
-          (fails_over _ _ _ c.pump.new.stream _ c.pump.new.session _ _ _ p stood (λ fine. g.met.O.Office.alone c.pump.new.office clean fine) _
+          (fails_over _ _ _ c.pump.new.stream _ c.pump.new.session _ _ _ p law _
           (c.in_err-ending.ensures.steps clean (p.come.went.stands stood) p.come.at p.limit p.told p.come.now)),
     )
 
@@ -58,8 +63,13 @@ returns-in-Some-clause-serves g c =
       h.given,
       h.gave,
       λ clean stood.
+          let law : IsLawful (g.O.Office.view c.args.office.now) (g.O.Office.view c.pump.new.office) = record {
+            stood = stood;
+            sound = g.met.O.Office.sound c.args.office.now (c.pieces.invariant.clean (c.pump.ensures.clean clean)) stood;
+            alone = λ fine. g.met.O.Office.alone c.pump.new.office clean fine;
+          } in
           let p = h.pumping (c.pump.ensures.clean clean) stood in
-          served_over _ _ _ _ _ _ _ _ _ p stood (λ fine. g.met.O.Office.alone c.pump.new.office clean fine) _ _ _ (h.needed (c.pump.ensures.clean clean) stood)
+          served_over _ _ _ _ _ _ _ _ _ p law _ _ _ (h.needed (c.pump.ensures.clean clean) stood)
           (c.in_ok-ending.ensures.steps clean (p.come.went.stands stood) p.come.at p.limit p.told p.come.now) c.in-Some.is c.from.ensures,
     )
 
@@ -69,9 +79,14 @@ returns-in-None-clause-serves g c =
       h.given,
       gave_kept g.R.Read.remaining c.args.reader.now c.pieces.reader c.read.new.port h.given h.gave c.in-None.ensures,
       λ clean stood.
+          let law : IsLawful (g.O.Office.view c.args.office.now) (g.O.Office.view c.pump.new.office) = record {
+            stood = stood;
+            sound = g.met.O.Office.sound c.args.office.now (c.pieces.invariant.clean (c.pump.ensures.clean clean)) stood;
+            alone = λ fine. g.met.O.Office.alone c.pump.new.office clean fine;
+          } in
           let p = h.pumping (c.pump.ensures.clean clean) stood in
           let w = waits_on _ _ _ _ _ _ _ _ _ p _ (c.in_ok-ending.ensures.steps clean (p.come.went.stands stood) p.come.at p.limit p.told p.come.now) c.in_default.is in
-          cut_short _ _ _ _ _ _ w stood (λ fine. g.met.O.Office.alone c.pump.new.office clean fine),
+          cut_short _ _ _ _ _ _ w law,
     )
 
 pub returns-in-Some-eq0-clause-serves : goal.returns-in-Some-eq0-clause-serves
@@ -80,9 +95,14 @@ returns-in-Some-eq0-clause-serves g c =
       h.given,
       gave_zero g.R.Read.remaining c.args.reader.now c.pieces.reader c.read.new.port h.given c.read.new.piece c.in-Some-eq0.field-0 h.gave c.in-Some-eq0.ensures (search rules),
       λ clean stood.
+          let law : IsLawful (g.O.Office.view c.args.office.now) (g.O.Office.view c.pump.new.office) = record {
+            stood = stood;
+            sound = g.met.O.Office.sound c.args.office.now (c.pieces.invariant.clean (c.pump.ensures.clean clean)) stood;
+            alone = λ fine. g.met.O.Office.alone c.pump.new.office clean fine;
+          } in
           let p = h.pumping (c.pump.ensures.clean clean) stood in
           let w = waits_on _ _ _ _ _ _ _ _ _ p _ (c.in_ok-ending.ensures.steps clean (p.come.went.stands stood) p.come.at p.limit p.told p.come.now) c.in_default.is in
-          served_input _ _ _ _ _ _ w stood (λ fine. g.met.O.Office.alone c.pump.new.office clean fine) (h.needed (c.pump.ensures.clean clean) stood),
+          served_input _ _ _ _ _ _ w law (h.needed (c.pump.ensures.clean clean) stood),
     )
 
 pub returns-then-is_err-clause-serves : goal.returns-then-is_err-clause-serves
@@ -91,9 +111,14 @@ returns-then-is_err-clause-serves g c =
       h.given ++ take c.in-Some-read.n c.read.new.piece,
       gave_on g.R.Read.remaining c.args.reader.now c.pieces.reader c.read.new.port h.given c.read.new.piece c.in-Some-read.n h.gave c.in-Some-read.ensures,
       λ clean stood.
+          let law : IsLawful (g.O.Office.view c.args.office.now) (g.O.Office.view c.pump.new.office) = record {
+            stood = stood;
+            sound = g.met.O.Office.sound c.args.office.now (c.pieces.invariant.clean (c.pump.ensures.clean clean)) stood;
+            alone = λ fine. g.met.O.Office.alone c.pump.new.office clean fine;
+          } in
           let p = h.pumping (c.pump.ensures.clean clean) stood in
           let w = waits_on _ _ _ _ _ _ _ _ _ p _ (c.in_ok-ending.ensures.steps clean (p.come.went.stands stood) p.come.at p.limit p.told p.come.now) c.in_default.is in
-          out_of_room _ _ _ _ _ _ w stood (λ fine. g.met.O.Office.alone c.pump.new.office clean fine) (take c.in-Some-read.n c.read.new.piece),
+          out_of_room _ _ _ _ _ _ w law (take c.in-Some-read.n c.read.new.piece),
     )
 
 pub pieces-preserved : goal.pieces-preserved

@@ -14,4 +14,4 @@ returns-in-Some-clause-steps g c = λ clean stood k live at.
     let new = scene g.W.Write.contents (g.O.Office.view c.args.office.now) c.refuse.new.port in
     subst (λ (p : Result Command WireFault). Stepped k (step_on k.setting k.phase k.register p) c.refuse.new.session old new c.refuse.result) c.in-Err.ensures.value
     (subst (λ (o : Option SessionReason). Stepped k (refusal o) c.refuse.new.session old new c.refuse.result) {x = Some c.in-Some.reason} (sym c.in-Some.is ∙ c.reason.ensures)
-    (stepped_refuse g.W.Write.contents c.args.writer.now c.refuse.new.port before k c.in-Some.reason c.refuse.new.session c.refuse.result (c.refuse.ensures.setting ∙ at.setting) at.register (c.refuse.ensures.over k.phase live at.stands) (c.refuse.ensures.sent k.phase live at.stands) (c.refuse.ensures.err k.phase live at.stands)))
+    (stepped_refuse g.W.Write.contents c.args.writer.now c.refuse.new.port before k c.in-Some.reason c.refuse.new.session c.refuse.result (c.refuse.ensures.setting ∙ at.setting) at.register at.suits.sound (c.refuse.ensures.over k.phase live at.stands) (c.refuse.ensures.sent k.phase live at.stands) (c.refuse.ensures.err k.phase live at.stands)))

@@ -6,7 +6,7 @@ use Rattle.oftp_session.specs.Steps.{turned}
 use Rattle.oftp_engine.specs.declared.serving.RunFault.{RunFault}
 use Rattle.oftp_engine.specs.Runs.{turned_in}
 use Rattle.oftp_engine.specs.Serving.{scene, TurnsTaken}
-use Rattle.oftp_session.proofs.Allowed.{turn_allowed}
+use Rattle.oftp_session.proofs.Proceeding.{turned_proceeds}
 use Rattle.oftp_engine.proofs.Progress.{went_none, went_on, went_step, fails_step, fails_later, leads_turn, reaches_turn}
 use Rattle.oftp_engine.proofs.serving.take_turns.Goals as goal
 
@@ -46,7 +46,7 @@ returns-in_err-take_turn-clause-steps g c = λ clean stood k at.
     let t = c.turns.invariant.comes (c.take_turn.ensures.clean clean) stood k at in
     let due = sym (c.turns-test.ensures.phase t.at.phase t.now.stands) in
     let f = c.in_err-take_turn.field-0.0 in
-    let failed = fails_step t.at (turned t.at.setting t.at.phase t.at.register) [] old new f (turn_allowed t.at.setting t.at.phase t.at.register) (reaches_turn t.at [] due) (c.in_err-take_turn.ensures.steps clean (t.went.stands stood) t.at due t.now) in
+    let failed = fails_step t.at (turned t.at.setting t.at.phase t.at.register) [] old new f (turned_proceeds t.at.setting t.at.phase t.at.register t.now.suits) (reaches_turn t.at [] due) (c.in_err-take_turn.ensures.steps clean (t.went.stands stood) t.at due t.now) in
     let p = err_from_is_err_and c.from_residual.result c.from_residual.ensures.1 in
     subst (TurnsTaken k c.take_turn.new.session first new) (sym (p.1 ∙ ap (λ (x : RunFault). Err x) p.2)) (fails_later k t.at [] [] first old new f t.went failed)
 

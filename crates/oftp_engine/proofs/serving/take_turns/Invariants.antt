@@ -1,5 +1,5 @@
 use Rattle.std.proofs.Common.{◌≡◌, []}
-use Rattle.oftp_session.specs.Calls.{turns_left}
+use Rattle.oftp_session.specs.Standings.{turns_left}
 use Rattle.oftp_engine.specs.Ports.{Puts}
 use Rattle.oftp_engine.specs.Runs.{Course}
 use Rattle.oftp_engine.specs.Serving.{scene, IsAt, Comes}
@@ -16,4 +16,4 @@ invariant-turns g l =
     }
 
 abbrev pub decreases-turns : goal.decreases-turns
-decreases-turns g l = turns_left l.session.state
+decreases-turns g l = turns_left l.session.standing
