@@ -12,11 +12,9 @@ use Rattle.oftp_register.specs.declared.change.Change.{Change}
 use Rattle.oftp_register.specs.declared.change.Change.TheVariants as change
 use Rattle.oftp_register.specs.declared.entry.Dispatch.TheVariants.{Due}
 use Rattle.oftp_register.specs.declared.entry.Identity.{Identity}
-use Rattle.oftp_register.specs.declared.entry.IncomingState.TheVariants.{Open}
-use Rattle.oftp_register.specs.declared.entry.OutgoingState.TheVariants.{Waiting}
 use Rattle.oftp_register.specs.declared.entry.ResponseKind.{ResponseKind}
 use Rattle.oftp_register.specs.Register.{Register, Incoming, Outgoing, Issued, Received, has_received, same_identity}
-use Rattle.oftp_register.specs.Changes.{answered, apply, at_number, begun, closed, closing, filed, given_up, gone_on, handed, is_outgoing, issued, kept, mapped, marked, on_incoming, on_outgoing, refused, reopened, sent, settled, started, started_in, submitted}
+use Rattle.oftp_register.specs.Changes.{answered, apply, at_number, begun, closed, closing, filed, given_up, gone_on, handed, is_outgoing, issued, kept, mapped, marked, new_incoming, new_outgoing, on_incoming, on_outgoing, refused, reopened, sent, settled, started, started_in, submitted}
 use Rattle.oftp_register.specs.Soundness.{AreNamedOnce}
 use Rattle.oftp_register.specs.LookUps.{entry_at}
 use Rattle.oftp_register.specs.ByIdentity.{OneChanged, Started, StaysElsewhere, WasStarted, in_at, incoming_name, named, or_else, out_at, outgoing_name, subject}
@@ -319,9 +317,9 @@ filed_elsewhere r s response h i apart =
 both_elsewhere : (r : Register) (k : Change) (s : Register) → apply r k ≡ Ok s → (i : Identity) → subject r k ≢ Some i → (in_at s i ≡ in_at r i) × (out_at s i ≡ out_at r i)
 unfolding apply
 both_elsewhere r (change.Submit identity format longest description rows) s h i apart =
-    submitted_elsewhere r s (record { identity = identity; format = format; longest = longest; description = description; rows = rows; mark = 0; state = Waiting }) h i apart
+    submitted_elsewhere r s (new_outgoing identity format longest description rows) h i apart
 both_elsewhere r (change.Start identity format longest description count) s h i apart =
-    started_elsewhere r s (record { identity = identity; format = format; longest = longest; description = description; state = Open; rows = []; response = None }) count h i apart
+    started_elsewhere r s (new_incoming identity format longest description) count h i apart
 both_elsewhere r (change.Keep n rows) s h i apart = on_incoming_elsewhere (kept rows) (kept_same rows) n r s h i apart
 both_elsewhere r (change.Close n rows) s h i apart = on_incoming_elsewhere (closed rows) (closed_same rows) n r s h i apart
 both_elsewhere r (change.GiveUp n) s h i apart = on_incoming_elsewhere given_up given_up_same n r s h i apart

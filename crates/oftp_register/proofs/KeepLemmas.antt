@@ -1,5 +1,5 @@
 -- Each change keeps a register sound.
-use Rattle.std.proofs.Common.{◌≡◌, ℕ, zero, suc, cond, nat_le, List, [], ◌∷◌, ◌++◌, length, map, All, None, Result, Ok, Err, refl, sym, ◌∙◌, subst, inl, inr, arith}
+use Rattle.std.proofs.Common.{◌≡◌, ℕ, zero, suc, cond, nat_le, List, [], ◌∷◌, ◌++◌, length, map, All, Result, Ok, Err, refl, sym, ◌∙◌, subst, inl, inr, arith}
 use Rattle.std.proofs.lemmas.Bool.{cases_Bool, cond-true, cond-false}
 use Rattle.std.proofs.lemmas.List.{map-append}
 use Rattle.std.proofs.lemmas.List.Elements.{All-push}
@@ -7,11 +7,9 @@ use Rattle.oftp_register.specs.declared.change.Cause.{Cause}
 use Rattle.oftp_register.specs.declared.change.Cause.TheVariants.{Duplicate, Full}
 use Rattle.oftp_register.specs.declared.change.Change.{Change}
 use Rattle.oftp_register.specs.declared.change.Change.TheVariants as change
-use Rattle.oftp_register.specs.declared.entry.IncomingState.TheVariants.{Open}
-use Rattle.oftp_register.specs.declared.entry.OutgoingState.TheVariants.{Waiting}
 use Rattle.oftp_register.specs.declared.entry.Dispatch.TheVariants.{Due}
 use Rattle.oftp_register.specs.Register.{Register, Incoming, Outgoing, Received, Issued, has_received, same_identity}
-use Rattle.oftp_register.specs.Changes.{apply, at_number, closed, closing, filed, given_up, handed, is_outgoing, issued, kept, marked, on_incoming, on_outgoing, refused, reopened, sent, settled, started, started_in, submitted}
+use Rattle.oftp_register.specs.Changes.{apply, at_number, closed, closing, filed, given_up, handed, is_outgoing, issued, kept, marked, new_incoming, new_outgoing, on_incoming, on_outgoing, refused, reopened, sent, settled, started, started_in, submitted}
 use Rattle.oftp_register.specs.Soundness.{AreNamedOnce, AtNumber, Ends, GoesOn, IfOpen, IsFit, IsSound, IsSoundIncoming, IsSoundOutgoing, IsSoundReceived, MayStart}
 use Rattle.oftp_register.proofs.NameLemmas.{filed-append, list_any-map, once-append}
 use Rattle.oftp_register.proofs.NumberLemmas.{at_number_keeps, at_number_same, mapped_ok, not_both, one_result}
@@ -104,10 +102,10 @@ filed_sound r s response sound fit h =
 pub apply_keeps : (r : Register) (k : Change) (s : Register) → IsSound r → IsFit r k → apply r k ≡ Ok s → IsSound s
 unfolding apply IsFit
 apply_keeps r (change.Submit identity format longest description rows) s sound fit h =
-    submitted_sound r s (record { identity = identity; format = format; longest = longest; description = description; rows = rows; mark = 0; state = Waiting }) sound
+    submitted_sound r s (new_outgoing identity format longest description rows) sound
     (record { longest = fit.longest; few = fit.few; fits = fit.fits; marked = omega arith }) h
 apply_keeps r (change.Start identity format longest description count) s sound fit h =
-    start_keeps r s (record { identity = identity; format = format; longest = longest; description = description; state = Open; rows = []; response = None }) count sound
+    start_keeps r s (new_incoming identity format longest description) count sound
     (record { longest = fit.0; state = refl; rows = refl; response = refl }) fit.1 h
 apply_keeps r (change.Keep n rows) s sound fit h = on_incoming_keeps (λ (f : Incoming). IfOpen f.state (GoesOn rows f)) (kept rows) (kept_sound rows) (kept_same rows) n r s sound fit h
 apply_keeps r (change.Close n rows) s sound fit h = on_incoming_keeps (λ (f : Incoming). IfOpen f.state (Ends rows f)) (closed rows) (closed_sound rows) (closed_same rows) n r s sound fit h
