@@ -1,14 +1,18 @@
 -- The entry with a number: what is known of it, and what a change makes of it.
-use Rattle.std.proofs.Common.{◌≡◌, ℕ, zero, suc, false, List, [], ◌∷◌, ◌++◌, All, Option, None, Some, is_some, slice_get, Result, Ok, refl, ap, sym, ◌∙◌, subst}
+use Rattle.std.proofs.Common.{◌≡◌, ℕ, zero, suc, false, List, [], ◌∷◌, ◌++◌, All, Option, None, Some, is_some, slice_get, map, take, drop, Result, Ok, refl, ap, sym, ◌∙◌, subst}
 use Rattle.std.proofs.lemmas.List.Elements.{All-cons, All-head, All-nil, All-tail}
 use Rattle.oftp_register.specs.declared.change.Cause.{Cause}
 use Rattle.oftp_register.specs.declared.change.Change.TheVariants.{Close, GiveUp, Keep}
 use Rattle.oftp_register.specs.declared.entry.IncomingState.TheVariants.{Open, Whole}
 use Rattle.oftp_register.specs.Register.{Register, Incoming, Outgoing}
 use Rattle.oftp_register.specs.Changes.{apply, at_number, closed, given_up, if_open, kept, mapped, on_incoming, on_outgoing}
-use Rattle.oftp_register.specs.Soundness.{AtNumber, Ends, GoesOn, IfOpen, IsFit, IsSoundIncoming}
-use Rattle.oftp_register.specs.LookUps.{entry_at}
+use Rattle.oftp_register.specs.Soundness.{AtNumber, Ends, GoesOn, IfOpen, IsFit, IsSound, IsSoundIncoming, IsSoundOutgoing}
+use Rattle.oftp_register.specs.LookUps.{entry_at, file_rows, rows_of}
+use Rattle.oftp_vfile.specs.VirtualFile.{AreRows}
+use Rattle.std.specs.Option.{unwrap_or}
+use Rattle.oftp_register.specs.declared.entries.Side.TheVariants as side
 use Rattle.oftp_register.proofs.IncomingLemmas.{open_unanswered}
+use Rattle.oftp_register.proofs.RowLemmas.{rows-part}
 
 -- a fact of each entry holds of the one with a number
 pub all_at : {A : Type 0} (P : A → Type 0) (n : ℕ) (xs : List A) (x : A) → All P xs → entry_at n xs ≡ Some x → P x
@@ -106,3 +110,23 @@ module _ (r : Register) (n : ℕ) (file : Incoming) (entry : entry_at n r.incomi
 pub give_up_fit : (r : Register) (n : ℕ) → IsFit r (GiveUp n)
 unfolding IsFit
 give_up_fit r n = tt
+
+-- the rows of the file with a number
+rows_at : {A : Type 0} (rows : A → List (List ℕ)) (xs : List A) (n : ℕ) (x : A) → slice_get xs n ≡ Some x → slice_get (map rows xs) n ≡ Some (rows x)
+rows_at rows [] n x h = absurd (cc)
+rows_at rows (y ∷ ys) zero x h = let same : y ≡ x = cc in ap (λ z. Some (rows z)) same
+rows_at rows (y ∷ ys) (suc n) x h = rows_at rows ys n x h
+
+pub rows_of_incoming : (r : Register) (n : ℕ) (f : Incoming) → entry_at n r.incoming ≡ Some f → file_rows r side.Incoming n ≡ f.rows
+rows_of_incoming r zero f h = absurd (cc)
+rows_of_incoming r (suc n) f h = ap (λ o. unwrap_or o []) (rows_at (λ (x : Incoming). x.rows) r.incoming n f h)
+
+pub rows_of_outgoing : (r : Register) (n : ℕ) (f : Outgoing) → entry_at n r.outgoing ≡ Some f → file_rows r side.Outgoing n ≡ f.rows
+rows_of_outgoing r zero f h = absurd (cc)
+rows_of_outgoing r (suc n) f h = ap (λ o. unwrap_or o []) (rows_at (λ (x : Outgoing). x.rows) r.outgoing n f h)
+
+-- the rows of an outgoing file that are looked up fit its format, so that `are_rows` finds nothing wrong
+pub outgoing_fit : (r : Register) (n from most : ℕ) (f : Outgoing) → IsSound r → entry_at n r.outgoing ≡ Some f → AreRows f.format f.longest (rows_of r side.Outgoing n from most)
+outgoing_fit r n from most f sound entry =
+    let fits = (all_at IsSoundOutgoing n r.outgoing f sound.outgoing entry).fits in
+    subst (λ rows. AreRows f.format f.longest (take most (drop from rows))) (sym (rows_of_outgoing r n f entry)) (rows-part f.format f.longest from most f.rows fits)

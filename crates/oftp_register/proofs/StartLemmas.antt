@@ -1,7 +1,6 @@
 -- Where the incoming file of an identity stands, and what its start makes of the register.
-use Rattle.std.proofs.Common.{◌≡◌, ◌⊎◌, ℕ, zero, suc, ◌+◌, ◌/◌, ◌==◌, ◌<◌, ◌≤◌, ◌&&◌, Bool, true, false, cond, not, min, nat_le, nat_lt, List, [], ◌∷◌, ◌++◌, length, map, set, take, find, slice_get, Option, None, Some, is_none, Ok, Err, refl, ap, sym, ◌∙◌, subst, inl, inr, arith}
+use Rattle.std.proofs.Common.{◌≡◌, ◌⊎◌, ℕ, suc, ◌+◌, ◌/◌, ◌==◌, ◌<◌, ◌≤◌, ◌&&◌, Bool, true, false, cond, not, min, nat_le, nat_lt, List, [], ◌∷◌, ◌++◌, length, set, take, find, slice_get, Option, None, Some, is_none, Ok, Err, refl, ap, sym, ◌∙◌, subst, inl, inr, arith}
 use Rattle.std.specs.List.{position_or_len}
-use Rattle.std.specs.Option.{unwrap_or}
 use Rattle.std.specs.Str.{bytes_eq}
 use Rattle.std.proofs.lemmas.Bool.{cases_Bool, cond-true, cond-false, and_parts, eqb-true, leb-true, ltb-true, le-ltb, ltb-false, not-false}
 use Rattle.oftp_wire.specs.declared.command.Layout.{Layout}
@@ -34,7 +33,7 @@ use Rattle.oftp_register.proofs.IncomingLemmas.{begun_ok, gone_on_ok, open_rows}
 use Rattle.oftp_register.proofs.RowLemmas.{full-nil, full-take}
 use Rattle.oftp_register.proofs.Places.{mapped-mapped}
 use Rattle.oftp_register.proofs.ByIdentityLemmas.{found_named, same_self}
-use Rattle.oftp_register.proofs.EntryLemmas.{all_at, all_from, open_silent}
+use Rattle.oftp_register.proofs.EntryLemmas.{all_at, all_from, open_silent, rows_of_incoming}
 
 -- an incoming entry has this identity
 abbrev pub is_of : Identity → IncomingEntry → Bool
@@ -131,20 +130,6 @@ where_is r identity n (f ∷ fs) = elim (cases_Bool (same_identity f.identity id
     p : Incoming → Bool
     p g = same_identity g.identity identity
 
--- the rows of the file with a number
-rows_at : (xs : List Incoming) (n : ℕ) (f : Incoming) → slice_get xs n ≡ Some f → slice_get (map (λ (x : Incoming). x.rows) xs) n ≡ Some f.rows
-rows_at [] n f h = absurd (cc)
-rows_at (x ∷ xs) zero f h = let same : x ≡ f = cc in ap (λ (y : Incoming). let o : Option (List (List ℕ)) = Some y.rows in o) same
-rows_at (x ∷ xs) (suc n) f h = rows_at xs n f h
-
-pub rows_of_number : (r : Register) (n : ℕ) (f : Incoming) → entry_at n r.incoming ≡ Some f → file_rows r side.Incoming n ≡ f.rows
-rows_of_number r zero f h = absurd (cc)
-rows_of_number r (suc n) f h = ap (λ o. unwrap_or o []) (rows_at r.incoming n f h)
-
-no_rows_at : (xs : List Incoming) → slice_get (map (λ (x : Incoming). x.rows) xs) (length xs) ≡ None
-no_rows_at [] = refl
-no_rows_at (x ∷ xs) = no_rows_at xs
-
 -- What an accepted start leaves.
 module _ (r s : Register) (header : Incoming) (count : ℕ) (silent : header.response ≡ None) (made : started r header count ≡ Ok s) where
   abbrev identity : Identity
@@ -164,7 +149,7 @@ module _ (r s : Register) (header : Incoming) (count : ℕ) (silent : header.res
       let counted : 1 + k.place ≡ number = omega (arith, k.position) in
       let entry : entry_at number r.incoming ≡ Some k.file = ap (λ n. entry_at n r.incoming) number_is ∙ k.at in
       let none : k.file.response ≡ None = open_silent k.file (all_at IsSoundIncoming number r.incoming k.file sound.incoming entry) gone.0 in
-      let rows = rows_of_number r number k.file entry in
+      let rows = rows_of_incoming r number k.file entry in
       let file : y ≡ started_file r header count =
       sym gone.1
       ∙ ap (λ (o : Option Issued). let f : Incoming = record header { rows = take count k.file.rows; response = o } in f) (none ∙ sym silent)
@@ -235,11 +220,13 @@ again_fit r identity format longest description count sound size k same_format s
     let file_sound = all_at IsSoundIncoming (suc k.place) r.incoming k.file sound.incoming k.at in
     let full : k.file.state ≡ Open → AreFullRows format longest k.file.rows = λ is. (
     subst (λ f. AreFullRows f longest k.file.rows) same_format (subst (λ l. AreFullRows k.file.format l k.file.rows) same_longest (open_rows k.file file_sound is))) in
-    let goes_on : MayGoOn format longest count k.file = if_open_from k.file.state _ (λ is _. full-take format longest count k.file.rows (full is)) in
-    (size, all_from (MayStart identity format longest count) r.incoming (λ n x at t. (
-    let found : named incoming_name identity r.incoming ≡ Some x = found_named incoming_name n r.incoming x identity sound.incoming_once at t in
-    let same : k.file ≡ x = (let q : Some k.file ≡ Some x = sym one ∙ found in cc) in
-    subst (MayGoOn format longest count) same goes_on)))
+    let goes_on : MayGoOn format longest count k.file = if_open_from k.file.state _ (λ is _. full-take format longest count k.file.rows (full is)) in (
+      size,
+      all_from (MayStart identity format longest count) r.incoming (λ n x at t. (
+          let found : named incoming_name identity r.incoming ≡ Some x = found_named incoming_name n r.incoming x identity sound.incoming_once at t in
+          let same : k.file ≡ x = (let q : Some k.file ≡ Some x = sym one ∙ found in cc) in
+          subst (MayGoOn format longest count) same goes_on)),
+    )
 
 -- What the answer to SFID accepts.
 
@@ -295,6 +282,7 @@ goes_from sfid n file restart count h = by (restart && same) refl h
   where
     same : Bool
     same = same_format file.format (format_of sfid.layout) && file.longest == longest_of sfid.layout
+
     by : (b : Bool) → (restart && same) ≡ b → cond b (min sfid.restart (length file.rows)) 0 ≡ count
         → (count ≤ length file.rows) × ((count ≡ 0) ⊎ ((file.format ≡ format_of sfid.layout) × (file.longest ≡ longest_of sfid.layout)))
     by true e g =
