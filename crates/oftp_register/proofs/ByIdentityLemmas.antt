@@ -289,7 +289,8 @@ submitted_elsewhere r s file h i apart =
     subst (λ (z : Register). (in_at z i ≡ in_at r i) × (out_at z i ≡ out_at r i)) (submitted_ok r s file h) (refl, named_push outgoing_name i r.outgoing file ∙ pushed)
 
 -- a file that comes
-started_elsewhere : (r s : Register) (header : Incoming) (count : ℕ) → started r header count ≡ Ok s → (i : Identity) → Some header.identity ≢ Some i → (in_at s i ≡ in_at r i) × (out_at s i ≡ out_at r i)
+started_elsewhere : (r s : Register) (header : Incoming) (count : ℕ) → started r header count ≡ Ok s → (i : Identity) → Some header.identity ≢ Some i
+    → (in_at s i ≡ in_at r i) × (out_at s i ≡ out_at r i)
 started_elsewhere r s header count h i apart =
     let part = mapped_ok (λ files. record r { incoming = files }) (started_in r header count r.incoming) s h in
     let now = (started_view r header count r.incoming part.0 part.1).others i (apart_of header.identity i apart) in
@@ -299,7 +300,8 @@ started_elsewhere r s header count h i apart =
 settled_other : (kind : ResponseKind) (identity : Identity) (file : Outgoing) → same_identity file.identity identity ≡ false → settled kind identity file ≡ file
 settled_other kind identity file h = cond-false (same_identity file.identity identity) (record file { state = answered kind file.state }) file h
 
-settled_elsewhere : (kind : ResponseKind) (identity i : Identity) (files : List Outgoing) → Some identity ≢ Some i → (found : Option Outgoing) → named outgoing_name i files ≡ found → option_map (settled kind identity) found ≡ found
+settled_elsewhere : (kind : ResponseKind) (identity i : Identity) (files : List Outgoing) → Some identity ≢ Some i → (found : Option Outgoing) → named outgoing_name i files ≡ found
+    → option_map (settled kind identity) found ≡ found
 settled_elsewhere kind identity i files apart None is = refl
 settled_elsewhere kind identity i files apart (Some file) is =
     let name : file.identity ≡ i = named_is outgoing_name i files file is in

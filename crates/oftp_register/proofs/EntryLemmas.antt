@@ -58,15 +58,15 @@ pub record IsChanged {F : Type 0} (files : Register → List F) (n : ℕ) (r : R
   pub made : change ≡ Ok after
   pub entry : entry_at n (files after) ≡ Some file
 
-pub incoming_changed : (g : Incoming → Result Incoming Cause) (n : ℕ) (r : Register) (x y : Incoming) → entry_at n r.incoming ≡ Some x → g x ≡ Ok y
+pub changes_incoming : (g : Incoming → Result Incoming Cause) (n : ℕ) (r : Register) (x y : Incoming) → entry_at n r.incoming ≡ Some x → g x ≡ Ok y
     → IsChanged (λ (s : Register). s.incoming) n r y (on_incoming g n r)
-incoming_changed g n r x y e h =
+changes_incoming g n r x y e h =
     let at = at_entry g n r.incoming x y e h in
     record { after = record r { incoming = at.0 }; made = ap (mapped (λ files. record r { incoming = files })) at.1; entry = at.2 }
 
-pub outgoing_changed : (g : Outgoing → Result Outgoing Cause) (n : ℕ) (r : Register) (x y : Outgoing) → entry_at n r.outgoing ≡ Some x → g x ≡ Ok y
+pub changes_outgoing : (g : Outgoing → Result Outgoing Cause) (n : ℕ) (r : Register) (x y : Outgoing) → entry_at n r.outgoing ≡ Some x → g x ≡ Ok y
     → IsChanged (λ (s : Register). s.outgoing) n r y (on_outgoing g n r)
-outgoing_changed g n r x y e h =
+changes_outgoing g n r x y e h =
     let at = at_entry g n r.outgoing x y e h in
     record { after = record r { outgoing = at.0 }; made = ap (mapped (λ files. record r { outgoing = files })) at.1; entry = at.2 }
 
@@ -95,17 +95,17 @@ module _ (r : Register) (n : ℕ) (file : Incoming) (entry : entry_at n r.incomi
   -- an open file takes more rows
   pub keep_changes : (rows : List (List ℕ)) → IsChanged (λ (s : Register). s.incoming) n r (record file { rows = file.rows ++ rows; state = Open }) (apply r (Keep n rows))
   unfolding apply
-  keep_changes rows = incoming_changed (kept rows) n r file _ entry (ap (if_open file (file.rows ++ rows) Open) is_open)
+  keep_changes rows = changes_incoming (kept rows) n r file _ entry (ap (if_open file (file.rows ++ rows) Open) is_open)
 
   -- it takes its last ones
   pub close_changes : (rows : List (List ℕ)) → IsChanged (λ (s : Register). s.incoming) n r (record file { rows = file.rows ++ rows; state = Whole }) (apply r (Close n rows))
   unfolding apply
-  close_changes rows = incoming_changed (closed rows) n r file _ entry (ap (if_open file (file.rows ++ rows) Whole) is_open)
+  close_changes rows = changes_incoming (closed rows) n r file _ entry (ap (if_open file (file.rows ++ rows) Whole) is_open)
 
   -- and its rows can be given up
   pub give_up_changes : IsChanged (λ (s : Register). s.incoming) n r (record file { rows = []; state = Open }) (apply r (GiveUp n))
   unfolding apply
-  give_up_changes = incoming_changed given_up n r file _ entry (ap (if_open file [] Open) is_open)
+  give_up_changes = changes_incoming given_up n r file _ entry (ap (if_open file [] Open) is_open)
 
 pub give_up_fit : (r : Register) (n : ℕ) → IsFit r (GiveUp n)
 unfolding IsFit

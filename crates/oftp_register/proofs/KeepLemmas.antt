@@ -26,12 +26,30 @@ at_number_any (suc (suc n)) (x ∷ xs) = at_number_any (suc n) xs
 -- other incoming files
 with_incoming : (r : Register) (files : List Incoming) → IsSound r → All IsSoundIncoming files → AreNamedOnce (map (λ (f : Incoming). f.identity) files) → IsSound (record r { incoming = files })
 with_incoming r files sound all once =
-    record { few = sound.few; small = sound.small; incoming = all; outgoing = sound.outgoing; received = sound.received; incoming_once = once; outgoing_once = sound.outgoing_once; received_once = sound.received_once }
+    record {
+      few = sound.few;
+      small = sound.small;
+      incoming = all;
+      outgoing = sound.outgoing;
+      received = sound.received;
+      incoming_once = once;
+      outgoing_once = sound.outgoing_once;
+      received_once = sound.received_once;
+    }
 
 -- other outgoing files
 with_outgoing : (r : Register) (files : List Outgoing) → IsSound r → All IsSoundOutgoing files → AreNamedOnce (map (λ (f : Outgoing). f.identity) files) → IsSound (record r { outgoing = files })
 with_outgoing r files sound all once =
-    record { few = sound.few; small = sound.small; incoming = sound.incoming; outgoing = all; received = sound.received; incoming_once = sound.incoming_once; outgoing_once = once; received_once = sound.received_once }
+    record {
+      few = sound.few;
+      small = sound.small;
+      incoming = sound.incoming;
+      outgoing = all;
+      received = sound.received;
+      incoming_once = sound.incoming_once;
+      outgoing_once = once;
+      received_once = sound.received_once;
+    }
 
 -- a change of one incoming file
 on_incoming_keeps : (Q : Incoming → Type 0) (f : Incoming → Result Incoming Cause) → ((x y : Incoming) → IsSoundIncoming x → Q x → f x ≡ Ok y → IsSoundIncoming y)
@@ -46,7 +64,8 @@ on_outgoing_keeps : (f : Outgoing → Result Outgoing Cause) → ((x y : Outgoin
     → ((x y : Outgoing) → f x ≡ Ok y → y.identity ≡ x.identity) → (n : ℕ) (r s : Register) → IsSound r → on_outgoing f n r ≡ Ok s → IsSound s
 on_outgoing_keeps f keeps same n r s sound h =
     let part = mapped_ok (λ files. record r { outgoing = files }) (at_number f n r.outgoing) s h in
-    subst IsSound part.2 (with_outgoing r part.0 sound (at_number_keeps IsSoundOutgoing (λ _. Unit {0}) f (λ x y p q. keeps x y p) n r.outgoing part.0 sound.outgoing (at_number_any n r.outgoing) part.1)
+    let all = at_number_keeps IsSoundOutgoing (λ _. Unit {0}) f (λ x y p q. keeps x y p) n r.outgoing part.0 sound.outgoing (at_number_any n r.outgoing) part.1 in
+    subst IsSound part.2 (with_outgoing r part.0 sound all
     (subst AreNamedOnce (sym (at_number_same (λ (x : Outgoing). x.identity) f same n r.outgoing part.0 part.1)) sound.outgoing_once))
 
 -- a file to be sent
@@ -75,7 +94,9 @@ start_keeps : (r s : Register) (header : Incoming) (count : ℕ) → IsSound r �
     → All (MayStart header.identity header.format header.longest count) r.incoming → started r header count ≡ Ok s → IsSound s
 start_keeps r s header count sound begins fit h =
     let part = mapped_ok (λ files. record r { incoming = files }) (started_in r header count r.incoming) s h in
-    subst IsSound part.2 (with_incoming r part.0 sound (started_sound r header count r.incoming part.0 begins sound.incoming fit part.1) (started_once r header count r.incoming part.0 sound.incoming_once part.1))
+    let all = started_sound r header count r.incoming part.0 begins sound.incoming fit part.1 in
+    let once = started_once r header count r.incoming part.0 sound.incoming_once part.1 in
+    subst IsSound part.2 (with_incoming r part.0 sound all once)
 
 -- a response that comes
 filed_sound : (r s : Register) (response : Received) → IsSound r → IsSoundReceived response → filed r response ≡ Ok s → IsSound s
