@@ -57,7 +57,7 @@ pub start_found : {T : Type 0} (o : Lists) (header : Incoming) (count : ℕ) (fi
     → files ≡ o.incoming.items
     → found ≡ position (λ (f : IncomingFile). same_identity f.identity header.identity) files → found ≡ Some i → x ≡ get_or o.incoming.items i x
     → CarriesOut incoming_of (gone_on header count (incoming_of x) x.state) x y result
-        → CarriesOut register_in (started (register_in o) header count) o (record o { incoming = with_item o.incoming i y }) result
+    → CarriesOut register_in (started (register_in o) header count) o (record o { incoming = with_item o.incoming i y }) result
 start_found o header count files found i x y result lent is at there h =
     let named = λ (f : IncomingFile). same_identity f.identity header.identity in
     let all = o.incoming.items in
