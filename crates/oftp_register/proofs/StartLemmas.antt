@@ -21,6 +21,7 @@ use Rattle.oftp_register.specs.declared.entry.IncomingState.{IncomingState}
 use Rattle.oftp_register.specs.declared.entry.IncomingState.TheVariants.{Open, Whole}
 use Rattle.oftp_register.specs.declared.verdicts.StartVerdict.{StartVerdict}
 use Rattle.oftp_register.specs.declared.verdicts.StartVerdict.TheVariants as start
+use Rattle.oftp_register.specs.declared.verdicts.TheConstants.{SIZE_UNIT}
 use Rattle.oftp_register.specs.declared.verdicts.Terms.{Terms}
 use Rattle.oftp_register.specs.Register.{Register, Incoming, Issued, same_identity}
 use Rattle.oftp_register.specs.Changes.{apply, begun, gone_on, mapped, new_incoming, started, started_in}
@@ -251,7 +252,7 @@ accepted sfid found is_full terms count h =
     let h4 = goes_past (not (bytes_eq sfid.destination terms.station)) InvalidDestination false _ count h3.1 in
     let h5 = goes_past (not (bytes_eq sfid.originator terms.partner)) InvalidOrigin false _ count h4.1 in
     let h6 = goes_past (not (has_length sfid.layout)) MaximumRecordLengthNotSupported false _ count h5.1 in
-    let h7 = goes_past (nat_lt (terms.limits.octets / 1024) sfid.size) FileSizeTooBig false _ count h6.1 in
+    let h7 = goes_past (nat_lt (terms.limits.octets / SIZE_UNIT) sfid.size) FileSizeTooBig false _ count h6.1 in
     let h8 = goes_past (is_received found) DuplicateFile false _ count h7.1 in
     let h9 = goes_past (is_none found && is_full) Unspecified true _ count h8.1 in
     let q : start.Accept (restart_position sfid found terms.restart) ≡ start.Accept count = h9.1 in

@@ -30,7 +30,7 @@ pub use office::{Office, OfficeFault};
 pub use plain::PlainOffice;
 pub use prefix::commit_all;
 pub use verdicts::{
-    EndVerdict, StartVerdict, Terms, end_verdict, format_of, longest_of, start_verdict,
+    EndVerdict, SIZE_UNIT, StartVerdict, Terms, end_verdict, format_of, longest_of, start_verdict,
 };
 
 #[cfg(test)]
