@@ -17,7 +17,7 @@ use Rattle.oftp_register.specs.Register.{Register, Incoming, Outgoing, Issued, R
 use Rattle.oftp_register.specs.Changes.{answered, apply, at_number, begun, closed, closing, filed, given_up, gone_on, handed, is_outgoing, issued, kept, mapped, marked, new_incoming, new_outgoing, on_incoming, on_outgoing, refused, reopened, sent, settled, started, started_in, submitted}
 use Rattle.oftp_register.specs.Soundness.{AreNamedOnce}
 use Rattle.oftp_register.specs.LookUps.{entry_at}
-use Rattle.oftp_register.specs.ByIdentity.{OneChanged, Started, StaysElsewhere, WasStarted, in_at, incoming_name, named, or_else, out_at, outgoing_name, subject}
+use Rattle.oftp_register.specs.ByIdentity.{OneChanged, OneStarted, StaysElsewhere, WasStarted, in_at, incoming_name, named, or_else, out_at, outgoing_name, subject}
 use Rattle.oftp_register.proofs.NameLemmas.{same_identity-true}
 use Rattle.oftp_register.proofs.NumberLemmas.{at_number_same, mapped_ok, not_both, one_result}
 use Rattle.oftp_register.proofs.IncomingLemmas.{begun_ok, closed_same, given_up_same, gone_on_ok, issued_same, kept_same, sent_same}
@@ -197,7 +197,7 @@ settled_name kind identity file = by (same_identity file.identity identity)
     by false = refl
 
 -- what was started
-pub started_view : (r : Register) (header : Incoming) (count : ℕ) (xs ys : List Incoming) → started_in r header count xs ≡ Ok ys → Started header count xs ys
+pub started_view : (r : Register) (header : Incoming) (count : ℕ) (xs ys : List Incoming) → started_in r header count xs ≡ Ok ys → OneStarted header count xs ys
 started_view r header count [] ys h =
     let part = mapped_ok (λ f. f ∷ []) (begun r header count) ys h in
     let b = begun_ok r header count part.0 part.1 in

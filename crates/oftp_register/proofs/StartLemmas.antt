@@ -232,7 +232,7 @@ again_fit r identity format longest description count sound size k same_format s
 -- What the answer to SFID accepts.
 
 -- what an accepted offer says
-pub record IsAccepted (sfid : Sfid) (found : Option IncomingEntry) (is_full : Bool) (terms : Terms) (count : ℕ) : Type 0 where
+pub record IsAcceptedOffer (sfid : Sfid) (found : Option IncomingEntry) (is_full : Bool) (terms : Terms) (count : ℕ) : Type 0 where
   pub sized : has_length sfid.layout ≡ true
   pub open_yet : is_received found ≡ false
   pub fits : (is_none found && is_full) ≡ false
@@ -244,7 +244,7 @@ goes_past true reason retry x count h = absurd (cc)
 goes_past false reason retry x count h = (refl, h)
 
 pub accepted : (sfid : Sfid) (found : Option IncomingEntry) (is_full : Bool) (terms : Terms) (count : ℕ) → start_verdict sfid found is_full terms ≡ start.Accept count
-    → IsAccepted sfid found is_full terms count
+    → IsAcceptedOffer sfid found is_full terms count
 accepted sfid found is_full terms count h =
     let h1 = goes_past (not terms.receives) FileDirectionRefused false _ count h in
     let h2 = goes_past (not (is_plain sfid)) Unspecified false _ count h1.1 in

@@ -59,7 +59,7 @@ WasStarted header count (Some old) new =
     (old.state ≡ Open) × (count ≤ length old.rows) × (new ≡ record header { rows = take count old.rows; response = old.response })
 
 -- A file was started, and no other was changed.
-pub record Started (header : Incoming) (count : ℕ) (xs ys : List Incoming) : Type 0 where
+pub record OneStarted (header : Incoming) (count : ℕ) (xs ys : List Incoming) : Type 0 where
   pub new : Incoming
   pub was : WasStarted header count (named incoming_name header.identity xs) new
   pub named_so : new.identity ≡ header.identity
