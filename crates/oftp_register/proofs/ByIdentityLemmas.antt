@@ -12,14 +12,12 @@ use Rattle.oftp_register.specs.declared.change.Change.{Change}
 use Rattle.oftp_register.specs.declared.change.Change.TheVariants as change
 use Rattle.oftp_register.specs.declared.entry.Dispatch.TheVariants.{Due}
 use Rattle.oftp_register.specs.declared.entry.Identity.{Identity}
-use Rattle.oftp_register.specs.declared.entry.IncomingState.TheVariants.{Open}
-use Rattle.oftp_register.specs.declared.entry.OutgoingState.TheVariants.{Waiting}
 use Rattle.oftp_register.specs.declared.entry.ResponseKind.{ResponseKind}
 use Rattle.oftp_register.specs.Register.{Register, Incoming, Outgoing, Issued, Received, has_received, same_identity}
-use Rattle.oftp_register.specs.Changes.{answered, apply, at_number, begun, closed, closing, filed, given_up, gone_on, handed, is_outgoing, issued, kept, mapped, marked, on_incoming, on_outgoing, refused, reopened, sent, settled, started, started_in, submitted}
+use Rattle.oftp_register.specs.Changes.{answered, apply, at_number, begun, closed, closing, filed, given_up, gone_on, handed, is_outgoing, issued, kept, mapped, marked, new_incoming, new_outgoing, on_incoming, on_outgoing, refused, reopened, sent, settled, started, started_in, submitted}
 use Rattle.oftp_register.specs.Soundness.{AreNamedOnce}
 use Rattle.oftp_register.specs.LookUps.{entry_at}
-use Rattle.oftp_register.specs.ByIdentity.{OneChanged, Started, StaysElsewhere, WasStarted, in_at, incoming_name, named, or_else, out_at, outgoing_name, subject}
+use Rattle.oftp_register.specs.ByIdentity.{OneChanged, OneStarted, StaysElsewhere, WasStarted, in_at, incoming_name, named, or_else, out_at, outgoing_name, subject}
 use Rattle.oftp_register.proofs.NameLemmas.{same_identity-true}
 use Rattle.oftp_register.proofs.NumberLemmas.{at_number_same, mapped_ok, not_both, one_result}
 use Rattle.oftp_register.proofs.IncomingLemmas.{begun_ok, closed_same, given_up_same, gone_on_ok, issued_same, kept_same, sent_same}
@@ -199,7 +197,7 @@ settled_name kind identity file = by (same_identity file.identity identity)
     by false = refl
 
 -- what was started
-pub started_view : (r : Register) (header : Incoming) (count : ℕ) (xs ys : List Incoming) → started_in r header count xs ≡ Ok ys → Started header count xs ys
+pub started_view : (r : Register) (header : Incoming) (count : ℕ) (xs ys : List Incoming) → started_in r header count xs ≡ Ok ys → OneStarted header count xs ys
 started_view r header count [] ys h =
     let part = mapped_ok (λ f. f ∷ []) (begun r header count) ys h in
     let b = begun_ok r header count part.0 part.1 in
@@ -291,7 +289,8 @@ submitted_elsewhere r s file h i apart =
     subst (λ (z : Register). (in_at z i ≡ in_at r i) × (out_at z i ≡ out_at r i)) (submitted_ok r s file h) (refl, named_push outgoing_name i r.outgoing file ∙ pushed)
 
 -- a file that comes
-started_elsewhere : (r s : Register) (header : Incoming) (count : ℕ) → started r header count ≡ Ok s → (i : Identity) → Some header.identity ≢ Some i → (in_at s i ≡ in_at r i) × (out_at s i ≡ out_at r i)
+started_elsewhere : (r s : Register) (header : Incoming) (count : ℕ) → started r header count ≡ Ok s → (i : Identity) → Some header.identity ≢ Some i
+    → (in_at s i ≡ in_at r i) × (out_at s i ≡ out_at r i)
 started_elsewhere r s header count h i apart =
     let part = mapped_ok (λ files. record r { incoming = files }) (started_in r header count r.incoming) s h in
     let now = (started_view r header count r.incoming part.0 part.1).others i (apart_of header.identity i apart) in
@@ -301,7 +300,8 @@ started_elsewhere r s header count h i apart =
 settled_other : (kind : ResponseKind) (identity : Identity) (file : Outgoing) → same_identity file.identity identity ≡ false → settled kind identity file ≡ file
 settled_other kind identity file h = cond-false (same_identity file.identity identity) (record file { state = answered kind file.state }) file h
 
-settled_elsewhere : (kind : ResponseKind) (identity i : Identity) (files : List Outgoing) → Some identity ≢ Some i → (found : Option Outgoing) → named outgoing_name i files ≡ found → option_map (settled kind identity) found ≡ found
+settled_elsewhere : (kind : ResponseKind) (identity i : Identity) (files : List Outgoing) → Some identity ≢ Some i → (found : Option Outgoing) → named outgoing_name i files ≡ found
+    → option_map (settled kind identity) found ≡ found
 settled_elsewhere kind identity i files apart None is = refl
 settled_elsewhere kind identity i files apart (Some file) is =
     let name : file.identity ≡ i = named_is outgoing_name i files file is in
@@ -319,9 +319,9 @@ filed_elsewhere r s response h i apart =
 both_elsewhere : (r : Register) (k : Change) (s : Register) → apply r k ≡ Ok s → (i : Identity) → subject r k ≢ Some i → (in_at s i ≡ in_at r i) × (out_at s i ≡ out_at r i)
 unfolding apply
 both_elsewhere r (change.Submit identity format longest description rows) s h i apart =
-    submitted_elsewhere r s (record { identity = identity; format = format; longest = longest; description = description; rows = rows; mark = 0; state = Waiting }) h i apart
+    submitted_elsewhere r s (new_outgoing identity format longest description rows) h i apart
 both_elsewhere r (change.Start identity format longest description count) s h i apart =
-    started_elsewhere r s (record { identity = identity; format = format; longest = longest; description = description; state = Open; rows = []; response = None }) count h i apart
+    started_elsewhere r s (new_incoming identity format longest description) count h i apart
 both_elsewhere r (change.Keep n rows) s h i apart = on_incoming_elsewhere (kept rows) (kept_same rows) n r s h i apart
 both_elsewhere r (change.Close n rows) s h i apart = on_incoming_elsewhere (closed rows) (closed_same rows) n r s h i apart
 both_elsewhere r (change.GiveUp n) s h i apart = on_incoming_elsewhere given_up given_up_same n r s h i apart

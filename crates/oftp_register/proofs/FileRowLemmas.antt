@@ -20,7 +20,8 @@ use Rattle.oftp_vfile.specs.declared.format.TheConstants.{MOST_ROWS}
 use Rattle.oftp_register.specs.declared.fit.TheConstants.{MOST_UNITS}
 
 -- no file has more rows than it may
-few_at : {A : Type 0} (P : A → Type 0) (rows : A → List (List ℕ)) → ((x : A) → P x → length (rows x) ≤ MOST_ROWS) → (xs : List A) (i : ℕ) → All P xs → length (unwrap_or (slice_get (map rows xs) i) []) ≤ MOST_ROWS
+few_at : {A : Type 0} (P : A → Type 0) (rows : A → List (List ℕ)) → ((x : A) → P x → length (rows x) ≤ MOST_ROWS) → (xs : List A) (i : ℕ) → All P xs
+    → length (unwrap_or (slice_get (map rows xs) i) []) ≤ MOST_ROWS
 few_at P rows few [] i all = omega arith
 few_at P rows few (x ∷ xs) zero all = few x (All-head P x xs all)
 few_at P rows few (x ∷ xs) (suc i) all = few_at P rows few xs i (All-tail P x xs all)
@@ -32,7 +33,8 @@ few_rows r side.Outgoing zero sound = omega arith
 few_rows r side.Outgoing (suc i) sound = few_at IsSoundOutgoing (λ (f : Outgoing). f.rows) (λ x s. s.few) r.outgoing i sound.outgoing
 
 -- no file has more octets than it may
-short_at : {A : Type 0} (P : A → Type 0) (rows : A → List (List ℕ)) → ((x : A) → P x → units_in (rows x) ≤ MOST_UNITS) → (xs : List A) (i : ℕ) → All P xs → units_in (unwrap_or (slice_get (map rows xs) i) []) ≤ MOST_UNITS
+short_at : {A : Type 0} (P : A → Type 0) (rows : A → List (List ℕ)) → ((x : A) → P x → units_in (rows x) ≤ MOST_UNITS) → (xs : List A) (i : ℕ) → All P xs
+    → units_in (unwrap_or (slice_get (map rows xs) i) []) ≤ MOST_UNITS
 short_at P rows short [] i all = omega arith
 short_at P rows short (x ∷ xs) zero all = short x (All-head P x xs all)
 short_at P rows short (x ∷ xs) (suc i) all = short_at P rows short xs i (All-tail P x xs all)
@@ -51,7 +53,8 @@ part_within from most rows few = record {
 }
 
 -- the rows of an incoming file
-pub incoming_rows : (o : Lists) (n i len : ℕ) (x : IncomingFile) → len ≡ vec_len o.incoming → IsPlace n len (Some i) → x ≡ get_or o.incoming.items i x → file_rows (register_in o) side.Incoming n ≡ x.rows.items
+pub incoming_rows : (o : Lists) (n i len : ℕ) (x : IncomingFile) → len ≡ vec_len o.incoming → IsPlace n len (Some i) → x ≡ get_or o.incoming.items i x
+    → file_rows (register_in o) side.Incoming n ≡ x.rows.items
 incoming_rows o n i len x length_is place is =
     let files = o.incoming.items in
     let within : i < length files = omega (arith, place.1, length_is, o.incoming.ok.0) in
@@ -64,7 +67,8 @@ incoming_no_rows o n len length_is place =
     ap (λ e. unwrap_or e []) (entry_at-nowhere all n (ap (λ k. nat_lt 0 n && nat_le n k) counted ∙ place))
 
 -- the rows of an outgoing file
-pub outgoing_rows : (o : Lists) (n i len : ℕ) (x : OutgoingFile) → len ≡ vec_len o.outgoing → IsPlace n len (Some i) → x ≡ get_or o.outgoing.items i x → file_rows (register_in o) side.Outgoing n ≡ x.rows.items
+pub outgoing_rows : (o : Lists) (n i len : ℕ) (x : OutgoingFile) → len ≡ vec_len o.outgoing → IsPlace n len (Some i) → x ≡ get_or o.outgoing.items i x
+    → file_rows (register_in o) side.Outgoing n ≡ x.rows.items
 outgoing_rows o n i len x length_is place is =
     let files = o.outgoing.items in
     let within : i < length files = omega (arith, place.1, length_is, o.outgoing.ok.0) in

@@ -76,7 +76,8 @@ issued_on_ok response file Whole after h = (refl, unanswered_ok file.response h)
     unanswered_ok None g = cc
     unanswered_ok (Some other) g = absurd (cc)
 
-pub issued_sound : (response : Issued) (file after : Incoming) → IsSoundIncoming file → IsResponse response.kind response.reason [] response.text → issued response file ≡ Ok after → IsSoundIncoming after
+pub issued_sound : (response : Issued) (file after : Incoming) → IsSoundIncoming file → IsResponse response.kind response.reason [] response.text → issued response file ≡ Ok after
+    → IsSoundIncoming after
 issued_sound response file after sound fit h =
     let made = issued_on_ok response file file.state after h in
     subst IsSoundIncoming made.1 (record {
@@ -152,10 +153,11 @@ pub record Begins (header : Incoming) : Type 0 where
   pub response : header.response ≡ None
 
 begins_sound : (header : Incoming) → Begins header → IsSoundIncoming header
-begins_sound header begins = record {
+begins_sound header begins = let none = full-nil header.format header.longest in record {
   longest = begins.longest;
   few = omega (arith, ap length begins.rows);
-  fits = subst (λ state. FitsState state header.format header.longest header.rows) (sym begins.state) (subst (AreFullRows header.format header.longest) (sym begins.rows) (full-nil header.format header.longest));
+  fits = subst (λ state. FitsState state header.format header.longest header.rows) (sym begins.state)
+      (subst (AreFullRows header.format header.longest) (sym begins.rows) none);
   answered = subst (λ state. IsAnsweredWhole state header.response) (sym begins.state) (ap is_some begins.response);
   answer = subst IsSoundAnswer (sym begins.response) tt;
 }
@@ -202,17 +204,22 @@ started_sound r header count (file ∷ files) after begins all fit h =
     let going = mapped (λ f. f ∷ files) (gone_on header count file file.state) in
     let later = mapped (λ fs. file ∷ fs) (started_in r header count files) in
     let Fit = MayStart header.identity header.format header.longest count in
+    let first = All-head IsSoundIncoming file files all in
+    let rest = All-tail IsSoundIncoming file files all in
     elim (cases_Bool named) [
       | inl e ↦ (let part = mapped_ok (λ f. f ∷ files) (gone_on header count file file.state) after (sym (cond-true named going later e) ∙ h) in
-          subst (All IsSoundIncoming) part.2 (All-cons IsSoundIncoming part.0 files (gone_on_sound header count file part.0 begins (All-head IsSoundIncoming file files all) (All-head Fit file files fit e) part.1) (All-tail IsSoundIncoming file files all)))
+          let gone = gone_on_sound header count file part.0 begins first (All-head Fit file files fit e) part.1 in
+          subst (All IsSoundIncoming) part.2 (All-cons IsSoundIncoming part.0 files gone rest))
       | inr e ↦ (let part = mapped_ok (λ fs. file ∷ fs) (started_in r header count files) after (sym (cond-false named going later e) ∙ h) in
-          subst (All IsSoundIncoming) part.2 (All-cons IsSoundIncoming file part.0 (All-head IsSoundIncoming file files all) (started_sound r header count files part.0 begins (All-tail IsSoundIncoming file files all) (All-tail Fit file files fit) part.1)))
+          let later = started_sound r header count files part.0 begins rest (All-tail Fit file files fit) part.1 in
+          subst (All IsSoundIncoming) part.2 (All-cons IsSoundIncoming file part.0 first later))
     ]
 
 -- the identities after a start: as before, or with one more that wasn't there
 started_names : (r : Register) (header : Incoming) (count : ℕ) (files after : List Incoming) → started_in r header count files ≡ Ok after
     → (map (λ (f : Incoming). f.identity) after ≡ map (λ (f : Incoming). f.identity) files)
-    ⊎ ((map (λ (f : Incoming). f.identity) after ≡ map (λ (f : Incoming). f.identity) files ++ header.identity ∷ []) × (list_any (λ x. same_identity x header.identity) (map (λ (f : Incoming). f.identity) files) ≡ false))
+    ⊎ ((map (λ (f : Incoming). f.identity) after ≡ map (λ (f : Incoming). f.identity) files ++ header.identity ∷ [])
+    × (list_any (λ x. same_identity x header.identity) (map (λ (f : Incoming). f.identity) files) ≡ false))
 started_names r header count [] after h =
     let part = mapped_ok (λ f. f ∷ []) (begun r header count) after h in
     inr (ap (map (λ (f : Incoming). f.identity)) (sym part.2) ∙ ap (λ (f : Incoming). f.identity ∷ []) (sym (begun_ok r header count part.0 part.1).0), refl)
@@ -223,7 +230,8 @@ started_names r header count (file ∷ files) after h =
     let later = mapped (λ fs. file ∷ fs) (started_in r header count files) in
     elim (cases_Bool named) [
       | inl e ↦ (let part = mapped_ok (λ f. f ∷ files) (gone_on header count file file.state) after (sym (cond-true named going later e) ∙ h) in
-          inl (ap (map name) (sym part.2) ∙ ap (λ x. x ∷ map name files) (ap name (sym (gone_on_ok header count file file.state part.0 part.1).1) ∙ sym (same_identity-true file.identity header.identity e))))
+          let same = ap name (sym (gone_on_ok header count file file.state part.0 part.1).1) ∙ sym (same_identity-true file.identity header.identity e) in
+          inl (ap (map name) (sym part.2) ∙ ap (λ x. x ∷ map name files) same))
       | inr e ↦ (let part = mapped_ok (λ fs. file ∷ fs) (started_in r header count files) after (sym (cond-false named going later e) ∙ h) in
           elim (started_names r header count files part.0 part.1) [
             | inl same ↦ inl (ap (map name) (sym part.2) ∙ ap (λ xs. file.identity ∷ xs) same)

@@ -1,5 +1,5 @@
 -- Each change keeps a register sound.
-use Rattle.std.proofs.Common.{◌≡◌, ℕ, zero, suc, cond, nat_le, List, [], ◌∷◌, ◌++◌, length, map, All, None, Result, Ok, Err, refl, sym, ◌∙◌, subst, inl, inr, arith}
+use Rattle.std.proofs.Common.{◌≡◌, ℕ, zero, suc, cond, nat_le, List, [], ◌∷◌, ◌++◌, length, map, All, Result, Ok, Err, refl, sym, ◌∙◌, subst, inl, inr, arith}
 use Rattle.std.proofs.lemmas.Bool.{cases_Bool, cond-true, cond-false}
 use Rattle.std.proofs.lemmas.List.{map-append}
 use Rattle.std.proofs.lemmas.List.Elements.{All-push}
@@ -7,11 +7,9 @@ use Rattle.oftp_register.specs.declared.change.Cause.{Cause}
 use Rattle.oftp_register.specs.declared.change.Cause.TheVariants.{Duplicate, Full}
 use Rattle.oftp_register.specs.declared.change.Change.{Change}
 use Rattle.oftp_register.specs.declared.change.Change.TheVariants as change
-use Rattle.oftp_register.specs.declared.entry.IncomingState.TheVariants.{Open}
-use Rattle.oftp_register.specs.declared.entry.OutgoingState.TheVariants.{Waiting}
 use Rattle.oftp_register.specs.declared.entry.Dispatch.TheVariants.{Due}
 use Rattle.oftp_register.specs.Register.{Register, Incoming, Outgoing, Received, Issued, has_received, same_identity}
-use Rattle.oftp_register.specs.Changes.{apply, at_number, closed, closing, filed, given_up, handed, is_outgoing, issued, kept, marked, on_incoming, on_outgoing, refused, reopened, sent, settled, started, started_in, submitted}
+use Rattle.oftp_register.specs.Changes.{apply, at_number, closed, closing, filed, given_up, handed, is_outgoing, issued, kept, marked, new_incoming, new_outgoing, on_incoming, on_outgoing, refused, reopened, sent, settled, started, started_in, submitted}
 use Rattle.oftp_register.specs.Soundness.{AreNamedOnce, AtNumber, Ends, GoesOn, IfOpen, IsFit, IsSound, IsSoundIncoming, IsSoundOutgoing, IsSoundReceived, MayStart}
 use Rattle.oftp_register.proofs.NameLemmas.{filed-append, list_any-map, once-append}
 use Rattle.oftp_register.proofs.NumberLemmas.{at_number_keeps, at_number_same, mapped_ok, not_both, one_result}
@@ -28,12 +26,30 @@ at_number_any (suc (suc n)) (x ∷ xs) = at_number_any (suc n) xs
 -- other incoming files
 with_incoming : (r : Register) (files : List Incoming) → IsSound r → All IsSoundIncoming files → AreNamedOnce (map (λ (f : Incoming). f.identity) files) → IsSound (record r { incoming = files })
 with_incoming r files sound all once =
-    record { few = sound.few; small = sound.small; incoming = all; outgoing = sound.outgoing; received = sound.received; incoming_once = once; outgoing_once = sound.outgoing_once; received_once = sound.received_once }
+    record {
+      few = sound.few;
+      small = sound.small;
+      incoming = all;
+      outgoing = sound.outgoing;
+      received = sound.received;
+      incoming_once = once;
+      outgoing_once = sound.outgoing_once;
+      received_once = sound.received_once;
+    }
 
 -- other outgoing files
 with_outgoing : (r : Register) (files : List Outgoing) → IsSound r → All IsSoundOutgoing files → AreNamedOnce (map (λ (f : Outgoing). f.identity) files) → IsSound (record r { outgoing = files })
 with_outgoing r files sound all once =
-    record { few = sound.few; small = sound.small; incoming = sound.incoming; outgoing = all; received = sound.received; incoming_once = sound.incoming_once; outgoing_once = once; received_once = sound.received_once }
+    record {
+      few = sound.few;
+      small = sound.small;
+      incoming = sound.incoming;
+      outgoing = all;
+      received = sound.received;
+      incoming_once = sound.incoming_once;
+      outgoing_once = once;
+      received_once = sound.received_once;
+    }
 
 -- a change of one incoming file
 on_incoming_keeps : (Q : Incoming → Type 0) (f : Incoming → Result Incoming Cause) → ((x y : Incoming) → IsSoundIncoming x → Q x → f x ≡ Ok y → IsSoundIncoming y)
@@ -48,7 +64,8 @@ on_outgoing_keeps : (f : Outgoing → Result Outgoing Cause) → ((x y : Outgoin
     → ((x y : Outgoing) → f x ≡ Ok y → y.identity ≡ x.identity) → (n : ℕ) (r s : Register) → IsSound r → on_outgoing f n r ≡ Ok s → IsSound s
 on_outgoing_keeps f keeps same n r s sound h =
     let part = mapped_ok (λ files. record r { outgoing = files }) (at_number f n r.outgoing) s h in
-    subst IsSound part.2 (with_outgoing r part.0 sound (at_number_keeps IsSoundOutgoing (λ _. Unit {0}) f (λ x y p q. keeps x y p) n r.outgoing part.0 sound.outgoing (at_number_any n r.outgoing) part.1)
+    let all = at_number_keeps IsSoundOutgoing (λ _. Unit {0}) f (λ x y p q. keeps x y p) n r.outgoing part.0 sound.outgoing (at_number_any n r.outgoing) part.1 in
+    subst IsSound part.2 (with_outgoing r part.0 sound all
     (subst AreNamedOnce (sym (at_number_same (λ (x : Outgoing). x.identity) f same n r.outgoing part.0 part.1)) sound.outgoing_once))
 
 -- a file to be sent
@@ -77,7 +94,9 @@ start_keeps : (r s : Register) (header : Incoming) (count : ℕ) → IsSound r �
     → All (MayStart header.identity header.format header.longest count) r.incoming → started r header count ≡ Ok s → IsSound s
 start_keeps r s header count sound begins fit h =
     let part = mapped_ok (λ files. record r { incoming = files }) (started_in r header count r.incoming) s h in
-    subst IsSound part.2 (with_incoming r part.0 sound (started_sound r header count r.incoming part.0 begins sound.incoming fit part.1) (started_once r header count r.incoming part.0 sound.incoming_once part.1))
+    let all = started_sound r header count r.incoming part.0 begins sound.incoming fit part.1 in
+    let once = started_once r header count r.incoming part.0 sound.incoming_once part.1 in
+    subst IsSound part.2 (with_incoming r part.0 sound all once)
 
 -- a response that comes
 filed_sound : (r s : Register) (response : Received) → IsSound r → IsSoundReceived response → filed r response ≡ Ok s → IsSound s
@@ -104,10 +123,10 @@ filed_sound r s response sound fit h =
 pub apply_keeps : (r : Register) (k : Change) (s : Register) → IsSound r → IsFit r k → apply r k ≡ Ok s → IsSound s
 unfolding apply IsFit
 apply_keeps r (change.Submit identity format longest description rows) s sound fit h =
-    submitted_sound r s (record { identity = identity; format = format; longest = longest; description = description; rows = rows; mark = 0; state = Waiting }) sound
+    submitted_sound r s (new_outgoing identity format longest description rows) sound
     (record { longest = fit.longest; few = fit.few; fits = fit.fits; marked = omega arith }) h
 apply_keeps r (change.Start identity format longest description count) s sound fit h =
-    start_keeps r s (record { identity = identity; format = format; longest = longest; description = description; state = Open; rows = []; response = None }) count sound
+    start_keeps r s (new_incoming identity format longest description) count sound
     (record { longest = fit.0; state = refl; rows = refl; response = refl }) fit.1 h
 apply_keeps r (change.Keep n rows) s sound fit h = on_incoming_keeps (λ (f : Incoming). IfOpen f.state (GoesOn rows f)) (kept rows) (kept_sound rows) (kept_same rows) n r s sound fit h
 apply_keeps r (change.Close n rows) s sound fit h = on_incoming_keeps (λ (f : Incoming). IfOpen f.state (Ends rows f)) (closed rows) (closed_sound rows) (closed_same rows) n r s sound fit h

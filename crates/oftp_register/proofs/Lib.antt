@@ -9,6 +9,8 @@ pub mod FitLemmas
 pub mod UnitLemmas
 pub mod LookUpLemmas
 pub mod ByIdentityLemmas
+pub mod EntryLemmas
+pub mod StartLemmas
 pub mod FileRowLemmas
 pub mod PrefixLemmas
 pub mod PlainChanges

@@ -74,8 +74,10 @@ pub find-number-none : {A B : Type 0} (entry : ℕ → A → B) (number : B → 
 find-number-none entry number same n m [] outside = refl
 find-number-none entry number same n m (x ∷ xs) outside =
     elim outside [
-      | inl below ↦ cond-false (number (entry n x) == m) _ _ (ne_eqb (number (entry n x)) m (λ h. absurd (omega (arith, same n x, h)))) ∙ find-number-none entry number same (n + 1) m xs (inl (omega arith))
-      | inr past ↦ cond-false (number (entry n x) == m) _ _ (ne_eqb (number (entry n x)) m (λ h. absurd (omega (arith, same n x, h)))) ∙ find-number-none entry number same (n + 1) m xs (inr (omega arith))
+      | inl below ↦ cond-false (number (entry n x) == m) _ _ (ne_eqb (number (entry n x)) m (λ h. absurd (omega (arith, same n x, h))))
+          ∙ find-number-none entry number same (n + 1) m xs (inl (omega arith))
+      | inr past ↦ cond-false (number (entry n x) == m) _ _ (ne_eqb (number (entry n x)) m (λ h. absurd (omega (arith, same n x, h))))
+          ∙ find-number-none entry number same (n + 1) m xs (inr (omega arith))
     ]
 
 -- what is found from a place on
@@ -133,7 +135,8 @@ pub issued-hit : {S A B : Type 0} (view : S → A) (entry : ℕ → A → Option
     → issued_from view entry p i xs ≡ entry (i + 1) (view x)
 issued-hit view entry p i xs x within is h = issued-here view entry p i xs x within is ∙ found_first p (entry (i + 1) (view x)) _ h
 
-pub issued-miss : {S A B : Type 0} (view : S → A) (entry : ℕ → A → Option B) (p : B → Bool) (i : ℕ) (xs : List S) (x : S) → i < length xs → x ≡ get_or xs i x → passes p (entry (i + 1) (view x)) ≡ false
+pub issued-miss : {S A B : Type 0} (view : S → A) (entry : ℕ → A → Option B) (p : B → Bool) (i : ℕ) (xs : List S) (x : S) → i < length xs → x ≡ get_or xs i x
+    → passes p (entry (i + 1) (view x)) ≡ false
     → issued_from view entry p i xs ≡ issued_from view entry p (i + 1) xs
 issued-miss view entry p i xs x within is h = issued-here view entry p i xs x within is ∙ found_later p (entry (i + 1) (view x)) _ h
 

@@ -31,14 +31,18 @@ pub once-append : (xs : List Identity) (y : Identity) → AreNamedOnce xs → li
 once-append [] y once new = (refl, tt)
 once-append (x ∷ xs) y once new =
     let parts = or_parts (same_identity x y) (list_any (λ z. same_identity z y) xs) new in
-    (list_any-append (λ z. same_identity x z) xs (y ∷ []) ∙ or_from (list_any (λ z. same_identity x z) xs) (same_identity x y || false) once.0 (or_from (same_identity x y) false parts.0 refl), once-append xs y once.1 parts.1)
+    let last = or_from (same_identity x y) false parts.0 refl in
+    let all = or_from (list_any (λ z. same_identity x z) xs) (same_identity x y || false) once.0 last in
+    (list_any-append (λ z. same_identity x z) xs (y ∷ []) ∙ all, once-append xs y once.1 parts.1)
 
 -- one more response that isn't there yet
 pub filed-append : (xs : List Received) (y : Received) → AreFiledOnce xs → list_any (is_response_to y.kind y.identity) xs ≡ false → AreFiledOnce (xs ++ y ∷ [])
 filed-append [] y once new = (refl, tt)
 filed-append (x ∷ xs) y once new =
     let parts = or_parts (is_response_to y.kind y.identity x) (list_any (is_response_to y.kind y.identity) xs) new in
-    (list_any-append (λ (z : Received). is_response_to z.kind z.identity x) xs (y ∷ []) ∙ or_from _ (is_response_to y.kind y.identity x || false) once.0 (or_from (is_response_to y.kind y.identity x) false parts.0 refl), filed-append xs y once.1 parts.1)
+    let last = or_from (is_response_to y.kind y.identity x) false parts.0 refl in
+    let all = or_from (list_any (λ (z : Received). is_response_to z.kind z.identity x) xs) (is_response_to y.kind y.identity x || false) once.0 last in
+    (list_any-append (λ (z : Received). is_response_to z.kind z.identity x) xs (y ∷ []) ∙ all, filed-append xs y once.1 parts.1)
 
 -- a test of values is a test of what they are of
 pub list_any-map : {A B : Type 0} (p : B → Bool) (f : A → B) (xs : List A) → list_any p (map f xs) ≡ list_any (λ x. p (f x)) xs

@@ -30,7 +30,8 @@ at_number_keeps P Q f keeps (suc (suc n)) (x ∷ xs) ys all at h =
     subst (All P) part.2 (All-cons P x part.0 (All-head P x xs all) (at_number_keeps P Q f keeps (suc n) xs part.0 (All-tail P x xs all) at part.1))
 
 -- what the entries are of
-pub at_number_same : {A B : Type 0} (name : A → B) (f : A → Result A Cause) → ((x y : A) → f x ≡ Ok y → name y ≡ name x) → (n : ℕ) (xs ys : List A) → at_number f n xs ≡ Ok ys → map name ys ≡ map name xs
+pub at_number_same : {A B : Type 0} (name : A → B) (f : A → Result A Cause) → ((x y : A) → f x ≡ Ok y → name y ≡ name x) → (n : ℕ) (xs ys : List A) → at_number f n xs ≡ Ok ys
+    → map name ys ≡ map name xs
 at_number_same name f same zero xs ys h = absurd (cc)
 at_number_same name f same (suc n) [] ys h = absurd (cc)
 at_number_same name f same (suc zero) (x ∷ xs) ys h =

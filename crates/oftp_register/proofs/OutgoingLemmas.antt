@@ -64,13 +64,16 @@ settled_sound kind identity file sound =
 pub all_settled_sound : (kind : ResponseKind) (identity : Identity) (files : List Outgoing) → All IsSoundOutgoing files → All IsSoundOutgoing (map (settled kind identity) files)
 all_settled_sound kind identity [] all = All-nil IsSoundOutgoing
 all_settled_sound kind identity (file ∷ files) all =
-    All-cons IsSoundOutgoing (settled kind identity file) (map (settled kind identity) files) (settled_sound kind identity file (All-head IsSoundOutgoing file files all)) (all_settled_sound kind identity files (All-tail IsSoundOutgoing file files all))
+    let first = settled_sound kind identity file (All-head IsSoundOutgoing file files all) in
+    let rest = all_settled_sound kind identity files (All-tail IsSoundOutgoing file files all) in
+    All-cons IsSoundOutgoing (settled kind identity file) (map (settled kind identity) files) first rest
 
 settled_same : (kind : ResponseKind) (identity : Identity) (file : Outgoing) → (settled kind identity file).identity ≡ file.identity
 settled_same kind identity file =
     cond_both (same_identity file.identity identity) (record file { state = answered kind file.state }) file (λ (f : Outgoing). f.identity ≡ file.identity) (λ _. refl) (λ _. refl)
 
-pub all_settled_same : (kind : ResponseKind) (identity : Identity) (files : List Outgoing) → map (λ (f : Outgoing). f.identity) (map (settled kind identity) files) ≡ map (λ (f : Outgoing). f.identity) files
+pub all_settled_same : (kind : ResponseKind) (identity : Identity) (files : List Outgoing)
+    → map (λ (f : Outgoing). f.identity) (map (settled kind identity) files) ≡ map (λ (f : Outgoing). f.identity) files
 all_settled_same kind identity [] = refl
 all_settled_same kind identity (file ∷ files) =
     ap (λ x. x ∷ map (λ (f : Outgoing). f.identity) (map (settled kind identity) files)) (settled_same kind identity file)

@@ -33,14 +33,19 @@ mapped_all g bs i past = sym (ap (λ rest. take i bs ++ map g rest) (drop_all i 
 pub submit_duplicate : (o : Lists) (file : Outgoing) (files : List OutgoingFile) (there : Bool) → files ≡ o.outgoing.items
     → there ≡ list_any (λ (f : OutgoingFile). same_identity f.identity file.identity) files → there ≡ true → submitted (register_in o) file ≡ Err Duplicate
 submit_duplicate o file files there lent is found =
-    cond-true (is_outgoing (register_in o) file.identity) _ _ (list_any-map (λ (f : Outgoing). same_identity f.identity file.identity) outgoing_of o.outgoing.items ∙ ap (list_any (λ (f : OutgoingFile). same_identity f.identity file.identity)) (sym lent) ∙ sym is ∙ found)
+    let there = list_any-map (λ (f : Outgoing). same_identity f.identity file.identity) outgoing_of o.outgoing.items in
+    let lent_there = ap (list_any (λ (f : OutgoingFile). same_identity f.identity file.identity)) (sym lent) in
+    cond-true (is_outgoing (register_in o) file.identity) _ _ (there ∙ lent_there ∙ sym is ∙ found)
 
 -- a new file
 pub submit_new : (o : Lists) (file : Outgoing) (files : List OutgoingFile) (there : Bool) → files ≡ o.outgoing.items
     → there ≡ list_any (λ (f : OutgoingFile). same_identity f.identity file.identity) files → there ≡ false
-    → submitted (register_in o) file ≡ cond (nat_le o.limits.files (length (map outgoing_of o.outgoing.items))) (Err Full) (Ok (record (register_in o) { outgoing = map outgoing_of o.outgoing.items ++ file ∷ [] }))
+    → let full = nat_le o.limits.files (length (map outgoing_of o.outgoing.items)) in
+    submitted (register_in o) file ≡ cond full (Err Full) (Ok (record (register_in o) { outgoing = map outgoing_of o.outgoing.items ++ file ∷ [] }))
 submit_new o file files there lent is new =
-    cond-false (is_outgoing (register_in o) file.identity) _ _ (list_any-map (λ (f : Outgoing). same_identity f.identity file.identity) outgoing_of o.outgoing.items ∙ ap (list_any (λ (f : OutgoingFile). same_identity f.identity file.identity)) (sym lent) ∙ sym is ∙ new)
+    let there = list_any-map (λ (f : Outgoing). same_identity f.identity file.identity) outgoing_of o.outgoing.items in
+    let lent_there = ap (list_any (λ (f : OutgoingFile). same_identity f.identity file.identity)) (sym lent) in
+    cond-false (is_outgoing (register_in o) file.identity) _ _ (there ∙ lent_there ∙ sym is ∙ new)
 
 -- a table that is full or not
 pub is_full : {S A : Type 0} (view : S → A) (xs : List S) (limit len n : ℕ) → n ≡ length xs → len ≡ n → limit ≤ len → nat_le limit (length (map view xs)) ≡ true
@@ -55,5 +60,6 @@ file_duplicate o response found = cond-true (has_received (register_in o) respon
 
 -- a new response
 pub file_new : (o : Lists) (response : Received) → has_received (register_in o) response.kind response.identity ≡ false
-    → filed (register_in o) response ≡ Ok (record (register_in o) { outgoing = map (settled response.kind response.identity) (map outgoing_of o.outgoing.items); received = map received_of o.received.items ++ response ∷ [] })
+    → let files = map (settled response.kind response.identity) (map outgoing_of o.outgoing.items) in
+    filed (register_in o) response ≡ Ok (record (register_in o) { outgoing = files; received = map received_of o.received.items ++ response ∷ [] })
 file_new o response new = cond-false (has_received (register_in o) response.kind response.identity) _ _ new

@@ -47,12 +47,17 @@ none_before_len p (x ∷ xs) h = none_of (p x) (length xs) (position_or_len p xs
 pub position-None : {X : Type 0} (p : X → Bool) (xs : List X) → position p xs ≡ None → list_any p xs ≡ false
 position-None p xs h =
     let at = position_or_len p xs in
-    none_before_len p xs (elim (cases_Bool (nat_lt at (length xs))) [ inl e ↦ (let bad : Some at ≡ None = sym (cond-true (nat_lt at (length xs)) (Some at) None e) ∙ h in absurd (cc)) | inr e ↦ ltb-false at (length xs) e ])
+    none_before_len p xs (elim (cases_Bool (nat_lt at (length xs))) [
+      | inl e ↦ (let bad : Some at ≡ None = sym (cond-true (nat_lt at (length xs)) (Some at) None e) ∙ h in absurd (cc))
+      | inr e ↦ ltb-false at (length xs) e
+    ])
 
 -- the start of a file that is there
-pub start_found : {T : Type 0} (o : Lists) (header : Incoming) (count : ℕ) (files : List IncomingFile) (found : Option ℕ) (i : ℕ) (x y : IncomingFile) (result : Result T OfficeFault) → files ≡ o.incoming.items
+pub start_found : {T : Type 0} (o : Lists) (header : Incoming) (count : ℕ) (files : List IncomingFile) (found : Option ℕ) (i : ℕ) (x y : IncomingFile) (result : Result T OfficeFault)
+    → files ≡ o.incoming.items
     → found ≡ position (λ (f : IncomingFile). same_identity f.identity header.identity) files → found ≡ Some i → x ≡ get_or o.incoming.items i x
-    → CarriesOut incoming_of (gone_on header count (incoming_of x) x.state) x y result → CarriesOut register_in (started (register_in o) header count) o (record o { incoming = with_item o.incoming i y }) result
+    → CarriesOut incoming_of (gone_on header count (incoming_of x) x.state) x y result
+    → CarriesOut register_in (started (register_in o) header count) o (record o { incoming = with_item o.incoming i y }) result
 start_found o header count files found i x y result lent is at there h =
     let named = λ (f : IncomingFile). same_identity f.identity header.identity in
     let all = o.incoming.items in
@@ -60,7 +65,9 @@ start_found o header count files found i x y result lent is at there h =
     let facts = position-Some named all i x first in
     let wanted : started_in (register_in o) header count (map incoming_of all) ≡ mapped (λ z. set (map incoming_of all) i z) (gone_on header count (incoming_of x) x.state)
     = started_in-found (register_in o) header count all i x facts.0 there (ap named there ∙ facts.1) facts.2 in
-    makes_part (map incoming_of) register_in (λ entries. record (register_in o) { incoming = entries }) (started_in (register_in o) header count (map incoming_of all)) all (set all i y) o (record o { incoming = with_item o.incoming i y }) result
+    let after : Lists = record o { incoming = with_item o.incoming i y } in
+    let with_files = λ (entries : List Incoming). let r : Register = record (register_in o) { incoming = entries } in r in
+    makes_part (map incoming_of) register_in with_files (started_in (register_in o) header count (map incoming_of all)) all (set all i y) o after result
     refl refl (rw wanted (makes_at incoming_of (gone_on header count (incoming_of x) x.state) all i x y result there h))
 
 -- the start of a new file

@@ -13,7 +13,7 @@ use Rattle.oftp_register.specs.Soundness.{AreFit, IsFit}
 use Rattle.oftp_register.specs.Offices.{Commits, CommitsAll, CountsFault, EndsAt, IsAfterPrefix, IsRefused, Only, View}
 
 -- what the changes so far have made of an office that stood
-pub record IsMade (old now : View) (gone rest : List Change) : Type 0 where
+pub record HasMade (old now : View) (gone rest : List Change) : Type 0 where
   pub fit : AreFit now.register rest
   pub stands : now.stands
   pub made : apply_all old.register gone ≡ Ok now.register
@@ -22,7 +22,7 @@ pub record IsMade (old now : View) (gone rest : List Change) : Type 0 where
 pub record IsGoing (changes : List Change) (old now : View) (gone rest : List Change) : Type 0 where
   pub clean : now.clean → old.clean
   pub whole : gone ++ rest ≡ changes
-  pub so_far : now.clean → old.stands → AreFit old.register changes → IsMade old now gone rest
+  pub so_far : now.clean → old.stands → AreFit old.register changes → HasMade old now gone rest
   pub untold : now.told ≡ old.told
 
 -- the first change is fit, and so are the others when it is made

@@ -1,9 +1,10 @@
 -- Rows that fit a format.
-use Rattle.std.proofs.Common.{◌≡◌, ℕ, ◌<◌, ◌≤◌, List, [], ◌∷◌, ◌++◌, length, take, All, arith}
+use Rattle.std.proofs.Common.{◌≡◌, ℕ, zero, suc, ◌<◌, ◌≤◌, List, [], ◌∷◌, ◌++◌, length, take, drop, All, arith}
 use Rattle.std.proofs.lemmas.List.Elements.{All-nil, All-cons, All-append, All-take, All-head, All-tail}
 use Rattle.oftp_vfile.specs.declared.format.Format.{Format}
 use Rattle.oftp_vfile.specs.declared.format.Format.TheVariants.{Fixed, Variable, Unstructured, Text}
 use Rattle.oftp_vfile.specs.VirtualFile.{AreBlocks, AreRows}
+use Rattle.oftp_vfile.proofs.LendLemmas.{rows_from}
 use Rattle.oftp_register.specs.Soundness.{AreFullRows}
 use Rattle.oftp_vfile.specs.declared.format.TheConstants.{BLOCK}
 
@@ -54,3 +55,21 @@ blocks_split size (r ∷ q ∷ full) last blocks =
 
 pub blocks_joined : (size : ℕ) (full : List (List ℕ)) (last : List ℕ) → 0 < length last → length last ≤ size → All (λ (r : List ℕ). length r ≡ size) full → AreBlocks size (full ++ last ∷ [])
 blocks_joined size full last some within all = blocks-append size full (last ∷ []) (omega arith) all (some, within)
+
+-- so many of the rows from one on
+blocks-take : (size n : ℕ) (rows : List (List ℕ)) → 0 < size → AreBlocks size rows → AreBlocks size (take n rows)
+blocks-take size zero rows positive blocks = tt
+blocks-take size (suc n) [] positive blocks = tt
+blocks-take size (suc zero) (r ∷ []) positive blocks = blocks
+blocks-take size (suc (suc n)) (r ∷ []) positive blocks = blocks
+blocks-take size (suc zero) (r ∷ q ∷ rows) positive blocks = (omega (arith, positive, blocks.0), omega (arith, blocks.0))
+blocks-take size (suc (suc n)) (r ∷ q ∷ rows) positive blocks = (blocks.0, blocks-take size (suc n) (q ∷ rows) positive blocks.1)
+
+rows-take : (format : Format) (longest n : ℕ) (rows : List (List ℕ)) → AreRows format longest rows → AreRows format longest (take n rows)
+rows-take Fixed longest n rows = All-take (λ (r : List ℕ). length r ≡ longest) n rows
+rows-take Variable longest n rows = All-take (λ (r : List ℕ). length r ≤ longest) n rows
+rows-take Unstructured longest n rows = blocks-take BLOCK n rows (omega arith)
+rows-take Text longest n rows = blocks-take BLOCK n rows (omega arith)
+
+pub rows-part : (format : Format) (longest from most : ℕ) (rows : List (List ℕ)) → AreRows format longest rows → AreRows format longest (take most (drop from rows))
+rows-part format longest from most rows fits = rows-take format longest most (drop from rows) (rows_from format longest from rows fits)

@@ -9,7 +9,15 @@ use Rattle.oftp_register.specs.declared.change.Change.TheVariants as change
 use Rattle.oftp_register.specs.declared.entry.Identity.{Identity}
 use Rattle.oftp_register.specs.declared.entry.IncomingState.TheVariants.{Open}
 use Rattle.oftp_register.specs.Register.{Register, Incoming, Outgoing, same_identity}
-use Rattle.oftp_register.specs.LookUps.{entry_at}
+use Rattle.oftp_vfile.specs.declared.format.Format.{Format}
+use Rattle.oftp_wire.specs.declared.command.Sfid.{Sfid}
+use Rattle.oftp_register.specs.declared.entries.Side.TheVariants as side
+use Rattle.oftp_register.specs.declared.verdicts.StartVerdict.TheVariants as start
+use Rattle.oftp_register.specs.declared.verdicts.Terms.{Terms}
+use Rattle.oftp_register.specs.Changes.{apply, new_incoming}
+use Rattle.oftp_register.specs.LookUps.{entry_at, file_rows, files_full, incoming_entry, look_in}
+use Rattle.oftp_register.specs.Soundness.{IsFit, IsSound}
+use Rattle.oftp_register.specs.Verdicts.{format_of, longest_of, start_verdict}
 
 -- the entry of an identity, if there is one, by what names an entry
 abbrev pub named : {A : Type 0} → (A → Identity) → Identity → List A → Option A
@@ -51,12 +59,35 @@ WasStarted header count (Some old) new =
     (old.state ≡ Open) × (count ≤ length old.rows) × (new ≡ record header { rows = take count old.rows; response = old.response })
 
 -- A file was started, and no other was changed.
-pub record Started (header : Incoming) (count : ℕ) (xs ys : List Incoming) : Type 0 where
+pub record OneStarted (header : Incoming) (count : ℕ) (xs ys : List Incoming) : Type 0 where
   pub new : Incoming
   pub was : WasStarted header count (named incoming_name header.identity xs) new
   pub named_so : new.identity ≡ header.identity
   pub now : named incoming_name header.identity ys ≡ Some new
   pub others : (i : Identity) → same_identity header.identity i ≡ false → named incoming_name i ys ≡ named incoming_name i xs
+
+-- the file that a start leaves: its new header, and so many of the rows that were there
+abbrev pub started_file : Register → Incoming → ℕ → Incoming
+started_file r header count = record header { rows = take count (file_rows r side.Incoming (number_of r header.identity)) }
+
+-- What an accepted start leaves: under its number stands the file with its new header and the rows that are kept, open and with no
+-- response, and its identity finds it.
+pub record IsStarted (r s : Register) (header : Incoming) (count : ℕ) : Type 0 where
+  pub kept : count ≤ length (file_rows r side.Incoming (number_of r header.identity))
+  pub entry : entry_at (number_of r header.identity) s.incoming ≡ Some (started_file r header count)
+  pub look : look_in s header.identity ≡ Some (incoming_entry (number_of r header.identity) (started_file r header count))
+
+-- a start that a register accepts leaves this
+abbrev pub StartsAreFound : Type 0
+StartsAreFound = (r s : Register) (identity : Identity) (format : Format) (longest : ℕ) (description : List ℕ) (count : ℕ) → IsSound r
+    → apply r (change.Start identity format longest description count) ≡ Ok s → IsStarted r s (new_incoming identity format longest description) count
+
+-- What the answer to SFID accepts, the register starts: the change is fit, and it isn't refused.
+abbrev pub AcceptedStarts : Type 0
+AcceptedStarts = (r : Register) (sfid : Sfid) (identity : Identity) (terms : Terms) (count : ℕ) → IsSound r
+    → start_verdict sfid (look_in r identity) (files_full r side.Incoming) terms ≡ start.Accept count
+    → let change = change.Start identity (format_of sfid.layout) (longest_of sfid.layout) sfid.description count in
+    IsFit r change × ((s : Register) × (apply r change ≡ Ok s))
 
 -- one thing or else another
 abbrev pub or_else : {A : Type 0} → Option A → Option A → Option A

@@ -1,6 +1,7 @@
 -- What each change makes of a register, or why it is refused. What isn't named stays.
 use Rattle.std.specs.Prelude.{ℕ, zero, suc, ◌&&◌, ◌||◌, Bool, true, false, nat_le, nat_lt, if◌then◌else◌, List, [], ◌∷◌, ◌++◌, fold, length, take, map, Option, None, Some, Result, Ok, Err}
 use Rattle.std.specs.List.{list_any}
+use Rattle.oftp_vfile.specs.declared.format.Format.{Format}
 use Rattle.oftp_register.specs.declared.entry.Identity.{Identity}
 use Rattle.oftp_register.specs.declared.entry.ResponseKind.{ResponseKind}
 use Rattle.oftp_register.specs.declared.entry.ResponseKind.TheVariants.{EndResponse, NegativeEndResponse}
@@ -42,6 +43,11 @@ on_outgoing f n r = mapped (λ files. record r { outgoing = files }) (at_number 
 abbrev pub is_outgoing : Register → Identity → Bool
 is_outgoing r identity = list_any (λ (f : Outgoing). same_identity f.identity identity) r.outgoing
 
+-- a file to be sent: it waits, and no row is covered by credit
+abbrev pub new_outgoing : Identity → Format → ℕ → List ℕ → List (List ℕ) → Outgoing
+new_outgoing identity format longest description rows =
+    record { identity = identity; format = format; longest = longest; description = description; rows = rows; mark = 0; state = Waiting }
+
 -- a new file is to be sent
 abbrev pub submitted : Register → Outgoing → Result Register Cause
 submitted r file = if is_outgoing r file.identity then Err Duplicate
@@ -49,6 +55,11 @@ submitted r file = if is_outgoing r file.identity then Err Duplicate
     else Ok (record r { outgoing = r.outgoing ++ file ∷ [] }))
 
 -- a file that comes
+
+-- a file of which nothing is here yet
+abbrev pub new_incoming : Identity → Format → ℕ → List ℕ → Incoming
+new_incoming identity format longest description =
+    record { identity = identity; format = format; longest = longest; description = description; state = Open; rows = []; response = None }
 
 -- a new file begins at its first row
 abbrev pub begun : Register → Incoming → ℕ → Result Incoming Cause
@@ -190,10 +201,8 @@ reopened file = if_allowed (is_closing file.state) (record file { state = Waitin
 
 -- the register after a change, or the first cause for which it is refused
 unfoldable pub apply : Register → Change → Result Register Cause
-apply r (change.Submit identity format longest description rows) =
-    submitted r (record { identity = identity; format = format; longest = longest; description = description; rows = rows; mark = 0; state = Waiting })
-apply r (change.Start identity format longest description count) =
-    started r (record { identity = identity; format = format; longest = longest; description = description; state = Open; rows = []; response = None }) count
+apply r (change.Submit identity format longest description rows) = submitted r (new_outgoing identity format longest description rows)
+apply r (change.Start identity format longest description count) = started r (new_incoming identity format longest description) count
 apply r (change.Keep n rows) = on_incoming (kept rows) n r
 apply r (change.Close n rows) = on_incoming (closed rows) n r
 apply r (change.GiveUp n) = on_incoming given_up n r

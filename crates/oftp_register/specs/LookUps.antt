@@ -28,11 +28,29 @@ issued_response r = record { kind = r.kind; reason = r.reason; text = r.text; di
 
 -- an incoming file as it is handed out
 abbrev pub incoming_entry : ℕ → Incoming → IncomingEntry
-incoming_entry n f = record { no = n; identity = f.identity; format = f.format; longest = f.longest; description = f.description; state = f.state; rows = length f.rows; response = option_map issued_response f.response }
+incoming_entry n f = record {
+  no = n;
+  identity = f.identity;
+  format = f.format;
+  longest = f.longest;
+  description = f.description;
+  state = f.state;
+  rows = length f.rows;
+  response = option_map issued_response f.response;
+}
 
 -- an outgoing file as it is handed out
 abbrev pub outgoing_entry : ℕ → Outgoing → OutgoingEntry
-outgoing_entry n f = record { no = n; identity = f.identity; format = f.format; longest = f.longest; description = f.description; rows = length f.rows; mark = f.mark; state = f.state }
+outgoing_entry n f = record {
+  no = n;
+  identity = f.identity;
+  format = f.format;
+  longest = f.longest;
+  description = f.description;
+  rows = length f.rows;
+  mark = f.mark;
+  state = f.state;
+}
 
 -- the response to an incoming file as it is handed out, if one was issued
 abbrev pub issued_entry : ℕ → Incoming → Option IssuedEntry

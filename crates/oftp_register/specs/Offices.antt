@@ -104,8 +104,8 @@ pub record IsAfterPrefix (Holds : Register → Type 0) (old : Register) (changes
   pub holds : Holds after
 
 -- a stop leaves the register after the first so many of the changes, all of them made
-abbrev pub LeavesPrefix : Register → List Change → View → Type 0
-LeavesPrefix r changes v = (c : v.Content) → v.may_leave c → IsAfterPrefix (v.holds c) r changes
+abbrev pub LeavesFirst : Register → List Change → View → Type 0
+LeavesFirst r changes v = (c : v.Content) → v.may_leave c → IsAfterPrefix (v.holds c) r changes
 
 -- What changes in turn do, up to the first that isn't made, as `Commits` says it of one.
 pub record CommitsAll {T : Type 0} (changes : List Change) (old new : View) (result : Result T OfficeFault) : Type 0 where
@@ -113,5 +113,5 @@ pub record CommitsAll {T : Type 0} (changes : List Change) (old new : View) (res
   pub done : new.clean → old.stands → AreFit old.register changes → OnOk result ((apply_all old.register changes ≡ Ok new.register) × new.stands)
   pub refused : new.clean → old.stands → AreFit old.register changes → IsRefused (apply_all old.register changes) result new.stands
   pub kept : new.clean → old.stands → AreFit old.register changes → new.stands → IfErr result (λ fault. EndsAt fault old.register new.register changes)
-  pub left : new.clean → old.stands → AreFit old.register changes → LeavesPrefix old.register changes new
+  pub left : new.clean → old.stands → AreFit old.register changes → LeavesFirst old.register changes new
   pub counts : Counts old.told new.told result

@@ -12,6 +12,7 @@ use Rattle.oftp_wire.specs.declared.reason.EndReason.TheVariants.{InvalidRecordC
 use Rattle.oftp_register.specs.declared.entry.IncomingState.{IncomingState}
 use Rattle.oftp_register.specs.declared.entry.IncomingState.TheVariants.{Open, Whole}
 use Rattle.oftp_register.specs.declared.entries.IncomingEntry.{IncomingEntry}
+use Rattle.oftp_register.specs.declared.verdicts.TheConstants.{SIZE_UNIT}
 use Rattle.oftp_register.specs.declared.verdicts.Terms.{Terms}
 use Rattle.oftp_register.specs.declared.verdicts.StartVerdict.{StartVerdict}
 use Rattle.oftp_register.specs.declared.verdicts.StartVerdict.TheVariants as start
@@ -83,7 +84,7 @@ start_verdict sfid found is_full terms =
     else (if not (bytes_eq sfid.destination terms.station) then start.Refuse InvalidDestination false
     else (if not (bytes_eq sfid.originator terms.partner) then start.Refuse InvalidOrigin false
     else (if not (has_length sfid.layout) then start.Refuse MaximumRecordLengthNotSupported false
-    else (if nat_lt (terms.limits.octets / 1024) sfid.size then start.Refuse FileSizeTooBig false
+    else (if nat_lt (terms.limits.octets / SIZE_UNIT) sfid.size then start.Refuse FileSizeTooBig false
     else (if is_received found then start.Refuse DuplicateFile false
     else (if is_none found && is_full then start.Refuse Unspecified true
     else start.Accept (restart_position sfid found terms.restart)))))))))

@@ -23,14 +23,14 @@ pub use entry::{Dispatch, Identity, IncomingState, OutgoingState, ResponseKind};
 pub use fit::{
     MOST_FILES, MOST_OCTETS, MOST_UNITS, are_full_rows, are_limits, are_rows, is_file, is_response,
 };
-pub use laws::{changes_keep, changes_stay};
+pub use laws::{accepted_starts, changes_keep, changes_stay, starts_are_found};
 pub use name::{DigitString, Name};
 pub use note::Note;
 pub use office::{Office, OfficeFault};
 pub use plain::PlainOffice;
 pub use prefix::commit_all;
 pub use verdicts::{
-    EndVerdict, StartVerdict, Terms, end_verdict, format_of, longest_of, start_verdict,
+    EndVerdict, SIZE_UNIT, StartVerdict, Terms, end_verdict, format_of, longest_of, start_verdict,
 };
 
 #[cfg(test)]

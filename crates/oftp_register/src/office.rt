@@ -135,6 +135,11 @@ pub trait Office {
 
     /// The rows of a file from one on, `most` at most. There is none for a number that no file has. The register stays as it was.
     ///
+    /// Of any store only their count is promised: it isn't asked the file's format. Who needs rows of a format tests them by
+    /// [`are_rows`], which finds nothing wrong where the rows are those of the register.
+    ///
+    /// [`are_rows`]: crate::are_rows
+    ///
     /// # Errors
     ///
     /// [`OfficeFault::Store`] and [`OfficeFault::Memory`].

@@ -38,7 +38,8 @@ pub struct PlainOffice {
 impl PlainOffice {
     ghost use Rattle.oftp_register.specs.Plain.{faults_of, register_of};
 
-    /// An office with an empty register. [`are_limits`](crate::are_limits) tests the limits. It takes no memory.
+    /// An office with an empty register. Its limits are at most 1,000,000 files and 1,024,000,000 octets of a file, which
+    /// [`are_limits`](crate::are_limits) tests. It takes no memory.
     pub fn new(alloc: Global, limits: Limits) -> PlainOffice
         requires files { limits.files ≤ MOST_FILES }
         requires octets { limits.octets ≤ MOST_OCTETS }
@@ -192,7 +193,8 @@ impl Office for PlainOffice {
         self.counted(found)
     }
 
-    // It never tells a fault of a store.
+    // It never tells a fault of a store. A change that isn't fit would leave a register that isn't sound: it is told as a growth
+    // that was refused.
     fn commit(&mut self, change: Change<'_>) -> Result<(), OfficeFault>
         ensures made { CarriesOut register_of (apply (register_of self.old) change.entry) self.old self.new result }
         ensures counts { Counts (faults_of self.old) (faults_of self.new) result }

@@ -10,6 +10,9 @@ use crate::name::Name;
 use oftp_vfile::{Format, LONGEST_RECORD, Limits};
 use oftp_wire::{Count, Efid, EndReason, Layout, Sfid, StartReason};
 
+/// The unit of the file size that SFID tells, in octets (RFC 5024, section 5.3.3).
+pub const SIZE_UNIT: u64 = 1024;
+
 /// What a session agreed, as far as it decides whether a file is taken.
 #[derive(Drop)]
 pub struct Terms {
@@ -157,7 +160,7 @@ pub fn start_verdict(
     if !has_length(sfid.layout) {
         return refused(StartReason::MaximumRecordLengthNotSupported);
     }
-    if sfid.size.get() > terms.limits.octets / 1024 {
+    if sfid.size.get() > terms.limits.octets / SIZE_UNIT {
         return refused(StartReason::FileSizeTooBig);
     }
     if is_received(found) {

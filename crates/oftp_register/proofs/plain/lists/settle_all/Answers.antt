@@ -7,7 +7,13 @@ use Rattle.oftp_register.proofs.plain.lists.settle_all.Goals as goal
 
 pub loop-file-preserved : goal.loop-file-preserved
 loop-file-preserved c =
-    mapped_more outgoing_of (settled c.args.kind c.args.identity.now) c.loop-file.files c.loop-file.file-index c.file-item.result _ (omega (arith, c.loop-file.auto.files)) c.file-item.is (c.settle.ensures ∙ ap (λ f. settled c.args.kind c.args.identity.now (outgoing_of f)) (sym c.file-item.is)) ∙ c.loop-file.invariant
+    let settle = settled c.args.kind c.args.identity.now in
+    let one = c.settle.ensures ∙ ap (λ f. settle (outgoing_of f)) (sym c.file-item.is) in
+    mapped_more outgoing_of settle c.loop-file.files c.loop-file.file-index c.file-item.result _ (omega (arith, c.loop-file.auto.files)) c.file-item.is one
+    ∙ c.loop-file.invariant
 
 pub returns : goal.returns
-returns c = mapped_all (settled c.args.kind c.args.identity.now) (map outgoing_of c.loop-file.files) c.loop-file.file-index (omega (arith, length-map c.loop-file.files outgoing_of)) ∙ c.loop-file.invariant
+returns c =
+    let settle = settled c.args.kind c.args.identity.now in
+    let counted = length-map c.loop-file.files outgoing_of in
+    mapped_all settle (map outgoing_of c.loop-file.files) c.loop-file.file-index (omega (arith, counted)) ∙ c.loop-file.invariant

@@ -7,7 +7,9 @@ use Rattle.oftp_register.proofs.plain.lists.Lists.in_by_no.Goals as goal
 
 pub returns-in-Some-clause-value : goal.returns-in-Some-clause-value
 returns-in-Some-clause-value c =
-    rw (found_at_place incoming_of incoming_entry (λ (e : IncomingEntry). e.no) (λ n x. refl) c.args.self.now.incoming c.args.no c.in-Some.place _ c.len.ensures c.in-Some.ensures) c.incoming_at.ensures.value
+    let number = λ (e : IncomingEntry). e.no in
+    let found = found_at_place incoming_of incoming_entry number (λ n x. refl) c.args.self.now.incoming c.args.no c.in-Some.place _ c.len.ensures c.in-Some.ensures in
+    rw found c.incoming_at.ensures.value
 
 pub returns-in-None-clause-value : goal.returns-in-None-clause-value
 returns-in-None-clause-value c = sym (found_nowhere incoming_of incoming_entry (λ (e : IncomingEntry). e.no) (λ n x. refl) c.args.self.now.incoming c.args.no _ c.len.ensures c.in-None.ensures)

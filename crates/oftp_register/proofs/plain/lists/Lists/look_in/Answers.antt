@@ -14,11 +14,15 @@ returns-in-Some-clause-value c =
     let identity = c.args.identity.now in
     let named = λ (f : IncomingFile). same_identity f.identity identity in
     let first = ap (position named) (sym c.deref.ensures.value) ∙ sym c.place_in.ensures ∙ c.in-Some.is in
-    rw (find-numbered incoming_of incoming_entry (λ (e : IncomingEntry). same_identity e.identity identity) named (λ n x. refl) 1 c.args.self.now.incoming.items c.in-Some.place first) c.incoming_at.ensures.value
+    let is_named = λ (e : IncomingEntry). same_identity e.identity identity in
+    let found = find-numbered incoming_of incoming_entry is_named named (λ n x. refl) 1 c.args.self.now.incoming.items c.in-Some.place first in
+    rw found c.incoming_at.ensures.value
 
 pub returns-in-None-clause-value : goal.returns-in-None-clause-value
 returns-in-None-clause-value c =
     let identity = c.args.identity.now in
     let named = λ (f : IncomingFile). same_identity f.identity identity in
     let none = ap (position named) (sym c.deref.ensures.value) ∙ sym c.place_in.ensures ∙ c.in-None.is in
-    sym (find-numbered-none incoming_of incoming_entry (λ (e : IncomingEntry). same_identity e.identity identity) named (λ n x. refl) 1 c.args.self.now.incoming.items (position-None named c.args.self.now.incoming.items none))
+    let is_named = λ (e : IncomingEntry). same_identity e.identity identity in
+    let files = c.args.self.now.incoming.items in
+    sym (find-numbered-none incoming_of incoming_entry is_named named (λ n x. refl) 1 files (position-None named files none))
