@@ -30,7 +30,8 @@ one_frame c d x y e =
     let body : c ++ x ≡ d ++ y = cc in
     same_body c d x y body (omega (arith, n))
 
-one_front_by : (limit : ℕ) (cs ds : List (List ℕ)) (r q : List ℕ) → flat_map frame cs ++ r ≡ flat_map frame ds ++ q → AllByRecursion (IsCommand limit) cs → AllByRecursion (IsCommand limit) ds → NoFrame limit r → NoFrame limit q → (cs ≡ ds) × (r ≡ q)
+one_front_by : (limit : ℕ) (cs ds : List (List ℕ)) (r q : List ℕ) → flat_map frame cs ++ r ≡ flat_map frame ds ++ q
+    → AllByRecursion (IsCommand limit) cs → AllByRecursion (IsCommand limit) ds → NoFrame limit r → NoFrame limit q → (cs ≡ ds) × (r ≡ q)
 one_front_by limit [] [] r q e f g nor noq = (refl, e)
 one_front_by limit [] (d ∷ ds) r q e f g nor noq = absurd (nor d (flat_map frame ds ++ q) g.0 (e ∙ append_assoc (frame d) (flat_map frame ds) q))
 one_front_by limit (c ∷ cs) [] r q e f g nor noq = absurd (noq c (flat_map frame cs ++ r) f.0 (sym e ∙ append_assoc (frame c) (flat_map frame cs) r))
@@ -66,11 +67,17 @@ framed a b c rest m more e =
     let body : rest ≡ m ++ more = cc in
     (omega (arith, x, y, z, said n), omega (arith, ap length body, length-append m more))
 
-found : (limit x y z : ℕ) (rest : List ℕ) (b p : Bool) → y < 256 → z < 256 → (ltb (x * 65536 + y * 256 + z) 5 || ltb limit (x * 65536 + y * 256 + z)) ≡ b → ltb (length rest + 4) (x * 65536 + y * 256 + z) ≡ p
+-- no command has a length that is out of range
+out_of_range : (limit n : ℕ) (m : List ℕ) → n ≡ length m + 4 → IsCommand limit m → (ltb n 5 || ltb limit n) ≡ true → ⊥
+out_of_range limit n m e c out = elim (or_cases (ltb n 5) (ltb limit n) out) [
+  inl l ↦ omega (arith, ltb-true n 5 l, e, c.0) | inr r ↦ omega (arith, ltb-true limit n r, e, c.1) ]
+
+found : (limit x y z : ℕ) (rest : List ℕ) (b p : Bool) → y < 256 → z < 256
+    → (ltb (x * 65536 + y * 256 + z) 5 || ltb limit (x * 65536 + y * 256 + z)) ≡ b → ltb (length rest + 4) (x * 65536 + y * 256 + z) ≡ p
     → Finds limit (16 ∷ x ∷ y ∷ z ∷ rest) (len_of (cond b (Bad BadLength) (cond p Waits (Whole (x * 65536 + y * 256 + z)))))
 found limit x y z rest true p small_y small_z out far =
     let n = x * 65536 + y * 256 + z in (
-      λ m more c e. let f = framed x y z rest m more e in elim (or_cases (ltb n 5) (ltb limit n) out) [ inl l ↦ omega (arith, ltb-true n 5 l, f.0, c.0) | inr r ↦ omega (arith, ltb-true limit n r, f.0, c.1) ],
+      λ m more c e. out_of_range limit n m (framed x y z rest m more e).0 c out,
       ap (λ (b : Bool). cond b (Some BadLength) None) out,
     )
 found limit x y z rest false true small_y small_z out far = (
@@ -143,7 +150,8 @@ record HasFront (limit : ℕ) (stream : List ℕ) : Type 0 where
 last_front : (limit : ℕ) (s : List ℕ) → NoFrame limit s → HasFront limit s
 last_front limit s none = record { commands = []; rest = s; front = record { whole = refl; each = tt; last = none } }
 
-some_front_at : (limit : ℕ) (s : List ℕ) (h : Head) → Finds limit s (len_of h) → ((t : List ℕ) → All (λ c. c < 256) t → length t < length s → HasFront limit t) → All (λ c. c < 256) s → HasFront limit s
+some_front_at : (limit : ℕ) (s : List ℕ) (h : Head) → Finds limit s (len_of h)
+    → ((t : List ℕ) → All (λ c. c < 256) t → length t < length s → HasFront limit t) → All (λ c. c < 256) s → HasFront limit s
 some_front_at limit s (Whole n) cut rest_front small =
     let m = command_in n s in
     let behind = rest_front (drop n s) (All-drop (λ (c : ℕ). c < 256) n s small) (omega (arith, cut.0, cut.1, length-drop n s)) in
@@ -181,11 +189,13 @@ length_more limit (x ∷ y ∷ []) more f e = absurd (let h : ⊥ = cc in h)
 length_more limit (x ∷ y ∷ z ∷ rest) more f e =
     let n = x * 65536 + y * 256 + z in
     let out : (ltb n 5 || ltb limit n) ≡ true = out_of (ltb n 5 || ltb limit n) BadLength f e in (
-      λ m after c found. let h = framed x y z (rest ++ more) m after found in elim (or_cases (ltb n 5) (ltb limit n) out) [ inl l ↦ omega (arith, ltb-true n 5 l, h.0, c.0) | inr r ↦ omega (arith, ltb-true limit n r, h.0, c.1) ],
+      λ m after c found. out_of_range limit n m (framed x y z (rest ++ more) m after found).0 c out,
       e,
     )
 
-rest_more_by : (b : Bool) (limit first : ℕ) (t more : List ℕ) (f : FrameFault) → (first == 16) ≡ b → cond b (length_fault limit t) (Some BadHeader) ≡ Some f → NoFrame limit (first ∷ (t ++ more)) × (cond b (length_fault limit (t ++ more)) (Some BadHeader) ≡ Some f)
+rest_more_by : (b : Bool) (limit first : ℕ) (t more : List ℕ) (f : FrameFault) → (first == 16) ≡ b
+    → cond b (length_fault limit t) (Some BadHeader) ≡ Some f
+    → NoFrame limit (first ∷ (t ++ more)) × (cond b (length_fault limit (t ++ more)) (Some BadHeader) ≡ Some f)
 rest_more_by true limit first t more f is e =
     let h = length_more limit t more f e in
     (subst (λ (x : ℕ). NoFrame limit (x ∷ (t ++ more))) (sym (eqb-true first 16 is)) h.0, h.1)

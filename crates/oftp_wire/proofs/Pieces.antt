@@ -55,7 +55,9 @@ put_put at v w o room =
     ∙ ap (λ (j : ℕ). take at o ++ ((v ++ w) ++ drop j o)) (sym end)
 
 -- a value and then spaces are a padded value
-pub put_padded : (p : Piece) (w : Bor (List ℕ)) (n at : ℕ) (a b o : List ℕ) → p ≡ pieces.Padded w n → IsRight p → at + length (octets_of p) ≤ length o → a ≡ put at w.now o → b ≡ put (at + length w.now) (spaces (n - length w.now)) a → b ≡ put at (octets_of p) o
+pub put_padded : (p : Piece) (w : Bor (List ℕ)) (n at : ℕ) (a b o : List ℕ) → p ≡ pieces.Padded w n → IsRight p
+    → at + length (octets_of p) ≤ length o → a ≡ put at w.now o → b ≡ put (at + length w.now) (spaces (n - length w.now)) a
+    → b ≡ put at (octets_of p) o
 put_padded p w n at a b o e h room ha hb =
     let le : length w.now ≤ n = rw e at h in
     let len = padded_len p w n e h in
@@ -91,7 +93,8 @@ pub within : (ps : List Piece) (i : ℕ) (d : Piece) → i < length ps → lengt
 within ps i d h = length-flat_map-take octets_of ps i d h
 
 -- the next piece is written behind those before it
-pub spelling_step : (ps : List Piece) (i : ℕ) (d : Piece) (at : ℕ) (out new old : List ℕ) → i < length ps → at ≡ length (spelling (take i ps)) → out ≡ spelling (take i ps) ++ drop at old → length (spelling ps) ≤ length old
+pub spelling_step : (ps : List Piece) (i : ℕ) (d : Piece) (at : ℕ) (out new old : List ℕ) → i < length ps → at ≡ length (spelling (take i ps))
+    → out ≡ spelling (take i ps) ++ drop at old → length (spelling ps) ≤ length old
     → new ≡ put at (octets_of (get_or ps i d)) out → new ≡ spelling (take (i + 1) ps) ++ drop (at + length (octets_of (get_or ps i d))) old
 spelling_step ps i d at out new old h n e room w =
     w ∙ put_more at (spelling (take i ps)) (octets_of (get_or ps i d)) out old e (sym n) (omega (arith, within ps i d h))

@@ -40,7 +40,7 @@ says_allowed (payload k n a) s w f e = refl
 says_allowed (text k n a) s w f e = rw e (is_utf8-from_IsUtf8 (a s) f.2)
 
 -- octets of a table's length have no fault at its end
-ends_well : (end : ℕ) (o : List ℕ) → length o ≡ end → end_fault end o ≡ None
+pub ends_well : (end : ℕ) (o : List ℕ) → length o ≡ end → end_fault end o ≡ None
 unfolding end_fault
 ends_well end o e = rw (eq-eqb (length o) end e) refl
 

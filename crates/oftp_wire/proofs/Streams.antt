@@ -42,7 +42,8 @@ hands_out s octets seen begin n limit room capacity told view none same found cu
     let here : front limit rest ≡ Whole n = whole_from (front limit rest) n (found ∙ ap (λ (x : List ℕ). len_of (front limit x)) all) in
     let parts : Finds limit rest (Ok (Some n)) = subst (λ (x : List ℕ). Finds limit x (Ok (Some n))) all cut in
     let long : length m + 4 ≡ n = omega (arith, length-take-le (n - 4) (drop 4 rest) (omega (arith, parts.0, parts.1, length-drop 4 rest)), parts.0) in
-    subst (λ (u : Stream). HandsOut u (record { limit = limit; rest = drop (begin + n) octets; told = told; room = room; capacity = capacity }) (take (begin + n - (begin + 4)) (drop (begin + 4) octets))) view
+    subst (λ (u : Stream). HandsOut u (record { limit = limit; rest = drop (begin + n) octets; told = told; room = room; capacity = capacity })
+        (take (begin + n - (begin + 4)) (drop (begin + 4) octets))) view
     (subst (HandsOut t (record { limit = limit; rest = drop (begin + n) octets; told = told; room = room; capacity = capacity })) (sym (command_at octets begin n)) (record {
       left = ap (λ (r : List ℕ). record t { rest = r }) (sym (drop-drop n begin octets)) ∙ sym (ap (left_of t) none ∙ ap (left_at t) here);
       value = sym (ap (next_of t) none ∙ ap (next_at t) here);
@@ -56,7 +57,8 @@ IsTold (Whole n) = Unit {0}
 IsTold Waits = ⊥
 IsTold (Bad fault) = Unit {0}
 
-choice_more : (b p q : Bool) (n : ℕ) → IsTold (cond b (Bad BadLength) (cond p Waits (Whole n))) → (p ≡ false → q ≡ false) → cond b (Bad BadLength) (cond q Waits (Whole n)) ≡ cond b (Bad BadLength) (cond p Waits (Whole n))
+choice_more : (b p q : Bool) (n : ℕ) → IsTold (cond b (Bad BadLength) (cond p Waits (Whole n))) → (p ≡ false → q ≡ false)
+    → cond b (Bad BadLength) (cond q Waits (Whole n)) ≡ cond b (Bad BadLength) (cond p Waits (Whole n))
 choice_more true p q n told h = refl
 choice_more false true q n told h = absurd told
 choice_more false false q n told h = ap (λ (r : Bool). cond r Waits (Whole n)) (h refl)
@@ -68,7 +70,8 @@ sized_more limit (a ∷ []) more h = absurd h
 sized_more limit (a ∷ b ∷ []) more h = absurd h
 sized_more limit (a ∷ b ∷ c ∷ rest) more h =
     let n = a * 65536 + b * 256 + c in
-    choice_more (ltb n 5 || ltb limit n) (ltb (length rest + 4) n) (ltb (length (rest ++ more) + 4) n) n h (λ e. le-ltb (length (rest ++ more) + 4) n (omega (arith, ltb-false _ _ e, length-append rest more)))
+    choice_more (ltb n 5 || ltb limit n) (ltb (length rest + 4) n) (ltb (length (rest ++ more) + 4) n) n h
+        (λ e. le-ltb (length (rest ++ more) + 4) n (omega (arith, ltb-false _ _ e, length-append rest more)))
 
 choice_at : (b : Bool) (x y z : Head) → IsTold (cond b x z) → (IsTold x → y ≡ x) → cond b y z ≡ cond b x z
 choice_at true x y z told h = h told
@@ -92,7 +95,8 @@ sized_within limit (a ∷ []) = tt
 sized_within limit (a ∷ b ∷ []) = tt
 sized_within limit (a ∷ b ∷ c ∷ rest) =
     let n = a * 65536 + b * 256 + c in
-    choice_within (ltb n 5 || ltb limit n) (ltb (length rest + 4) n) n (length (a ∷ b ∷ c ∷ rest) + 1) (λ e. ltb-false _ _ (or_parts _ _ e).0) (λ e. let h = ltb-false (length rest + 4) n e in omega arith)
+    choice_within (ltb n 5 || ltb limit n) (ltb (length rest + 4) n) n (length (a ∷ b ∷ c ∷ rest) + 1) (λ e. ltb-false _ _ (or_parts _ _ e).0)
+        (λ e. let h = ltb-false (length rest + 4) n e in omega arith)
 
 choice_both : (b : Bool) (x y : Head) (count : ℕ) → IsWithin count x → IsWithin count y → IsWithin count (cond b x y)
 choice_both true x y count p q = p
@@ -102,7 +106,8 @@ choice_both false x y count p q = q
 pub front_within : (limit : ℕ) (s : List ℕ) → IsWithin (length s) (front limit s)
 unfolding front
 front_within limit [] = tt
-front_within limit (first ∷ rest) = choice_both (first == 16) (sized limit rest) (Bad BadHeader) (length (first ∷ rest)) (subst (λ (k : ℕ). IsWithin k (sized limit rest)) (add-one (length rest)) (sized_within limit rest)) tt
+front_within limit (first ∷ rest) = choice_both (first == 16) (sized limit rest) (Bad BadHeader) (length (first ∷ rest))
+    (subst (λ (k : ℕ). IsWithin k (sized limit rest)) (add-one (length rest)) (sized_within limit rest)) tt
 
 -- what an answer of `next` tells
 

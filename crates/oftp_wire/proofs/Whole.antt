@@ -1,5 +1,5 @@
 -- What is read is the command that is spelled, or the first fault.
-use Rattle.std.proofs.Common.{◌≡◌, ℕ, Bool, true, false, cond, eqb, List, [], ◌∷◌, Result, Ok, Err, Option, Some, refl, subst, arith, MatchResult}
+use Rattle.std.proofs.Common.{◌≡◌, ℕ, Bool, true, false, cond, eqb, List, [], ◌∷◌, Result, Ok, Err, Option, Some, None, refl, sym, subst, arith, MatchResult}
 use Rattle.std.specs.Prelude.{IfOk, IfErr, IsSome}
 use Rattle.std.proofs.lemmas.Bool.{eqb-true}
 use Rattle.oftp_wire.specs.declared.fault.WireFault.{WireFault}
@@ -7,13 +7,13 @@ use Rattle.oftp_wire.specs.declared.command.Command.{Command}
 use Rattle.oftp_wire.specs.declared.command.Command.TheVariants as commands
 use Rattle.oftp_wire.specs.Octets.{part}
 use Rattle.oftp_wire.specs.Form.{OneOf}
-use Rattle.oftp_wire.specs.Kinds.{by_letter, command_of}
+use Rattle.oftp_wire.specs.Reading.{◌>>=◌}
+use Rattle.oftp_wire.specs.Kinds.{by_letter, command_of, ssrm_of, ssid_of, sfid_of, sfpa_of, sfna_of, data_of, cdt_of, efid_of, efpa_of, efna_of, esid_of, eerp_of, nerp_of, single_of}
 use Rattle.oftp_wire.specs.Spelling.{Spells, Fault, fault_by}
 use Rattle.std.proofs.lemmas.Slice.Eq.{bytes_eq-Decides}
 use Rattle.oftp_wire.proofs.Forms.{fine_from}
 use Rattle.oftp_wire.specs.Reasons.{reason_of}
 use Rattle.oftp_wire.proofs.Exact.{Exact, named}
-use Rattle.oftp_wire.proofs.FaultReasons.{fault_reason}
 use Rattle.oftp_wire.proofs.EachKind.{IsKind, ssrm_exact, ssid_exact, sfid_exact, sfpa_exact, sfna_exact, data_exact, cdt_exact, efid_exact, efpa_exact, efna_exact, esid_exact, eerp_exact, nerp_exact, single_exact}
 use Rattle.oftp_wire.proofs.Again.{ssrm_again, ssid_again, sfid_again, sfpa_again, sfna_again, data_again, cdt_again, efid_again, efpa_again, efna_again, esid_again, eerp_again, nerp_again, single_again}
 
@@ -36,135 +36,89 @@ letter c k x y f g P here other = letter_by (eqb c k) x y f g P (λ e. here (eqb
 letter_exact : (c : ℕ) (cs : List ℕ) → Exact (by_letter c (c ∷ cs)) (fault_by c (c ∷ cs)) (λ x. Spells x (c ∷ cs))
 unfolding by_letter fault_by
 letter_exact c cs =
-    letter c 73 _ _ _ _ _ (λ e. named _ _ _ _ _ (ssrm_exact (c ∷ cs) (kind_is c 73 cs e)) (λ x h. h)) (
-    letter c 88 _ _ _ _ _ (λ e. named _ _ _ _ _ (ssid_exact (c ∷ cs) (kind_is c 88 cs e)) (λ x h. h)) (
-    letter c 72 _ _ _ _ _ (λ e. named _ _ _ _ _ (sfid_exact (c ∷ cs) (kind_is c 72 cs e)) (λ x h. h)) (
-    letter c 50 _ _ _ _ _ (λ e. named _ _ _ _ _ (sfpa_exact (c ∷ cs) (kind_is c 50 cs e)) (λ x h. h)) (
-    letter c 51 _ _ _ _ _ (λ e. named _ _ _ _ _ (sfna_exact (c ∷ cs) (kind_is c 51 cs e)) (λ x h. h)) (
-    letter c 68 _ _ _ _ _ (λ e. named _ _ _ _ _ (data_exact (c ∷ cs) (kind_is c 68 cs e)) (λ x h. h)) (
-    letter c 67 _ _ _ _ _ (λ e. named _ _ _ _ _ (cdt_exact (c ∷ cs) (kind_is c 67 cs e)) (λ x h. h)) (
-    letter c 84 _ _ _ _ _ (λ e. named _ _ _ _ _ (efid_exact (c ∷ cs) (kind_is c 84 cs e)) (λ x h. h)) (
-    letter c 52 _ _ _ _ _ (λ e. named _ _ _ _ _ (efpa_exact (c ∷ cs) (kind_is c 52 cs e)) (λ x h. h)) (
-    letter c 53 _ _ _ _ _ (λ e. named _ _ _ _ _ (efna_exact (c ∷ cs) (kind_is c 53 cs e)) (λ x h. h)) (
-    letter c 70 _ _ _ _ _ (λ e. named _ _ _ _ _ (esid_exact (c ∷ cs) (kind_is c 70 cs e)) (λ x h. h)) (
-    letter c 82 _ _ _ _ _ (λ e. named _ _ _ _ _ (single_exact 82 (c ∷ cs) (kind_is c 82 cs e)) (λ x h. h)) (
-    letter c 69 _ _ _ _ _ (λ e. named _ _ _ _ _ (eerp_exact (c ∷ cs) (kind_is c 69 cs e)) (λ x h. h)) (
-    letter c 78 _ _ _ _ _ (λ e. named _ _ _ _ _ (nerp_exact (c ∷ cs) (kind_is c 78 cs e)) (λ x h. h)) (
-    letter c 80 _ _ _ _ _ (λ e. named _ _ _ _ _ (single_exact 80 (c ∷ cs) (kind_is c 80 cs e)) (λ x h. h)) (
-    record { met = refl })))))))))))))))
+    letter c 73 _ _ _ _ _ (λ e. named _ (ssrm_exact (c ∷ cs) (kind_is c 73 cs e)) (λ x h. h)) (
+    letter c 88 _ _ _ _ _ (λ e. named _ (ssid_exact (c ∷ cs) (kind_is c 88 cs e)) (λ x h. h)) (
+    letter c 72 _ _ _ _ _ (λ e. named _ (sfid_exact (c ∷ cs) (kind_is c 72 cs e)) (λ x h. h)) (
+    letter c 50 _ _ _ _ _ (λ e. named _ (sfpa_exact (c ∷ cs) (kind_is c 50 cs e)) (λ x h. h)) (
+    letter c 51 _ _ _ _ _ (λ e. named _ (sfna_exact (c ∷ cs) (kind_is c 51 cs e)) (λ x h. h)) (
+    letter c 68 _ _ _ _ _ (λ e. named _ (data_exact (c ∷ cs) (kind_is c 68 cs e)) (λ x h. h)) (
+    letter c 67 _ _ _ _ _ (λ e. named _ (cdt_exact (c ∷ cs) (kind_is c 67 cs e)) (λ x h. h)) (
+    letter c 84 _ _ _ _ _ (λ e. named _ (efid_exact (c ∷ cs) (kind_is c 84 cs e)) (λ x h. h)) (
+    letter c 52 _ _ _ _ _ (λ e. named _ (efpa_exact (c ∷ cs) (kind_is c 52 cs e)) (λ x h. h)) (
+    letter c 53 _ _ _ _ _ (λ e. named _ (efna_exact (c ∷ cs) (kind_is c 53 cs e)) (λ x h. h)) (
+    letter c 70 _ _ _ _ _ (λ e. named _ (esid_exact (c ∷ cs) (kind_is c 70 cs e)) (λ x h. h)) (
+    letter c 82 _ _ _ _ _ (λ e. named _ (single_exact 82 (c ∷ cs) (kind_is c 82 cs e)) (λ x h. h)) (
+    letter c 69 _ _ _ _ _ (λ e. named _ (eerp_exact (c ∷ cs) (kind_is c 69 cs e)) (λ x h. h)) (
+    letter c 78 _ _ _ _ _ (λ e. named _ (nerp_exact (c ∷ cs) (kind_is c 78 cs e)) (λ x h. h)) (
+    letter c 80 _ _ _ _ _ (λ e. named _ (single_exact 80 (c ∷ cs) (kind_is c 80 cs e)) (λ x h. h)) (
+    record { met = (refl, refl) })))))))))))))))
 
 -- the reader of commands is exact
 pub command_exact : (o : List ℕ) → Exact (command_of o) (Fault o) (λ x. Spells x o)
 unfolding command_of Fault
-command_exact [] = record { met = refl }
+command_exact [] = record { met = (refl, refl) }
 command_exact (c ∷ cs) = letter_exact c cs
 
 -- the letter that a spelling begins with
 pub begins : (k : ℕ) (c : ℕ) (cs : List ℕ) → part 0 1 (c ∷ cs) ≡ k ∷ [] → c ≡ k
 begins k c cs e = cc
 
+-- what spells a command of the kind with this letter is read as it
+reads_as : {S : Type 0} {P : List ℕ → Type 0} (k : ℕ) (read : List ℕ → Result S WireFault) (make : S → Command) (s : S)
+    → ((cs : List ℕ) → by_letter k (k ∷ cs) ≡ (read (k ∷ cs) >>= λ x. Ok (make x)))
+    → ((o : List ℕ) → IsKind (k ∷ []) o → P o → read o ≡ Ok s)
+    → (o : List ℕ) → P o → ((q : List ℕ) → P q → part 0 1 q ≡ k ∷ []) → command_of o ≡ Ok (make s)
+unfolding command_of
+reads_as k read make s by again [] h first = let e : ◌≡◌ {A = List ℕ} [] (k ∷ []) = first [] h in absurd (let n : ⊥ = cc in n)
+reads_as {S} {P} k read make s by again (c ∷ cs) h first =
+    let e : c ≡ k = begins k c cs (first (c ∷ cs) h) in
+    let g : P (k ∷ cs) = subst (λ (d : ℕ). P (d ∷ cs)) e h in
+    rw (e, by cs, again (k ∷ cs) (kind_is k k cs refl) g) refl
+
 -- what spells a command is read as it
 pub command_again : (x : Command) (o : List ℕ) → Spells x o → command_of o ≡ Ok x
-unfolding command_of by_letter
-command_again commands.Ssrm [] h = absurd (omega (arith, h.whole))
-command_again commands.Ssrm (c ∷ cs) h =
-    let e : c ≡ 73 = begins 73 c cs h.fields.0.1 in
-    let g = subst (λ (d : ℕ). Spells commands.Ssrm (d ∷ cs)) e h in
-    rw (e, ssrm_again (73 ∷ cs) (kind_is 73 73 cs refl) tt g) refl
-command_again (commands.Ssid s) [] h = absurd (omega (arith, h.whole))
-command_again (commands.Ssid s) (c ∷ cs) h =
-    let e : c ≡ 88 = begins 88 c cs h.fields.0.1 in
-    let g = subst (λ (d : ℕ). Spells (commands.Ssid s) (d ∷ cs)) e h in
-    rw (e, ssid_again (88 ∷ cs) (kind_is 88 88 cs refl) s g) refl
-command_again (commands.Sfid s) [] h = absurd (omega (arith, h.whole))
-command_again (commands.Sfid s) (c ∷ cs) h =
-    let e : c ≡ 72 = begins 72 c cs h.fields.0.1 in
-    let g = subst (λ (d : ℕ). Spells (commands.Sfid s) (d ∷ cs)) e h in
-    rw (e, sfid_again (72 ∷ cs) (kind_is 72 72 cs refl) s g) refl
-command_again (commands.Sfpa s) [] h = absurd (omega (arith, h.whole))
-command_again (commands.Sfpa s) (c ∷ cs) h =
-    let e : c ≡ 50 = begins 50 c cs h.fields.0.1 in
-    let g = subst (λ (d : ℕ). Spells (commands.Sfpa s) (d ∷ cs)) e h in
-    rw (e, sfpa_again (50 ∷ cs) (kind_is 50 50 cs refl) s g) refl
-command_again (commands.Sfna s) [] h = absurd (omega (arith, h.whole))
-command_again (commands.Sfna s) (c ∷ cs) h =
-    let e : c ≡ 51 = begins 51 c cs h.fields.0.1 in
-    let g = subst (λ (d : ℕ). Spells (commands.Sfna s) (d ∷ cs)) e h in
-    rw (e, sfna_again (51 ∷ cs) (kind_is 51 51 cs refl) s g) refl
-command_again (commands.Data s) [] h = absurd (omega (arith, h.whole))
-command_again (commands.Data s) (c ∷ cs) h =
-    let e : c ≡ 68 = begins 68 c cs h.fields.0.1 in
-    let g = subst (λ (d : ℕ). Spells (commands.Data s) (d ∷ cs)) e h in
-    rw (e, data_again (68 ∷ cs) (kind_is 68 68 cs refl) s g) refl
-command_again commands.Cdt [] h = absurd (omega (arith, h.whole))
-command_again commands.Cdt (c ∷ cs) h =
-    let e : c ≡ 67 = begins 67 c cs h.fields.0.1 in
-    let g = subst (λ (d : ℕ). Spells commands.Cdt (d ∷ cs)) e h in
-    rw (e, cdt_again (67 ∷ cs) (kind_is 67 67 cs refl) tt g) refl
-command_again (commands.Efid s) [] h = absurd (omega (arith, h.whole))
-command_again (commands.Efid s) (c ∷ cs) h =
-    let e : c ≡ 84 = begins 84 c cs h.fields.0.1 in
-    let g = subst (λ (d : ℕ). Spells (commands.Efid s) (d ∷ cs)) e h in
-    rw (e, efid_again (84 ∷ cs) (kind_is 84 84 cs refl) s g) refl
-command_again (commands.Efpa s) [] h = absurd (omega (arith, h.whole))
-command_again (commands.Efpa s) (c ∷ cs) h =
-    let e : c ≡ 52 = begins 52 c cs h.fields.0.1 in
-    let g = subst (λ (d : ℕ). Spells (commands.Efpa s) (d ∷ cs)) e h in
-    rw (e, efpa_again (52 ∷ cs) (kind_is 52 52 cs refl) s g) refl
-command_again (commands.Efna s) [] h = absurd (omega (arith, h.whole))
-command_again (commands.Efna s) (c ∷ cs) h =
-    let e : c ≡ 53 = begins 53 c cs h.fields.0.1 in
-    let g = subst (λ (d : ℕ). Spells (commands.Efna s) (d ∷ cs)) e h in
-    rw (e, efna_again (53 ∷ cs) (kind_is 53 53 cs refl) s g) refl
-command_again (commands.Esid s) [] h = absurd (omega (arith, h.whole))
-command_again (commands.Esid s) (c ∷ cs) h =
-    let e : c ≡ 70 = begins 70 c cs h.fields.0.1 in
-    let g = subst (λ (d : ℕ). Spells (commands.Esid s) (d ∷ cs)) e h in
-    rw (e, esid_again (70 ∷ cs) (kind_is 70 70 cs refl) s g) refl
-command_again commands.Cd [] h = absurd (omega (arith, h.whole))
-command_again commands.Cd (c ∷ cs) h =
-    let e : c ≡ 82 = begins 82 c cs h.fields.0.1 in
-    let g = subst (λ (d : ℕ). Spells commands.Cd (d ∷ cs)) e h in
-    rw (e, single_again 82 (82 ∷ cs) (kind_is 82 82 cs refl) tt g) refl
-command_again (commands.Eerp s) [] h = absurd (omega (arith, h.whole))
-command_again (commands.Eerp s) (c ∷ cs) h =
-    let e : c ≡ 69 = begins 69 c cs h.fields.0.1 in
-    let g = subst (λ (d : ℕ). Spells (commands.Eerp s) (d ∷ cs)) e h in
-    rw (e, eerp_again (69 ∷ cs) (kind_is 69 69 cs refl) s g) refl
-command_again (commands.Nerp s) [] h = absurd (omega (arith, h.whole))
-command_again (commands.Nerp s) (c ∷ cs) h =
-    let e : c ≡ 78 = begins 78 c cs h.fields.0.1 in
-    let g = subst (λ (d : ℕ). Spells (commands.Nerp s) (d ∷ cs)) e h in
-    rw (e, nerp_again (78 ∷ cs) (kind_is 78 78 cs refl) s g) refl
-command_again commands.Rtr [] h = absurd (omega (arith, h.whole))
-command_again commands.Rtr (c ∷ cs) h =
-    let e : c ≡ 80 = begins 80 c cs h.fields.0.1 in
-    let g = subst (λ (d : ℕ). Spells commands.Rtr (d ∷ cs)) e h in
-    rw (e, single_again 80 (80 ∷ cs) (kind_is 80 80 cs refl) tt g) refl
+unfolding by_letter
+command_again commands.Ssrm o h = reads_as 73 ssrm_of (λ s. commands.Ssrm) tt (λ cs. refl) (λ q kind. ssrm_again q kind tt) o h (λ q g. g.fields.0.1)
+command_again (commands.Ssid s) o h = reads_as 88 ssid_of commands.Ssid s (λ cs. refl) (λ q kind. ssid_again q kind s) o h (λ q g. g.fields.0.1)
+command_again (commands.Sfid s) o h = reads_as 72 sfid_of commands.Sfid s (λ cs. refl) (λ q kind. sfid_again q kind s) o h (λ q g. g.fields.0.1)
+command_again (commands.Sfpa s) o h = reads_as 50 sfpa_of commands.Sfpa s (λ cs. refl) (λ q kind. sfpa_again q kind s) o h (λ q g. g.fields.0.1)
+command_again (commands.Sfna s) o h = reads_as 51 sfna_of commands.Sfna s (λ cs. refl) (λ q kind. sfna_again q kind s) o h (λ q g. g.fields.0.1)
+command_again (commands.Data s) o h = reads_as 68 data_of commands.Data s (λ cs. refl) (λ q kind. data_again q kind s) o h (λ q g. g.fields.0.1)
+command_again commands.Cdt o h = reads_as 67 cdt_of (λ s. commands.Cdt) tt (λ cs. refl) (λ q kind. cdt_again q kind tt) o h (λ q g. g.fields.0.1)
+command_again (commands.Efid s) o h = reads_as 84 efid_of commands.Efid s (λ cs. refl) (λ q kind. efid_again q kind s) o h (λ q g. g.fields.0.1)
+command_again (commands.Efpa s) o h = reads_as 52 efpa_of commands.Efpa s (λ cs. refl) (λ q kind. efpa_again q kind s) o h (λ q g. g.fields.0.1)
+command_again (commands.Efna s) o h = reads_as 53 efna_of commands.Efna s (λ cs. refl) (λ q kind. efna_again q kind s) o h (λ q g. g.fields.0.1)
+command_again (commands.Esid s) o h = reads_as 70 esid_of commands.Esid s (λ cs. refl) (λ q kind. esid_again q kind s) o h (λ q g. g.fields.0.1)
+command_again commands.Cd o h = reads_as 82 single_of (λ s. commands.Cd) tt (λ cs. refl) (λ q kind. single_again 82 q kind tt) o h (λ q g. g.fields.0.1)
+command_again (commands.Eerp s) o h = reads_as 69 eerp_of commands.Eerp s (λ cs. refl) (λ q kind. eerp_again q kind s) o h (λ q g. g.fields.0.1)
+command_again (commands.Nerp s) o h = reads_as 78 nerp_of commands.Nerp s (λ cs. refl) (λ q kind. nerp_again q kind s) o h (λ q g. g.fields.0.1)
+command_again commands.Rtr o h = reads_as 80 single_of (λ s. commands.Rtr) tt (λ cs. refl) (λ q kind. single_again 80 q kind tt) o h (λ q g. g.fields.0.1)
 
--- by what was read
-found_by : (r : Result Command WireFault) (o : List ℕ) → MatchResult r (λ x. Spells x o) (λ e. Fault o ≡ Some e) → IfOk r (λ x. Spells x o)
-found_by (Ok x) o h = h
+-- what is exact tells of each answer
+pub exact_at : (r : Result Command WireFault) (o : List ℕ) → command_of o ≡ r
+    → MatchResult r (λ x. (Fault o ≡ None) × Spells x o) (λ e. (Fault o ≡ Some e) × IsSome (reason_of e))
+exact_at r o h =
+    subst (λ (q : Result Command WireFault). MatchResult q (λ x. (Fault o ≡ None) × Spells x o) (λ e. (Fault o ≡ Some e) × IsSome (reason_of e)))
+    h (command_exact o).met
+
+-- what was read is spelled so
+found_by : (r : Result Command WireFault) (o : List ℕ)
+    → MatchResult r (λ x. (Fault o ≡ None) × Spells x o) (λ e. (Fault o ≡ Some e) × IsSome (reason_of e)) → IfOk r (λ x. Spells x o)
+found_by (Ok x) o h = h.1
 found_by (Err e) o h = tt
 
--- by what was read
-fault_found_by : (r : Result Command WireFault) (o : List ℕ) → MatchResult r (λ x. Spells x o) (λ e. Fault o ≡ Some e) → IfErr r (λ e. Fault o ≡ Some e)
-fault_found_by (Ok x) o h = tt
-fault_found_by (Err e) o h = h
+-- what was refused has the first fault from the left, which an ESID can answer
+refused_by : (r : Result Command WireFault) (o : List ℕ)
+    → MatchResult r (λ x. (Fault o ≡ None) × Spells x o) (λ e. (Fault o ≡ Some e) × IsSome (reason_of e))
+    → IfErr r (λ e. Fault o ≡ Some e) × IfErr r (λ e. IsSome (reason_of e))
+refused_by (Ok x) o h = (tt, tt)
+refused_by (Err e) o h = h
 
 -- what is read is spelled so
 pub found_is : (r : Result Command WireFault) (o : List ℕ) → r ≡ command_of o → IfOk r (λ x. Spells x o)
-found_is r o e = rw e (found_by (command_of o) o (command_exact o).met)
+found_is r o e = found_by r o (exact_at r o (sym e))
 
--- the reader's fault is the first from the left
-pub fault_is : (r : Result Command WireFault) (o : List ℕ) → r ≡ command_of o → IfErr r (λ f. Fault o ≡ Some f)
-fault_is r o e = rw e (fault_found_by (command_of o) o (command_exact o).met)
-
--- the reader's fault is one that an ESID can answer
-reason_by : (r : Result Command WireFault) (o : List ℕ) → IfErr r (λ f. Fault o ≡ Some f) → IfErr r (λ f. IsSome (reason_of f))
-reason_by (Ok x) o h = h
-reason_by (Err e) o h = fault_reason o e h
-
--- an ESID can answer the reader's fault
-pub reason_is : (r : Result Command WireFault) (o : List ℕ) → r ≡ command_of o → IfErr r (λ f. IsSome (reason_of f))
-reason_is r o e = reason_by r o (fault_is r o e)
+-- the reader's fault is the first from the left, and one that an ESID can answer
+pub fault_is : (r : Result Command WireFault) (o : List ℕ) → r ≡ command_of o
+    → IfErr r (λ f. Fault o ≡ Some f) × IfErr r (λ f. IsSome (reason_of f))
+fault_is r o e = refused_by r o (exact_at r o (sym e))

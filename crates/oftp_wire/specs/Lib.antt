@@ -1,3 +1,4 @@
+-- The definitions that contracts cite: the standard's terms for commands and for the stream that carries them.
 pub mod Octets
 pub mod Form
 pub mod Reading

@@ -23,7 +23,8 @@ start_number Unspecified = 99
 
 -- the reason of SFNA that has a number, if one has
 abbrev pub start_reason : ℕ → Option StartReason
-start_reason n = find (λ r. start_number r == n) (InvalidFilename ∷ InvalidDestination ∷ InvalidOrigin ∷ MaximumRecordLengthNotSupported ∷ FileSizeTooBig ∷ DuplicateFile ∷ FileDirectionRefused ∷ Unspecified ∷ [])
+start_reason n = find (λ r. start_number r == n) (InvalidFilename ∷ InvalidDestination ∷ InvalidOrigin ∷ MaximumRecordLengthNotSupported
+    ∷ FileSizeTooBig ∷ DuplicateFile ∷ FileDirectionRefused ∷ Unspecified ∷ [])
 
 -- the number of a reason of EFNA (RFC 5024, section 5.3.10)
 abbrev pub end_number : EndReason → ℕ
@@ -49,7 +50,8 @@ session_number AuthenticationIncompatible = 12
 
 -- the reason of ESID that has a number, if one has
 abbrev pub session_reason : ℕ → Option SessionReason
-session_reason n = find (λ r. session_number r == n) (Normal ∷ CommandNotRecognised ∷ ProtocolViolation ∷ UserCodeNotKnown ∷ InvalidPassword ∷ InvalidData ∷ BufferSizeError ∷ ResourcesNotAvailable ∷ ModeIncompatible ∷ AuthenticationIncompatible ∷ [])
+session_reason n = find (λ r. session_number r == n) (Normal ∷ CommandNotRecognised ∷ ProtocolViolation ∷ UserCodeNotKnown ∷ InvalidPassword
+    ∷ InvalidData ∷ BufferSizeError ∷ ResourcesNotAvailable ∷ ModeIncompatible ∷ AuthenticationIncompatible ∷ [])
 
 -- the reason of the ESID that answers octets at fault; none answers a slice that was too short to write in
 abbrev pub reason_of : WireFault → Option SessionReason

@@ -2,65 +2,51 @@
 use Rattle.std.specs.Prelude.{◌≡◌, ℕ, Bool, true, false, ◌-◌, ◌<◌, drop, ◌++◌, Result, Ok, Err, ◌==◌, if◌then◌else◌, List, [], ◌∷◌, length, codes, Option, Some}
 use Rattle.oftp_wire.specs.declared.fault.WireFault.{WireFault}
 use Rattle.oftp_wire.specs.declared.fault.WireFault.TheVariants.{UnknownCommand, NoRoom}
+use Rattle.oftp_wire.specs.declared.command.Ssid.{Ssid}
+use Rattle.oftp_wire.specs.declared.command.Sfid.{Sfid}
+use Rattle.oftp_wire.specs.declared.command.Sfpa.{Sfpa}
+use Rattle.oftp_wire.specs.declared.command.Sfna.{Sfna}
+use Rattle.oftp_wire.specs.declared.command.Efid.{Efid}
+use Rattle.oftp_wire.specs.declared.command.Efpa.{Efpa}
+use Rattle.oftp_wire.specs.declared.command.Efna.{Efna}
+use Rattle.oftp_wire.specs.declared.command.Esid.{Esid}
+use Rattle.oftp_wire.specs.declared.command.Eerp.{Eerp}
+use Rattle.oftp_wire.specs.declared.command.Nerp.{Nerp}
 use Rattle.oftp_wire.specs.declared.command.Command.{Command}
 use Rattle.oftp_wire.specs.declared.command.Command.TheVariants as commands
 use Rattle.oftp_wire.specs.Octets.{letter, part, number}
-use Rattle.oftp_wire.specs.Row.{IsSpelled, EachFits, canon_of, fault_in}
+use Rattle.oftp_wire.specs.Row.{Table, IsSpelled, EachFits, canon_of, fault_in}
 use Rattle.oftp_wire.specs.Tables.{ssrm_table, ssid_table, sfid_table, sfpa_table, sfna_table, data_table, cdt_table, efid_table, efpa_table, efna_table, esid_table, eerp_table, nerp_table, single_table, sfid_table_of, format_of, has_records}
+
+-- what `say` says of the table of a command's kind and of what the command holds; a text is as long as the command has it
+abbrev pub of_table {ℓ} : {R : Type ℓ} → Command → ((S : Type 0) → Table S → S → R) → R
+of_table commands.Ssrm say = say (Unit {0}) ssrm_table tt
+of_table (commands.Ssid s) say = say Ssid ssid_table s
+of_table (commands.Sfid s) say = say Sfid (sfid_table_of s) s
+of_table (commands.Sfpa s) say = say Sfpa sfpa_table s
+of_table (commands.Sfna s) say = say Sfna (sfna_table (length s.text)) s
+of_table (commands.Data s) say = say (List ℕ) (data_table (length s)) s
+of_table commands.Cdt say = say (Unit {0}) cdt_table tt
+of_table (commands.Efid s) say = say Efid efid_table s
+of_table (commands.Efpa s) say = say Efpa efpa_table s
+of_table (commands.Efna s) say = say Efna (efna_table (length s.text)) s
+of_table (commands.Esid s) say = say Esid (esid_table (length s.text)) s
+of_table commands.Cd say = say (Unit {0}) (single_table (codes "R")) tt
+of_table (commands.Eerp s) say = say Eerp eerp_table s
+of_table (commands.Nerp s) say = say Nerp (nerp_table (length s.text)) s
+of_table commands.Rtr say = say (Unit {0}) (single_table (codes "P")) tt
 
 -- the octets spell the command: each field is the slice at its offset, and there are no more octets than the kind has
 abbrev pub Spells : Command → List ℕ → Type 0
-Spells commands.Ssrm o = IsSpelled ssrm_table tt o
-Spells (commands.Ssid s) o = IsSpelled ssid_table s o
-Spells (commands.Sfid s) o = IsSpelled (sfid_table_of s) s o
-Spells (commands.Sfpa s) o = IsSpelled sfpa_table s o
-Spells (commands.Sfna s) o = IsSpelled (sfna_table (length s.text)) s o
-Spells (commands.Data s) o = IsSpelled (data_table (length s)) s o
-Spells commands.Cdt o = IsSpelled cdt_table tt o
-Spells (commands.Efid s) o = IsSpelled efid_table s o
-Spells (commands.Efpa s) o = IsSpelled efpa_table s o
-Spells (commands.Efna s) o = IsSpelled (efna_table (length s.text)) s o
-Spells (commands.Esid s) o = IsSpelled (esid_table (length s.text)) s o
-Spells commands.Cd o = IsSpelled (single_table (codes "R")) tt o
-Spells (commands.Eerp s) o = IsSpelled eerp_table s o
-Spells (commands.Nerp s) o = IsSpelled (nerp_table (length s.text)) s o
-Spells commands.Rtr o = IsSpelled (single_table (codes "P")) tt o
+Spells c o = of_table c (λ S t s. IsSpelled t s o)
 
 -- each field of the command is in its range
 abbrev pub IsFit : Command → Type 0
-IsFit commands.Ssrm = EachFits ssrm_table.rows tt
-IsFit (commands.Ssid s) = EachFits ssid_table.rows s
-IsFit (commands.Sfid s) = EachFits (sfid_table_of s).rows s
-IsFit (commands.Sfpa s) = EachFits sfpa_table.rows s
-IsFit (commands.Sfna s) = EachFits (sfna_table (length s.text)).rows s
-IsFit (commands.Data s) = EachFits (data_table (length s)).rows s
-IsFit commands.Cdt = EachFits cdt_table.rows tt
-IsFit (commands.Efid s) = EachFits efid_table.rows s
-IsFit (commands.Efpa s) = EachFits efpa_table.rows s
-IsFit (commands.Efna s) = EachFits (efna_table (length s.text)).rows s
-IsFit (commands.Esid s) = EachFits (esid_table (length s.text)).rows s
-IsFit commands.Cd = EachFits (single_table (codes "R")).rows tt
-IsFit (commands.Eerp s) = EachFits eerp_table.rows s
-IsFit (commands.Nerp s) = EachFits (nerp_table (length s.text)).rows s
-IsFit commands.Rtr = EachFits (single_table (codes "P")).rows tt
+IsFit c = of_table c (λ S t s. EachFits t.rows s)
 
 -- the canonical spelling: values padded with spaces, leading zeros, reserved fields as spaces, carriage return as 0D
 abbrev pub Canon : Command → List ℕ
-Canon commands.Ssrm = canon_of ssrm_table.rows tt
-Canon (commands.Ssid s) = canon_of ssid_table.rows s
-Canon (commands.Sfid s) = canon_of (sfid_table_of s).rows s
-Canon (commands.Sfpa s) = canon_of sfpa_table.rows s
-Canon (commands.Sfna s) = canon_of (sfna_table (length s.text)).rows s
-Canon (commands.Data s) = canon_of (data_table (length s)).rows s
-Canon commands.Cdt = canon_of cdt_table.rows tt
-Canon (commands.Efid s) = canon_of efid_table.rows s
-Canon (commands.Efpa s) = canon_of efpa_table.rows s
-Canon (commands.Efna s) = canon_of (efna_table (length s.text)).rows s
-Canon (commands.Esid s) = canon_of (esid_table (length s.text)).rows s
-Canon commands.Cd = canon_of (single_table (codes "R")).rows tt
-Canon (commands.Eerp s) = canon_of eerp_table.rows s
-Canon (commands.Nerp s) = canon_of (nerp_table (length s.text)).rows s
-Canon commands.Rtr = canon_of (single_table (codes "P")).rows tt
+Canon c = of_table c (λ S t s. canon_of t.rows s)
 
 -- the first fault of octets whose first one is c
 unfoldable pub fault_by : ℕ → List ℕ → Option WireFault

@@ -5,11 +5,9 @@ ghost use Rattle.std.specs.Vec.{vec_len, vec_capacity};
 ghost use Rattle.oftp_wire.specs.Stream.{front, len_of, Finds, BeginsWith, IsRest, next_of, left_of, shown};
 
 use crate::frame_fault::FrameFault;
+use crate::headers::HEADER_LEN;
 use std::alloc::Global;
 use std::marker::Model;
-
-/// The octets of the stream header.
-const HEADER_LEN: usize = 4;
 
 /// Takes a stream in pieces, however these are cut, and hands out its commands. RFC 5024, section 8.
 ///
@@ -110,8 +108,8 @@ impl Deframer {
     ghost use Rattle.std.specs.Io.BufRead.{Rests};
     ghost use Rattle.oftp_wire.specs.contracts.deframer.Deframer.{the_row};
 
-    /// A deframer that was fed nothing. `limit` is the greatest length of a frame in octets, its header counted: 5 to 100003, the
-    /// greatest of RFC 5024, section 8.
+    /// A deframer that was fed nothing, and has taken no memory. `limit` is the greatest length of a frame in octets, its header
+    /// counted. It must be 5 to 100003, the greatest of RFC 5024, section 8.
     pub fn new(alloc: Global, limit: usize) -> Deframer
         requires low { 5 ≤ limit }
         requires high { limit ≤ 100003 }
@@ -127,7 +125,7 @@ impl Deframer {
     }
 
     /// The same with memory taken beforehand, twice `room` octets: `feed` doesn't answer `Memory` while the octets that are fed and
-    /// not handed out are at most `room`. `limit` is 5 to 100003. The only fault is `Memory`.
+    /// not handed out are at most `room`. `limit` must be 5 to 100003. The only fault is `Memory`.
     pub fn with_room(alloc: Global, limit: usize, room: usize) -> Result<Deframer, FrameFault>
         requires low { 5 ≤ limit }
         requires high { limit ≤ 100003 }
@@ -152,7 +150,7 @@ impl Deframer {
         self.room
     }
 
-    /// For how many octets the deframer has taken memory.
+    /// For how many octets the deframer has taken memory: never more than twice the most that it held, or twice its `room`.
     pub fn capacity(&self) -> usize
         ensures { result ≡ self.now.capacity }
     {
@@ -160,8 +158,8 @@ impl Deframer {
     }
 
     /// Takes the next piece of the stream. The fault is the one that `next` answered before, or `Memory`, which comes only where
-    /// more than `room` octets would be held; both leave the deframer as it was. Over a whole stream the work is linear in its
-    /// octets, however they are cut.
+    /// more than `room` octets would be held; both leave the deframer as it was. It takes no more memory than for twice the octets
+    /// that it then holds. Over a whole stream the work is linear in its octets, however they are cut.
     pub fn feed(&mut self, piece: &[u8]) -> Result<(), FrameFault>
         ensures ok { OnOk result
             (self.new ≡ record self.old { rest = self.old.rest ++ piece.now; capacity = self.new.capacity }) }

@@ -161,7 +161,7 @@ impl<const N: usize> Model for Count<N> {
 }
 
 impl<const N: usize> Count<N> {
-    /// A number of at most N digits.
+    /// A number of at most N digits: `value` must be below 10^N.
     pub fn new(value: u64) -> Count<N>
         requires { value < 10 ^ N }
         ensures { result ≡ value }

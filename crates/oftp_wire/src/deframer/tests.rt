@@ -2,6 +2,9 @@ use super::*;
 use std::process::Abort;
 use std::test::Fail;
 
+/// The greatest length of a frame.
+const LIMIT: usize = 100_003;
+
 /// The frames of RTR, CD and CDT.
 const STREAM: [u8; 17] = [
     0x10, 0, 0, 5, 0x50, 0x10, 0, 0, 5, 0x52, 0x10, 0, 0, 7, 0x43, 0x20, 0x20,
@@ -47,7 +50,7 @@ fn take_cuts(rt: &impl Abort, deframer: &mut Deframer) -> Result<(), FrameFault>
 
 #[test]
 fn one_octet_at_a_time(rt: HostRuntime) -> Result<(), Fail> {
-    let mut deframer = Deframer::new(rt.alloc(), 100_003);
+    let mut deframer = Deframer::new(rt.alloc(), LIMIT);
     for octet in [0x10u8, 0, 0, 5] {
         deframer.feed(&[octet])?;
         assert!(rt; matches!(deframer.next(), Ok(None)));
@@ -60,7 +63,7 @@ fn one_octet_at_a_time(rt: HostRuntime) -> Result<(), Fail> {
 
 #[test]
 fn three_frames_any_cut(rt: HostRuntime) -> Result<(), Fail> {
-    let mut deframer = Deframer::new(rt.alloc(), 100_003);
+    let mut deframer = Deframer::new(rt.alloc(), LIMIT);
     take_cuts(&rt, &mut deframer)?;
     Ok(())
 }
@@ -70,9 +73,9 @@ fn three_frames_any_cut(rt: HostRuntime) -> Result<(), Fail> {
 #[test]
 fn no_memory_within_room(rt: HostRuntime) -> Result<(), Fail> {
     // One allocation alone is refused, so that a second try has its memory.
-    let mut deframer = match Deframer::with_room(rt.alloc(), 100_003, 17) {
+    let mut deframer = match Deframer::with_room(rt.alloc(), LIMIT, 17) {
         Ok(deframer) => deframer,
-        Err(_) => Deframer::with_room(rt.alloc(), 100_003, 17)?,
+        Err(_) => Deframer::with_room(rt.alloc(), LIMIT, 17)?,
     };
     assert!(rt; deframer.room() == 17);
     take_cuts(&rt, &mut deframer)?;
@@ -83,7 +86,7 @@ fn no_memory_within_room(rt: HostRuntime) -> Result<(), Fail> {
 #[test]
 fn short_or_long_frame(rt: HostRuntime) -> Result<(), Fail> {
     for header in [[0x10u8, 0, 0, 4], [0x10, 1, 0x86, 0xA4]] {
-        let mut deframer = Deframer::new(rt.alloc(), 100_003);
+        let mut deframer = Deframer::new(rt.alloc(), LIMIT);
         deframer.feed(&header)?;
         assert!(rt; matches!(deframer.next(), Err(FrameFault::BadLength)));
         assert!(rt; matches!(deframer.feed(&[0x10]), Err(FrameFault::BadLength)));
@@ -101,7 +104,7 @@ fn told_fault_stays(rt: HostRuntime) -> Result<(), Fail> {
         (&[0x10, 1, 0x86, 0xA4], FrameFault::BadLength),
     ];
     for (octets, fault) in cases {
-        let mut deframer = Deframer::new(rt.alloc(), 100_003);
+        let mut deframer = Deframer::new(rt.alloc(), LIMIT);
         deframer.feed(octets)?;
         for _ in 0..3 {
             assert!(rt;
@@ -116,7 +119,7 @@ fn told_fault_stays(rt: HostRuntime) -> Result<(), Fail> {
 
 #[test]
 fn million_pieces_of_one_octet(rt: HostRuntime) -> Result<(), Fail> {
-    let mut deframer = Deframer::new(rt.alloc(), 100_003);
+    let mut deframer = Deframer::new(rt.alloc(), LIMIT);
     for _ in 0..10 {
         for octet in [0x10u8, 1, 0x86, 0xA3] {
             deframer.feed(&[octet])?;

@@ -1,6 +1,6 @@
 use Rattle.std.proofs.Common.{subst, sym, ◌∙◌}
 use Rattle.oftp_wire.specs.Spelling.{Spells}
-use Rattle.oftp_wire.proofs.Whole.{found_is, fault_is, reason_is, command_again}
+use Rattle.oftp_wire.proofs.Whole.{found_is, fault_is, command_again}
 use Rattle.oftp_wire.proofs.SpellingLaws.{canon_spells}
 use Rattle.oftp_wire.proofs.parsing.parse.Goals as goal
 
@@ -14,7 +14,7 @@ pub returns-clause-again : goal.returns-clause-again
 returns-clause-again c = λ x fit e. c.command.ensures ∙ command_again x c.args.frame.now (subst (Spells x) (sym e) (canon_spells x fit))
 
 pub returns-clause-fault : goal.returns-clause-fault
-returns-clause-fault c = fault_is c.command.result c.args.frame.now c.command.ensures
+returns-clause-fault c = (fault_is c.command.result c.args.frame.now c.command.ensures).0
 
 pub returns-clause-reason : goal.returns-clause-reason
-returns-clause-reason c = reason_is c.command.result c.args.frame.now c.command.ensures
+returns-clause-reason c = (fault_is c.command.result c.args.frame.now c.command.ensures).1
