@@ -507,9 +507,9 @@ no_fault_next t gone xs (s ∷ ys) rows tail stage f h a c l o r e =
 pub no_first_fault : (old : Taking) (gone payloads : List (List ℕ)) (payload : List ℕ) (f : TakeFault) → Took old gone payloads → CarriesWithin old (payloads ++ payload ∷ [])
     → FirstFault old payload f → ⊥
 no_first_fault old gone payloads payload f k c ff =
-    let mid : Taking = ff.0 in
-    let rest : List ℕ = ff.1 in
-    let w : Walked old mid payload rest = ff.2 in
+    let mid : Taking = ff.before in
+    let rest : List ℕ = ff.rest in
+    let w : Walked old mid payload rest = ff.walked in
     let flat : List Subrecord = flat_map (λ (x : List Subrecord). x) k.subs in
     let back : restored mid old ≡ old = ap (λ (x : Taking). restored x old) w.after ∙ restored-all old w.subs in
     let m : CarriesWithin mid (payloads ++ payload ∷ []) = same_limits mid old (payloads ++ payload ∷ []) back c in
@@ -522,7 +522,7 @@ no_first_fault old gone payloads payload f k c ff =
     let more : AreShort p.0 = short-right w.subs p.0 (subst AreShort p.1 short) in
     no_fault_next mid gone (flat ++ w.subs) p.0 m.rows m.tail m.stage f holds more
     (subst (λ (x : List Subrecord). Carried mid.format mid.longest x m.rows m.tail) split m.carries.carried)
-    (m.carries.last ∙ ap stage_of split) m.octets m.few (ap (fault_in mid) (sym p.2) ∙ ff.3)
+    (m.carries.last ∙ ap stage_of split) m.octets m.few (ap (fault_in mid) (sym p.2) ∙ ff.faulty)
 
 -- what a taker took carries its rows within the limits
 pub took_within : (t : Taking) (gone payloads : List (List ℕ)) → Took t gone payloads → CarriesWithin t payloads
@@ -542,4 +542,11 @@ took_within t gone payloads k =
 pub walked_same : (old mid : Taking) (payload rest : List ℕ) → Walked old mid payload rest → IsSameFile old mid
 walked_same old mid payload rest w =
     let r : restored mid old ≡ old = ap (λ (x : Taking). restored x old) w.after ∙ restored-all old w.subs in
-    (ap (λ x. x.format) r, ap (λ x. x.longest) r, ap (λ x. x.limit) r, ap (λ x. x.kept_rows) r, ap (λ x. x.kept_units) r, ap (λ x. x.away) r)
+    record {
+      format = ap (λ x. x.format) r;
+      longest = ap (λ x. x.longest) r;
+      limit = ap (λ x. x.limit) r;
+      kept_rows = ap (λ x. x.kept_rows) r;
+      kept_units = ap (λ x. x.kept_units) r;
+      away = ap (λ x. x.away) r;
+    }

@@ -151,12 +151,12 @@ fault_left (suc m) t (x ∷ rest) fault few h = stops (fault_at t x (length rest
 
 pub fault_taken : (t : Taking) (payload : List ℕ) (fault : TakeFault) → FirstFault t payload fault → taken t payload ≡ Err fault
 fault_taken t payload fault f =
-    let mid = f.0 in
-    let rest = f.1 in
-    let w = f.2 in
+    let mid = f.before in
+    let rest = f.rest in
+    let w = f.walked in
     let n : length (payload_of w.subs ++ rest) ≤ length payload = omega (arith, ap length w.spelling) in
     let ih = walk_allowed (length payload) t w.subs rest w.allowed n in
-    let at : fault_in (added_all t w.subs) rest ≡ Some fault = subst (λ (x : Taking). fault_in x rest ≡ Some fault) w.after f.3 in
+    let at : fault_in (added_all t w.subs) rest ≡ Some fault = subst (λ (x : Taking). fault_in x rest ≡ Some fault) w.after f.faulty in
     ap (take_subrecords (length payload) t) w.spelling ∙ ih.2 ∙ fault_left ih.0 (added_all t w.subs) rest fault ih.1 at
 
 -- a subrecord takes no row away
