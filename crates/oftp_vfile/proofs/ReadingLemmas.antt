@@ -2,6 +2,7 @@
 use Rattle.std.proofs.Common.{append_assoc, true, false, cond, ◌≡◌, ℕ, zero, suc, ◌<◌, ◌≤◌, nat_le, Bool, Option, None, Some, Result, Ok, Err, List, [], ◌∷◌, ◌++◌, length, take, drop, refl, sym, ap, ◌∙◌, subst, arith}
 use Rattle.std.proofs.lemmas.List.{append-nil, length-append}
 use Rattle.std.proofs.Math.Seq.{take-append_seam, drop-append_seam}
+use Rattle.oftp_vfile.specs.declared.format.TheConstants.{BLOCK}
 use Rattle.oftp_vfile.specs.declared.format.TakeFault.{TakeFault}
 use Rattle.oftp_vfile.specs.VirtualFile.{is_stream}
 use Rattle.oftp_vfile.specs.Subrecord.{Subrecord, header, payload_of, count_in, AreShort}
@@ -161,11 +162,11 @@ fault_taken t payload fault f =
 
 -- a subrecord takes no row away
 pub added_rows : (t : Taking) (s : Subrecord) → length t.rows ≤ length (added t s).rows
-added_rows t s = by (is_stream t.format) (nat_le 1024 (length (t.tail ++ s.octets))) s.ends
+added_rows t s = by (is_stream t.format) (nat_le BLOCK (length (t.tail ++ s.octets))) s.ends
   where
     by : (a b c : Bool) → length t.rows
-        ≤ length (cond a (cond b (t.rows ++ take 1024 (t.tail ++ s.octets) ∷ []) t.rows) (cond c (t.rows ++ (t.tail ++ s.octets) ∷ []) t.rows))
-    by true true c = omega (arith, length-append t.rows (take 1024 (t.tail ++ s.octets) ∷ []))
+        ≤ length (cond a (cond b (t.rows ++ take BLOCK (t.tail ++ s.octets) ∷ []) t.rows) (cond c (t.rows ++ (t.tail ++ s.octets) ∷ []) t.rows))
+    by true true c = omega (arith, length-append t.rows (take BLOCK (t.tail ++ s.octets) ∷ []))
     by true false c = omega arith
     by false b true = omega (arith, length-append t.rows ((t.tail ++ s.octets) ∷ []))
     by false b false = omega arith

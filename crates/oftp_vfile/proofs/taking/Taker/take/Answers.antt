@@ -1,4 +1,5 @@
 use Rattle.std.proofs.Common.{inl, inr, ℕ, List, length, ◌<◌, sym, subst, arith, ap, ◌∙◌}
+use Rattle.oftp_vfile.specs.declared.format.TheConstants.{BLOCK}
 use Rattle.oftp_vfile.specs.VirtualFile.{is_stream}
 use Rattle.oftp_vfile.proofs.TakingLemmas.{put_back}
 use Rattle.oftp_vfile.proofs.CarriesLemmas.{took_walked, walked_same, no_first_fault}
@@ -12,7 +13,7 @@ invariant_of-self c =
     let back = put_back _ _ _ _ _ _ now.rows.items now.tail.items c.len-row_count.result c.len-tail_len.result c.self.view_is c.self-2.view_is e.1 in
     let b = back c.self.invariant.0 c.back_to.ensures (omega arith) (omega arith) in
     let i = c.self.invariant in (
-      λ e. subst (λ (x : List ℕ). length x < 1024) (sym b.2) (i.0 (ap is_stream (sym b.7) ∙ e)),
+      λ e. subst (λ (x : List ℕ). length x < BLOCK) (sym b.2) (i.0 (ap is_stream (sym b.7) ∙ e)),
       omega (arith, b.3, b.5, i.1),
       omega (arith, b.3, i.2),
       omega (arith, b.4, b.6, i.3, ap length b.1),
