@@ -36,7 +36,11 @@ returns-in-Ok-clause-same_file c = walked_same _ _ _ _ c.in-Ok.ensures.ok
 pub returns-in-Err-clause-only : goal.returns-in-Err-clause-only
 returns-in-Err-clause-only c = λ gone payloads k w.
     let e = c.in-Err.ensures.err in
-    elim e.2 [ inl m ↦ m | inr f ↦ absurd (no_first_fault c.args.self.now gone payloads c.args.payload.now c.in-Err.fault k w (record { before = c.walk.new.self; rest = e.0; walked = e.1; faulty = f })) ]
+    elim e.2 [
+      | inl m ↦ m
+      | inr f ↦ absurd (no_first_fault c.args.self.now gone payloads c.args.payload.now c.in-Err.fault k w
+          (record { before = c.walk.new.self; rest = e.0; walked = e.1; faulty = f }))
+    ]
 
 pub returns-in-Err-clause-same_file : goal.returns-in-Err-clause-same_file
 returns-in-Err-clause-same_file c =
