@@ -5,6 +5,7 @@ use Rattle.std.proofs.lemmas.Bool.{eq-eqb, eqb-true, leb-false, leb-true, le-leb
 use Rattle.std.proofs.lemmas.List.{append-nil, length-append, length-drop, take-append-drop, same_from_push, length_push, map-append, length-take-le, get_or_at}
 use Rattle.std.proofs.lemmas.List.Elements.{All-push, All-nil}
 use Rattle.std.proofs.lemmas.List.Concat.{flat_map-append}
+use Rattle.oftp_vfile.specs.declared.format.TheConstants.{BLOCK, MOST_ROWS}
 use Rattle.oftp_vfile.specs.declared.format.Format.{Format}
 use Rattle.oftp_vfile.specs.declared.format.Format.TheVariants.{Fixed, Variable, Unstructured, Text}
 use Rattle.oftp_vfile.specs.declared.format.Stage.{Stage}
@@ -109,17 +110,17 @@ blocks_more octets more rows tail b h =
     let all : List ℕ = tail ++ more in
     let j : octets ++ more ≡ octets_in rows ++ all = ap (λ (x : List ℕ). x ++ more) b.joined ∙ append_assoc (octets_in rows) tail more in
     let l : length all ≡ length tail + length more = length-append tail more in
-    let P : Bool → Type 0 = λ t. (t ≡ nat_le 1024 (length all)) → InBlocks (octets ++ more) (cond t (rows ++ take 1024 all ∷ []) rows) (cond t (drop 1024 all) all) in
+    let P : Bool → Type 0 = λ t. (t ≡ nat_le BLOCK (length all)) → InBlocks (octets ++ more) (cond t (rows ++ take BLOCK all ∷ []) rows) (cond t (drop BLOCK all) all) in
     let both : (t : Bool) → P t = λ t. elim t as P [
-      | true ↦ λ e. (let q : 1024 ≤ length all = leb-true _ _ (sym e) in record {
-        joined = j ∙ ap (λ (x : List ℕ). octets_in rows ++ x) (sym (take-append-drop 1024 all)) ∙ sym (append_assoc (octets_in rows) (take 1024 all) (drop 1024 all))
-            ∙ ap (λ (x : List ℕ). x ++ drop 1024 all) (sym (octets_in-push rows (take 1024 all)));
-        full = All-push (λ (r : List ℕ). length r ≡ 1024) rows (take 1024 all) b.full (length-take-le 1024 all q);
-        rest = omega (arith, length-drop 1024 all, b.rest, h, l);
+      | true ↦ λ e. (let q : BLOCK ≤ length all = leb-true _ _ (sym e) in record {
+        joined = j ∙ ap (λ (x : List ℕ). octets_in rows ++ x) (sym (take-append-drop BLOCK all)) ∙ sym (append_assoc (octets_in rows) (take BLOCK all) (drop BLOCK all))
+            ∙ ap (λ (x : List ℕ). x ++ drop BLOCK all) (sym (octets_in-push rows (take BLOCK all)));
+        full = All-push (λ (r : List ℕ). length r ≡ BLOCK) rows (take BLOCK all) b.full (length-take-le BLOCK all q);
+        rest = omega (arith, length-drop BLOCK all, b.rest, h, l);
       })
-      | false ↦ λ e. record { joined = j; full = b.full; rest = leb-false 1024 (length all) (sym e) }
+      | false ↦ λ e. record { joined = j; full = b.full; rest = leb-false BLOCK (length all) (sym e) }
     ] in
-    both (nat_le 1024 (length all)) refl
+    both (nat_le BLOCK (length all)) refl
 
 -- what a header says
 pub header_says : (s : Subrecord) → length s.octets < 64 → (header s % 64 ≡ length s.octets) × (nat_le 128 (header s) ≡ s.ends) × (header s % 128 ≡ length s.octets)
@@ -174,17 +175,17 @@ rows_after gone rows tail s format =
     let octets : List ℕ = tail ++ s.octets in
     let push : (r : List ℕ) → (gone ++ rows) ++ r ∷ [] ≡ gone ++ (rows ++ r ∷ []) = λ r. append_assoc gone rows (r ∷ []) in
     let P : Bool → Bool → Bool → Type 0 =
-    λ a b d. cond a (cond d ((gone ++ rows) ++ take 1024 octets ∷ []) (gone ++ rows)) (cond b ((gone ++ rows) ++ octets ∷ []) (gone ++ rows))
-    ≡ gone ++ cond a (cond d (rows ++ take 1024 octets ∷ []) rows) (cond b (rows ++ octets ∷ []) rows) in
+    λ a b d. cond a (cond d ((gone ++ rows) ++ take BLOCK octets ∷ []) (gone ++ rows)) (cond b ((gone ++ rows) ++ octets ∷ []) (gone ++ rows))
+    ≡ gone ++ cond a (cond d (rows ++ take BLOCK octets ∷ []) rows) (cond b (rows ++ octets ∷ []) rows) in
     let every : (a b d : Bool) → P a b d = λ a b d. elim a as (λ a. P a b d) [
-      | true ↦ elim d as (λ d. P true b d) [ true ↦ push (take 1024 octets) | false ↦ refl ]
+      | true ↦ elim d as (λ d. P true b d) [ true ↦ push (take BLOCK octets) | false ↦ refl ]
       | false ↦
           elim b as (λ b. P false b d) [
             | true ↦ push octets
             | false ↦ refl
           ]
     ] in
-    every (is_stream format) s.ends (nat_le 1024 (length octets))
+    every (is_stream format) s.ends (nat_le BLOCK (length octets))
 
 -- a taker that takes one more allowed subrecord holds it
 pub holds_added : (t : Taking) (gone : List (List ℕ)) (ss : List Subrecord) (s : Subrecord) → HasTaken t gone ss → IsAllowed t s → HasTaken (added t s) gone (ss ++ s ∷ [])
@@ -247,7 +248,7 @@ took_walked old new gone payloads payload t w =
       holds = subst (λ (x : List Subrecord). HasTaken new gone x) (sym (flat-push t.subs w.subs)) holds;
     }
 
-pub took_new : (format : Format) (longest kept_rows kept_units limit : ℕ) → kept_rows ≤ 1000000 → Took (new_taking format longest kept_rows kept_units limit) [] []
+pub took_new : (format : Format) (longest kept_rows kept_units limit : ℕ) → kept_rows ≤ MOST_ROWS → Took (new_taking format longest kept_rows kept_units limit) [] []
 took_new format longest kept_rows kept_units limit h =
     record {
       subs = [];
@@ -266,8 +267,8 @@ took_new format longest kept_rows kept_units limit h =
     none : (g : Format) → Carried g longest [] [] []
     none Fixed = (refl, All-nil (λ (r : List ℕ). length r ≡ longest), omega arith)
     none Variable = (refl, All-nil (λ (r : List ℕ). length r ≤ longest), omega arith)
-    none Unstructured = (tt, record { joined = refl; full = All-nil (λ (r : List ℕ). length r ≡ 1024); rest = omega arith })
-    none Text = (tt, record { joined = refl; full = All-nil (λ (r : List ℕ). length r ≡ 1024); rest = omega arith })
+    none Unstructured = (tt, record { joined = refl; full = All-nil (λ (r : List ℕ). length r ≡ BLOCK); rest = omega arith })
+    none Text = (tt, record { joined = refl; full = All-nil (λ (r : List ℕ). length r ≡ BLOCK); rest = omega arith })
 
 pub took_away : (t : Taking) (gone payloads : List (List ℕ)) → Took t gone payloads → Took (record t { rows = []; away = t.away + length t.rows }) (gone ++ t.rows) payloads
 took_away t gone payloads k =
@@ -412,14 +413,14 @@ piece_among P longest rows all tail p (q ∷ qs) e a b h =
     (b p has, λ _. has, omega (arith, ap length s.0, length-append all (p ∷ r.0), n))
 
 -- a stream's blocks are as many as its octets fill
-pub blocks_length : (octets : List ℕ) (rows : List (List ℕ)) (tail : List ℕ) → InBlocks octets rows tail → length octets ≡ 1024 * length rows + length tail
+pub blocks_length : (octets : List ℕ) (rows : List (List ℕ)) (tail : List ℕ) → InBlocks octets rows tail → length octets ≡ BLOCK * length rows + length tail
 blocks_length octets rows tail b = ap length b.joined ∙ length-append (octets_in rows) tail ∙ ap (λ n. n + length tail) (whole rows b.full)
   where
-    whole : (rs : List (List ℕ)) → All (λ (r : List ℕ). length r ≡ 1024) rs → length (octets_in rs) ≡ 1024 * length rs
+    whole : (rs : List (List ℕ)) → All (λ (r : List ℕ). length r ≡ BLOCK) rs → length (octets_in rs) ≡ BLOCK * length rs
     whole [] a = omega arith
     whole (r ∷ rs) a =
-        let one : length r ≡ 1024 = a 0 [] (omega arith) in
-        let more : length (octets_in rs) ≡ 1024 * length rs = whole rs (λ k d h. a (suc k) d (omega arith)) in
+        let one : length r ≡ BLOCK = a 0 [] (omega arith) in
+        let more : length (octets_in rs) ≡ BLOCK * length rs = whole rs (λ k d h. a (suc k) d (omega arith)) in
         omega (arith, length-append r (octets_in rs), one, more)
 
 -- what a record's subrecord leaves room for, where the records go on so
@@ -440,7 +441,7 @@ record_on longest P xs s ys all rows tail tail1 e f a b h =
 -- what stays within the limits and sizes
 on_within : (format : Format) (longest : ℕ) (xs : List Subrecord) (s : Subrecord) (ys : List Subrecord) (all rows : List (List ℕ)) (tail tail1 : List ℕ)
     → Carried format longest xs all tail → Carried format longest (xs ++ s ∷ ys) rows tail1
-    → (length all + cond (is_stream format) ((length tail + length s.octets) / 1024) (cond s.ends 1 0) ≤ length rows) × (is_wrong_size format longest (length tail + length s.octets) s.ends ≡ false)
+    → (length all + cond (is_stream format) ((length tail + length s.octets) / BLOCK) (cond s.ends 1 0) ≤ length rows) × (is_wrong_size format longest (length tail + length s.octets) s.ends ≡ false)
 on_within Fixed longest xs s ys all rows tail tail1 c d =
     let r = record_on longest (λ (r : List ℕ). length r ≡ longest) xs s ys all rows tail tail1 c.0 d.0 d.1 (λ r e. omega arith) d.2 in
     let Q : Bool → Type 0 = λ b. (b ≡ s.ends) → (b && not (eqb (length tail + length s.octets) longest)) ≡ false in
@@ -467,7 +468,7 @@ on_within Text longest xs s ys all rows tail tail1 c d =
 -- where what goes on so carries rows within the limits, the next subrecord has no fault
 no_fault_within : (t : Taking) (gone : List (List ℕ)) (xs : List Subrecord) (s : Subrecord) (ys : List Subrecord) (rows : List (List ℕ)) (tail : List ℕ) → HasTaken t gone xs
     → Carried t.format t.longest (xs ++ s ∷ ys) rows tail → length s.octets < 64
-    → t.kept_units + length (octets_in rows ++ tail) ≤ t.limit → t.kept_rows + length rows ≤ 1000000 → NoFault t (header s) (length (s.octets ++ payload_of ys))
+    → t.kept_units + length (octets_in rows ++ tail) ≤ t.limit → t.kept_rows + length rows ≤ MOST_ROWS → NoFault t (header s) (length (s.octets ++ payload_of ys))
 no_fault_within t gone xs s ys rows tail h c n o r =
     let says = header_says s n in
     let w = on_within t.format t.longest xs s ys (gone ++ t.rows) rows t.tail tail h.carried c in
@@ -477,7 +478,7 @@ no_fault_within t gone xs s ys rows tail h c n o r =
     let j : length (octets_of (xs ++ s ∷ ys)) ≡ length (octets_in rows ++ tail) = ap length (carried-joined t.format t.longest (xs ++ s ∷ ys) rows tail c) in
     let d = length-append gone t.rows in
     let fits : is_too_big t s.ends (length s.octets) ≡ false = or_from _ _ (le-ltb t.limit (t.kept_units + t.units + length s.octets) (omega (arith, o, j, l, h.units)))
-    (le-ltb 1000000 (t.kept_rows + t.away + length t.rows + new_rows t s.ends (length s.octets)) (omega (arith, r, w.0, d, h.away))) in
+    (le-ltb MOST_ROWS (t.kept_rows + t.away + length t.rows + new_rows t s.ends (length s.octets)) (omega (arith, r, w.0, d, h.away))) in
     let ends : is_wrong_size t.format t.longest (length t.tail + length s.octets) (nat_le 128 (header s)) ≡ false =
     subst (λ (x : Bool). is_wrong_size t.format t.longest (length t.tail + length s.octets) x ≡ false) (sym says.1) w.1 in
     record {
@@ -495,7 +496,7 @@ same_limits t old payloads e c =
 
 no_fault_next : (t : Taking) (gone : List (List ℕ)) (xs more : List Subrecord) (rows : List (List ℕ)) (tail : List ℕ) (stage : Stage) (f : TakeFault) → HasTaken t gone xs
     → AreShort more → Carried t.format t.longest (xs ++ more) rows tail → stage ≡ stage_of (xs ++ more)
-    → (stage ≢ Fresh → t.kept_units + length (octets_in rows ++ tail) ≤ t.limit) → t.kept_rows + length rows ≤ 1000000 → fault_in t (payload_of more) ≡ Some f → ⊥
+    → (stage ≢ Fresh → t.kept_units + length (octets_in rows ++ tail) ≤ t.limit) → t.kept_rows + length rows ≤ MOST_ROWS → fault_in t (payload_of more) ≡ Some f → ⊥
 no_fault_next t gone xs [] rows tail stage f h a c l o r e = let q : None ≡ Some f = e in cc
 no_fault_next t gone xs (s ∷ ys) rows tail stage f h a c l o r e =
     let n = no_fault_within t gone xs s ys rows tail h c a.0 (o (λ q. stage_some xs s ys (sym l ∙ q))) r in
@@ -507,9 +508,9 @@ no_fault_next t gone xs (s ∷ ys) rows tail stage f h a c l o r e =
 pub no_first_fault : (old : Taking) (gone payloads : List (List ℕ)) (payload : List ℕ) (f : TakeFault) → Took old gone payloads → CarriesWithin old (payloads ++ payload ∷ [])
     → FirstFault old payload f → ⊥
 no_first_fault old gone payloads payload f k c ff =
-    let mid : Taking = ff.0 in
-    let rest : List ℕ = ff.1 in
-    let w : Walked old mid payload rest = ff.2 in
+    let mid : Taking = ff.before in
+    let rest : List ℕ = ff.rest in
+    let w : Walked old mid payload rest = ff.walked in
     let flat : List Subrecord = flat_map (λ (x : List Subrecord). x) k.subs in
     let back : restored mid old ≡ old = ap (λ (x : Taking). restored x old) w.after ∙ restored-all old w.subs in
     let m : CarriesWithin mid (payloads ++ payload ∷ []) = same_limits mid old (payloads ++ payload ∷ []) back c in
@@ -522,7 +523,7 @@ no_first_fault old gone payloads payload f k c ff =
     let more : AreShort p.0 = short-right w.subs p.0 (subst AreShort p.1 short) in
     no_fault_next mid gone (flat ++ w.subs) p.0 m.rows m.tail m.stage f holds more
     (subst (λ (x : List Subrecord). Carried mid.format mid.longest x m.rows m.tail) split m.carries.carried)
-    (m.carries.last ∙ ap stage_of split) m.octets m.few (ap (fault_in mid) (sym p.2) ∙ ff.3)
+    (m.carries.last ∙ ap stage_of split) m.octets m.few (ap (fault_in mid) (sym p.2) ∙ ff.faulty)
 
 -- what a taker took carries its rows within the limits
 pub took_within : (t : Taking) (gone payloads : List (List ℕ)) → Took t gone payloads → CarriesWithin t payloads
@@ -542,4 +543,11 @@ took_within t gone payloads k =
 pub walked_same : (old mid : Taking) (payload rest : List ℕ) → Walked old mid payload rest → IsSameFile old mid
 walked_same old mid payload rest w =
     let r : restored mid old ≡ old = ap (λ (x : Taking). restored x old) w.after ∙ restored-all old w.subs in
-    (ap (λ x. x.format) r, ap (λ x. x.longest) r, ap (λ x. x.limit) r, ap (λ x. x.kept_rows) r, ap (λ x. x.kept_units) r, ap (λ x. x.away) r)
+    record {
+      format = ap (λ x. x.format) r;
+      longest = ap (λ x. x.longest) r;
+      limit = ap (λ x. x.limit) r;
+      kept_rows = ap (λ x. x.kept_rows) r;
+      kept_units = ap (λ x. x.kept_units) r;
+      away = ap (λ x. x.away) r;
+    }

@@ -4,6 +4,7 @@ use Rattle.std.specs.List.{flat_map}
 use Rattle.std.proofs.lemmas.Bool.{true≢false}
 use Rattle.std.proofs.lemmas.List.{append-nil, length-append, same_from_push}
 use Rattle.std.proofs.lemmas.List.Concat.{flat_map-append}
+use Rattle.oftp_vfile.specs.declared.format.TheConstants.{BLOCK}
 use Rattle.oftp_vfile.specs.declared.format.Format.{Format}
 use Rattle.oftp_vfile.specs.declared.format.Format.TheVariants.{Fixed, Variable, Unstructured, Text}
 use Rattle.oftp_vfile.specs.declared.format.Stage.{Stage}
@@ -56,9 +57,9 @@ closed_records : (P : List ℕ → Type 0) (ss : List Subrecord) (rows : List (L
     → All P (closed rows tail)
 closed_records P ss rows tail o e a = subst (λ (x : List ℕ). All P (closed rows x)) (sym (ended_piece ss rows tail o e)) a
 
-closed_blocks : (octets : List ℕ) (rows : List (List ℕ)) (tail : List ℕ) → InBlocks octets rows tail → AreBlocks 1024 (closed rows tail)
-closed_blocks octets rows [] b = full_are_blocks 1024 rows (omega arith) b.full
-closed_blocks octets rows (x ∷ xs) b = blocks_push 1024 rows (x ∷ xs) b.full (omega arith) (omega (arith, b.rest))
+closed_blocks : (octets : List ℕ) (rows : List (List ℕ)) (tail : List ℕ) → InBlocks octets rows tail → AreBlocks BLOCK (closed rows tail)
+closed_blocks octets rows [] b = full_are_blocks BLOCK rows (omega arith) b.full
+closed_blocks octets rows (x ∷ xs) b = blocks_push BLOCK rows (x ∷ xs) b.full (omega arith) (omega (arith, b.rest))
 
 closed_carried : (format : Format) (longest : ℕ) (ss : List Subrecord) (rows : List (List ℕ)) (tail : List ℕ) → Carried format longest ss rows tail → is_open (stage_of ss) ≡ false
     → AreRows format longest (closed rows tail)

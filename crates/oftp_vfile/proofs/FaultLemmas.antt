@@ -37,5 +37,6 @@ same_fault t (x ∷ xs) (y ∷ ys) r q f g a b e m n =
 -- a payload has one first fault only
 pub one_fault : (t : Taking) (payload : List ℕ) (f g : TakeFault) → FirstFault t payload f → FirstFault t payload g → f ≡ g
 one_fault t payload f g a b =
-    same_fault t a.2.subs b.2.subs a.1 b.1 f g a.2.allowed b.2.allowed (sym a.2.spelling ∙ b.2.spelling) (ap (λ (x : Taking). fault_in x a.1) (sym a.2.after)
-    ∙ a.3) (ap (λ (x : Taking). fault_in x b.1) (sym b.2.after) ∙ b.3)
+    let first = ap (λ (x : Taking). fault_in x a.rest) (sym a.walked.after) ∙ a.faulty in
+    let second = ap (λ (x : Taking). fault_in x b.rest) (sym b.walked.after) ∙ b.faulty in
+    same_fault t a.walked.subs b.walked.subs a.rest b.rest f g a.walked.allowed b.walked.allowed (sym a.walked.spelling ∙ b.walked.spelling) first second

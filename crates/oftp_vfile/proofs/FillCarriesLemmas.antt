@@ -3,6 +3,7 @@ use Rattle.std.proofs.Common.{◌≡◌, ℕ, suc, ◌+◌, ◌-◌, ◌<◌, �
 use Rattle.std.specs.List.{flat_map}
 use Rattle.std.proofs.lemmas.Bool.{cases_lt, eqb-true}
 use Rattle.std.proofs.lemmas.List.{append-nil, length-append, map-append, length-take, take-append-drop, take_all, same_from_push}
+use Rattle.oftp_vfile.specs.declared.format.TheConstants.{BLOCK}
 use Rattle.oftp_vfile.specs.declared.format.Format.{Format}
 use Rattle.oftp_vfile.specs.declared.format.Format.TheVariants.{Fixed, Variable, Unstructured, Text}
 use Rattle.oftp_vfile.specs.declared.format.Stage.{Stage}
@@ -129,18 +130,18 @@ fills_last size records (ss ∷ ts ∷ rest) p h =
     (stage_of-append ss (flat (ts ∷ rest)) k.1 ∙ k.0, omega (arith, length-append ss (flat (ts ∷ rest)), k.1))
 
 -- the rows of a stream in blocks
-pub rows_blocks : (rows : List (List ℕ)) → AreBlocks 1024 rows → (found : List (List ℕ)) × (tail : List ℕ) × InBlocks (octets_in rows) found tail × (closed found tail ≡ rows)
-rows_blocks [] a = ([], [], record { joined = refl; full = All-nil (λ (r : List ℕ). length r ≡ 1024); rest = omega arith }, refl)
+pub rows_blocks : (rows : List (List ℕ)) → AreBlocks BLOCK rows → (found : List (List ℕ)) × (tail : List ℕ) × InBlocks (octets_in rows) found tail × (closed found tail ≡ rows)
+rows_blocks [] a = ([], [], record { joined = refl; full = All-nil (λ (r : List ℕ). length r ≡ BLOCK); rest = omega arith }, refl)
 rows_blocks (r ∷ []) a =
-    elim (cases_lt (length r) 1024) [
-      | inl l ↦ ([], r, record { joined = append-nil r; full = All-nil (λ (x : List ℕ). length x ≡ 1024); rest = l }, last r a.0)
+    elim (cases_lt (length r) BLOCK) [
+      | inl l ↦ ([], r, record { joined = append-nil r; full = All-nil (λ (x : List ℕ). length x ≡ BLOCK); rest = l }, last r a.0)
       | inr g ↦ (
         r ∷ [],
         [],
         record {
           joined = sym (append-nil (r ++ []));
           full =
-              All-push (λ (x : List ℕ). length x ≡ 1024) [] r (All-nil (λ (x : List ℕ). length x ≡ 1024)) (omega (arith, a.1));
+              All-push (λ (x : List ℕ). length x ≡ BLOCK) [] r (All-nil (λ (x : List ℕ). length x ≡ BLOCK)) (omega (arith, a.1));
           rest = omega arith;
         },
         refl,
@@ -157,7 +158,7 @@ rows_blocks (r ∷ q ∷ rs) a =
       record {
         joined = ap (λ (x : List ℕ). r ++ x) b.2.joined ∙ sym (append_assoc r (octets_in b.0) b.1);
         full =
-            All-cons (λ (x : List ℕ). length x ≡ 1024) r b.0 a.0 b.2.full;
+            All-cons (λ (x : List ℕ). length x ≡ BLOCK) r b.0 a.0 b.2.full;
         rest = b.2.rest;
       },
       more r b.0 b.1 ∙ ap (λ (x : List (List ℕ)). r ∷ x) b.3,
@@ -183,7 +184,7 @@ whole_records longest size format rows (ss ∷ rest) p c =
       over = refl;
     }
 
-whole_stream : (longest size : ℕ) (format : Format) (rows : List (List ℕ)) (subs : List (List Subrecord)) → AreBlocks 1024 rows → Fills size (octets_in rows ∷ []) subs
+whole_stream : (longest size : ℕ) (format : Format) (rows : List (List ℕ)) (subs : List (List Subrecord)) → AreBlocks BLOCK rows → Fills size (octets_in rows ∷ []) subs
     → ((ss : List Subrecord) (found : List (List ℕ)) (tail : List ℕ) → IsStream ss → InBlocks (octets_of ss) found tail → Carried format longest ss found tail)
     → CarriesWhole format longest (map payload_of subs) rows
 whole_stream longest size format rows subs a p c =
@@ -231,16 +232,16 @@ decode_all (x ∷ xs) (y ∷ ys) h k e =
     ap (λ (z : List Subrecord). z ++ flat xs) (sym same) ∙ ap (λ (z : List Subrecord). y ++ z) (decode_all xs ys (short-right x (flat xs) h) (short-right y (flat ys) k) tl)
 
 -- octets are cut in blocks in one way
-pub one_full_blocks : (rows rows' : List (List ℕ)) (tail tail' : List ℕ) → All (λ (r : List ℕ). length r ≡ 1024) rows → All (λ (r : List ℕ). length r ≡ 1024) rows'
-    → length tail < 1024 → length tail' < 1024 → octets_in rows ++ tail ≡ octets_in rows' ++ tail' → (rows ≡ rows') × (tail ≡ tail')
+pub one_full_blocks : (rows rows' : List (List ℕ)) (tail tail' : List ℕ) → All (λ (r : List ℕ). length r ≡ BLOCK) rows → All (λ (r : List ℕ). length r ≡ BLOCK) rows'
+    → length tail < BLOCK → length tail' < BLOCK → octets_in rows ++ tail ≡ octets_in rows' ++ tail' → (rows ≡ rows') × (tail ≡ tail')
 one_full_blocks [] [] tail tail' a b h k e = (refl, e)
-one_full_blocks [] (r ∷ rs) tail tail' a b h k e = absurd (let n : length r ≡ 1024 = b 0 [] (omega arith) in
+one_full_blocks [] (r ∷ rs) tail tail' a b h k e = absurd (let n : length r ≡ BLOCK = b 0 [] (omega arith) in
     omega (arith, ap length e, n, length-append (r ++ octets_in rs) tail', length-append r (octets_in rs)))
-one_full_blocks (r ∷ rs) [] tail tail' a b h k e = absurd (let n : length r ≡ 1024 = a 0 [] (omega arith) in
+one_full_blocks (r ∷ rs) [] tail tail' a b h k e = absurd (let n : length r ≡ BLOCK = a 0 [] (omega arith) in
     omega (arith, ap length e, n, length-append (r ++ octets_in rs) tail, length-append r (octets_in rs)))
 one_full_blocks (r ∷ rs) (q ∷ qs) tail tail' a b h k e =
-    let n : length r ≡ 1024 = a 0 [] (omega arith) in
-    let m : length q ≡ 1024 = b 0 [] (omega arith) in
+    let n : length r ≡ BLOCK = a 0 [] (omega arith) in
+    let m : length q ≡ BLOCK = b 0 [] (omega arith) in
     let s = same_lengths r q (octets_in rs ++ tail) (octets_in qs ++ tail') (omega arith) (sym (append_assoc r (octets_in rs) tail) ∙ e ∙ append_assoc q (octets_in qs) tail') in
     let t = one_full_blocks rs qs tail tail' (λ i d l. a (suc i) d (omega arith)) (λ i d l. b (suc i) d (omega arith)) h k s.1 in
     (ap (λ (x : List ℕ). x ∷ rs) s.0 ∙ ap (λ (x : List (List ℕ)). q ∷ x) t.0, t.1)

@@ -291,3 +291,13 @@ stream_more size f rows row offset free octets last e d i l h p =
     ap (λ (x : List ℕ). x ∷ []) (rest_append rows 0 f.offset ((0 ∷ []) ∷ []) i)
     ∙ ap (λ (x : List ℕ). drop f.offset (octets_in (rows ++ x ∷ [])) ∷ []) (sym (least_stream f.format e)) ∙ sym (left_stream f (rows ++ least f.format ∷ []) e d) in
     (p.0 ++ s ∷ [], omega (arith, length-append p.0 (s ∷ [])), subst (λ (x : List (List ℕ)). Packs size x (p.0 ++ s ∷ []) []) start all)
+
+-- what was written of a stream from an offset
+pub streamed_from : (last : Bool) (size x y : ℕ) (rows : List (List ℕ)) (octets : List ℕ) (free : ℕ) (left : List ℕ) → x ≡ y
+    → HasStreamed last size (rest_at rows 0 x) octets free left → HasStreamed last size (rest_at rows 0 y) octets free left
+streamed_from last size x y rows octets free left e p = subst (λ (k : ℕ). HasStreamed last size (rest_at rows 0 k) octets free left) e p
+
+-- what was written of records, the first from an offset
+pub packed_from : (size x y : ℕ) (rows : List (List ℕ)) (octets : List ℕ) (free : ℕ) (left : List (List ℕ)) → x ≡ y
+    → HasPacked size (from_offset x rows) octets free left → HasPacked size (from_offset y rows) octets free left
+packed_from size x y rows octets free left e p = subst (λ (k : ℕ). HasPacked size (from_offset k rows) octets free left) e p

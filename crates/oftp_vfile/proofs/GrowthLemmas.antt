@@ -2,6 +2,7 @@
 use Rattle.std.proofs.Common.{◌≡◌, ℕ, suc, ◌+◌, ◌<◌, ◌≤◌, List, [], ◌∷◌, ◌++◌, length, get_or, take, drop, refl, sym, ap, ◌∙◌, arith, append_assoc, Result, Ok, Err, OnErr}
 use Rattle.std.proofs.lemmas.List.{append-nil, take_at, length-append, take-append-le, nil_from_length, same_from_push, get_or_at, get_or_append_left, drop_at, drop-drop}
 use Rattle.std.proofs.Math.Seq.{take-append-add}
+use Rattle.oftp_vfile.specs.declared.format.TheConstants.{BLOCK}
 use Rattle.oftp_vfile.specs.Growth.{HasGrown}
 
 -- nothing was added
@@ -45,8 +46,8 @@ first_new old front rows tail g h =
     )
 
 -- the block that fills up, and what is left
-pub filled_block : (tail part : List ℕ) (room : ℕ) → length tail + room ≡ 1024 → take 1024 (tail ++ part) ≡ tail ++ take room part
+pub filled_block : (tail part : List ℕ) (room : ℕ) → length tail + room ≡ BLOCK → take BLOCK (tail ++ part) ≡ tail ++ take room part
 filled_block tail part room e = ap (λ n. take n (tail ++ part)) (sym e) ∙ take-append-add tail part room
 
-pub rest_of_block : (tail part : List ℕ) (room : ℕ) → length tail + room ≡ 1024 → drop 1024 (tail ++ part) ≡ drop room part
+pub rest_of_block : (tail part : List ℕ) (room : ℕ) → length tail + room ≡ BLOCK → drop BLOCK (tail ++ part) ≡ drop room part
 rest_of_block tail part room e = ap (λ n. drop n (tail ++ part)) (sym e) ∙ sym (drop-drop room (length tail) (tail ++ part)) ∙ ap (drop room) (drop_at tail part (length tail) refl)

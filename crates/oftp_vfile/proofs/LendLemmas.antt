@@ -3,6 +3,7 @@ use Rattle.std.proofs.Common.{◌≡◌, ℕ, suc, zero, ◌-◌, ◌<◌, ◌�
 use Rattle.std.proofs.lemmas.Bool.{false≢true}
 use Rattle.std.proofs.lemmas.List.{length-drop, take-append-drop, drop_all, nil_from_length}
 use Rattle.std.proofs.lemmas.List.Elements.{All-cons, All-nil, All-drop, All-take}
+use Rattle.oftp_vfile.specs.declared.format.TheConstants.{BLOCK}
 use Rattle.oftp_vfile.specs.declared.format.Format.{Format}
 use Rattle.oftp_vfile.specs.declared.format.Format.TheVariants.{Fixed, Variable, Unstructured, Text}
 use Rattle.oftp_vfile.specs.VirtualFile.{is_stream, AreBlocks, AreRows, IsLongest}
@@ -18,8 +19,8 @@ blocks_from size (suc c) (r ∷ q ∷ rs) a = blocks_from size c (q ∷ rs) a.1
 pub rows_from : (format : Format) (longest c : ℕ) (rows : List (List ℕ)) → AreRows format longest rows → AreRows format longest (drop c rows)
 rows_from Fixed longest c rows a = All-drop (λ (r : List ℕ). length r ≡ longest) c rows a
 rows_from Variable longest c rows a = All-drop (λ (r : List ℕ). length r ≤ longest) c rows a
-rows_from Unstructured longest c rows a = blocks_from 1024 c rows a
-rows_from Text longest c rows a = blocks_from 1024 c rows a
+rows_from Unstructured longest c rows a = blocks_from BLOCK c rows a
+rows_from Text longest c rows a = blocks_from BLOCK c rows a
 
 -- blocks aren't empty
 blocks_some : (size : ℕ) (rows : List (List ℕ)) → 0 < size → AreBlocks size rows → All (λ (r : List ℕ). 0 < length r) rows
@@ -30,16 +31,16 @@ blocks_some size (r ∷ q ∷ rs) h a = All-cons (λ (x : List ℕ). 0 < length 
 stream_some : (format : Format) (longest : ℕ) (rows : List (List ℕ)) → AreRows format longest rows → is_stream format ≡ true → All (λ (r : List ℕ). 0 < length r) rows
 stream_some Fixed longest rows a e = absurd (false≢true e)
 stream_some Variable longest rows a e = absurd (false≢true e)
-stream_some Unstructured longest rows a e = blocks_some 1024 rows (omega arith) a
-stream_some Text longest rows a e = blocks_some 1024 rows (omega arith) a
+stream_some Unstructured longest rows a e = blocks_some BLOCK rows (omega arith) a
+stream_some Text longest rows a e = blocks_some BLOCK rows (omega arith) a
 
 -- rows behind those that were lent
 some_behind : (format : Format) (longest : ℕ) (more : List (List ℕ)) → IsLongest format longest → AreRows format longest more → 0 < length more → AreBehind format false more
 some_behind format longest [] l a h = absurd (omega arith)
 some_behind Fixed longest (r ∷ rs) l a h = let e : length r ≡ longest = a 0 [] (omega arith) in omega (arith, e, l.0)
 some_behind Variable longest (r ∷ rs) l a h = tt
-some_behind Unstructured longest (r ∷ rs) l a h = blocks_some 1024 (r ∷ rs) (omega arith) a 0 [] (omega arith)
-some_behind Text longest (r ∷ rs) l a h = blocks_some 1024 (r ∷ rs) (omega arith) a 0 [] (omega arith)
+some_behind Unstructured longest (r ∷ rs) l a h = blocks_some BLOCK (r ∷ rs) (omega arith) a 0 [] (omega arith)
+some_behind Text longest (r ∷ rs) l a h = blocks_some BLOCK (r ∷ rs) (omega arith) a 0 [] (omega arith)
 
 behind_lent : (format : Format) (longest : ℕ) (last : Bool) (more : List (List ℕ)) → IsLongest format longest → AreRows format longest more → (last ≡ true → length more ≡ 0)
     → (last ≡ false → 0 < length more) → AreBehind format last more

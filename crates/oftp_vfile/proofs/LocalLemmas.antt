@@ -5,6 +5,7 @@ use Rattle.std.proofs.lemmas.Bool.{cases_lt, eqb-false, eqb-true}
 use Rattle.std.proofs.lemmas.List.{append-nil, length-append, length-drop, length-take-le, take-append-drop, nil_from_length}
 use Rattle.std.proofs.lemmas.List.Elements.{All-cons, All-nil, All-push}
 use Rattle.std.proofs.lemmas.List.Concat.{flat_map-append}
+use Rattle.oftp_vfile.specs.declared.format.TheConstants.{BLOCK}
 use Rattle.oftp_vfile.specs.declared.format.Format.{Format}
 use Rattle.oftp_vfile.specs.declared.format.Format.TheVariants.{Fixed, Variable, Unstructured, Text}
 use Rattle.oftp_vfile.specs.VirtualFile.{octets_in, AreBlocks, IsLongest}
@@ -244,8 +245,8 @@ pub one_file : (format : Format) (longest : ℕ) (content : List ℕ) (rows rows
     → IsLocal format longest content rows' → rows ≡ rows'
 one_file Fixed longest content rows rows' h a b = one_blocks longest rows rows' h.0 (full_are_blocks longest rows h.0 a.0) (full_are_blocks longest rows' h.0 b.0) (sym a.1 ∙ b.1)
 one_file Variable longest content rows rows' h a b = one_records longest rows rows' (omega (arith, h.1)) a.0 b.0 (sym a.1 ∙ b.1)
-one_file Unstructured longest content rows rows' h a b = one_blocks 1024 rows rows' (omega arith) a.0 b.0 (sym a.1 ∙ b.1)
-one_file Text longest content rows rows' h a b = one_blocks 1024 rows rows' (omega arith) a.0 b.0 (sym a.1 ∙ b.1)
+one_file Unstructured longest content rows rows' h a b = one_blocks BLOCK rows rows' (omega arith) a.0 b.0 (sym a.1 ∙ b.1)
+one_file Text longest content rows rows' h a b = one_blocks BLOCK rows rows' (omega arith) a.0 b.0 (sym a.1 ∙ b.1)
 
 -- where a test says that something is left, or that nothing is
 pub some_left : (xs : List ℕ) (b : Bool) → b ≡ eqb (length xs) 0 → b ≡ false → 0 < length xs
@@ -276,7 +277,7 @@ block_more size n content rest row behind rows rows' e f g m h l j a =
     )
 
 -- blocks read from a content are its file
-pub blocks_local : (format : Format) (longest : ℕ) (content : List ℕ) (rows : List (List ℕ)) → (format ≡ Unstructured) ⊎ (format ≡ Text) → AreBlocks 1024 rows
+pub blocks_local : (format : Format) (longest : ℕ) (content : List ℕ) (rows : List (List ℕ)) → (format ≡ Unstructured) ⊎ (format ≡ Text) → AreBlocks BLOCK rows
     → octets_in rows ≡ content → IsLocal format longest content rows
 blocks_local format longest content rows (inl u) a e = subst (λ (x : Format). IsLocal x longest content rows) (sym u) (a, sym e)
 blocks_local format longest content rows (inr t) a e = subst (λ (x : Format). IsLocal x longest content rows) (sym t) (a, sym e)
@@ -284,7 +285,7 @@ blocks_local format longest content rows (inr t) a e = subst (λ (x : Format). I
 -- each content is a stream
 pub stream_local : (format : Format) (longest : ℕ) (content : List ℕ) → (format ≡ Unstructured) ⊎ (format ≡ Text) → (rows : List (List ℕ)) × IsLocal format longest content rows
 stream_local format longest content s =
-    let b = some_blocks (length content) 1024 content (omega arith) (omega arith) in
+    let b = some_blocks (length content) BLOCK content (omega arith) (omega arith) in
     (b.0, blocks_local format longest content b.0 s b.1 (sym b.2))
 
 pub fixed_local : (longest : ℕ) (content : List ℕ) (rows : List (List ℕ)) → 0 < longest → length content % longest ≡ 0 → AreBlocks longest rows → octets_in rows ≡ content

@@ -2,6 +2,7 @@
 use Rattle.std.proofs.Common.{◌≡◌, ℕ, suc, ◌<◌, ◌≤◌, false, List, [], ◌∷◌, ◌++◌, length, map, All, refl, sym, ap, ◌∙◌, subst, arith, append_assoc}
 use Rattle.std.proofs.lemmas.List.{append-nil, length-append, same_from_push}
 use Rattle.std.proofs.lemmas.List.Concat.{flat_map-append}
+use Rattle.oftp_vfile.specs.declared.format.TheConstants.{BLOCK}
 use Rattle.oftp_vfile.specs.declared.format.Format.{Format}
 use Rattle.oftp_vfile.specs.declared.format.Format.TheVariants.{Fixed, Variable, Unstructured, Text}
 use Rattle.oftp_vfile.specs.declared.format.Stage.{Stage}
@@ -56,15 +57,15 @@ begins_trans : (a b c : List (List ℕ)) → BeginsWith a b → BeginsWith b c �
 begins_trans a b c h k = (k.0 ++ h.0, h.1 ∙ ap (λ x. x ++ h.0) k.1 ∙ append_assoc c k.0 h.0)
 
 -- full blocks in front of others
-blocks_in_front : (rows found : List (List ℕ)) (behind end : List ℕ) → All (λ (r : List ℕ). length r ≡ 1024) rows
-    → All (λ (r : List ℕ). length r ≡ 1024) found → length end < 1024 → octets_in found ++ end ≡ octets_in rows ++ behind → BeginsWith found rows
+blocks_in_front : (rows found : List (List ℕ)) (behind end : List ℕ) → All (λ (r : List ℕ). length r ≡ BLOCK) rows
+    → All (λ (r : List ℕ). length r ≡ BLOCK) found → length end < BLOCK → octets_in found ++ end ≡ octets_in rows ++ behind → BeginsWith found rows
 blocks_in_front [] found behind end a b l e = (found, refl)
 blocks_in_front (r ∷ rs) [] behind end a b l e =
-    let n : length r ≡ 1024 = a 0 [] (omega arith) in
+    let n : length r ≡ BLOCK = a 0 [] (omega arith) in
     absurd (omega (arith, ap length e, n, l, length-append (r ++ octets_in rs) behind, length-append r (octets_in rs)))
 blocks_in_front (r ∷ rs) (q ∷ qs) behind end a b l e =
-    let n : length r ≡ 1024 = a 0 [] (omega arith) in
-    let m : length q ≡ 1024 = b 0 [] (omega arith) in
+    let n : length r ≡ BLOCK = a 0 [] (omega arith) in
+    let m : length q ≡ BLOCK = b 0 [] (omega arith) in
     let split = sym (append_assoc q (octets_in qs) end) ∙ e ∙ append_assoc r (octets_in rs) behind in
     let s = same_lengths q r (octets_in qs ++ end) (octets_in rs ++ behind) (omega (arith, n, m)) split in
     let ih = blocks_in_front rs qs behind end (λ i d h. a (suc i) d (omega arith)) (λ i d h. b (suc i) d (omega arith)) l s.1 in

@@ -4,6 +4,7 @@ use Rattle.std.specs.Option.{option_or}
 use Rattle.std.proofs.lemmas.Bool.{leb-false, leb-true, lt-leb}
 use Rattle.std.proofs.lemmas.List.{append-nil, length-append, length-drop, length-take-le, take-append-drop}
 use Rattle.std.proofs.Math.Seq.{take-append_seam, drop-append_seam}
+use Rattle.oftp_vfile.specs.declared.format.TheConstants.{BLOCK}
 use Rattle.oftp_vfile.specs.declared.format.TakeFault.{TakeFault}
 use Rattle.oftp_vfile.specs.declared.format.TakeFault.TheVariants.{Cut}
 use Rattle.oftp_vfile.specs.VirtualFile.{is_stream}
@@ -220,21 +221,21 @@ fault_left (suc m) t (x ∷ rest) fault few h =
 
 pub fault_taken : (t : Taking) (payload : List ℕ) (fault : TakeFault) → FirstFault t payload fault → taken t payload ≡ Err fault
 fault_taken t payload fault f =
-    let mid = f.0 in
-    let rest = f.1 in
-    let w = f.2 in
+    let mid = f.before in
+    let rest = f.rest in
+    let w = f.walked in
     let n : length (payload_of w.subs ++ rest) ≤ length payload = omega (arith, ap length w.spelling) in
     let ih = walk_allowed (length payload) t w.subs rest w.allowed n in
-    let at : fault_in (added_all t w.subs) rest ≡ Some fault = subst (λ (x : Taking). fault_in x rest ≡ Some fault) w.after f.3 in
+    let at : fault_in (added_all t w.subs) rest ≡ Some fault = subst (λ (x : Taking). fault_in x rest ≡ Some fault) w.after f.faulty in
     ap (take_subrecords (length payload) t) w.spelling ∙ ih.2 ∙ fault_left ih.0 (added_all t w.subs) rest fault ih.1 at
 
 -- a subrecord takes no row away
 pub added_rows : (t : Taking) (s : Subrecord) → length t.rows ≤ length (added t s).rows
-added_rows t s = by (is_stream t.format) (nat_le 1024 (length (t.tail ++ s.octets))) s.ends
+added_rows t s = by (is_stream t.format) (nat_le BLOCK (length (t.tail ++ s.octets))) s.ends
   where
     by : (a b c : Bool) → length t.rows
-        ≤ length (cond a (cond b (t.rows ++ take 1024 (t.tail ++ s.octets) ∷ []) t.rows) (cond c (t.rows ++ (t.tail ++ s.octets) ∷ []) t.rows))
-    by true true c = omega (arith, length-append t.rows (take 1024 (t.tail ++ s.octets) ∷ []))
+        ≤ length (cond a (cond b (t.rows ++ take BLOCK (t.tail ++ s.octets) ∷ []) t.rows) (cond c (t.rows ++ (t.tail ++ s.octets) ∷ []) t.rows))
+    by true true c = omega (arith, length-append t.rows (take BLOCK (t.tail ++ s.octets) ∷ []))
     by true false c = omega arith
     by false b true = omega (arith, length-append t.rows ((t.tail ++ s.octets) ∷ []))
     by false b false = omega arith

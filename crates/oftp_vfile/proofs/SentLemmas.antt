@@ -6,6 +6,7 @@ use Rattle.std.proofs.lemmas.Bool.Decides.{eqb_tells}
 use Rattle.std.proofs.lemmas.List.{append-nil, length-append, length-drop, length-take-le, drop-append-le, drop-drop, drop_all, get_or-drop, take-append-drop, take-append-le, take_at, take-map, nil_from_length, length_push}
 use Rattle.std.proofs.lemmas.List.Sums.{sum_by-append, sum_by-cons}
 use Rattle.std.proofs.lemmas.List.Concat.{flat_map-append}
+use Rattle.oftp_vfile.specs.declared.format.TheConstants.{BLOCK}
 use Rattle.oftp_vfile.specs.declared.format.Format.{Format}
 use Rattle.oftp_vfile.specs.declared.format.Format.TheVariants.{Fixed, Variable, Unstructured, Text}
 use Rattle.oftp_vfile.specs.declared.format.Stage.{Stage}
@@ -39,8 +40,8 @@ whole_count-nil Text = refl
 whole_count-append : (format : Format) (xs ys : List (List ℕ)) → whole_count format (xs ++ ys) ≡ whole_count format xs + whole_count format ys
 whole_count-append Fixed xs ys = length-append xs ys
 whole_count-append Variable xs ys = length-append xs ys
-whole_count-append Unstructured xs ys = sum_by-append (λ (r : List ℕ). cond (eqb (length r) 1024) 1 0) xs ys
-whole_count-append Text xs ys = sum_by-append (λ (r : List ℕ). cond (eqb (length r) 1024) 1 0) xs ys
+whole_count-append Unstructured xs ys = sum_by-append (λ (r : List ℕ). cond (eqb (length r) BLOCK) 1 0) xs ys
+whole_count-append Text xs ys = sum_by-append (λ (r : List ℕ). cond (eqb (length r) BLOCK) 1 0) xs ys
 
 -- a filler that begins has sent nothing
 pub sent_new : (format : Format) (size from : ℕ) (rows : List (List ℕ)) → Sent (new_filling format from) size from rows []
@@ -138,7 +139,7 @@ pieces_length (s ∷ ss) =
 found_records : (ss : List Subrecord) (found : List (List ℕ)) (tail : List ℕ) → pieces ss ≡ found ++ tail ∷ [] → length found ≡ count_by (λ (s : Subrecord). s.ends) ss
 found_records ss found tail e = let l : length (pieces ss) ≡ length found + 1 = ap length e ∙ length_push found tail in omega (arith, l, pieces_length ss)
 
-blocks_found : (octets : List ℕ) (found : List (List ℕ)) (tail : List ℕ) → length octets ≡ 1024 * length found + length tail → length tail < 1024 → length found ≡ length octets / 1024
+blocks_found : (octets : List ℕ) (found : List (List ℕ)) (tail : List ℕ) → length octets ≡ BLOCK * length found + length tail → length tail < BLOCK → length found ≡ length octets / BLOCK
 blocks_found octets found tail e h = omega arith
 
 -- the rows that subrecords carry are those that they bring to an end
@@ -182,57 +183,57 @@ sent_octets size records left subs all rest a b s e =
     map-append' (x ∷ xs) ys = ap (λ (z : List (List ℕ)). payload_of x ∷ z) (map-append' xs ys)
 
 -- a row counts where it is full
-counted : (r : List ℕ) (rs : List (List ℕ)) → count_by (λ (x : List ℕ). eqb (length x) 1024) (r ∷ rs) ≡ cond {A = ℕ} (eqb (length r) 1024) 1 0 + count_by (λ (x : List ℕ). eqb (length x) 1024) rs
-counted r rs = sum_by-cons (λ (x : List ℕ). cond {A = ℕ} (eqb (length x) 1024) 1 0) r rs
+counted : (r : List ℕ) (rs : List (List ℕ)) → count_by (λ (x : List ℕ). eqb (length x) BLOCK) (r ∷ rs) ≡ cond {A = ℕ} (eqb (length r) BLOCK) 1 0 + count_by (λ (x : List ℕ). eqb (length x) BLOCK) rs
+counted r rs = sum_by-cons (λ (x : List ℕ). cond {A = ℕ} (eqb (length x) BLOCK) 1 0) r rs
 
 -- the first rows of a stream: full blocks, and, where these are all rows, a shorter one
-blocks_front : (rows : List (List ℕ)) (k : ℕ) → AreBlocks 1024 rows → k ≤ length rows
-    → (rest : ℕ) × (length (octets_in (take k rows)) ≡ 1024 * count_by (λ (r : List ℕ). eqb (length r) 1024) (take k rows) + rest) × (rest < 1024)
-    × (k < length rows → (rest ≡ 0) × (length (get_or rows k []) ≤ 1024))
+blocks_front : (rows : List (List ℕ)) (k : ℕ) → AreBlocks BLOCK rows → k ≤ length rows
+    → (rest : ℕ) × (length (octets_in (take k rows)) ≡ BLOCK * count_by (λ (r : List ℕ). eqb (length r) BLOCK) (take k rows) + rest) × (rest < BLOCK)
+    × (k < length rows → (rest ≡ 0) × (length (get_or rows k []) ≤ BLOCK))
 blocks_front rows zero a h = (0, omega arith, omega arith, λ l. (refl, first rows a l))
   where
-    first : (rows : List (List ℕ)) → AreBlocks 1024 rows → 0 < length rows → length (get_or rows 0 []) ≤ 1024
+    first : (rows : List (List ℕ)) → AreBlocks BLOCK rows → 0 < length rows → length (get_or rows 0 []) ≤ BLOCK
     first [] a l = absurd (omega arith)
     first (r ∷ []) a l = a.1
     first (r ∷ q ∷ rs) a l = omega (arith, a.0)
 blocks_front [] (suc k) a h = absurd (omega arith)
 blocks_front (r ∷ []) (suc zero) a h =
-    elim (eqb_tells (length r) 1024) [
+    elim (eqb_tells (length r) BLOCK) [
       | inl e ↦ (
         0,
-        (let b : cond {A = ℕ} (eqb (length r) 1024) 1 0 ≡ 1 = ap (λ (x : Bool). cond {A = ℕ} x 1 0) e.0 in omega (arith, b, e.1, length-append r [], counted r [])),
+        (let b : cond {A = ℕ} (eqb (length r) BLOCK) 1 0 ≡ 1 = ap (λ (x : Bool). cond {A = ℕ} x 1 0) e.0 in omega (arith, b, e.1, length-append r [], counted r [])),
         omega arith,
         λ l. absurd (omega arith),
       )
       | inr e ↦ (
         length r,
-        (let b : cond {A = ℕ} (eqb (length r) 1024) 1 0 ≡ 0 = ap (λ (x : Bool). cond {A = ℕ} x 1 0) e.0 in omega (arith, b, length-append r [], counted r [])),
-        (let n : length r ≡ 1024 → ⊥ = e.1 in omega (arith, a.1)),
+        (let b : cond {A = ℕ} (eqb (length r) BLOCK) 1 0 ≡ 0 = ap (λ (x : Bool). cond {A = ℕ} x 1 0) e.0 in omega (arith, b, length-append r [], counted r [])),
+        (let n : length r ≡ BLOCK → ⊥ = e.1 in omega (arith, a.1)),
         λ l. absurd (omega arith),
       )
     ]
 blocks_front (r ∷ []) (suc (suc k)) a h = absurd (omega arith)
 blocks_front (r ∷ q ∷ rs) (suc k) a h =
     let b = blocks_front (q ∷ rs) k a.1 (omega arith) in
-    let full : cond {A = ℕ} (eqb (length r) 1024) 1 0 ≡ 1 = ap (λ (x : Bool). cond {A = ℕ} x 1 0) (eq-eqb (length r) 1024 a.0) in
+    let full : cond {A = ℕ} (eqb (length r) BLOCK) 1 0 ≡ 1 = ap (λ (x : Bool). cond {A = ℕ} x 1 0) (eq-eqb (length r) BLOCK a.0) in
     (b.0, omega (arith, b.1, full, a.0, length-append r (octets_in (take k (q ∷ rs))), counted r (take k (q ∷ rs))), b.2, λ l. b.3 (omega arith))
 
 -- how many blocks so many octets fill
-filled_blocks : (sent part rest count offset : ℕ) → sent ≡ part + offset → part ≡ 1024 * count + rest → rest + offset < 1024 → sent / 1024 ≡ count
+filled_blocks : (sent part rest count offset : ℕ) → sent ≡ part + offset → part ≡ BLOCK * count + rest → rest + offset < BLOCK → sent / BLOCK ≡ count
 filled_blocks sent part rest count offset e p l = omega arith
 
-below : (o m : ℕ) → m ≤ 1024 → (0 < o → o < m) → o < 1024
+below : (o m : ℕ) → m ≤ BLOCK → (0 < o → o < m) → o < BLOCK
 below zero m q r = omega arith
 below (suc j) m q r = let x : suc j < m = r (omega arith) in omega arith
 
 -- what stands behind the full blocks that were sent is less than one
-small_rest : (rows : List (List ℕ)) (k o rest : ℕ) → (0 < o → o < length (get_or (drop k rows) 0 [])) → rest < 1024
-    → (k < length rows → (rest ≡ 0) × (length (get_or rows k []) ≤ 1024)) → rest + o < 1024
+small_rest : (rows : List (List ℕ)) (k o rest : ℕ) → (0 < o → o < length (get_or (drop k rows) 0 [])) → rest < BLOCK
+    → (k < length rows → (rest ≡ 0) × (length (get_or rows k []) ≤ BLOCK)) → rest + o < BLOCK
 small_rest rows k o rest p r g =
     elim (cases_lt k (length rows)) [
       | inl l ↦ (let b = g l in
           let e : get_or (drop k rows) 0 [] ≡ get_or rows k [] = get_or-drop k rows 0 [] ∙ ap (λ n. get_or rows n []) (omega arith) in
-          let s : o < 1024 = below o (length (get_or (drop k rows) 0 [])) (omega (arith, b.1, ap length e)) p in
+          let s : o < BLOCK = below o (length (get_or (drop k rows) 0 [])) (omega (arith, b.1, ap length e)) p in
           omega (arith, b.0, s))
       | inr m ↦ (let none : drop k rows ≡ [] = drop_all k rows m in
           let z : o < 1 = nothing o (λ q. subst (λ (x : List (List ℕ)). o < length (get_or x 0 [])) none (p q)) in
@@ -243,9 +244,9 @@ small_rest rows k o rest p r g =
     nothing zero q = omega arith
     nothing (suc j) q = absurd (let x : suc j < 0 = q (omega arith) in omega arith)
 
-stream_mark : (f : Filling) (size from : ℕ) (rows payloads : List (List ℕ)) (subs : List (List Subrecord)) → is_stream f.format ≡ true → AreBlocks 1024 rows → Sent f size from rows payloads
+stream_mark : (f : Filling) (size from : ℕ) (rows payloads : List (List ℕ)) (subs : List (List Subrecord)) → is_stream f.format ≡ true → AreBlocks BLOCK rows → Sent f size from rows payloads
     → length (octets_of (flat subs)) + length (octets_in (left_of f (drop (f.row - from) rows))) ≡ length (octets_in rows)
-    → length (octets_of (flat subs)) / 1024 ≡ count_by (λ (r : List ℕ). eqb (length r) 1024) (take (f.row - from) rows)
+    → length (octets_of (flat subs)) / BLOCK ≡ count_by (λ (r : List ℕ). eqb (length r) BLOCK) (take (f.row - from) rows)
 stream_mark f size from rows payloads subs e a s n =
     let k : ℕ = f.row - from in
     let le : k ≤ length rows = omega (arith, s.within, s.began) in
@@ -254,7 +255,7 @@ stream_mark f size from rows payloads subs e a s n =
     ap (λ (x : List (List ℕ)). length (octets_in x)) (sym (take-append-drop k rows)) ∙ ap length (flat_map-append (λ (x : List ℕ). x) (take k rows) (drop k rows))
     ∙ length-append (octets_in (take k rows)) (octets_in (drop k rows)) in
     let S : ℕ = length (octets_of (flat subs)) in
-    let P : Bool → Type 0 = λ d. (d ≡ f.done) → S / 1024 ≡ count_by (λ (r : List ℕ). eqb (length r) 1024) (take k rows) in
+    let P : Bool → Type 0 = λ d. (d ≡ f.done) → S / BLOCK ≡ count_by (λ (r : List ℕ). eqb (length r) BLOCK) (take k rows) in
     let both : (d : Bool) → P d = λ d. elim d as P [
       | true ↦ λ t.
           let none : left_of f (drop k rows) ≡ [] = ap (λ (x : Bool). cond x (cond f.done [] (drop f.offset (octets_in (drop k rows)) ∷ [])) (from_offset f.offset (drop k rows))) e
@@ -277,7 +278,7 @@ stream_mark f size from rows payloads subs e a s n =
     ] in
     both f.done refl
 
-stream_blocks : (format : Format) (longest : ℕ) (rows : List (List ℕ)) → is_stream format ≡ true → AreRows format longest rows → AreBlocks 1024 rows
+stream_blocks : (format : Format) (longest : ℕ) (rows : List (List ℕ)) → is_stream format ≡ true → AreRows format longest rows → AreBlocks BLOCK rows
 stream_blocks Fixed longest rows e a = absurd (false≢true e)
 stream_blocks Variable longest rows e a = absurd (false≢true e)
 stream_blocks Unstructured longest rows e a = a
@@ -318,8 +319,8 @@ mark_sent f longest size from rows payloads h a s =
     let short : AreShort (flat subs) = front_short size n records all fa in
     let joined : map payload_of subs ++ map payload_of rest ≡ map payload_of all = ap (λ (x : List (List ℕ)). x ++ map payload_of rest) (sym front) ∙ s.split in
     let P : Bool → Type 0 = λ b. (b ≡ is_stream f.format)
-    → cond b (count_by (λ (r : List ℕ). eqb (length r) 1024) (take k rows)) (length (take k rows))
-    ≡ cond b (length (octets_of (flat subs)) / 1024) (count_by (λ (s : Subrecord). s.ends) (flat subs)) in
+    → cond b (count_by (λ (r : List ℕ). eqb (length r) BLOCK) (take k rows)) (length (take k rows))
+    ≡ cond b (length (octets_of (flat subs)) / BLOCK) (count_by (λ (s : Subrecord). s.ends) (flat subs)) in
     let both : (b : Bool) → P b = λ b. elim b as P [
       | true ↦ λ e. (let o : length (octets_in records) ≡ length (octets_in rows) = ap (λ (x : Bool). length (octets_in (cond x (octets_in rows ∷ []) rows))) (sym e)
           ∙ ap length (append-nil (octets_in rows)) in

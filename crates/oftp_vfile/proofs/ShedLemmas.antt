@@ -3,6 +3,7 @@ use Rattle.std.proofs.Common.{◌≡◌, ℕ, zero, suc, ◌+◌, ◌≤◌, Boo
 use Rattle.std.specs.Option.{option_or}
 use Rattle.std.proofs.lemmas.List.{length-drop, drop-append-le}
 use Rattle.std.proofs.Math.Seq.{drop-length}
+use Rattle.oftp_vfile.specs.declared.format.TheConstants.{BLOCK, MOST_ROWS}
 use Rattle.oftp_vfile.specs.declared.format.TakeFault.{TakeFault}
 use Rattle.oftp_vfile.specs.declared.format.TakeFault.TheVariants as fault
 use Rattle.oftp_vfile.specs.VirtualFile.{is_stream}
@@ -15,7 +16,7 @@ shed_count : (k : ℕ) (t : Taking) (a : ℕ) → k ≤ length t.rows → a + (t
 shed_count k t a h = omega (arith, h, length-drop k t.rows)
 
 shed_big : (k : ℕ) (t : Taking) (ends : Bool) (n : ℕ) → k ≤ length t.rows → is_too_big (shed k t) ends n ≡ is_too_big t ends n
-shed_big k t ends n h = ap (λ (m : ℕ). nat_lt t.limit (t.kept_units + t.units + n) || nat_lt 1000000 (m + new_rows t ends n)) (shed_count k t t.kept_rows h)
+shed_big k t ends n h = ap (λ (m : ℕ). nat_lt t.limit (t.kept_units + t.units + n) || nat_lt MOST_ROWS (m + new_rows t ends n)) (shed_count k t t.kept_rows h)
 
 shed_fault : (k : ℕ) (t : Taking) (header room : ℕ) → k ≤ length t.rows → fault_at (shed k t) header room ≡ fault_at t header room
 shed_fault k t header room h =
@@ -27,11 +28,11 @@ shed_fault k t header room h =
     (shed_big k t (has_end header) (count_in header) h)
 
 shed_rows : (k : ℕ) (t : Taking) (s : Subrecord) → k ≤ length t.rows → (added (shed k t) s).rows ≡ drop k (added t s).rows
-shed_rows k t s h = by (is_stream t.format) (nat_le 1024 (length (t.tail ++ s.octets))) s.ends
+shed_rows k t s h = by (is_stream t.format) (nat_le BLOCK (length (t.tail ++ s.octets))) s.ends
   where
-    by : (a b c : Bool) → cond a (cond b (drop k t.rows ++ take 1024 (t.tail ++ s.octets) ∷ []) (drop k t.rows)) (cond c (drop k t.rows ++ (t.tail ++ s.octets) ∷ []) (drop k t.rows))
-        ≡ drop k (cond a (cond b (t.rows ++ take 1024 (t.tail ++ s.octets) ∷ []) t.rows) (cond c (t.rows ++ (t.tail ++ s.octets) ∷ []) t.rows))
-    by true true c = sym (drop-append-le k t.rows (take 1024 (t.tail ++ s.octets) ∷ []) h)
+    by : (a b c : Bool) → cond a (cond b (drop k t.rows ++ take BLOCK (t.tail ++ s.octets) ∷ []) (drop k t.rows)) (cond c (drop k t.rows ++ (t.tail ++ s.octets) ∷ []) (drop k t.rows))
+        ≡ drop k (cond a (cond b (t.rows ++ take BLOCK (t.tail ++ s.octets) ∷ []) t.rows) (cond c (t.rows ++ (t.tail ++ s.octets) ∷ []) t.rows))
+    by true true c = sym (drop-append-le k t.rows (take BLOCK (t.tail ++ s.octets) ∷ []) h)
     by true false c = refl
     by false b true = sym (drop-append-le k t.rows ((t.tail ++ s.octets) ∷ []) h)
     by false b false = refl

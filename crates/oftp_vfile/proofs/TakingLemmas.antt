@@ -3,6 +3,7 @@ use Rattle.std.proofs.Common.{◌≡◌, ℕ, ◌+◌, ◌-◌, ◌<◌, ◌≤�
 use Rattle.std.proofs.lemmas.Bool.{leb-false, ltb-false, lt-leb, le-ltb, leb-true, or_parts}
 use Rattle.std.proofs.lemmas.List.{append-nil, length-append, length-take-le, length_push, same_from_push, length-drop, take-append-drop}
 use Rattle.std.proofs.lemmas.List.Concat.{flat_map-append}
+use Rattle.oftp_vfile.specs.declared.format.TheConstants.{BLOCK, MOST_ROWS}
 use Rattle.oftp_vfile.proofs.GrowthLemmas.{goes_on_same, goes_on_longer, goes_on_closed, filled_block}
 use Rattle.oftp_vfile.specs.Growth.{HasGrown, stream_rows, stream_tail}
 use Rattle.oftp_vfile.specs.Subrecord.{Subrecord, header, spelled, payload_of}
@@ -85,42 +86,42 @@ walked_more old mid new payload after h w e b n =
     }
 
 -- what fits
-pub not_too_big : (t : Taking) (ends : Bool) (n : ℕ) → is_too_big t ends n ≡ false → (t.kept_units + t.units + n ≤ t.limit) × (t.kept_rows + t.away + length t.rows + new_rows t ends n ≤ 1000000)
+pub not_too_big : (t : Taking) (ends : Bool) (n : ℕ) → is_too_big t ends n ≡ false → (t.kept_units + t.units + n ≤ t.limit) × (t.kept_rows + t.away + length t.rows + new_rows t ends n ≤ MOST_ROWS)
 not_too_big t ends n e =
     let b = or_parts _ _ e in
     (ltb-false _ _ b.0, ltb-false _ _ b.1)
 
-pub stream_tail_short : (octets : List ℕ) → length octets < 2048 → length (stream_tail octets) < 1024
+pub stream_tail_short : (octets : List ℕ) → length octets < 2048 → length (stream_tail octets) < BLOCK
 stream_tail_short octets h =
-    let P : Bool → Type 0 = λ t. (t ≡ nat_le 1024 (length octets)) → length (cond t (drop 1024 octets) octets) < 1024 in
-    let both : (t : Bool) → P t = λ t. elim t as P [ true ↦ λ e. (omega (arith, length-drop 1024 octets)) | false ↦ λ e. leb-false 1024 (length octets) (sym e) ] in
-    both (nat_le 1024 (length octets)) refl
+    let P : Bool → Type 0 = λ t. (t ≡ nat_le BLOCK (length octets)) → length (cond t (drop BLOCK octets) octets) < BLOCK in
+    let both : (t : Bool) → P t = λ t. elim t as P [ true ↦ λ e. (omega (arith, length-drop BLOCK octets)) | false ↦ λ e. leb-false BLOCK (length octets) (sym e) ] in
+    both (nat_le BLOCK (length octets)) refl
 
-pub stream_rows_few : (rows : List (List ℕ)) (octets : List ℕ) → length (stream_rows rows octets) ≤ length rows + length octets / 1024
+pub stream_rows_few : (rows : List (List ℕ)) (octets : List ℕ) → length (stream_rows rows octets) ≤ length rows + length octets / BLOCK
 stream_rows_few rows octets =
-    let P : Bool → Type 0 = λ t. (t ≡ nat_le 1024 (length octets)) → length (cond t (rows ++ take 1024 octets ∷ []) rows) ≤ length rows + length octets / 1024 in
+    let P : Bool → Type 0 = λ t. (t ≡ nat_le BLOCK (length octets)) → length (cond t (rows ++ take BLOCK octets ∷ []) rows) ≤ length rows + length octets / BLOCK in
     let both : (t : Bool) → P t = λ t. elim t as P [
-      | true ↦ λ e. (let q : 1024 ≤ length octets = leb-true _ _ (sym e) in omega (arith, length_push rows (take 1024 octets)))
+      | true ↦ λ e. (let q : BLOCK ≤ length octets = leb-true _ _ (sym e) in omega (arith, length_push rows (take BLOCK octets)))
       | false ↦ λ e. omega arith
     ] in
-    both (nat_le 1024 (length octets)) refl
+    both (nat_le BLOCK (length octets)) refl
 
 -- how long a taker's open tail may be
-pub added-tail_short : (t : Taking) (s : Subrecord) → length s.octets < 64 → (is_stream t.format ≡ true → length t.tail < 1024) → is_stream (added t s).format ≡ true → length (added t s).tail < 1024
+pub added-tail_short : (t : Taking) (s : Subrecord) → length s.octets < 64 → (is_stream t.format ≡ true → length t.tail < BLOCK) → is_stream (added t s).format ≡ true → length (added t s).tail < BLOCK
 added-tail_short t s n h e =
-    let q : length t.tail < 1024 = h e in
+    let q : length t.tail < BLOCK = h e in
     let octets : List ℕ = t.tail ++ s.octets in
-    let short : length (stream_tail octets) < 1024 = stream_tail_short octets (omega (arith, length-append t.tail s.octets)) in
-    let P : Bool → Type 0 = λ b. length (cond b (stream_tail octets) (cond s.ends [] octets)) < 1024 in
+    let short : length (stream_tail octets) < BLOCK = stream_tail_short octets (omega (arith, length-append t.tail s.octets)) in
+    let P : Bool → Type 0 = λ b. length (cond b (stream_tail octets) (cond s.ends [] octets)) < BLOCK in
     subst P (sym e) short
 
 pub added-rows_few : (t : Taking) (s : Subrecord) → length (added t s).rows ≤ length t.rows + new_rows t s.ends (length s.octets)
 added-rows_few t s =
     let octets : List ℕ = t.tail ++ s.octets in
     let P : Bool → Bool → Type 0 =
-    λ b d. length (cond b (stream_rows t.rows octets) (cond d (t.rows ++ octets ∷ []) t.rows)) ≤ length t.rows + cond b ((length t.tail + length s.octets) / 1024) (cond d 1 0) in
-    let few : length (stream_rows t.rows octets) ≤ length t.rows + (length t.tail + length s.octets) / 1024 = let f = stream_rows_few t.rows octets in let l =
-    length-append t.tail s.octets in subst (λ (n : ℕ). length (stream_rows t.rows octets) ≤ length t.rows + n / 1024) l f in
+    λ b d. length (cond b (stream_rows t.rows octets) (cond d (t.rows ++ octets ∷ []) t.rows)) ≤ length t.rows + cond b ((length t.tail + length s.octets) / BLOCK) (cond d 1 0) in
+    let few : length (stream_rows t.rows octets) ≤ length t.rows + (length t.tail + length s.octets) / BLOCK = let f = stream_rows_few t.rows octets in let l =
+    length-append t.tail s.octets in subst (λ (n : ℕ). length (stream_rows t.rows octets) ≤ length t.rows + n / BLOCK) l f in
     let both : (b d : Bool) → P b d = λ b d. elim b as (λ b. P b d) [ true ↦ few | false ↦ elim d as (λ d. P false d) [ true ↦ omega (arith, length_push t.rows octets) | false ↦ omega arith ] ] in
     both (is_stream t.format) s.ends
 
@@ -151,28 +152,28 @@ goes_on-then a x b y c z m (r ∷ rs) e h =
 goes_on-trans : (a : List (List ℕ)) (x : List ℕ) (b : List (List ℕ)) (y : List ℕ) (c : List (List ℕ)) (z : List ℕ) → HasGrown a x b y → HasGrown b y c z → HasGrown a x c z
 goes_on-trans a x b y c z g h = goes_on-then a x b y c z g.0 g.1 g.2 h
 
-goes_on-stream : (rows : List (List ℕ)) (tail octets : List ℕ) → length tail < 1024 → HasGrown rows tail (stream_rows rows (tail ++ octets)) (stream_tail (tail ++ octets))
+goes_on-stream : (rows : List (List ℕ)) (tail octets : List ℕ) → length tail < BLOCK → HasGrown rows tail (stream_rows rows (tail ++ octets)) (stream_tail (tail ++ octets))
 goes_on-stream rows tail octets h =
     let all : List ℕ = tail ++ octets in
-    let room : ℕ = 1024 - length tail in
-    let e : length tail + room ≡ 1024 = omega arith in
-    let P : Bool → Type 0 = λ t. HasGrown rows tail (cond t (rows ++ take 1024 all ∷ []) rows) (cond t (drop 1024 all) all) in
+    let room : ℕ = BLOCK - length tail in
+    let e : length tail + room ≡ BLOCK = omega arith in
+    let P : Bool → Type 0 = λ t. HasGrown rows tail (cond t (rows ++ take BLOCK all ∷ []) rows) (cond t (drop BLOCK all) all) in
     let both : (t : Bool) → P t = λ t. elim t as P [
-      | true ↦ goes_on_closed rows tail _ (drop 1024 all) (take room octets) (ap (λ (x : List ℕ). rows ++ x ∷ []) (filled_block tail octets room e))
+      | true ↦ goes_on_closed rows tail _ (drop BLOCK all) (take room octets) (ap (λ (x : List ℕ). rows ++ x ∷ []) (filled_block tail octets room e))
       | false ↦ goes_on_longer rows tail rows all octets refl refl
     ] in
-    both (nat_le 1024 (length all))
+    both (nat_le BLOCK (length all))
 
-goes_on-grown : (rows : List (List ℕ)) (tail octets : List ℕ) (b d : Bool) → (b ≡ true → length tail < 1024)
+goes_on-grown : (rows : List (List ℕ)) (tail octets : List ℕ) (b d : Bool) → (b ≡ true → length tail < BLOCK)
     → HasGrown rows tail (cond b (stream_rows rows (tail ++ octets)) (cond d (rows ++ (tail ++ octets) ∷ []) rows)) (cond b (stream_tail (tail ++ octets)) (cond d [] (tail ++ octets)))
 goes_on-grown rows tail octets true d h = goes_on-stream rows tail octets (h refl)
 goes_on-grown rows tail octets false true h = goes_on_closed rows tail _ [] octets refl
 goes_on-grown rows tail octets false false h = goes_on_longer rows tail rows (tail ++ octets) octets refl refl
 
-goes_on-added : (t : Taking) (s : Subrecord) → (is_stream t.format ≡ true → length t.tail < 1024) → HasGrown t.rows t.tail (added t s).rows (added t s).tail
+goes_on-added : (t : Taking) (s : Subrecord) → (is_stream t.format ≡ true → length t.tail < BLOCK) → HasGrown t.rows t.tail (added t s).rows (added t s).tail
 goes_on-added t s h = goes_on-grown t.rows t.tail s.octets (is_stream t.format) s.ends h
 
-pub goes_on-all : (t : Taking) (ss : List Subrecord) → AreAllowed t ss → (is_stream t.format ≡ true → length t.tail < 1024) → HasGrown t.rows t.tail (added_all t ss).rows (added_all t ss).tail
+pub goes_on-all : (t : Taking) (ss : List Subrecord) → AreAllowed t ss → (is_stream t.format ≡ true → length t.tail < BLOCK) → HasGrown t.rows t.tail (added_all t ss).rows (added_all t ss).tail
 goes_on-all t [] a h = goes_on_same t.rows t.tail t.rows t.tail refl refl
 goes_on-all t (s ∷ ss) a h =
     let u = added t s in
@@ -180,7 +181,7 @@ goes_on-all t (s ∷ ss) a h =
     goes_on-trans t.rows t.tail u.rows u.tail v.rows v.tail (goes_on-added t s h) (goes_on-all u ss a.1 (added-tail_short t s a.0.0 h))
 
 -- after some subrecords of a payload the taker can be put back
-pub walked_back : (old mid : Taking) (payload rest : List ℕ) → Walked old mid payload rest → (is_stream old.format ≡ true → length old.tail < 1024)
+pub walked_back : (old mid : Taking) (payload rest : List ℕ) → Walked old mid payload rest → (is_stream old.format ≡ true → length old.tail < BLOCK)
     → HasGrown old.rows old.tail mid.rows mid.tail × (restored mid old ≡ old)
 walked_back old mid payload rest w h = (
   subst (λ (x : Taking). HasGrown old.rows old.tail x.rows x.tail) (sym w.after) (goes_on-all old w.subs w.allowed h),
@@ -189,13 +190,13 @@ walked_back old mid payload rest w h = (
 
 -- what the call that puts a taker back leaves
 pub put_back : (v old w mid : Taking) (payload rest : List ℕ) (rows : List (List ℕ)) (tail : List ℕ) (row_count tail_len : ℕ) → v ≡ old → w ≡ mid
-    → Walked old mid payload rest → (is_stream v.format ≡ true → length v.tail < 1024)
+    → Walked old mid payload rest → (is_stream v.format ≡ true → length v.tail < BLOCK)
     → ((r : List (List ℕ)) → (f : List ℕ) → HasGrown r f w.rows w.tail → length r ≡ row_count → length f ≡ tail_len → (rows ≡ r) × (tail ≡ f))
     → length v.rows ≡ row_count → length v.tail ≡ tail_len
     → (record w { rows = rows; tail = tail; units = v.units; stage = v.stage } ≡ old) × (rows ≡ v.rows) × (tail ≡ v.tail) × (w.limit ≡ v.limit) × (w.kept_rows ≡ v.kept_rows)
     × (w.kept_units ≡ v.kept_units) × (w.away ≡ v.away) × (w.format ≡ v.format)
 put_back v old w mid payload rest rows tail row_count tail_len ve we walked h back n m =
-    let b = walked_back old mid payload rest walked (subst (λ (x : Taking). is_stream x.format ≡ true → length x.tail < 1024) ve h) in
+    let b = walked_back old mid payload rest walked (subst (λ (x : Taking). is_stream x.format ≡ true → length x.tail < BLOCK) ve h) in
     let g : HasGrown v.rows v.tail w.rows w.tail =
     subst (λ (x : Taking). HasGrown v.rows v.tail x.rows x.tail) (sym we) (subst (λ (x : Taking). HasGrown x.rows x.tail mid.rows mid.tail) (sym ve) b.0) in
     let same = back v.rows v.tail g n m in
@@ -226,10 +227,10 @@ grown_record t s rows tail e r q =
 
 -- what every taker keeps
 pub record Bounded (t : Taking) : Type 0 where
-  pub short : is_stream t.format ≡ true → length t.tail < 1024
+  pub short : is_stream t.format ≡ true → length t.tail < BLOCK
   pub fits : t.kept_units + t.limit < 9223372036854775808
   pub taken : t.units ≤ t.limit
-  pub few : t.kept_rows + t.away + length t.rows ≤ 1000000
+  pub few : t.kept_rows + t.away + length t.rows ≤ MOST_ROWS
 
 pub bounded_added : (t : Taking) (s : Subrecord) (rows : List (List ℕ)) (tail : List ℕ) → Bounded t → length s.octets < 64 → is_too_big t s.ends (length s.octets) ≡ false
     → (rows ≡ (added t s).rows) × (tail ≡ (added t s).tail)
@@ -237,7 +238,7 @@ pub bounded_added : (t : Taking) (s : Subrecord) (rows : List (List ℕ)) (tail 
 bounded_added t s rows tail b n f e =
     let fit = not_too_big t s.ends (length s.octets) f in
     record {
-      short = λ h. subst (λ (x : List ℕ). length x < 1024) (sym e.1) (added-tail_short t s n b.short h);
+      short = λ h. subst (λ (x : List ℕ). length x < BLOCK) (sym e.1) (added-tail_short t s n b.short h);
       fits = b.fits;
       taken = omega arith;
       few = let l : length rows ≡ length (added t s).rows = ap length e.0 in let m = added-rows_few t s in omega (arith, l, m, fit.1);

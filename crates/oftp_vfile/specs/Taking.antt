@@ -116,8 +116,11 @@ pub record Walked (old new : Taking) (payload rest : List ℕ) : Type 0 where
   pub after : new ≡ added_all old subs
 
 -- the first faulty subrecord of a payload has this fault
-abbrev pub FirstFault : Taking → List ℕ → TakeFault → Type 0
-FirstFault t payload f = (mid : Taking) × (rest : List ℕ) × Walked t mid payload rest × (fault_in mid rest ≡ Some f)
+pub record FirstFault (t : Taking) (payload : List ℕ) (f : TakeFault) : Type 0 where
+  pub before : Taking
+  pub rest : List ℕ
+  pub walked : Walked t before payload rest
+  pub faulty : fault_in before rest ≡ Some f
 
 -- what a taker holds of the subrecords that came, where these rows were taken away
 pub record HasTaken (t : Taking) (gone : List (List ℕ)) (ss : List Subrecord) : Type 0 where
@@ -145,7 +148,10 @@ pub record CarriesWithin (t : Taking) (payloads : List (List ℕ)) : Type 0 wher
   pub few : t.kept_rows + length rows ≤ MOST_ROWS
 
 -- what a payload never changes in a taker
-abbrev pub IsSameFile : Taking → Taking → Type 0
-IsSameFile s t =
-    (t.format ≡ s.format) × (t.longest ≡ s.longest) × (t.limit ≡ s.limit) × (t.kept_rows ≡ s.kept_rows)
-    × (t.kept_units ≡ s.kept_units) × (t.away ≡ s.away)
+pub record IsSameFile (s t : Taking) : Type 0 where
+  pub format : t.format ≡ s.format
+  pub longest : t.longest ≡ s.longest
+  pub limit : t.limit ≡ s.limit
+  pub kept_rows : t.kept_rows ≡ s.kept_rows
+  pub kept_units : t.kept_units ≡ s.kept_units
+  pub away : t.away ≡ s.away

@@ -17,9 +17,9 @@ use std::marker::Model;
 pub struct Filler {
     format: Format,
     row: usize,
-    /// How many octets of the row are sent.
+    // How many octets of the row are sent.
     offset: usize,
-    /// Whether the end of a stream is sent.
+    // Whether the end of a stream is sent.
     done: bool,
     mark: usize,
 }
@@ -41,7 +41,7 @@ impl Model for Filler {
     ghost invariant = { λ f. f.mark ≤ f.row };
 }
 
-/// How many octets the shortest further row needs.
+// How many octets the shortest further row needs.
 fn least_need(format: Format) -> usize
     ensures { result ≡ needs (least format) }
 {
@@ -51,8 +51,8 @@ fn least_need(format: Format) -> usize
     }
 }
 
-/// How many of these rows, wholly sent, count where a transfer is taken up: full blocks alone of a
-/// stream.
+// How many of these rows, wholly sent, count where a transfer is taken up: full blocks alone of a
+// stream.
 fn whole_count(format: Format, rows: &[Row]) -> usize
     ensures value { result ≡ whole_count format rows.now }
     ensures most { result ≤ length rows.now }
@@ -99,9 +99,14 @@ impl Filler {
     /// Writes the next payload into `out`: what is to follow the `D` of a DATA command (RFC 5024,
     /// sections 5.3.6 and 7.3).
     ///
-    /// It is lent the rows from `row()` on, few or many, and told whether they reach the end. Where
-    /// it is in the middle of a row, this row at least has to be lent; at the start of one, none
-    /// may be.
+    /// It is lent the rows from `row()` on, few or many, and told whether they reach the end. It
+    /// asks of its caller that
+    ///
+    /// - `out` has room for at least 2 octets,
+    /// - no lent row lies beyond the 1,000,000 that a file may have,
+    /// - where it is in the middle of a row, this row is lent, with all its octets; at the start of
+    ///   one, none need be,
+    /// - no lent row of a stream is empty.
     ///
     /// `More` asks for more rows: the payload isn't full, and rows are to come. `Done` says that
     /// nothing is left. Both leave the filler as it was; what `out` then holds is left open. It
@@ -138,7 +143,7 @@ impl Filler {
         }
     }
 
-    /// Goes on to a place in the lent rows.
+    // Goes on to a place in the lent rows.
     fn advance(&mut self, rows: &[Row], place: Place)
         requires row { place.row ≤ length rows.now }
         requires few { self.old.row + length rows.now ≤ MOST_ROWS }
@@ -150,7 +155,7 @@ impl Filler {
         self.offset = place.offset;
     }
 
-    /// The next payload of a file of records.
+    // The next payload of a file of records.
     fn next_of_records(&mut self, rows: &[Row], last: bool, out: &mut [u8]) -> Filled
         requires records { is_stream self.old.format ≡ false }
         requires room { 2 ≤ length out.old }
@@ -171,7 +176,7 @@ impl Filler {
         Filled::Buffer(at)
     }
 
-    /// The next payload of a stream.
+    // The next payload of a stream.
     fn next_of_stream(&mut self, rows: &[Row], last: bool, out: &mut [u8]) -> Filled
         requires stream { is_stream self.old.format ≡ true }
         requires room { 2 ≤ length out.old }

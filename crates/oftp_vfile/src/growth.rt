@@ -7,8 +7,8 @@ use crate::format::BLOCK;
 use std::alloc::{AllocError, Global};
 use std::mem;
 
-/// Puts octets behind the tail. Where it has no room for them, it gets room for `size` octets at
-/// once.
+// Puts octets behind the tail. Where it has no room for them, it gets room for `size` octets at
+// once.
 fn append(tail: &mut Vec<u8>, part: &[u8], size: usize) -> Result<(), AllocError>
     ensures ok { OnOk result (tail.new.items ≡ tail.old.items ++ part.now) }
     ensures room { OnOk result (vec_capacity tail.old < vec_len tail.old + length part.now
@@ -21,8 +21,8 @@ fn append(tail: &mut Vec<u8>, part: &[u8], size: usize) -> Result<(), AllocError
     tail.extend_from_slice(part)
 }
 
-/// Takes a part of a record, and makes the record a row where it ends. After an `Err` the rows and
-/// the tail may have grown.
+// Takes a part of a record, and makes the record a row where it ends. After an `Err` the rows and
+// the tail may have grown.
 fn grow_record(
     alloc: Global,
     rows: &mut Vec<Row>,
@@ -47,7 +47,7 @@ fn grow_record(
     Ok(())
 }
 
-/// Makes the tail a row, without a copy. An `Err` changes nothing.
+// Makes the tail a row, without a copy. An `Err` changes nothing.
 fn close(alloc: Global, rows: &mut Vec<Row>, tail: &mut Vec<u8>) -> Result<(), AllocError>
     ensures rows { OnOk result (rows.new.items ≡ rows.old.items ++ tail.old.items ∷ []) }
     ensures tail { OnOk result (tail.new.items ≡ []) }
@@ -64,8 +64,8 @@ fn close(alloc: Global, rows: &mut Vec<Row>, tail: &mut Vec<u8>) -> Result<(), A
     }
 }
 
-/// Takes octets of a stream, and makes a block a row where it is full. After an `Err` the rows and
-/// the tail may have grown.
+// Takes octets of a stream, and makes a block a row where it is full. After an `Err` the rows and
+// the tail may have grown.
 fn grow_stream(
     alloc: Global,
     rows: &mut Vec<Row>,

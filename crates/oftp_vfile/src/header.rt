@@ -2,13 +2,13 @@
 ghost use Rattle.std.specs.Prelude.{◌≡◌, ◌<◌};
 ghost use Rattle.oftp_vfile.specs.Subrecord.{count_in, has_compression, has_end, header_octet};
 
-/// The flag of the end of a record, or of a stream.
+// The flag of the end of a record, or of a stream.
 const END: u8 = 0x80;
 
-/// The flag of compression.
+// The flag of compression.
 const COMPRESSION: u8 = 0x40;
 
-/// The bits of the count.
+// The bits of the count.
 const COUNT: u8 = 0x3f;
 
 /// The most octets that a subrecord has.

@@ -7,7 +7,7 @@ use crate::content::{Row, Rows};
 use crate::format::{BLOCK, Format, LocalFault};
 use std::alloc::{AllocError, Global};
 
-/// How many digits tell the length of a record of V.
+// How many digits tell the length of a record of V.
 const DIGITS: usize = 5;
 
 /// A virtual file, whole (RFC 5024, section 1.5).
@@ -22,7 +22,8 @@ pub struct VFile {
 }
 
 impl VFile {
-    /// Reads a file from its local form.
+    /// Reads a file from its local form. It asks for a longest record that the format allows
+    /// (`Format::allows_longest`).
     ///
     /// F: the records one after another. V: each record after five decimal digits of its length. U
     /// and T: the octets.
@@ -62,8 +63,9 @@ impl VFile {
         })
     }
 
-    /// Writes a file in its local form, which `from_local` reads back as this file. The one fault
-    /// is `Memory`.
+    /// Writes a file in its local form, which `from_local` reads back as this file. It asks that
+    /// the fields make a virtual file: a longest record that the format allows, and rows of its
+    /// sizes. The one fault is `Memory`.
     pub fn to_local(&self, alloc: Global) -> Result<Vec<u8>, LocalFault>
         requires longest { IsLongest self.now.format self.now.longest }
         requires rows { AreRows self.now.format self.now.longest self.now.rows }
@@ -81,7 +83,7 @@ impl VFile {
     }
 }
 
-/// Whether the content is the local form of a file. It takes no memory.
+// Whether the content is the local form of a file. It takes no memory.
 fn is_local(format: Format, longest: usize, content: &[u8]) -> bool
     requires { IsLongest format longest }
     ensures yes { IsTrue result → (rows : List (List ℕ)) × IsLocal format longest content.now rows }
@@ -94,7 +96,7 @@ fn is_local(format: Format, longest: usize, content: &[u8]) -> bool
     }
 }
 
-/// Whether the content is records of V, one after another.
+// Whether the content is records of V, one after another.
 fn are_records(longest: usize, content: &[u8]) -> bool
     requires { longest < 100000 }
     ensures yes { IsTrue result
@@ -112,7 +114,7 @@ fn are_records(longest: usize, content: &[u8]) -> bool
     true
 }
 
-/// The records of V that the content has, one after another.
+// The records of V that the content has, one after another.
 fn read_records(alloc: Global, longest: usize, content: &[u8]) -> Result<Vec<Row>, LocalFault>
     requires { longest < 100000 }
     ensures ok { IfOk result (λ v. IsLocal Format.Variable longest content.now v.items) }
@@ -131,7 +133,7 @@ fn read_records(alloc: Global, longest: usize, content: &[u8]) -> Result<Vec<Row
     Ok(rows)
 }
 
-/// The content in rows of this size, the last of which may be shorter.
+// The content in rows of this size, the last of which may be shorter.
 fn read_blocks(alloc: Global, size: usize, content: &[u8]) -> Result<Vec<Row>, AllocError>
     requires { 0 < size }
     ensures { IfOk result (λ v. AreBlocks size v.items × (octets_in v.items ≡ content.now)) }
@@ -146,7 +148,7 @@ fn read_blocks(alloc: Global, size: usize, content: &[u8]) -> Result<Vec<Row>, A
     Ok(rows)
 }
 
-/// The first record of V that the content has, and what stands behind it.
+// The first record of V that the content has, and what stands behind it.
 fn first_record(longest: usize, content: &[u8]) -> Option<(&[u8], &[u8])>
     requires { longest < 100000 }
     ensures found { IfSome result (λ p. IsFirstRecord longest content.now p.0.now p.1.now) }
@@ -164,7 +166,7 @@ fn first_record(longest: usize, content: &[u8]) -> Option<(&[u8], &[u8])>
     Some(behind.split_at(length))
 }
 
-/// The number that five decimal digits spell, where they are digits.
+// The number that five decimal digits spell, where they are digits.
 fn number(digits: &[u8]) -> Option<usize>
     requires { length digits.now ≡ 5 }
     ensures found { IfSome result (λ n. (n < 100000) × (digits_of n ≡ digits.now)) }
@@ -180,7 +182,7 @@ fn number(digits: &[u8]) -> Option<usize>
     Some(number)
 }
 
-/// A decimal digit of a number, which stands at this power of ten.
+// A decimal digit of a number, which stands at this power of ten.
 fn digit(number: usize, place: usize) -> u8
     requires { 0 < place }
     ensures { result ≡ digit_of number place }
@@ -188,7 +190,7 @@ fn digit(number: usize, place: usize) -> u8
     b'0' + (number / place % 10) as u8
 }
 
-/// The five decimal digits of a number below 100,000.
+// The five decimal digits of a number below 100,000.
 fn digits(number: usize) -> [u8; DIGITS]
     requires { number < 100000 }
     ensures { result ≡ digits_of number }

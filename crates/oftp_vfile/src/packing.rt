@@ -9,7 +9,7 @@ ghost use Rattle.oftp_vfile.specs.Packing.{HasPacked, rest_at, HasStreamed, HasE
 use crate::content::Row;
 use crate::header::{MOST_COUNT, header_octet};
 
-/// Writes a subrecord.
+// Writes a subrecord.
 fn put(out: &mut [u8], at: usize, ends: bool, part: &[u8])
     requires short { length part.now < 64 }
     requires room { at + 1 + length part.now ≤ length out.old }
@@ -28,8 +28,8 @@ pub struct Place {
     pub offset: usize,
 }
 
-/// Writes octets from rows, one row after another, as long as there is room. Answers how many, and
-/// where it stopped.
+// Writes octets from rows, one row after another, as long as there is room. Answers how many, and
+// where it stopped.
 fn gather(rows: &[Row], from: Place, out: &mut [u8]) -> (usize, Place)
     requires row { from.row ≤ length rows.now }
     requires offset { 0 < from.offset → from.offset < length (slice_index_or rows.now from.row []) }
@@ -59,7 +59,7 @@ fn gather(rows: &[Row], from: Place, out: &mut [u8]) -> (usize, Place)
     (at, Place { row, offset })
 }
 
-/// How many octets the next subrecord of a record needs, of which these are left.
+// How many octets the next subrecord of a record needs, of which these are left.
 fn needed(octets: &[u8]) -> usize
     ensures { result ≡ needs octets.now }
 {
@@ -111,7 +111,7 @@ pub fn pack_records(rows: &[Row], offset: usize, out: &mut [u8]) -> (usize, Plac
     (at, place)
 }
 
-/// A subrecord of a stream, and what comes next.
+// A subrecord of a stream, and what comes next.
 #[derive(Clone, Copy)]
 struct Written {
     count: usize,
@@ -119,8 +119,8 @@ struct Written {
     next: Place,
 }
 
-/// Writes the next subrecord of a stream. `None` comes where it needs more octets than the rows
-/// have, and they aren't the last.
+// Writes the next subrecord of a stream. `None` comes where it needs more octets than the rows
+// have, and they aren't the last.
 fn put_from(rows: &[Row], from: Place, last: bool, out: &mut [u8], at: usize) -> Option<Written>
     requires row { from.row ≤ length rows.now }
     requires offset { 0 < from.offset → from.offset < length (slice_index_or rows.now from.row []) }

@@ -24,16 +24,16 @@ pub struct Taker {
     alloc: Global,
     format: Format,
     longest: usize,
-    /// How many octets the file may have.
+    // How many octets the file may have.
     limit: u64,
-    /// The rows and octets of the file that earlier transfers brought.
+    // The rows and octets of the file that earlier transfers brought.
     kept_rows: u64,
     kept_units: u64,
-    /// How many rows were taken away.
+    // How many rows were taken away.
     away: u64,
     rows: Vec<Row>,
     tail: Vec<u8>,
-    /// How many octets were taken.
+    // How many octets were taken.
     units: u64,
     stage: Stage,
 }
@@ -73,7 +73,7 @@ fn is_ended(stage: Stage) -> bool
     }
 }
 
-/// Whether a record, so far of this size, breaks the rule on its length.
+// Whether a record, so far of this size, breaks the rule on its length.
 fn is_wrong_size(format: Format, longest: usize, size: usize, ends: bool) -> bool
     ensures { result ≡ is_wrong_size format longest size ends }
 {
@@ -85,8 +85,12 @@ fn is_wrong_size(format: Format, longest: usize, size: usize, ends: bool) -> boo
 }
 
 impl Taker {
-    /// A taker of a file: its longest record in octets (0 in U and T), and how many of its rows and
-    /// octets are kept from earlier transfers. It takes no memory.
+    /// A taker of a file: its longest record in octets (0 in U and T), how many of its rows and
+    /// octets are kept from earlier transfers, and the limits of the station, of which it reads
+    /// `octets`. It takes no memory.
+    ///
+    /// It asks of its caller that at most 1,000,000 rows are kept, and that the octets that are kept
+    /// and those of the limit make less than 2^63: so every count that it tells fits.
     pub fn new(
         alloc: Global,
         format: Format,
@@ -206,9 +210,11 @@ impl Taker {
         (records, self.kept_units + self.units)
     }
 
-    /// The rows of the file that weren't taken away, with the open tail as the last where it isn't
-    /// empty, without a copy: so ends a stream. A record that is open would be cut, so ask `is_open`
-    /// first. A want of memory gives the rows up.
+    /// The finished rows that weren't taken away and, where it isn't empty, the open tail as the
+    /// last: the rows with which a file ends, whose last block may be shorter. It copies no octet.
+    ///
+    /// Ask `is_open` first: a record or a stream that goes on would be closed too early. The one
+    /// error is a want of memory for one more row, and it gives the rows up.
     pub fn close(self) -> Result<Rows, AllocError>
         ensures rows { IfOk result (λ rows. rows ≡ closed self.rows self.tail) }
     {
@@ -219,7 +225,7 @@ impl Taker {
         Ok(Rows::new(rows))
     }
 
-    /// Takes one subrecord after another, up to the first that is faulty.
+    // Takes one subrecord after another, up to the first that is faulty.
     fn walk(&mut self, payload: &[u8]) -> Result<(), TakeFault>
         ensures ok { OnOk result (Walked self.old self.new payload.now []) }
         ensures err { IfErr result (λ f. (rest : List ℕ) × Walked self.old self.new payload.now rest
@@ -237,7 +243,7 @@ impl Taker {
         Ok(())
     }
 
-    /// The fault of a subrecord with this header, behind which `room` octets stand.
+    // The fault of a subrecord with this header, behind which `room` octets stand.
     fn fault_at(&self, header: u8, room: usize) -> Option<TakeFault>
         ensures { result ≡ fault_at self.now header room }
     {
@@ -261,7 +267,7 @@ impl Taker {
         None
     }
 
-    /// Whether the file passes one of its limits by a subrecord of `count` octets.
+    // Whether the file passes one of its limits by a subrecord of `count` octets.
     fn is_too_big(&self, ends: bool, count: usize) -> bool
         requires { count < 64 }
         ensures { result ≡ is_too_big self.now ends count }
@@ -278,7 +284,7 @@ impl Taker {
                 > MOST_ROWS as u64
     }
 
-    /// Takes a subrecord that has no fault. An `Err` changes nothing.
+    // Takes a subrecord that has no fault. An `Err` changes nothing.
     fn add(&mut self, ends: bool, part: &[u8]) -> Result<(), TakeFault>
         requires short { length part.now < 64 }
         requires allowed { is_too_big self.old ends (length part.now) ≡ false }
@@ -298,8 +304,8 @@ impl Taker {
         Ok(())
     }
 
-    /// For how many octets of a record room is made at once: for all of it where its length is
-    /// known, else for twice what came, so that a short record keeps little more than it has.
+    // For how many octets of a record room is made at once: for all of it where its length is
+    // known, else for twice what came, so that a short record keeps little more than it has.
     fn record_size(&self, ends: bool) -> usize {
         match self.format {
             Format::Fixed => self.longest,

@@ -29,7 +29,7 @@ fn are_filled(rows: &[Row]) -> bool
     rows.iter().all(|row| row.len() > 0)
 }
 
-/// The payloads of a file, and the mark after each.
+// The payloads of a file, and the mark after each.
 fn payloads_of(
     rt: &impl Abort,
     alloc: Global,
@@ -37,7 +37,7 @@ fn payloads_of(
     rows: &[Row],
     size: usize,
 ) -> Result<Vec<(Vec<u8>, usize)>, AllocError> {
-    assert!(rt; size >= 2 && rows.len() <= 1_000_000);
+    assert!(rt; size >= 2 && rows.len() <= MOST_ROWS);
     assert!(rt; !format.is_stream() || are_filled(rows));
     let mut filler = Filler::new(format, 0);
     let mut payloads = Vec::new(alloc);
@@ -53,8 +53,8 @@ fn payloads_of(
     Ok(payloads)
 }
 
-/// Sends records of V and compares the payloads, then takes these and compares the records. Gives
-/// the counts that the taker then tells.
+// Sends records of V and compares the payloads, then takes these and compares the records. Gives
+// the counts that the taker then tells.
 fn sends(
     rt: &impl Abort,
     alloc: Global,
@@ -149,7 +149,7 @@ fn fixed_records(rt: HostRuntime) -> Result<(), Fail> {
     Ok(())
 }
 
-/// A short record that came in two subrecords keeps little more memory than its octets need.
+// A short record that came in two subrecords keeps little more memory than its octets need.
 #[test]
 fn short_record_in_two(rt: HostRuntime) -> Result<(), Fail> {
     let mut taker = taker(rt.alloc(), Format::Variable, 16_384);
@@ -162,7 +162,7 @@ fn short_record_in_two(rt: HostRuntime) -> Result<(), Fail> {
     Ok(())
 }
 
-/// Each payload is refused by a taker that has taken nothing.
+// Each payload is refused by a taker that has taken nothing.
 fn refuses(
     rt: &impl Abort,
     alloc: Global,
@@ -198,6 +198,21 @@ fn compressed_or_cut(rt: HostRuntime) {
     refuses(&rt, rt.alloc(), Format::Unstructured, 0, &cases);
 }
 
+// Where a subrecord has two faults at once, the first of the order is told: after the end, compressed,
+// cut, too big, a record's size. Each pair stands next to one another in it.
+#[test]
+fn first_of_two_faults(rt: HostRuntime) -> Result<(), Fail> {
+    let mut ended = taker(rt.alloc(), Format::Text, 0);
+    ended.take(&[0x81, 0x41])?;
+    assert_eq!(rt; ended.take(&[0x41, 0x61]), Err(TakeFault::AfterEnd));
+    let mut fresh = taker(rt.alloc(), Format::Text, 0);
+    assert_eq!(rt; fresh.take(&[0x45, 0x61]), Err(TakeFault::Compressed));
+    let mut full = Taker::new(rt.alloc(), Format::Variable, 1, 0, 8_388_608, LIMITS);
+    assert_eq!(rt; full.take(&[0x02, 0x41]), Err(TakeFault::Cut));
+    assert_eq!(rt; full.take(&[0x82, 0x41, 0x42]), Err(TakeFault::TooBig));
+    Ok(())
+}
+
 #[test]
 fn too_big(rt: HostRuntime) -> Result<(), Fail> {
     let mut full = Taker::new(rt.alloc(), Format::Unstructured, 0, 0, 8_388_608, LIMITS);
@@ -230,6 +245,53 @@ fn more_rows_wanted(rt: HostRuntime) -> Result<(), Fail> {
         assert_eq!(rt; filler.next_buffer(&rows, false, &mut out[..size]), filled);
     }
     Ok(())
+}
+
+#[test]
+fn empty_stream(rt: HostRuntime) {
+    let mut out = [0u8; 2];
+    let mut filler = Filler::new(Format::Unstructured, 0);
+    assert_eq!(rt; filler.next_buffer(&[], true, &mut out), Filled::Buffer(1));
+    assert_eq!(rt; out[0], 0x80);
+    assert_eq!(rt; filler.next_buffer(&[], true, &mut out), Filled::Done);
+    let mut records = Filler::new(Format::Fixed, 3);
+    assert_eq!(rt; records.next_buffer(&[], true, &mut out), Filled::Done);
+    assert_eq!(rt; (records.row(), records.mark()), (3, 3));
+}
+
+#[test]
+fn closed_with_its_tail(rt: HostRuntime) -> Result<(), Fail> {
+    let mut stream = taker(rt.alloc(), Format::Unstructured, 0);
+    for octet in 0..18u8 {
+        let mut payload = [octet; 64];
+        payload[0] = if octet < 17 { 0x3f } else { 0xbf };
+        stream.take(&payload)?;
+    }
+    assert!(rt; !stream.is_open());
+    let mut rows = stream.close()?.into_vec();
+    assert_eq!(rt; rows.len(), 2);
+    assert_eq!(rt; (rows[0].len(), rows[1].len()), (1024, 110));
+    assert_eq!(rt; rows[0].octets().first(), Some(&0));
+    assert_eq!(rt; rows[1].octets().first(), Some(&16));
+    rows.clear();
+    assert!(rt; Rows::new(rows).is_empty());
+    let mut records = taker(rt.alloc(), Format::Variable, 2);
+    records.take(&[0x81, 0x41, 0x80])?;
+    let rows = records.close()?.into_vec();
+    assert_eq!(rt; rows.len(), 2);
+    assert!(rt; !rows[0].is_empty() && rows[1].is_empty());
+    Ok(())
+}
+
+#[test]
+fn longest_records(rt: HostRuntime) {
+    for format in [Format::Fixed, Format::Variable] {
+        assert!(rt; format.allows_longest(1) && format.allows_longest(16_384));
+        assert!(rt; !format.allows_longest(0) && !format.allows_longest(16_385));
+    }
+    for format in [Format::Unstructured, Format::Text] {
+        assert!(rt; format.allows_longest(0) && !format.allows_longest(1));
+    }
 }
 
 #[test]
@@ -299,9 +361,9 @@ fn whole_file(rt: HostRuntime) -> Result<(), Fail> {
     Ok(())
 }
 
-/// Where an allocation within `take` is refused, the taker is as it was, and then takes the same
-/// payload. This wants `rt try --test --fail-alloc N`, which refuses the Nth allocation (from 2 on:
-/// the first is the test's own); without it no payload is refused.
+// Where an allocation within `take` is refused, the taker is as it was, and then takes the same
+// payload. This wants `rt try --test --fail-alloc N`, which refuses the Nth allocation (from 2 on:
+// the first is the test's own); without it no payload is refused.
 #[test]
 fn refused_and_taken_again(rt: HostRuntime) -> Result<(), Fail> {
     let mut payload = Vec::with_capacity(rt.alloc(), 2048)?;
@@ -344,5 +406,7 @@ fn texts(rt: HostRuntime) -> Result<(), Fail> {
     }
     let not_local = format!(in rt.alloc(); "{}", LocalFault::NotLocal)?;
     assert_eq!(rt; not_local.as_str(), "the content is no file of this format");
+    let memory = format!(in rt.alloc(); "{}", LocalFault::Memory)?;
+    assert_eq!(rt; memory.as_str(), "out of memory");
     Ok(())
 }

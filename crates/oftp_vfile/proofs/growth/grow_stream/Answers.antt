@@ -1,4 +1,5 @@
 use Rattle.std.proofs.Common.{arith, ap, ◌∙◌, refl, ◌+◌, ◌++◌, ◌∷◌, [], length, ◌≡◌, ◌-◌}
+use Rattle.oftp_vfile.specs.declared.format.TheConstants.{BLOCK}
 use Rattle.oftp_vfile.proofs.GrowthLemmas.{at_error, goes_on_same, goes_on_closed, filled_block, rest_of_block}
 use Rattle.oftp_vfile.proofs.growth.grow_stream.Goals as goal
 
@@ -16,11 +17,11 @@ pub returns-clause-filled : goal.returns-clause-filled
 returns-clause-filled c = λ h.
     let tail = c.args.tail.now.items in
     let part = c.args.part.now in
-    let room = 1024 - length tail in
-    let e : length tail + room ≡ 1024 = omega arith in
+    let room = BLOCK - length tail in
+    let e : length tail + room ≡ BLOCK = omega arith in
     let e1 = filled_block tail part room e in
     let e2 = rest_of_block tail part room e in
-    let same : 1024 - c.len-room.result ≡ room = omega arith in
+    let same : BLOCK - c.len-room.result ≡ room = omega arith in
     let front = c.split_at.ensures.front in
     let back = c.split_at.ensures.back in
     let rows' = c.in_ok-close.ensures.rows in

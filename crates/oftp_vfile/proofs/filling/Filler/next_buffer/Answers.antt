@@ -5,36 +5,30 @@ use Rattle.oftp_vfile.proofs.filling.Filler.next_buffer.Goals as goal
 
 pub returns-then-is_stream : goal.returns-then-is_stream
 returns-then-is_stream c =
-    let size = length c.args.out.now in
-    let old = c.args.self.now in
-    let new = c.next_of_stream.new.self in
-    let lent = c.args.rows.now in
-    let last = c.args.last in
-    let out = c.next_of_stream.new.out in
-    let answer = c.next_of_stream.result in
+    let a = c.args in
+    let size = length a.out.now in
+    let new = c.next_of_stream.new in
     let e = c.next_of_stream.ensures in
-    let first = first_if size old new lent last out answer c.requires.room e.buffer in
+    let answer = c.next_of_stream.result in
+    let first = first_if size a.self.now new.self a.rows.now a.last new.out answer c.requires.room e.buffer in
     record {
       buffer = first;
       fills = e.fills;
-      sent = λ from file payloads s a. sent_if size old new from file lent payloads last out answer s a first e.fills;
-      all = λ from file payloads s a. sent_done size old new from file lent payloads last answer s a e.fills;
+      sent = λ from file payloads s k. sent_if size a.self.now new.self from file a.rows.now payloads a.last new.out answer s k first e.fills;
+      all = λ from file payloads s k. sent_done size a.self.now new.self from file a.rows.now payloads a.last answer s k e.fills;
     }
 
 pub returns-else-is_stream : goal.returns-else-is_stream
 returns-else-is_stream c =
-    let size = length c.args.out.now in
-    let old = c.args.self.now in
-    let new = c.next_of_records.new.self in
-    let lent = c.args.rows.now in
-    let last = c.args.last in
-    let out = c.next_of_records.new.out in
-    let answer = c.next_of_records.result in
+    let a = c.args in
+    let size = length a.out.now in
+    let new = c.next_of_records.new in
     let e = c.next_of_records.ensures in
-    let first = first_if size old new lent last out answer c.requires.room e.buffer in
+    let answer = c.next_of_records.result in
+    let first = first_if size a.self.now new.self a.rows.now a.last new.out answer c.requires.room e.buffer in
     record {
       buffer = first;
       fills = e.fills;
-      sent = λ from file payloads s a. sent_if size old new from file lent payloads last out answer s a first e.fills;
-      all = λ from file payloads s a. sent_done size old new from file lent payloads last answer s a e.fills;
+      sent = λ from file payloads s k. sent_if size a.self.now new.self from file a.rows.now payloads a.last new.out answer s k first e.fills;
+      all = λ from file payloads s k. sent_done size a.self.now new.self from file a.rows.now payloads a.last answer s k e.fills;
     }
