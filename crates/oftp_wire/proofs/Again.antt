@@ -122,11 +122,29 @@ ssid_same s t (_, (level, (code, (password, (buffer, (mode, (compression, (resta
     let special_logic : s.special_logic ≡ t.special_logic = flag_one s.special_logic t.special_logic special_logic in
     let authentication : s.authentication ≡ t.authentication = flag_one s.authentication t.authentication authentication in
     let made : ◌≡◌ {A = Ssid} (record {
-      level = s.level; code = s.code; password = s.password; buffer = s.buffer; mode = s.mode; compression = s.compression; restart = s.restart;
-      special_logic = s.special_logic; credit = s.credit; authentication = s.authentication; user = s.user;
+      level = s.level;
+      code = s.code;
+      password = s.password;
+      buffer = s.buffer;
+      mode = s.mode;
+      compression = s.compression;
+      restart = s.restart;
+      special_logic = s.special_logic;
+      credit = s.credit;
+      authentication = s.authentication;
+      user = s.user;
     }) (record {
-      level = t.level; code = t.code; password = t.password; buffer = t.buffer; mode = t.mode; compression = t.compression; restart = t.restart;
-      special_logic = t.special_logic; credit = t.credit; authentication = t.authentication; user = t.user;
+      level = t.level;
+      code = t.code;
+      password = t.password;
+      buffer = t.buffer;
+      mode = t.mode;
+      compression = t.compression;
+      restart = t.restart;
+      special_logic = t.special_logic;
+      credit = t.credit;
+      authentication = t.authentication;
+      user = t.user;
     }) = cc in
     made
 
@@ -139,18 +157,91 @@ pub sfid_parts : (b : Bool) (n : ℕ) → Contiguous 0 (sfid_table b n).rows (sf
 sfid_parts b n = search rules
 
 sfid_same : (b : Bool) (n : ℕ) (s t : Sfid) → EachSame (sfid_table b n).rows s t → s ≡ t
-sfid_same b n s t (_, (dataset, (_, (date, (time, (user, (destination, (originator, (letter, (longest, (size, (original_size, (restart, (security, (cipher, (compression,
-    (enveloping, (signed_response, (_, (description, _)))))))))))))))))))) =
+sfid_same b n s t (
+  _,
+  (
+    dataset,
+    (
+      _,
+      (
+        date,
+        (
+          time,
+          (
+            user,
+            (
+              destination,
+              (
+                originator,
+                (
+                  letter,
+                  (
+                    longest,
+                    (
+                      size,
+                      (
+                        original_size,
+                        (
+                          restart,
+                          (
+                            security,
+                            (
+                              cipher,
+                              (
+                                compression,
+                                (enveloping, (signed_response, (_, (description, _)))),
+                              ),
+                            ),
+                          ),
+                        ),
+                      ),
+                    ),
+                  ),
+                ),
+              ),
+            ),
+          ),
+        ),
+      ),
+    ),
+  ),
+) =
     let layout : s.layout ≡ t.layout = layout_one s.layout t.layout letter longest in
     let signed_response : s.signed_response ≡ t.signed_response = flag_one s.signed_response t.signed_response signed_response in
     let made : ◌≡◌ {A = Sfid} (record {
-      dataset = s.dataset; date = s.date; time = s.time; user = s.user; destination = s.destination; originator = s.originator; layout = s.layout;
-      size = s.size; original_size = s.original_size; restart = s.restart; security = s.security; cipher = s.cipher; compression = s.compression;
-      enveloping = s.enveloping; signed_response = s.signed_response; description = s.description;
+      dataset = s.dataset;
+      date = s.date;
+      time = s.time;
+      user = s.user;
+      destination = s.destination;
+      originator = s.originator;
+      layout = s.layout;
+      size = s.size;
+      original_size = s.original_size;
+      restart = s.restart;
+      security = s.security;
+      cipher = s.cipher;
+      compression = s.compression;
+      enveloping = s.enveloping;
+      signed_response = s.signed_response;
+      description = s.description;
     }) (record {
-      dataset = t.dataset; date = t.date; time = t.time; user = t.user; destination = t.destination; originator = t.originator; layout = t.layout;
-      size = t.size; original_size = t.original_size; restart = t.restart; security = t.security; cipher = t.cipher; compression = t.compression;
-      enveloping = t.enveloping; signed_response = t.signed_response; description = t.description;
+      dataset = t.dataset;
+      date = t.date;
+      time = t.time;
+      user = t.user;
+      destination = t.destination;
+      originator = t.originator;
+      layout = t.layout;
+      size = t.size;
+      original_size = t.original_size;
+      restart = t.restart;
+      security = t.security;
+      cipher = t.cipher;
+      compression = t.compression;
+      enveloping = t.enveloping;
+      signed_response = t.signed_response;
+      description = t.description;
     }) = cc in
     made
 
@@ -289,9 +380,19 @@ eerp_parts = search rules
 eerp_same : (s t : Eerp) → EachSame eerp_table.rows s t → s ≡ t
 eerp_same s t (_, (dataset, (_, (date, (time, (user, (destination, (originator, (_, (_, _)))))))))) =
     let made : ◌≡◌ {A = Eerp} (record {
-      dataset = s.dataset; date = s.date; time = s.time; user = s.user; destination = s.destination; originator = s.originator;
+      dataset = s.dataset;
+      date = s.date;
+      time = s.time;
+      user = s.user;
+      destination = s.destination;
+      originator = s.originator;
     }) (record {
-      dataset = t.dataset; date = t.date; time = t.time; user = t.user; destination = t.destination; originator = t.originator;
+      dataset = t.dataset;
+      date = t.date;
+      time = t.time;
+      user = t.user;
+      destination = t.destination;
+      originator = t.originator;
     }) = cc in
     made
 
@@ -306,11 +407,23 @@ nerp_parts n = search rules
 nerp_same : (n : ℕ) (s t : Nerp) → EachSame (nerp_table n).rows s t → s ≡ t
 nerp_same n s t (_, (dataset, (_, (date, (time, (destination, (originator, (creator, (reason, (_, (text, (_, (_, _))))))))))))) =
     let made : ◌≡◌ {A = Nerp} (record {
-      dataset = s.dataset; date = s.date; time = s.time; destination = s.destination; originator = s.originator; creator = s.creator;
-      reason = s.reason; text = s.text;
+      dataset = s.dataset;
+      date = s.date;
+      time = s.time;
+      destination = s.destination;
+      originator = s.originator;
+      creator = s.creator;
+      reason = s.reason;
+      text = s.text;
     }) (record {
-      dataset = t.dataset; date = t.date; time = t.time; destination = t.destination; originator = t.originator; creator = t.creator;
-      reason = t.reason; text = t.text;
+      dataset = t.dataset;
+      date = t.date;
+      time = t.time;
+      destination = t.destination;
+      originator = t.originator;
+      creator = t.creator;
+      reason = t.reason;
+      text = t.text;
     }) = cc in
     made
 

@@ -73,14 +73,35 @@ ssid_exact o kind = rw kind.fine (
     reads (record {
       whole = e;
       fields = (
-        word_ok kind, (count_ok level, (name_ok code, (name_ok password, (count_ok buffer, (mode_ok mode, (flag_ok compression, (flag_ok restart,
-        (flag_ok special_logic, (count_ok credit, (flag_ok authentication, ((tt, tt), (name_ok user, (return_ok cr, tt)))))))))))))
+        word_ok kind,
+        (
+          count_ok level,
+          (
+            name_ok code,
+            (
+              name_ok password,
+              (
+                count_ok buffer,
+                (
+                  mode_ok mode,
+                  (
+                    flag_ok compression,
+                    (
+                      flag_ok restart,
+                      (flag_ok special_logic, (count_ok credit, (flag_ok authentication, ((tt, tt), (name_ok user, (return_ok cr, tt)))))),
+                    ),
+                  ),
+                ),
+              ),
+            ),
+          ),
+        ),
       );
     }))))))))))))))))
 
 pub sfid_exact : (o : List ℕ) → IsKind (codes "H") o
     → Exact (sfid_of o) (fault_in (sfid_table (has_records (format_of (part 106 1 o))) (number (part 162 3 o))) o)
-      (λ s. IsSpelled (sfid_table_of s) s o)
+    (λ s. IsSpelled (sfid_table_of s) s o)
 unfolding sfid_of name_at digits_at count_at flag_at format_at layout_at skipped_at
 sfid_exact o kind = rw kind.fine (
     step _ (λ dataset. step _ (λ spaces. step _ (λ date. step _ (λ time. step _ (λ user. step _ (λ destination. step _ (λ originator.
@@ -92,9 +113,44 @@ sfid_exact o kind = rw kind.fine (
     table_is (ap (λ b. sfid_table b (length text)) (recorded_is format m) ∙ ap (sfid_table (has_records format)) last.len) (record {
       whole = last.whole;
       fields = (
-        word_ok kind, (name_ok dataset, ((tt, tt), (digits_ok date, (digits_ok time, (name_ok user, (name_ok destination, (name_ok originator,
-        (format_ok m letter, (((l.small, l.zero_unless), l.says), (count_ok size, (count_ok original_size, (count_ok restart,
-        (count_ok security, (count_ok cipher, (count_ok compression, (count_ok enveloping, (flag_ok signed_response, (last.counted, (last.says, tt)))))))))))))))))))
+        word_ok kind,
+        (
+          name_ok dataset,
+          (
+            (tt, tt),
+            (
+              digits_ok date,
+              (
+                digits_ok time,
+                (
+                  name_ok user,
+                  (
+                    name_ok destination,
+                    (
+                      name_ok originator,
+                      (
+                        format_ok m letter,
+                        (
+                          ((l.small, l.zero_unless), l.says),
+                          (
+                            count_ok size,
+                            (
+                              count_ok original_size,
+                              (
+                                count_ok restart,
+                                (count_ok security, (count_ok cipher, (count_ok compression, (count_ok enveloping, (flag_ok signed_response, (last.counted, (last.says, tt))))))),
+                              ),
+                            ),
+                          ),
+                        ),
+                      ),
+                    ),
+                  ),
+                ),
+              ),
+            ),
+          ),
+        ),
       );
     }))))))))))))))))))))
 
@@ -177,8 +233,29 @@ eerp_exact o kind = rw kind.fine (
     reads (record {
       whole = e;
       fields = (
-        word_ok kind, (name_ok dataset, ((tt, tt), (digits_ok date, (digits_ok time, (name_ok user, (name_ok destination, (name_ok originator,
-        (word_ok hash, (word_ok signature, tt)))))))))
+        word_ok kind,
+        (
+          name_ok dataset,
+          (
+            (tt, tt),
+            (
+              digits_ok date,
+              (
+                digits_ok time,
+                (
+                  name_ok user,
+                  (
+                    name_ok destination,
+                    (
+                      name_ok originator,
+                      (word_ok hash, (word_ok signature, tt)),
+                    ),
+                  ),
+                ),
+              ),
+            ),
+          ),
+        ),
       );
     }))))))))))))
 
@@ -192,7 +269,28 @@ nerp_exact o kind = rw kind.fine (
     reads (table_is (ap nerp_table t.len) (record {
       whole = e;
       fields = (
-        word_ok kind, (name_ok dataset, ((tt, tt), (digits_ok date, (digits_ok time, (name_ok destination, (name_ok originator, (name_ok creator,
-        (count_ok reason, (length_ok _ count (sym t.len), (text_ok t.short text, (word_ok hash, (word_ok signature, tt))))))))))))
+        word_ok kind,
+        (
+          name_ok dataset,
+          (
+            (tt, tt),
+            (
+              digits_ok date,
+              (
+                digits_ok time,
+                (
+                  name_ok destination,
+                  (
+                    name_ok originator,
+                    (
+                      name_ok creator,
+                      (count_ok reason, (length_ok _ count (sym t.len), (text_ok t.short text, (word_ok hash, (word_ok signature, tt))))),
+                    ),
+                  ),
+                ),
+              ),
+            ),
+          ),
+        ),
       );
     }))))))))))))))))
