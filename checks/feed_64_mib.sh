@@ -39,7 +39,7 @@ size=$(stat -c %s response)
 
 # The greatest memory is read every 10 ms, in KiB. A memory that grows with the session passes the bound long before the end.
 begin=${EPOCHREALTIME/./}
-"$program" feed --book "$book" input output &
+"$program" feed --book "$book" input output > /dev/null &
 job=$!
 most=0
 while read -r now < <(sed -n 's/^VmHWM:\s*\([0-9]*\) kB$/\1/p' "/proc/$job/status" 2> /dev/null); do
