@@ -94,7 +94,9 @@ pub returns-in-Err-clause-out : goal.returns-in-Err-clause-out
 returns-in-Err-clause-out g c = puts_on _ _ _ _ (puts_on _ _ _ _ c.frames.invariant.out c.take_turns.ensures.out) c.refuse.ensures.out
 
 pub returns-in_err-take_turns-clause-told : goal.returns-in_err-take_turns-clause-told
-returns-in_err-take_turns-clause-told g c = told_err c.args.writer.now c.frames.writer c.take_turns.new.writer _ _ (handed_on _ _ c.from_residual.ensures.1) c.frames.invariant.told c.in_err-take_turns.ensures.told
+returns-in_err-take_turns-clause-told g c =
+    told_err c.args.writer.now c.frames.writer c.take_turns.new.writer _ _ (handed_on _ _ c.from_residual.ensures.1)
+    c.frames.invariant.told c.in_err-take_turns.ensures.told
 
 pub returns-in-Some-clause-told : goal.returns-in-Some-clause-told
 returns-in-Some-clause-told g c = c.in_ok-take_turns.ensures.told ∙ c.frames.invariant.told

@@ -158,7 +158,9 @@ pub returns-then-is_err-clause-out : goal.returns-then-is_err-clause-out
 returns-then-is_err-clause-out g c = puts_on _ _ _ _ c.pieces.invariant.out c.pump.ensures.out
 
 pub returns-in_err-ending-clause-writer_told : goal.returns-in_err-ending-clause-writer_told
-returns-in_err-ending-clause-writer_told g c = told_err c.args.writer.now c.pieces.writer c.pump.new.writer _ _ (handed_on _ _ c.from_residual.ensures.1) c.pieces.invariant.told c.in_err-ending.ensures.told
+returns-in_err-ending-clause-writer_told g c =
+    told_err c.args.writer.now c.pieces.writer c.pump.new.writer _ _ (handed_on _ _ c.from_residual.ensures.1)
+    c.pieces.invariant.told c.in_err-ending.ensures.told
 
 pub returns-in-Some-clause-writer_told : goal.returns-in-Some-clause-writer_told
 returns-in-Some-clause-writer_told g c = c.in_ok-ending.ensures.told ∙ c.pieces.invariant.told

@@ -58,4 +58,6 @@ pub returns-clause-told : goal.returns-clause-told
 returns-clause-told g c = c.turns.invariant.told
 
 pub returns-in_err-take_turn-clause-told : goal.returns-in_err-take_turn-clause-told
-returns-in_err-take_turn-clause-told g c = told_err c.args.writer.now c.turns.writer c.take_turn.new.writer _ _ (handed_on _ _ c.from_residual.ensures.1) c.turns.invariant.told c.in_err-take_turn.ensures.told
+returns-in_err-take_turn-clause-told g c =
+    told_err c.args.writer.now c.turns.writer c.take_turn.new.writer _ _ (handed_on _ _ c.from_residual.ensures.1)
+    c.turns.invariant.told c.in_err-take_turn.ensures.told
