@@ -9,3 +9,7 @@ pub mod Receipts
 pub mod Windows
 pub mod Ends
 pub mod Closing
+pub mod Starts
+pub mod Offers
+pub mod Coming
+pub mod Proceeding
