@@ -1,0 +1,5 @@
+pub mod Asking
+pub mod HeadLemmas
+pub mod Listings
+pub mod RowLemmas
+pub mod RouteLemmas

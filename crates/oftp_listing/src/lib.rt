@@ -1,0 +1,14 @@
+//! The listing of a register over HTTP, and its reports as CSV.
+#![tactic(auto)]
+
+mod fault;
+mod head;
+mod listing;
+mod names;
+mod object;
+mod reply;
+mod route;
+
+pub use fault::ListFault;
+pub use listing::answer;
+pub use reply::Reply;
