@@ -2,4 +2,5 @@ pub mod Asking
 pub mod HeadLemmas
 pub mod Listings
 pub mod RowLemmas
+pub mod Reporting
 pub mod RouteLemmas

@@ -3,6 +3,7 @@ pub mod Heads
 pub mod Names
 pub mod Objects
 pub mod Replies
+pub mod Reports
 pub mod Routes
 pub mod Rows
 pub mod Texts

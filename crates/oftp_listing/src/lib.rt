@@ -7,8 +7,10 @@ mod listing;
 mod names;
 mod object;
 mod reply;
+mod reports;
 mod route;
 
 pub use fault::ListFault;
 pub use listing::answer;
 pub use reply::Reply;
+pub use reports::{ReportKind, report};
