@@ -14,3 +14,6 @@ pub use fault::ListFault;
 pub use listing::answer;
 pub use reply::Reply;
 pub use reports::{ReportKind, report};
+
+#[cfg(test)]
+mod tests;
