@@ -1,5 +1,6 @@
 pub mod Asking
 pub mod HeadLemmas
+pub mod HidingLemmas
 pub mod Listings
 pub mod RowLemmas
 pub mod Reporting

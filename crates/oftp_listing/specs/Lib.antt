@@ -1,5 +1,6 @@
 pub mod Finding
 pub mod Heads
+pub mod Hiding
 pub mod Names
 pub mod Objects
 pub mod Replies

@@ -3,6 +3,7 @@
 
 mod fault;
 mod head;
+mod laws;
 mod listing;
 mod names;
 mod object;
@@ -11,6 +12,7 @@ mod reports;
 mod route;
 
 pub use fault::ListFault;
+pub use laws::content_is_hidden;
 pub use listing::answer;
 pub use reply::Reply;
 pub use reports::{ReportKind, report};
