@@ -103,8 +103,10 @@ text_same is_get None r = refl
 text_same is_get (Some asked) r = ap (reply_to is_get) (shown_same r asked)
 
 lines_same : (what : ReportKind) (r : Register) → lines_of what (blank r) ≡ lines_of what r
-lines_same kind.Incoming r = rw (list_in_same r) (flat_map_same (incoming_line (blank r)) (incoming_line r) (λ e. ap (λ units. line (incoming_fields e units)) (units_same r side.Incoming e.no)) (list_in r))
-lines_same kind.Outgoing r = rw (list_out_same r) (flat_map_same (outgoing_line (blank r)) (outgoing_line r) (λ e. ap (λ units. line (outgoing_fields e units)) (units_same r side.Outgoing e.no)) (list_out r))
+lines_same kind.Incoming r = rw (list_in_same r)
+    (flat_map_same (incoming_line (blank r)) (incoming_line r) (λ e. ap (λ units. line (incoming_fields e units)) (units_same r side.Incoming e.no)) (list_in r))
+lines_same kind.Outgoing r = rw (list_out_same r)
+    (flat_map_same (outgoing_line (blank r)) (outgoing_line r) (λ e. ap (λ units. line (outgoing_fields e units)) (units_same r side.Outgoing e.no)) (list_out r))
 lines_same kind.Issued r = ap (flat_map (λ (e : IssuedEntry). line (issued_fields e))) (list_issued_same r)
 lines_same kind.Received r = flat_map_same (received_line (blank r)) (received_line r) (λ e. ap (λ file. line (received_fields e file)) (file_same r e)) _
 

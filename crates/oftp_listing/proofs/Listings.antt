@@ -20,7 +20,8 @@ pub record IsListing {E : Type 0} (all : Register → List E) (object : Register
   pub objects : now.clean → old.stands → map view values ≡ map (object old.register) entries
   pub integers : items_have_float (items_of (map view values)) ≡ false
 
-integers_append : (values : List Value) (v : Value) → items_have_float (items_of (map view values)) ≡ false → has_float (view v) ≡ false → items_have_float (items_of (map view (values ++ v ∷ []))) ≡ false
+integers_append : (values : List Value) (v : Value) → items_have_float (items_of (map view values)) ≡ false → has_float (view v) ≡ false
+    → items_have_float (items_of (map view (values ++ v ∷ []))) ≡ false
 integers_append [] v h e = rw e refl
 integers_append (x ∷ values) v h e = elim (cases_Bool (has_float (view x))) [
   | inl f ↦ absurd (cc (rw f at h))
@@ -31,7 +32,8 @@ pub take_next : {E : Type 0} (entries : List E) (i : ℕ) (e : E) → i < length
 take_next entries i e within is = rw add-one (take-suc entries i e within ∙ ap (λ (x : _). take i entries ++ x ∷ []) (sym is))
 
 -- nothing is listed yet
-pub listing_begins : {E : Type 0} (all : Register → List E) (object : Register → E → Data) (old now : View) (told : List E) → LooksUp (λ r (x : List E). x ≡ all r) old now (Ok told) → IsListing all object old now told [] []
+pub listing_begins : {E : Type 0} (all : Register → List E) (object : Register → E → Data) (old now : View) (told : List E)
+    → LooksUp (λ r (x : List E). x ≡ all r) old now (Ok told) → IsListing all object old now told [] []
 listing_begins all object old now told looks = record {
   asks = asks_once old now (Ok told) looks;
   untold = looks.counts;
@@ -52,7 +54,8 @@ listing_asked all object old now new told entries values x l looks = record {
 }
 
 -- what it told is of the register that it had at first
-pub told_first : {T : Type 0} {Tells : Register → T → Type 0} (old now new : View) (x : T) → Asks old now → now.told ≡ old.told → LooksUp Tells now new (Ok x) → new.clean → old.stands → Tells old.register x
+pub told_first : {T : Type 0} {Tells : Register → T → Type 0} (old now new : View) (x : T) → Asks old now → now.told ≡ old.told → LooksUp Tells now new (Ok x)
+    → new.clean → old.stands → Tells old.register x
 told_first {Tells = Tells} old now new x asks untold looks k s =
     let before = looks.clean k in
     let stood = asks.stays untold before s in
@@ -60,7 +63,8 @@ told_first {Tells = Tells} old now new x asks untold looks k s =
 
 -- one entry more
 pub listing_more : {E : Type 0} (all : Register → List E) (object : Register → E → Data) (old now : View) (told entries : List E) (values : List Value) (e : E) (v : Value)
-    → IsListing all object old now told entries values → (now.clean → old.stands → view v ≡ object old.register e) → has_float (view v) ≡ false → IsListing all object old now told (entries ++ e ∷ []) (values ++ v ∷ [])
+    → IsListing all object old now told entries values → (now.clean → old.stands → view v ≡ object old.register e) → has_float (view v) ≡ false
+    → IsListing all object old now told (entries ++ e ∷ []) (values ++ v ∷ [])
 listing_more all object old now told entries values e v l is integer = record {
   asks = l.asks;
   untold = l.untold;
@@ -72,7 +76,8 @@ listing_more all object old now told entries values e v l is integer = record {
 }
 
 -- one entry more, of which the office was asked something
-pub listing_on : {E T : Type 0} (all : Register → List E) (object : Register → E → Data) (made : E → T → Data) {Tells : Register → T → Type 0} (old now new : View) (told entries : List E) (values : List Value) (e : E) (x : T) (v : Value)
+pub listing_on : {E T : Type 0} (all : Register → List E) (object : Register → E → Data) (made : E → T → Data) {Tells : Register → T → Type 0}
+    (old now new : View) (told entries : List E) (values : List Value) (e : E) (x : T) (v : Value)
     → ((r : Register) → Tells r x → made e x ≡ object r e) → IsListing all object old now told entries values → LooksUp Tells now new (Ok x)
     → view v ≡ made e x → has_float (made e x) ≡ false → IsListing all object old new told (entries ++ e ∷ []) (values ++ v ∷ [])
 listing_on all object made old now new told entries values e x v right l looks is integer =
@@ -80,6 +85,7 @@ listing_on all object made old now new told entries values e x v right l looks i
     (λ k s. is ∙ right old.register (told_first old now new x l.asks l.untold looks k s)) (ap has_float is ∙ integer)
 
 -- all are listed
-pub listing_ends : {E : Type 0} (all : Register → List E) (object : Register → E → Data) (old now : View) (told : List E) (values : List Value) (i : ℕ) → IsListing all object old now told (take i told) values
+pub listing_ends : {E : Type 0} (all : Register → List E) (object : Register → E → Data) (old now : View) (told : List E) (values : List Value) (i : ℕ)
+    → IsListing all object old now told (take i told) values
     → length told ≤ i → (k : now.clean) (s : old.stands) → map view values ≡ map (object old.register) (all old.register)
 listing_ends all object old now told values i l long k s = l.objects k s ∙ ap (map (object old.register)) (take_all i told long ∙ l.whole k s)

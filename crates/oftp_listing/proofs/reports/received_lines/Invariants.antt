@@ -6,4 +6,6 @@ use Rattle.oftp_listing.proofs.reports.received_lines.Given as goal
 
 -- the entries so far are reported
 abbrev pub invariant-loop-entry : goal.invariant-loop-entry
-invariant-loop-entry g l = IsReport list_received received_line (g.O.Office.view l.fn.office) (g.O.Office.view l.office) l.entry-items (take l.entry-index l.entry-items) l.fn.text.items l.text.items
+invariant-loop-entry g l =
+    IsReport list_received received_line (g.O.Office.view l.fn.office) (g.O.Office.view l.office) l.entry-items
+    (take l.entry-index l.entry-items) l.fn.text.items l.text.items

@@ -18,20 +18,28 @@ returns-in-Responses c = sym (row_found c.args.target.now _ place.Responses (rw 
 
 pub returns-in_ok-number_in-in-IncomingFile : goal.returns-in_ok-number_in-in-IncomingFile
 returns-in_ok-number_in-in-IncomingFile c =
-    let found = in_found c.args.target.now _ c.number_in.result c.utf8.target (rw c.requires at c.in-Ok.ensures.found) c.in-IncomingFile.is (rw c.in-Ok.ensures.path at c.number_in.ensures) in
+    let row = rw c.requires at c.in-Ok.ensures.found in
+    let number = rw c.in-Ok.ensures.path at c.number_in.ensures in
+    let found = in_found c.args.target.now _ c.number_in.result c.utf8.target row c.in-IncomingFile.is number in
     sym (found ∙ ap (option_map IncomingFile) c.in_ok-number_in-in-IncomingFile.was)
 
 pub returns-in_err-number_in-in-IncomingFile : goal.returns-in_err-number_in-in-IncomingFile
 returns-in_err-number_in-in-IncomingFile c =
-    let found = in_found c.args.target.now _ c.number_in.result c.utf8.target (rw c.requires at c.in-Ok.ensures.found) c.in-IncomingFile.is (rw c.in-Ok.ensures.path at c.number_in.ensures) in
+    let row = rw c.requires at c.in-Ok.ensures.found in
+    let number = rw c.in-Ok.ensures.path at c.number_in.ensures in
+    let found = in_found c.args.target.now _ c.number_in.result c.utf8.target row c.in-IncomingFile.is number in
     c.from_residual.ensures ∙ sym (found ∙ ap (option_map IncomingFile) c.in_err-number_in-in-IncomingFile.was)
 
 pub returns-in_ok-number_in-in-OutgoingFile : goal.returns-in_ok-number_in-in-OutgoingFile
 returns-in_ok-number_in-in-OutgoingFile c =
-    let found = out_found c.args.target.now _ c.number_in-in-OutgoingFile.result c.utf8.target (rw c.requires at c.in-Ok.ensures.found) c.in-OutgoingFile.is (rw c.in-Ok.ensures.path at c.number_in-in-OutgoingFile.ensures) in
+    let row = rw c.requires at c.in-Ok.ensures.found in
+    let number = rw c.in-Ok.ensures.path at c.number_in-in-OutgoingFile.ensures in
+    let found = out_found c.args.target.now _ c.number_in-in-OutgoingFile.result c.utf8.target row c.in-OutgoingFile.is number in
     sym (found ∙ ap (option_map OutgoingFile) c.in_ok-number_in-in-OutgoingFile.was)
 
 pub returns-in_err-number_in-in-OutgoingFile : goal.returns-in_err-number_in-in-OutgoingFile
 returns-in_err-number_in-in-OutgoingFile c =
-    let found = out_found c.args.target.now _ c.number_in-in-OutgoingFile.result c.utf8.target (rw c.requires at c.in-Ok.ensures.found) c.in-OutgoingFile.is (rw c.in-Ok.ensures.path at c.number_in-in-OutgoingFile.ensures) in
+    let row = rw c.requires at c.in-Ok.ensures.found in
+    let number = rw c.in-Ok.ensures.path at c.number_in-in-OutgoingFile.ensures in
+    let found = out_found c.args.target.now _ c.number_in-in-OutgoingFile.result c.utf8.target row c.in-OutgoingFile.is number in
     c.from_residual-in_err-number_in-in-OutgoingFile.ensures ∙ sym (found ∙ ap (option_map OutgoingFile) c.in_err-number_in-in-OutgoingFile.was)
