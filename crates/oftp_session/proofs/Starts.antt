@@ -1,5 +1,5 @@
 -- SFID: a file that is accepted begins, or goes on.
-use Rattle.std.proofs.Common.{◌≡◌, ◌⊎◌, ℕ, zero, suc, ◌+◌, ◌-◌, ◌/◌, ◌%◌, ◌==◌, ◌<◌, ◌≤◌, ◌&&◌, Bool, true, false, cond, max, not, min, nat_le, nat_lt, List, [], ◌∷◌, ◌++◌, length, map, take, drop, find, slice_get, All, Option, None, Some, is_some, is_none, is_ok, Result, Ok, Err, refl, ap, sym, ◌∙◌, subst, inl, inr, arith}
+use Rattle.std.proofs.Common.{◌≡◌, ◌⊎◌, ℕ, zero, suc, ◌+◌, ◌/◌, ◌==◌, ◌<◌, ◌≤◌, ◌&&◌, Bool, true, false, cond, not, min, nat_le, nat_lt, List, [], ◌∷◌, length, map, take, find, slice_get, All, Option, None, Some, is_some, is_none, Result, Ok, Err, refl, ap, sym, ◌∙◌, subst, inl, inr, arith}
 use Rattle.std.specs.List.{list_any, position_or_len}
 use Rattle.std.specs.Option.{unwrap_or}
 use Rattle.std.specs.Str.{bytes_eq}
@@ -97,7 +97,7 @@ goes_past : (b : Bool) (reason : StartReason) (retry : Bool) (x : StartVerdict) 
 goes_past true reason retry x count h = absurd (cc)
 goes_past false reason retry x count h = (refl, h)
 
-accepted : (sfid : Sfid) (found : Option IncomingEntry) (is_full : Bool) (terms : Terms) (count : ℕ) → start_verdict sfid found is_full terms ≡ start.Accept count 
+accepted : (sfid : Sfid) (found : Option IncomingEntry) (is_full : Bool) (terms : Terms) (count : ℕ) → start_verdict sfid found is_full terms ≡ start.Accept count
     → Passes sfid found is_full terms count
 accepted sfid found is_full terms count h =
     let h1 = goes_past (not terms.receives) FileDirectionRefused false _ count h in
@@ -329,8 +329,8 @@ again_begins setting contact r sfid count sound a k =
       | inr q ↦ full-take format longest count k.file.rows (subst (λ f. AreFullRows f longest k.file.rows) q.0 (subst (λ l. AreFullRows k.file.format l k.file.rows) q.1 full))
     ] in
     let may : All (MayStart identity format longest count) r.incoming = all_from (MayStart identity format longest count) r.incoming (λ n x at t. (
-      let same = one_entry k.place n r.incoming k.file x identity sound.incoming_once k.at at k.same t in
-      subst (MayGoOn format longest count) same (if_open_from k.file.state _ (λ _ _. fits from.1)))) in
+    let same = one_entry k.place n r.incoming k.file x identity sound.incoming_once k.at at k.same t in
+    subst (MayGoOn format longest count) same (if_open_from k.file.state _ (λ _ _. fits from.1)))) in
     let s = again_made r sfid count k opened silent from.0 e.few in
     may_begin r sfid count s.0 sound (layout_size sfid.layout a.sized) may s.1 s.2
 
@@ -345,7 +345,7 @@ new_begins setting contact r sfid count sound a k =
     let none : count ≡ 0 = sym (ap (λ o. restart_position sfid o contact.link.restart) (sym k.look) ∙ a.count_is) in
     let free : nat_le r.limits.files (length r.incoming) ≡ false = not_none (look_in r (offered_identity sfid)) (files_full r side.Incoming) k.look a.fits in
     let may : All (MayStart (offered_identity sfid) format longest count) r.incoming = all_from (MayStart (offered_identity sfid) format longest count) r.incoming
-        (λ n x at t. if_open_from x.state _ (λ _ _. from_first format longest x.rows count none)) in
+    (λ n x at t. if_open_from x.state _ (λ _ _. from_first format longest x.rows count none)) in
     let s = new_made r sfid count k none free in
     may_begin r sfid count s.0 sound (layout_size sfid.layout a.sized) may s.1 s.2
 

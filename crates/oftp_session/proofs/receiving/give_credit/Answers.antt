@@ -1,4 +1,3 @@
-use Rattle.std.proofs.Common.{◌≡◌, [], length, ap, sym, subst, ◌∙◌}
 use Rattle.oftp_session.proofs.Windows.{credit_err, credit_ok}
 use Rattle.oftp_session.proofs.receiving.give_credit.Goals as goal
 
