@@ -53,7 +53,8 @@ numbered_as : (f : Incoming) (a b : ℕ) → a ≡ b → (let o : Option Incomin
 numbered_as f a b e = ap (λ n. let o : Option IncomingEntry = Some (incoming_entry n f) in o) e
 
 -- an entry isn't among those that have other names
-absent : (p : Identity → Bool) (n : ℕ) (xs : List Incoming) (x : Incoming) → list_any p (map (λ (f : Incoming). f.identity) xs) ≡ false → slice_get xs n ≡ Some x → p x.identity ≡ false
+absent : (p : Identity → Bool) (n : ℕ) (xs : List Incoming) (x : Incoming) → list_any p (map (λ (f : Incoming). f.identity) xs) ≡ false
+    → slice_get xs n ≡ Some x → p x.identity ≡ false
 absent p n [] x h e = absurd (cc)
 absent p zero (y ∷ ys) x h e =
     let same : y ≡ x = cc in
@@ -61,7 +62,8 @@ absent p zero (y ∷ ys) x h e =
 absent p (suc n) (y ∷ ys) x h e = absent p n ys x (or_parts (p y.identity) (list_any p (map (λ (f : Incoming). f.identity) ys)) h).1 e
 
 -- an entry that has a number is the one that its identity finds
-look_found : (n place : ℕ) (xs : List Incoming) (x : Incoming) (i : Identity) → AreNamedOnce (map (λ (f : Incoming). f.identity) xs) → slice_get xs place ≡ Some x → same_identity x.identity i ≡ true
+look_found : (n place : ℕ) (xs : List Incoming) (x : Incoming) (i : Identity) → AreNamedOnce (map (λ (f : Incoming). f.identity) xs)
+    → slice_get xs place ≡ Some x → same_identity x.identity i ≡ true
     → find (λ (e : IncomingEntry). same_identity e.identity i) (numbered incoming_entry n xs) ≡ Some (incoming_entry (n + place) x)
 look_found n place [] x i once e h = absurd (cc)
 look_found n zero (y ∷ ys) x i once e h =
@@ -249,7 +251,8 @@ rows_at (x ∷ xs) zero f h = let same : x ≡ f = cc in ap (λ (y : Incoming). 
 rows_at (x ∷ xs) (suc n) f h = rows_at xs n f h
 
 -- what the start of an open file makes
-again_made : (r : Register) (sfid : Sfid) (count : ℕ) (k : StandsAt r (offered_identity sfid) 1 r.incoming) → k.file.state ≡ Open → k.file.response ≡ None → count ≤ length k.file.rows → length k.file.rows ≤ 1000000
+again_made : (r : Register) (sfid : Sfid) (count : ℕ) (k : StandsAt r (offered_identity sfid) 1 r.incoming) → k.file.state ≡ Open
+    → k.file.response ≡ None → count ≤ length k.file.rows → length k.file.rows ≤ 1000000
     → (ys : List Incoming) × (started_in r (offered_file sfid) count r.incoming ≡ Ok ys) × IsReceived (record r { incoming = ys }) (receipt_of r sfid count)
 again_made r sfid count k opened silent within few =
     let identity = offered_identity sfid in
@@ -267,7 +270,8 @@ again_made r sfid count k opened silent within few =
     let entry : entry_at number s.0 ≡ Some y = ap (λ n. entry_at n s.0) number_is ∙ s.2 in
     let entry' : (let f : Incoming = record (offered_file sfid) { rows = take count (file_rows r side.Incoming number) } in entry_at number s.0 ≡ Some f) =
     entry ∙ ap (λ (x : List (List ℕ)). let f : Incoming = record (offered_file sfid) { rows = take count x } in let o : Option Incoming = Some f in o) (sym rows) in
-    (s.0, s.1, receipt_holds (record r { incoming = s.0 }) sfid number count r.limits.octets (file_rows r side.Incoming number) refl entry' (subst (λ x. count ≤ length x) (sym rows) within) (omega (arith, within, few)))
+    let inside = subst (λ x. count ≤ length x) (sym rows) within in
+    (s.0, s.1, receipt_holds (record r { incoming = s.0 }) sfid number count r.limits.octets (file_rows r side.Incoming number) refl entry' inside (omega (arith, within, few)))
 
 not_none : (o : Option IncomingEntry) (full : Bool) → o ≡ None → (is_none o && full) ≡ false → full ≡ false
 not_none None full e h = h
@@ -350,7 +354,8 @@ new_begins setting contact r sfid count sound a k =
     may_begin r sfid count s.0 sound (layout_size sfid.layout a.sized) may s.1 s.2
 
 -- each file that is accepted
-pub accepted_begins : (setting : Setting) (contact : Contact) (r : Register) (sfid : Sfid) (count : ℕ) → IsSound r → verdict_on setting contact r sfid ≡ start.Accept count → MayBegin r sfid count
+pub accepted_begins : (setting : Setting) (contact : Contact) (r : Register) (sfid : Sfid) (count : ℕ) → IsSound r
+    → verdict_on setting contact r sfid ≡ start.Accept count → MayBegin r sfid count
 accepted_begins setting contact r sfid count sound h =
     let a = accepted sfid (look_in r (offered_identity sfid)) (files_full r side.Incoming) (terms_within setting contact r.limits) count h in
     elim (where_is r (offered_identity sfid) 1 r.incoming) [

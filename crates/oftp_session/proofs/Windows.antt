@@ -156,8 +156,8 @@ full_takes contact g s next old new frame holds at last is m =
     subst (λ (x : Step). Takes x old new frame (Ok (state.Receiving contact next))) (sym (window_full contact g rows c.0)) (made, (next, refl, tracks))
 
 -- the rows that are kept are those that the taker gave
-pub credit_err : (contact : Contact) (g : Receipt) (s : Reception) (rows : List (List ℕ)) (old new : View) (told : SessionFault) → IsReceived old.register g → HasTaken contact g s → s.credit ≤ 1
-    → rows ≡ s.taker.rows
+pub credit_err : (contact : Contact) (g : Receipt) (s : Reception) (rows : List (List ℕ)) (old new : View) (told : SessionFault) → IsReceived old.register g
+    → HasTaken contact g s → s.credit ≤ 1 → rows ≡ s.taker.rows
     → (IsFit old.register (Keep s.number rows) → IsAccepted old.register (Keep s.number rows) → DoesNot (keeping s.number rows) old new told)
     → DoesNot (window_step contact g (rows_to_keep g (carried_by g))).change old new told
 credit_err contact g s rows old new told holds at last is does =
@@ -181,8 +181,8 @@ credit_ok contact g s rows taker credit old new frame holds at last is rest valu
     full_takes contact g s (record { number = s.number; credit = credit; taker = taker }) old new frame holds at last next made
 
 -- a payload that is taken
-pub data_takes : (contact : Contact) (f : Receipt) (s : Reception) (taker : Taking) (payload : List ℕ) (old new : View) (frame : List ℕ) (result : Result State SessionFault) → IsReceived old.register f
-    → Tracks contact f s → nat_lt contact.link.buffer (length payload + 1) ≡ false → taken s.taker payload ≡ Ok taker
+pub data_takes : (contact : Contact) (f : Receipt) (s : Reception) (taker : Taking) (payload : List ℕ) (old new : View) (frame : List ℕ) (result : Result State SessionFault)
+    → IsReceived old.register f → Tracks contact f s → nat_lt contact.link.buffer (length payload + 1) ≡ false → taken s.taker payload ≡ Ok taker
     → ((g : Receipt) → IsReceived old.register g → HasTaken contact g (record s { taker = taker }) → Takes (window_step contact g (rows_to_keep g (carried_by g))) old new frame result)
     → Takes (data_step contact f payload) old new frame result
 data_takes contact f s taker payload old new frame result holds at short took takes =
