@@ -1,6 +1,5 @@
 -- What the session does at EFID, as a step.
-use Rattle.std.proofs.Common.{◌≡◌, ℕ, Bool, true, false, Option, None, Some, Result, Ok, Err, List, [], refl, sym, ap, ◌∙◌, subst}
-use Rattle.oftp_wire.specs.declared.command.Command.{Command}
+use Rattle.std.proofs.Common.{◌≡◌, ℕ, Bool, true, false, None, Some, Result, Ok, List, [], refl, sym, ap, ◌∙◌, subst}
 use Rattle.oftp_wire.specs.declared.command.Efid.{Efid}
 use Rattle.oftp_wire.specs.declared.reason.EndReason.{EndReason}
 use Rattle.oftp_wire.specs.declared.reason.SessionReason.TheVariants.{ProtocolViolation}

@@ -1,7 +1,6 @@
 -- What comes, by where the session stands.
 use Rattle.std.proofs.Common.{◌≡◌, ℕ, List, Result, Ok, sym, ap, subst}
 use Rattle.oftp_wire.specs.declared.command.Command.{Command}
-use Rattle.oftp_register.specs.Register.{Register}
 use Rattle.oftp_register.specs.Offices.{View}
 use Rattle.oftp_session.specs.declared.receiving.Reception.{Reception}
 use Rattle.oftp_session.specs.declared.session.SessionFault.{SessionFault}
@@ -9,7 +8,7 @@ use Rattle.oftp_session.specs.declared.state.Contact.{Contact}
 use Rattle.oftp_session.specs.declared.state.State.{State}
 use Rattle.oftp_session.specs.declared.state.State.TheVariants as state
 use Rattle.oftp_session.specs.Settings.{Setting}
-use Rattle.oftp_session.specs.Phases.{Phase, Receipt, Step}
+use Rattle.oftp_session.specs.Phases.{Phase, Receipt}
 use Rattle.oftp_session.specs.Receiving.{came_receiving}
 use Rattle.oftp_session.specs.Steps.{came, Holds, IsReceived}
 use Rattle.oftp_session.specs.Standings.{At, StandsIn, Tracks, standing_of}

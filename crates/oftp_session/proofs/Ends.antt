@@ -1,5 +1,5 @@
 -- EFID: a file is closed, or its rows are given up.
-use Rattle.std.proofs.Common.{◌≡◌, ◌≢◌, ℕ, zero, suc, ◌+◌, ◌*◌, ◌≤◌, false, true, Option, Some, Result, Ok, Err, is_ok, List, [], ◌∷◌, ◌++◌, length, take, drop, All, slice_get, refl, sym, ap, ◌∙◌, subst, arith}
+use Rattle.std.proofs.Common.{◌≡◌, ◌≢◌, ℕ, zero, suc, ◌+◌, ◌*◌, ◌≤◌, false, true, Some, Result, is_ok, List, [], ◌∷◌, ◌++◌, length, take, drop, All, slice_get, refl, sym, ap, ◌∙◌, subst, arith}
 use Rattle.std.specs.List.{flat_map}
 use Rattle.std.proofs.lemmas.List.{append-nil, drop-append-le, length-append, length-drop, length-take-le}
 use Rattle.std.proofs.lemmas.List.Elements.{All-head, All-tail, All-take}
@@ -102,20 +102,27 @@ end_few r f sound holds shut = by t.format refl
   where
     t : Taking
     t = carried_by f
+
     ss : List Subrecord
     ss = flat_map (λ (x : List Subrecord). x) holds.took.subs
+
     few : f.from + length t.rows ≤ 1000000
     few = let same = carried_same f in let h = holds.took.holds.few in omega (arith, h, same.2)
+
     carried : (format : Format) → t.format ≡ format → Carried format t.longest ss t.rows t.tail
     carried format e = subst (λ (x : Format). Carried x t.longest ss t.rows t.tail) e holds.took.holds.carried
+
     shut' : is_open (stage_of ss) ≡ false
     shut' = ap is_open (sym holds.took.holds.last) ∙ shut
+
     records : t.tail ≡ [] → f.from + length (closed t.rows t.tail) ≤ 1000000
     records e = subst (λ (x : List ℕ). f.from + length (closed t.rows x) ≤ 1000000) (sym e) few
+
     blocks : (format : Format) → f.file.format ≡ format → AreFullRows format f.file.longest f.file.rows
     blocks format e =
         let entry = all_at IsSoundIncoming f.number r.incoming f.file sound.incoming holds.entry in
         subst (λ (x : Format). AreFullRows x f.file.longest f.file.rows) e (open_blocks f.file.state f.file.format f.file.longest f.file.rows holds.opened entry.fits)
+
     stream : InBlocks (octets_of ss) t.rows t.tail → All (λ (r : List ℕ). length r ≡ 1024) f.file.rows → f.from + length (closed t.rows t.tail) ≤ 1000000
     stream b all =
         let same = carried_same f in
@@ -124,6 +131,7 @@ end_few r f sound holds shut = by t.format refl
         let k : t.kept_units ≡ 1024 * f.from = omega (arith, same.3, holds.units, first, count) in
         let l : t.limit ≤ 1024000000 = omega (arith, carried_limit f, holds.limit, sound.small) in
         stream_few t ss f.from t.rows t.tail b holds.took.holds.units holds.took.holds.octets k l few
+
     by : (format : Format) → t.format ≡ format → f.from + length (closed t.rows t.tail) ≤ 1000000
     by Fixed e = records (ended_piece ss t.rows t.tail shut' (carried Fixed e).0)
     by Variable e = records (ended_piece ss t.rows t.tail shut' (carried Variable e).0)
@@ -143,7 +151,7 @@ close_fits r f sound holds shut =
     let cut : closed (drop k t.rows) t.tail ≡ drop k all = closed_drop k t.rows t.tail (kept_within r f holds) in
     let rows = closed (drop k t.rows) t.tail in
     let carries : Carries t.format t.longest f.payloads t.rows t.tail t.stage =
-        record { subs = took.subs; spelling = took.spelling; short = took.short; carried = took.holds.carried; last = took.holds.last } in
+    record { subs = took.subs; spelling = took.spelling; short = took.short; carried = took.holds.carried; last = took.holds.last } in
     let file = rows_from t.format t.longest k all (closed_file t.format t.longest f.payloads t.rows t.tail t.stage carries shut) in
     let its = subst (λ (l : ℕ). AreRows f.file.format l (drop k all)) same.1 (subst (λ (x : Format). AreRows x t.longest (drop k all)) same.0 file) in
     let fits = subst (λ (x : List (List ℕ)). AreRows f.file.format f.file.longest x) (sym cut) its in
@@ -172,4 +180,3 @@ give_up_accepted r f holds =
 pub give_up_fits : (r : Register) (n : ℕ) → IsFit r (GiveUp n)
 unfolding IsFit
 give_up_fits r n = tt
-

@@ -24,7 +24,6 @@ use Rattle.oftp_session.specs.declared.receiving.Reception.{Reception}
 use Rattle.oftp_session.specs.declared.session.SessionFault.{SessionFault}
 use Rattle.oftp_session.specs.declared.session.SessionFault.TheVariants as fault
 use Rattle.oftp_session.specs.declared.state.Contact.{Contact}
-use Rattle.oftp_session.specs.declared.state.State.{State}
 use Rattle.oftp_session.specs.declared.state.State.TheVariants as state
 use Rattle.oftp_session.specs.Settings.{Setting}
 use Rattle.oftp_session.specs.Phases.{Receipt, Step, frame_of}
@@ -47,8 +46,8 @@ pub begun_finds : (link : Link) (identity : Identity) (number : ℕ) (file : Inc
     → LooksUp (λ r found. found ≡ look_in r identity) old mid (Ok (Some entry)) → LooksUp (λ r n. n ≡ units_of r side.Incoming entry.no) mid new (Ok units)
     → limits ≡ new.register.limits → new.clean → old.stands → IsFound old.register identity number file
     → (let s : Reception = record { number = entry.no; credit = link.credit; taker = new_taking entry.format entry.longest entry.rows units limits.octets } in s)
-        ≡ reception_of link number file old.register.limits.octets
-      × IsMade None None old new []
+    ≡ reception_of link number file old.register.limits.octets
+    × IsMade None None old new []
 begun_finds link identity number file old mid new entry units limits first second bound clean stands found =
     let before = second.clean clean in
     let stood = first.stays before stands in
@@ -58,14 +57,15 @@ begun_finds link identity number file old mid new entry units limits first secon
     let there : Some entry ≡ Some (incoming_entry number file) = first.answer before stands ∙ found.look in
     let e : entry ≡ incoming_entry number file = cc in
     let n : units ≡ units_in file.rows =
-        second.answer clean stood ∙ ap (λ (r : Register). units_of r side.Incoming entry.no) same
-        ∙ ap (λ (k : IncomingEntry). units_of old.register side.Incoming k.no) e ∙ units_at old.register number file found.entry in
+    second.answer clean stood ∙ ap (λ (r : Register). units_of r side.Incoming entry.no) same
+    ∙ ap (λ (k : IncomingEntry). units_of old.register side.Incoming k.no) e ∙ units_at old.register number file found.entry in
     let limit : limits.octets ≡ old.register.limits.octets = ap (λ (l : Limits). l.octets) (bound ∙ ap (λ (r : Register). r.limits) (again ∙ same)) in
     let of_entry : IncomingEntry → ℕ → ℕ → Reception =
-        λ k n m. record { number = k.no; credit = link.credit; taker = new_taking k.format k.longest k.rows n m } in
-    (ap (λ (k : IncomingEntry). of_entry k units limits.octets) e ∙ ap (λ (m : ℕ). of_entry (incoming_entry number file) m limits.octets) n
-      ∙ ap (of_entry (incoming_entry number file) (units_in file.rows)) limit,
-     record { said = refl; register = again ∙ same; stands = stays; faults = second.counts ∙ first.counts })
+    λ k n m. record { number = k.no; credit = link.credit; taker = new_taking k.format k.longest k.rows n m } in (
+      ap (λ (k : IncomingEntry). of_entry k units limits.octets) e ∙ ap (λ (m : ℕ). of_entry (incoming_entry number file) m limits.octets) n
+          ∙ ap (of_entry (incoming_entry number file) (units_in file.rows)) limit,
+      record { said = refl; register = again ∙ same; stands = stays; faults = second.counts ∙ first.counts },
+    )
 
 -- the change that begins a file, made of its parts
 pub start_is : (sfid : Sfid) (count : ℕ) (identity : Identity) (format : Format) (longest : ℕ) (description : List ℕ) → identity ≡ offered_identity sfid → format ≡ format_of sfid.layout
@@ -93,7 +93,8 @@ start_fails sfid count change old mid told is may does =
 
 -- then the file is found
 begun_found : (sfid : Sfid) (count : ℕ) (identity : Identity) (old mid : View) → identity ≡ offered_identity sfid → (may : MayBegin old.register sfid count)
-    → IsMade (Some (start_of sfid count)) None old mid [] → (mid.register ≡ may.after) × IsFound mid.register identity (receipt_of old.register sfid count).number (receipt_of old.register sfid count).file
+    → IsMade (Some (start_of sfid count)) None old mid [] → (mid.register ≡ may.after)
+        × IsFound mid.register identity (receipt_of old.register sfid count).number (receipt_of old.register sfid count).file
 begun_found sfid count identity old mid is may made =
     let done : apply old.register (start_of sfid count) ≡ Ok mid.register = made.register in
     let both : Ok mid.register ≡ Ok may.after = sym done ∙ may.made in
@@ -127,7 +128,7 @@ begun_tracks contact r after sfid count s holds is =
     let none : 0 ≡ kept_of f = omega (arith, all) in
     let place : 0 % window contact ≡ 0 = omega arith in
     let taker : (reception_of contact.link f.number f.file f.limit).taker ≡ shed 0 (carried_by f) =
-        ap (λ (n : ℕ). new_taking f.file.format f.file.longest n f.units f.limit) all in
+    ap (λ (n : ℕ). new_taking f.file.format f.file.longest n f.units f.limit) all in
     record {
       number = ap (λ (x : Reception). x.number) is;
       credit = ap (λ (x : Reception). max 1 x.credit) is ∙ (let e : window contact ≡ window contact - 0 % window contact = omega (arith, place) in e);

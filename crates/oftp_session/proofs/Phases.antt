@@ -7,6 +7,7 @@ use Rattle.oftp_partners.specs.declared.partner.Partner.{Partner}
 use Rattle.oftp_session.specs.declared.link.WhenDone.TheVariants.{ChangeDirection, EndSession}
 use Rattle.oftp_session.specs.Settings.{Setting}
 use Rattle.oftp_session.specs.Phases.{Phase, ResponderOpening, InitiatorOpening, AwaitingSsid, ListenerIdle, Receiving, SpeakerIdle, EndedHere, EndedThere, is_over}
+use Rattle.oftp_session.specs.Standings.{Standing, StandsIn, is_closed}
 use Rattle.oftp_session.specs.Steps.{has_turn, opening, turned, turns_due, Suits}
 
 -- fewer own turns are due after one
@@ -43,6 +44,17 @@ turn_live (Receiving contact f) h = refl
 turn_live (SpeakerIdle contact done) h = refl
 turn_live (EndedHere reason) h = absurd (false≢true h)
 turn_live (EndedThere reason) h = absurd (false≢true h)
+
+-- a session is open where its phase isn't over
+pub stands_open : (p : Phase) (s : Standing) → StandsIn p s → is_over p ≡ false → is_closed s ≡ false
+stands_open ResponderOpening s h live = ap is_closed h
+stands_open InitiatorOpening s h live = ap is_closed h
+stands_open AwaitingSsid s h live = ap is_closed h
+stands_open (ListenerIdle contact) s h live = ap is_closed h
+stands_open (Receiving contact f) s h live = ap is_closed h.1
+stands_open (SpeakerIdle contact done) s h live = ap is_closed h
+stands_open (EndedHere reason) s h live = ap is_closed h ∙ live
+stands_open (EndedThere reason) s h live = ap is_closed h ∙ live
 
 -- each sound register suits the phase in which a session begins
 pub opening_suits : (r : Register) (called : Option Partner) → IsSound r → Suits (opening called) r

@@ -147,6 +147,7 @@ end_proceeds contact r f efid sound holds = by (is_open (carried_by f).stage) re
     ends : (verdict : EndVerdict) → is_open (carried_by f).stage ≡ false → Proceeds r (on_end_verdict contact r f (carried_by f) verdict)
     ends «end».Accept shut = accepted_proceeds r (ListenerIdle contact) _ _ sound (close_fits r f sound holds shut) (close_accepted r f _ holds) tt
     ends («end».Refuse reason) shut = accepted_proceeds r (ListenerIdle contact) _ _ sound (give_up_fits r f.number) (give_up_accepted r f holds) tt
+
     by : (was : Bool) → is_open (carried_by f).stage ≡ was
         → Proceeds r (cond was (fails ProtocolViolation) (on_end_verdict contact r f (carried_by f) (end_verdict efid (counts_of (carried_by f)).0 (counts_of (carried_by f)).1)))
     by true e = same_proceeds r _ _ sound tt

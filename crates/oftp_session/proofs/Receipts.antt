@@ -1,5 +1,5 @@
 -- What a receiving phase says of the register stays so as payloads come and rows are kept.
-use Rattle.std.proofs.Common.{◌≡◌, ℕ, zero, suc, All, ◌+◌, ◌-◌, ◌≤◌, true, List, [], ◌∷◌, ◌++◌, length, take, drop, slice_get, Some, Result, Ok, Err, is_ok, refl, ap, sym, ◌∙◌, subst, arith}
+use Rattle.std.proofs.Common.{◌≡◌, ℕ, zero, suc, ◌+◌, ◌-◌, ◌≤◌, List, [], ◌∷◌, ◌++◌, length, drop, slice_get, Some, Result, Ok, Err, is_ok, refl, ap, sym, ◌∙◌, subst, arith}
 use Rattle.std.proofs.lemmas.List.{append-nil, length-append, length-drop, take-append-le}
 use Rattle.std.proofs.lemmas.List.Elements.{All-drop}
 use Rattle.std.specs.Result.{result_unwrap_or}
@@ -75,16 +75,19 @@ keep_holds r f holds =
     let with_state : IncomingState → Incoming = λ x. record f.file { rows = f.file.rows ++ rows; state = x } in
     let state : with_state Open ≡ new = ap with_state (sym holds.opened) in
     let made : kept rows f.file ≡ Ok new = ap (if_open f.file (f.file.rows ++ rows) Open) holds.opened ∙ ap (λ (x : Incoming). let y : Result Incoming Cause = Ok x in y) state in
-    let at = at_entry (kept rows) f.number r.incoming f.file new holds.entry made in
-    (record r { incoming = at.0 }, ap (mapped (λ files. record r { incoming = files })) at.1, record {
-      limit = holds.limit;
-      entry = at.2;
-      opened = holds.opened;
-      kept = omega (arith, holds.kept, length-append f.file.rows rows);
-      most = omega (arith, holds.most, holds.kept, length-append f.file.rows rows, length-drop (length f.file.rows - f.from) t.rows);
-      units = holds.units ∙ ap units_in (sym (take-append-le f.from f.file.rows rows holds.kept));
-      took = holds.took;
-    })
+    let at = at_entry (kept rows) f.number r.incoming f.file new holds.entry made in (
+      record r { incoming = at.0 },
+      ap (mapped (λ files. record r { incoming = files })) at.1,
+      record {
+        limit = holds.limit;
+        entry = at.2;
+        opened = holds.opened;
+        kept = omega (arith, holds.kept, length-append f.file.rows rows);
+        most = omega (arith, holds.most, holds.kept, length-append f.file.rows rows, length-drop (length f.file.rows - f.from) t.rows);
+        units = holds.units ∙ ap units_in (sym (take-append-le f.from f.file.rows rows holds.kept));
+        took = holds.took;
+      },
+    )
 
 -- so it does where there was no row to keep
 pub keep_after : (r : Register) (g : Receipt) → IsReceived r g
@@ -93,6 +96,7 @@ keep_after r g holds = by (rows_to_keep g (carried_by g)) refl
   where
     Kept : List (List ℕ) → Type 0
     Kept rows = (s : Register) × (apply r (Keep g.number rows) ≡ Ok s) × IsReceived s (with_rows g rows)
+
     by : (rows : List (List ℕ)) → rows_to_keep g (carried_by g) ≡ rows → IsReceived (register_after r (keeping g.number rows)) (with_rows g rows)
     by [] e = subst (λ (x : List (List ℕ)). IsReceived r (record g { file = record g.file { rows = x } })) (sym (append-nil g.file.rows)) holds
     by (x ∷ xs) e =

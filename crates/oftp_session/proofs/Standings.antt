@@ -1,9 +1,9 @@
 -- From where a session stands to its phase.
-use Rattle.std.proofs.Common.{◌≡◌, ℕ, List, true, false, refl, sym, ap, ◌∙◌, subst}
+use Rattle.std.proofs.Common.{◌≡◌, sym, ap, subst}
 use Rattle.oftp_session.specs.declared.receiving.Reception.{Reception}
 use Rattle.oftp_session.specs.declared.state.Contact.{Contact}
-use Rattle.oftp_session.specs.Phases.{Phase, Receipt, ResponderOpening, InitiatorOpening, AwaitingSsid, ListenerIdle, Receiving, SpeakerIdle, EndedHere, EndedThere, is_over}
-use Rattle.oftp_session.specs.Standings.{Standing, At, Receives, StandsIn, Tracks, is_closed}
+use Rattle.oftp_session.specs.Phases.{Phase, Receipt, ResponderOpening, InitiatorOpening, AwaitingSsid, ListenerIdle, Receiving, SpeakerIdle, EndedHere, EndedThere}
+use Rattle.oftp_session.specs.Standings.{At, Receives, StandsIn, Tracks}
 
 -- a session that isn't receiving is in the phase that it shows
 pub phase_at : (p q : Phase) → StandsIn p (At q) → q ≡ p
@@ -30,14 +30,3 @@ phase_received (Receiving contact' f) contact s h =
 phase_received (SpeakerIdle contact' done) contact s h = absurd (let no : ⊥ = cc in no)
 phase_received (EndedHere reason) contact s h = absurd (let no : ⊥ = cc in no)
 phase_received (EndedThere reason) contact s h = absurd (let no : ⊥ = cc in no)
-
--- a session is open where its phase isn't over
-pub stands_open : (p : Phase) (s : Standing) → StandsIn p s → is_over p ≡ false → is_closed s ≡ false
-stands_open ResponderOpening s h live = ap is_closed h
-stands_open InitiatorOpening s h live = ap is_closed h
-stands_open AwaitingSsid s h live = ap is_closed h
-stands_open (ListenerIdle contact) s h live = ap is_closed h
-stands_open (Receiving contact f) s h live = ap is_closed h.1
-stands_open (SpeakerIdle contact done) s h live = ap is_closed h
-stands_open (EndedHere reason) s h live = ap is_closed h ∙ live
-stands_open (EndedThere reason) s h live = ap is_closed h ∙ live

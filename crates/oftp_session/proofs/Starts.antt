@@ -1,5 +1,5 @@
 -- SFID: a file that is accepted begins, or goes on.
-use Rattle.std.proofs.Common.{◌≡◌, ◌⊎◌, ℕ, zero, suc, ◌+◌, ◌-◌, ◌/◌, ◌%◌, ◌==◌, ◌<◌, ◌≤◌, ◌&&◌, Bool, true, false, cond, max, not, min, nat_le, nat_lt, List, [], ◌∷◌, ◌++◌, length, map, take, drop, find, slice_get, All, Option, None, Some, is_some, is_none, is_ok, Result, Ok, Err, refl, ap, sym, ◌∙◌, subst, inl, inr, arith}
+use Rattle.std.proofs.Common.{◌≡◌, ◌⊎◌, ℕ, zero, suc, ◌+◌, ◌/◌, ◌==◌, ◌<◌, ◌≤◌, ◌&&◌, Bool, true, false, cond, not, min, nat_le, nat_lt, List, [], ◌∷◌, length, map, take, find, slice_get, All, Option, None, Some, is_some, is_none, Result, Ok, Err, refl, ap, sym, ◌∙◌, subst, inl, inr, arith}
 use Rattle.std.specs.List.{list_any, position_or_len}
 use Rattle.std.specs.Option.{unwrap_or}
 use Rattle.std.specs.Str.{bytes_eq}
@@ -53,7 +53,8 @@ numbered_as : (f : Incoming) (a b : ℕ) → a ≡ b → (let o : Option Incomin
 numbered_as f a b e = ap (λ n. let o : Option IncomingEntry = Some (incoming_entry n f) in o) e
 
 -- an entry isn't among those that have other names
-absent : (p : Identity → Bool) (n : ℕ) (xs : List Incoming) (x : Incoming) → list_any p (map (λ (f : Incoming). f.identity) xs) ≡ false → slice_get xs n ≡ Some x → p x.identity ≡ false
+absent : (p : Identity → Bool) (n : ℕ) (xs : List Incoming) (x : Incoming) → list_any p (map (λ (f : Incoming). f.identity) xs) ≡ false
+    → slice_get xs n ≡ Some x → p x.identity ≡ false
 absent p n [] x h e = absurd (cc)
 absent p zero (y ∷ ys) x h e =
     let same : y ≡ x = cc in
@@ -61,7 +62,8 @@ absent p zero (y ∷ ys) x h e =
 absent p (suc n) (y ∷ ys) x h e = absent p n ys x (or_parts (p y.identity) (list_any p (map (λ (f : Incoming). f.identity) ys)) h).1 e
 
 -- an entry that has a number is the one that its identity finds
-look_found : (n place : ℕ) (xs : List Incoming) (x : Incoming) (i : Identity) → AreNamedOnce (map (λ (f : Incoming). f.identity) xs) → slice_get xs place ≡ Some x → same_identity x.identity i ≡ true
+look_found : (n place : ℕ) (xs : List Incoming) (x : Incoming) (i : Identity) → AreNamedOnce (map (λ (f : Incoming). f.identity) xs)
+    → slice_get xs place ≡ Some x → same_identity x.identity i ≡ true
     → find (λ (e : IncomingEntry). same_identity e.identity i) (numbered incoming_entry n xs) ≡ Some (incoming_entry (n + place) x)
 look_found n place [] x i once e h = absurd (cc)
 look_found n zero (y ∷ ys) x i once e h =
@@ -97,7 +99,7 @@ goes_past : (b : Bool) (reason : StartReason) (retry : Bool) (x : StartVerdict) 
 goes_past true reason retry x count h = absurd (cc)
 goes_past false reason retry x count h = (refl, h)
 
-accepted : (sfid : Sfid) (found : Option IncomingEntry) (is_full : Bool) (terms : Terms) (count : ℕ) → start_verdict sfid found is_full terms ≡ start.Accept count 
+accepted : (sfid : Sfid) (found : Option IncomingEntry) (is_full : Bool) (terms : Terms) (count : ℕ) → start_verdict sfid found is_full terms ≡ start.Accept count
     → Passes sfid found is_full terms count
 accepted sfid found is_full terms count h =
     let h1 = goes_past (not terms.receives) FileDirectionRefused false _ count h in
@@ -249,7 +251,8 @@ rows_at (x ∷ xs) zero f h = let same : x ≡ f = cc in ap (λ (y : Incoming). 
 rows_at (x ∷ xs) (suc n) f h = rows_at xs n f h
 
 -- what the start of an open file makes
-again_made : (r : Register) (sfid : Sfid) (count : ℕ) (k : StandsAt r (offered_identity sfid) 1 r.incoming) → k.file.state ≡ Open → k.file.response ≡ None → count ≤ length k.file.rows → length k.file.rows ≤ 1000000
+again_made : (r : Register) (sfid : Sfid) (count : ℕ) (k : StandsAt r (offered_identity sfid) 1 r.incoming) → k.file.state ≡ Open
+    → k.file.response ≡ None → count ≤ length k.file.rows → length k.file.rows ≤ 1000000
     → (ys : List Incoming) × (started_in r (offered_file sfid) count r.incoming ≡ Ok ys) × IsReceived (record r { incoming = ys }) (receipt_of r sfid count)
 again_made r sfid count k opened silent within few =
     let identity = offered_identity sfid in
@@ -267,7 +270,8 @@ again_made r sfid count k opened silent within few =
     let entry : entry_at number s.0 ≡ Some y = ap (λ n. entry_at n s.0) number_is ∙ s.2 in
     let entry' : (let f : Incoming = record (offered_file sfid) { rows = take count (file_rows r side.Incoming number) } in entry_at number s.0 ≡ Some f) =
     entry ∙ ap (λ (x : List (List ℕ)). let f : Incoming = record (offered_file sfid) { rows = take count x } in let o : Option Incoming = Some f in o) (sym rows) in
-    (s.0, s.1, receipt_holds (record r { incoming = s.0 }) sfid number count r.limits.octets (file_rows r side.Incoming number) refl entry' (subst (λ x. count ≤ length x) (sym rows) within) (omega (arith, within, few)))
+    let inside = subst (λ x. count ≤ length x) (sym rows) within in
+    (s.0, s.1, receipt_holds (record r { incoming = s.0 }) sfid number count r.limits.octets (file_rows r side.Incoming number) refl entry' inside (omega (arith, within, few)))
 
 not_none : (o : Option IncomingEntry) (full : Bool) → o ≡ None → (is_none o && full) ≡ false → full ≡ false
 not_none None full e h = h
@@ -329,8 +333,8 @@ again_begins setting contact r sfid count sound a k =
       | inr q ↦ full-take format longest count k.file.rows (subst (λ f. AreFullRows f longest k.file.rows) q.0 (subst (λ l. AreFullRows k.file.format l k.file.rows) q.1 full))
     ] in
     let may : All (MayStart identity format longest count) r.incoming = all_from (MayStart identity format longest count) r.incoming (λ n x at t. (
-      let same = one_entry k.place n r.incoming k.file x identity sound.incoming_once k.at at k.same t in
-      subst (MayGoOn format longest count) same (if_open_from k.file.state _ (λ _ _. fits from.1)))) in
+    let same = one_entry k.place n r.incoming k.file x identity sound.incoming_once k.at at k.same t in
+    subst (MayGoOn format longest count) same (if_open_from k.file.state _ (λ _ _. fits from.1)))) in
     let s = again_made r sfid count k opened silent from.0 e.few in
     may_begin r sfid count s.0 sound (layout_size sfid.layout a.sized) may s.1 s.2
 
@@ -345,12 +349,13 @@ new_begins setting contact r sfid count sound a k =
     let none : count ≡ 0 = sym (ap (λ o. restart_position sfid o contact.link.restart) (sym k.look) ∙ a.count_is) in
     let free : nat_le r.limits.files (length r.incoming) ≡ false = not_none (look_in r (offered_identity sfid)) (files_full r side.Incoming) k.look a.fits in
     let may : All (MayStart (offered_identity sfid) format longest count) r.incoming = all_from (MayStart (offered_identity sfid) format longest count) r.incoming
-        (λ n x at t. if_open_from x.state _ (λ _ _. from_first format longest x.rows count none)) in
+    (λ n x at t. if_open_from x.state _ (λ _ _. from_first format longest x.rows count none)) in
     let s = new_made r sfid count k none free in
     may_begin r sfid count s.0 sound (layout_size sfid.layout a.sized) may s.1 s.2
 
 -- each file that is accepted
-pub accepted_begins : (setting : Setting) (contact : Contact) (r : Register) (sfid : Sfid) (count : ℕ) → IsSound r → verdict_on setting contact r sfid ≡ start.Accept count → MayBegin r sfid count
+pub accepted_begins : (setting : Setting) (contact : Contact) (r : Register) (sfid : Sfid) (count : ℕ) → IsSound r
+    → verdict_on setting contact r sfid ≡ start.Accept count → MayBegin r sfid count
 accepted_begins setting contact r sfid count sound h =
     let a = accepted sfid (look_in r (offered_identity sfid)) (files_full r side.Incoming) (terms_within setting contact r.limits) count h in
     elim (where_is r (offered_identity sfid) 1 r.incoming) [

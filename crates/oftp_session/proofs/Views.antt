@@ -1,5 +1,5 @@
 -- Calls of an office, one after another.
-use Rattle.std.proofs.Common.{◌≡◌, ◌⊎◌, inl, inr, ℕ, List, [], Option, None, Some, ◌∙◌, sym, ap, subst}
+use Rattle.std.proofs.Common.{◌≡◌, inl, inr, ℕ, List, [], Option, None, Some, ◌∙◌, sym, ap, subst}
 use Rattle.oftp_wire.specs.declared.command.Command.{Command}
 use Rattle.oftp_register.specs.declared.change.Change.{Change}
 use Rattle.oftp_register.specs.Register.{Register}
@@ -69,7 +69,7 @@ before_fails change fault.Office old new d = record {
   ];
   faults = d.faults;
 }
-before_fails change fault.Memory old new d = record { cases = elim d.cases [ | inl e ↦ inl e | inr e ↦ inl e ]; stands = d.stands; faults = d.faults }
+before_fails change fault.Memory old new d = record { cases = elim d.cases [ inl e ↦ inl e | inr e ↦ inl e ]; stands = d.stands; faults = d.faults }
 
 -- a look-up after a change that begins a file fails
 pub after_fails : (change : Option Change) (old mid new : View) → Begins change → IsMade change None old mid [] → DoesNot None mid new fault.Office → DoesNot change old new fault.Office

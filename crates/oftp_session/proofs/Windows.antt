@@ -1,5 +1,5 @@
 -- A payload in a window of credit.
-use Rattle.std.proofs.Common.{◌≡◌, ℕ, suc, ◌+◌, ◌-◌, ◌%◌, ◌≤◌, ◌<◌, ◌==◌, Bool, true, false, max, nat_lt, Option, None, Some, Result, Ok, Err, ◌⊎◌, inl, inr, List, [], ◌∷◌, ◌++◌, length, drop, refl, sym, ap, ◌∙◌, subst, arith}
+use Rattle.std.proofs.Common.{◌≡◌, ℕ, suc, ◌+◌, ◌-◌, ◌%◌, ◌≤◌, ◌<◌, ◌==◌, true, false, max, nat_lt, Option, None, Some, Result, Ok, Err, ◌⊎◌, inl, inr, List, [], ◌∷◌, ◌++◌, length, refl, sym, ap, ◌∙◌, subst, arith}
 use Rattle.std.proofs.Math.Dec.{eqb-suc-zero}
 use Rattle.std.proofs.lemmas.List.{length-append, length-drop}
 use Rattle.oftp_wire.specs.declared.command.Command.TheVariants as command
@@ -156,8 +156,8 @@ full_takes contact g s next old new frame holds at last is m =
     subst (λ (x : Step). Takes x old new frame (Ok (state.Receiving contact next))) (sym (window_full contact g rows c.0)) (made, (next, refl, tracks))
 
 -- the rows that are kept are those that the taker gave
-pub credit_err : (contact : Contact) (g : Receipt) (s : Reception) (rows : List (List ℕ)) (old new : View) (told : SessionFault) → IsReceived old.register g → HasTaken contact g s → s.credit ≤ 1
-    → rows ≡ s.taker.rows
+pub credit_err : (contact : Contact) (g : Receipt) (s : Reception) (rows : List (List ℕ)) (old new : View) (told : SessionFault) → IsReceived old.register g
+    → HasTaken contact g s → s.credit ≤ 1 → rows ≡ s.taker.rows
     → (IsFit old.register (Keep s.number rows) → IsAccepted old.register (Keep s.number rows) → DoesNot (keeping s.number rows) old new told)
     → DoesNot (window_step contact g (rows_to_keep g (carried_by g))).change old new told
 credit_err contact g s rows old new told holds at last is does =
@@ -176,13 +176,13 @@ credit_ok contact g s rows taker credit old new frame holds at last is rest valu
     let m = subst (λ (x : List (List ℕ)). IsMade (keeping s.number x) None old new []) is (does fit accepted) in
     let made : IsMade (keeping s.number s.taker.rows) (Some command.Cdt) old new frame = record { said = said; register = m.register; stands = m.stands; faults = m.faults } in
     let next : (record s { credit = credit; taker = taker }) ≡ (record s { credit = contact.link.credit; taker = record s.taker { rows = []; away = s.taker.away + length s.taker.rows } }) =
-        ap (λ (n : ℕ). let x : Reception = record s { credit = n; taker = taker } in x) value
-        ∙ ap (λ (t : Taking). let x : Reception = record s { credit = contact.link.credit; taker = t } in x) rest in
+    ap (λ (n : ℕ). let x : Reception = record s { credit = n; taker = taker } in x) value
+    ∙ ap (λ (t : Taking). let x : Reception = record s { credit = contact.link.credit; taker = t } in x) rest in
     full_takes contact g s (record { number = s.number; credit = credit; taker = taker }) old new frame holds at last next made
 
 -- a payload that is taken
-pub data_takes : (contact : Contact) (f : Receipt) (s : Reception) (taker : Taking) (payload : List ℕ) (old new : View) (frame : List ℕ) (result : Result State SessionFault) → IsReceived old.register f
-    → Tracks contact f s → nat_lt contact.link.buffer (length payload + 1) ≡ false → taken s.taker payload ≡ Ok taker
+pub data_takes : (contact : Contact) (f : Receipt) (s : Reception) (taker : Taking) (payload : List ℕ) (old new : View) (frame : List ℕ) (result : Result State SessionFault)
+    → IsReceived old.register f → Tracks contact f s → nat_lt contact.link.buffer (length payload + 1) ≡ false → taken s.taker payload ≡ Ok taker
     → ((g : Receipt) → IsReceived old.register g → HasTaken contact g (record s { taker = taker }) → Takes (window_step contact g (rows_to_keep g (carried_by g))) old new frame result)
     → Takes (data_step contact f payload) old new frame result
 data_takes contact f s taker payload old new frame result holds at short took takes =
@@ -196,9 +196,9 @@ pub refused_takes : (contact : Contact) (f : Receipt) (s : Reception) (payload :
     → IsReceived now.register f → Tracks contact f s → nat_lt contact.link.buffer (length payload + 1) ≡ false
     → (cause ≡ take.Memory) ⊎ (taken s.taker payload ≡ Err cause) → Refuses cause result frame → Takes (data_step contact f payload) now now frame result
 refused_takes contact f s payload cause now frame (Ok to) stands holds at short told goes = elim told [
-    | inl e ↦ absurd (goes.1 e)
-    | inr e ↦ subst (λ (x : Step). Takes x now now frame (Ok to)) (sym (refused contact f payload cause short (next_refused now.register contact f s cause payload holds at e)))
-        (same_takes (fails (reason_of cause)) now to frame stands goes.0)
-  ]
+  | inl e ↦ absurd (goes.1 e)
+  | inr e ↦ subst (λ (x : Step). Takes x now now frame (Ok to)) (sym (refused contact f payload cause short (next_refused now.register contact f s cause payload holds at e)))
+      (same_takes (fails (reason_of cause)) now to frame stands goes.0)
+]
 refused_takes contact f s payload cause now frame (Err told') stands holds at short told goes =
     subst (λ (x : SessionFault). DoesNot (data_step contact f payload).change now now x) (sym goes.1) (record { cases = inl refl; stands = stands; faults = refl })

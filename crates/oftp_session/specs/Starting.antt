@@ -1,5 +1,5 @@
 -- How a file that is accepted begins.
-use Rattle.std.specs.Prelude.{◌≡◌, ℕ, [], length, Option, None, Some, Result, Ok, Err}
+use Rattle.std.specs.Prelude.{◌≡◌, ℕ, [], length, None, Some, Result, Ok, Err}
 use Rattle.oftp_wire.specs.declared.command.Sfid.{Sfid}
 use Rattle.oftp_vfile.specs.VirtualFile.{units_in}
 use Rattle.oftp_vfile.specs.Taking.{new_taking}

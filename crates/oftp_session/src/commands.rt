@@ -11,8 +11,8 @@ ghost use Rattle.oftp_session.specs.Agreements.{terms};
 use crate::opening::{Agreement, answered_mode};
 use oftp_partners::{Book, Partner};
 use oftp_wire::{
-    Command, Count, EndReason, Efna, Efpa, Esid, Mode, SessionReason, Sfna, Sfpa, Ssid, StartReason, Text, X,
-    encode, header,
+    Command, Count, Efna, Efpa, EndReason, Esid, Mode, SessionReason, Sfna, Sfpa, Ssid,
+    StartReason, Text, X, encode, header,
 };
 
 /// The end of the session, with no text.

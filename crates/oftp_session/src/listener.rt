@@ -21,8 +21,8 @@ use crate::responses::{Response, end_response, negative_end_response};
 use crate::session::SessionFault;
 use crate::state::{Contact, State};
 use oftp_register::{
-    Change, DigitString, Identity, IncomingEntry, Name, Office, Side, StartVerdict, Terms, format_of, longest_of,
-    start_verdict,
+    Change, DigitString, Identity, IncomingEntry, Name, Office, Side, StartVerdict, Terms,
+    format_of, longest_of, start_verdict,
 };
 use oftp_vfile::{Limits, Row, Rows, Taker};
 use oftp_wire::{Command, SessionReason, Sfid};
@@ -229,7 +229,13 @@ fn begun<O: Office>(
 }
 
 /// What receives a file with this entry, whose rows have so many octets.
-fn reception(alloc: Global, link: &Link, entry: &IncomingEntry, units: u64, limits: Limits) -> Reception
+fn reception(
+    alloc: Global,
+    link: &Link,
+    entry: &IncomingEntry,
+    units: u64,
+    limits: Limits,
+) -> Reception
     requires rows { entry.now.rows ≤ 1000000 }
     requires fits { units + limits.octets < 2 ^ 63 }
     ensures { result ≡ record {
@@ -241,7 +247,14 @@ fn reception(alloc: Global, link: &Link, entry: &IncomingEntry, units: u64, limi
     Reception {
         number: entry.no,
         credit: link.credit.get(),
-        taker: Taker::new(alloc, entry.format, entry.longest, entry.rows, units, limits),
+        taker: Taker::new(
+            alloc,
+            entry.format,
+            entry.longest,
+            entry.rows,
+            units,
+            limits,
+        ),
     }
 }
 

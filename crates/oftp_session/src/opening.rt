@@ -12,8 +12,8 @@ use crate::link::{Link, WhenDone};
 use crate::state::{Contact, State};
 use oftp_partners::{Book, Partner};
 use oftp_register::{Cursor, Name};
-use std::alloc::Global;
 use oftp_wire::{Command, Count, Mode, SessionReason, Ssid, X};
+use std::alloc::Global;
 
 /// What doesn't change in a session: where it takes memory, the book, and the partner that an initiator calls.
 #[derive(Clone, Copy, Drop)]

@@ -11,8 +11,8 @@ ghost use Rattle.oftp_session.specs.Calls.{Does, Goes, IsFailure, IsFull, Seen, 
 use crate::frame::Frame;
 use crate::link::WhenDone;
 use crate::listener::in_listener_idle;
-use crate::receiving::in_receiving;
 use crate::opening::{Setting, in_awaiting_ssid, in_initiator_opening};
+use crate::receiving::in_receiving;
 use crate::speaker::nothing_next;
 use crate::state::State;
 use oftp_partners::{Book, Partner};
@@ -96,7 +96,9 @@ fn came<O: Office>(
         State::InitiatorOpening => Ok(in_initiator_opening(setting, command, frame)),
         State::AwaitingSsid => Ok(in_awaiting_ssid(setting, command, frame)),
         State::ListenerIdle(contact) => in_listener_idle(setting, contact, office, command, frame),
-        State::Receiving(contact, reception) => in_receiving(contact, reception, office, command, frame),
+        State::Receiving(contact, reception) => in_receiving(
+            contact, reception, office, command, frame,
+        ),
         State::EndedHere(_) | State::EndedThere(_) | State::Broken => unreachable!(),
     }
 }

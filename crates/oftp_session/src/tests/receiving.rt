@@ -14,6 +14,7 @@ const OFFER_FROM_3: &[u8] =
 
 /// SFPA from row 0 on, and from row 2 on.
 const TAKEN: &[u8] = b"\x10\0\0\x16200000000000000000";
+
 const TAKEN_FROM_2: &[u8] = b"\x10\0\0\x16200000000000000002";
 
 const CREDIT: &[u8] = b"\x10\0\0\x07C  ";
@@ -28,7 +29,8 @@ fn is_silent(out: Result<Out<'_>, SessionFault>) -> bool {
 
 /// Opens a session with the partner.
 fn opens(session: &mut Session<'_>, office: &mut PlainOffice) -> bool {
-    sends(session.turn(office), b"\x10\0\0\x17IODETTE FTP READY \r") && sends(take(session, office, PARTNER), STATION)
+    sends(session.turn(office), b"\x10\0\0\x17IODETTE FTP READY \r")
+        && sends(take(session, office, PARTNER), STATION)
 }
 
 /// Whether these are the rows of the first file, which is in this state.
@@ -41,7 +43,11 @@ fn holds(office: &mut PlainOffice, state: IncomingState, rows: &[&[u8]]) -> bool
     };
     entry.state == state
         && kept.len() == rows.len()
-        && kept.as_slice().iter().zip(rows).all(|(row, octets)| row.octets() == *octets)
+        && kept
+            .as_slice()
+            .iter()
+            .zip(rows)
+            .all(|(row, octets)| row.octets() == *octets)
 }
 
 #[test]
@@ -57,10 +63,24 @@ fn file_in_one_session(rt: HostRuntime) -> Result<(), Fail> {
     assert!(rt; sends(take(&mut session, &mut office, b"D\x82de\x01f"), CREDIT));
     assert!(rt; holds(&mut office, IncomingState::Open, &[b"abc", b"de"]));
     assert!(rt; is_silent(take(&mut session, &mut office, b"D\x81g")));
-    assert!(rt; sends(take(&mut session, &mut office, b"T0000000000000000300000000000000007"), b"\x10\0\0\x064N"));
+    assert!(rt;
+        sends(
+            take(
+                &mut session,
+                &mut office,
+                b"T0000000000000000300000000000000007"
+            ),
+            b"\x10\0\0\x064N"
+        )
+    );
     assert!(rt; holds(&mut office, IncomingState::Whole, &[b"abc", b"de", b"fg"]));
     // It is taken once.
-    assert!(rt; sends(take(&mut session, &mut office, OFFER), b"\x10\0\0\x0b313N000"));
+    assert!(rt;
+        sends(
+            take(&mut session, &mut office, OFFER),
+            b"\x10\0\0\x0b313N000"
+        )
+    );
     Ok(())
 }
 
@@ -79,7 +99,16 @@ fn file_broken_and_taken_up_again(rt: HostRuntime) -> Result<(), Fail> {
     assert!(rt; opens(&mut again, &mut office));
     assert!(rt; sends(take(&mut again, &mut office, OFFER_FROM_3), TAKEN_FROM_2));
     assert!(rt; is_silent(take(&mut again, &mut office, b"D\x82fg")));
-    assert!(rt; sends(take(&mut again, &mut office, b"T0000000000000000300000000000000007"), b"\x10\0\0\x064N"));
+    assert!(rt;
+        sends(
+            take(
+                &mut again,
+                &mut office,
+                b"T0000000000000000300000000000000007"
+            ),
+            b"\x10\0\0\x064N"
+        )
+    );
     assert!(rt; holds(&mut office, IncomingState::Whole, &[b"abc", b"de", b"fg"]));
     Ok(())
 }
@@ -93,7 +122,16 @@ fn end_with_other_counts(rt: HostRuntime) -> Result<(), Fail> {
     assert!(rt; sends(take(&mut session, &mut office, OFFER), TAKEN));
     assert!(rt; is_silent(take(&mut session, &mut office, b"D\x83abc")));
     assert!(rt; sends(take(&mut session, &mut office, b"D\x82de"), CREDIT));
-    assert!(rt; sends(take(&mut session, &mut office, b"T0000000000000000200000000000000006"), b"\x10\0\0\x0a511000"));
+    assert!(rt;
+        sends(
+            take(
+                &mut session,
+                &mut office,
+                b"T0000000000000000200000000000000006"
+            ),
+            b"\x10\0\0\x0a511000"
+        )
+    );
     assert!(rt; holds(&mut office, IncomingState::Open, &[]));
     assert_eq!(rt; session.ended(), None);
     Ok(())
@@ -107,8 +145,20 @@ fn end_of_an_open_record(rt: HostRuntime) -> Result<(), Fail> {
     assert!(rt; opens(&mut session, &mut office));
     assert!(rt; sends(take(&mut session, &mut office, OFFER), TAKEN));
     assert!(rt; is_silent(take(&mut session, &mut office, b"D\x03abc")));
-    assert!(rt; sends(take(&mut session, &mut office, b"T0000000000000000100000000000000003"), b"\x10\0\0\x0bF02000\r"));
-    assert_eq!(rt; session.ended(), Some(Ending::Own(SessionReason::ProtocolViolation)));
+    assert!(rt;
+        sends(
+            take(
+                &mut session,
+                &mut office,
+                b"T0000000000000000100000000000000003"
+            ),
+            b"\x10\0\0\x0bF02000\r"
+        )
+    );
+    assert_eq!(rt;
+        session.ended(),
+        Some(Ending::Own(SessionReason::ProtocolViolation))
+    );
     Ok(())
 }
 
@@ -123,7 +173,15 @@ fn data_over_the_buffer(rt: HostRuntime) -> Result<(), Fail> {
     let mut octets = [0x80u8; 129];
     octets[0] = b'D';
     assert!(rt; is_silent(take(&mut session, &mut office, &octets[..128])));
-    assert!(rt; sends(take(&mut session, &mut office, &octets), b"\x10\0\0\x0bF07000\r"));
-    assert_eq!(rt; session.ended(), Some(Ending::Own(SessionReason::BufferSizeError)));
+    assert!(rt;
+        sends(
+            take(&mut session, &mut office, &octets),
+            b"\x10\0\0\x0bF07000\r"
+        )
+    );
+    assert_eq!(rt;
+        session.ended(),
+        Some(Ending::Own(SessionReason::BufferSizeError))
+    );
     Ok(())
 }

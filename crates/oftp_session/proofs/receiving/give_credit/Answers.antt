@@ -1,4 +1,3 @@
-use Rattle.std.proofs.Common.{◌≡◌, [], length, ap, sym, subst, ◌∙◌}
 use Rattle.oftp_session.proofs.Windows.{credit_err, credit_ok}
 use Rattle.oftp_session.proofs.receiving.give_credit.Goals as goal
 
@@ -8,4 +7,5 @@ returns-in-Err-clause-takes g c = λ clean stands f holds at last.
 
 pub returns-clause-takes : goal.returns-clause-takes
 returns-clause-takes g c = λ clean stands f holds at last.
-    credit_ok c.args.contact f c.args.reception _ _ _ _ _ _ holds at last c.take_rows-rows.ensures.rows c.take_rows-rows.ensures.rest c.get.ensures.value c.say.ensures (c.in_default.ensures.does clean stands)
+    credit_ok c.args.contact f c.args.reception _ _ _ _ _ _ holds at last c.take_rows-rows.ensures.rows c.take_rows-rows.ensures.rest
+    c.get.ensures.value c.say.ensures (c.in_default.ensures.does clean stands)

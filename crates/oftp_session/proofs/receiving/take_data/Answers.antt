@@ -15,4 +15,5 @@ returns-in-Ok-clause-takes g c = λ clean stands f holds at.
 
 pub returns-in-Err-clause-takes : goal.returns-in-Err-clause-takes
 returns-in-Err-clause-takes g c = λ clean stands f holds at.
-    refused_takes c.args.contact f c.args.reception c.args.payload.now c.in-Err.fault _ _ _ stands holds at (sym c.is_too_long.ensures ∙ c.if-is_too_long.false) c.in-Err.ensures.refused c.refuse.ensures
+    refused_takes c.args.contact f c.args.reception c.args.payload.now c.in-Err.fault _ _ _ stands holds at (sym c.is_too_long.ensures ∙ c.if-is_too_long.false)
+    c.in-Err.ensures.refused c.refuse.ensures
