@@ -3,8 +3,7 @@ use Rattle.std.specs.Result.{OnErr, OnOk}
 use Rattle.oftp_session.specs.declared.session.Out.{Out}
 use Rattle.oftp_session.specs.declared.session.SessionFault.{SessionFault}
 use Rattle.oftp_session.specs.Steps.{turned, Holds}
-use Rattle.oftp_session.proofs.Phases.{turn_live}
-use Rattle.oftp_session.proofs.Standings.{stands_open}
+use Rattle.oftp_session.proofs.Phases.{stands_open, turn_live}
 use Rattle.oftp_session.proofs.Proceeding.{turned_proceeds}
 use Rattle.oftp_session.specs.Calls.{Stands}
 use Rattle.oftp_session.specs.Standings.{Broken}
