@@ -621,14 +621,14 @@ fn is_our_shape(schema: &Schema) -> bool
 }
 
 /// Whether the schema is the office's.
-pub fn is_ours(schema: &Schema) -> bool
+pub(crate) fn is_ours(schema: &Schema) -> bool
     ensures { IsTrue result ↔ (schema.now ≡ office_schema) }
 {
     is_our_shape(schema)
 }
 
 /// Whether there is no table, no index and no view.
-pub fn is_blank(schema: &Schema) -> bool
+pub(crate) fn is_blank(schema: &Schema) -> bool
     ensures { IsTrue result ↔ (schema.now ≡ no_schema) }
 {
     schema.tables.is_empty() && schema.indexes.is_empty() && schema.views.is_empty()
