@@ -13,22 +13,38 @@ use Rattle.oftp_register.specs.Register.{Register, Incoming, Outgoing}
 use Rattle.oftp_register.specs.Soundness.{IsSound, IsSoundIncoming, IsSoundOutgoing}
 use Rattle.oftp_register.specs.LookUps.{AreRowsWithin, file_rows}
 use Rattle.oftp_register.specs.Lists.{IsPlace, incoming_of, outgoing_of, register_in}
+use Rattle.oftp_vfile.specs.VirtualFile.{units_in}
+use Rattle.oftp_register.proofs.UnitLemmas.{incoming_units, outgoing_units}
 use Rattle.oftp_register.proofs.LookUpLemmas.{entry_at-nowhere, entry_at-place}
+use Rattle.oftp_vfile.specs.declared.format.TheConstants.{MOST_ROWS}
+use Rattle.oftp_register.specs.declared.fit.TheConstants.{MOST_UNITS}
 
 -- no file has more rows than it may
-few_at : {A : Type 0} (P : A → Type 0) (rows : A → List (List ℕ)) → ((x : A) → P x → length (rows x) ≤ 1000000) → (xs : List A) (i : ℕ) → All P xs → length (unwrap_or (slice_get (map rows xs) i) []) ≤ 1000000
+few_at : {A : Type 0} (P : A → Type 0) (rows : A → List (List ℕ)) → ((x : A) → P x → length (rows x) ≤ MOST_ROWS) → (xs : List A) (i : ℕ) → All P xs → length (unwrap_or (slice_get (map rows xs) i) []) ≤ MOST_ROWS
 few_at P rows few [] i all = omega arith
 few_at P rows few (x ∷ xs) zero all = few x (All-head P x xs all)
 few_at P rows few (x ∷ xs) (suc i) all = few_at P rows few xs i (All-tail P x xs all)
 
-pub few_rows : (r : Register) (which : Side) (n : ℕ) → IsSound r → length (file_rows r which n) ≤ 1000000
+pub few_rows : (r : Register) (which : Side) (n : ℕ) → IsSound r → length (file_rows r which n) ≤ MOST_ROWS
 few_rows r side.Incoming zero sound = omega arith
 few_rows r side.Incoming (suc i) sound = few_at IsSoundIncoming (λ (f : Incoming). f.rows) (λ x s. s.few) r.incoming i sound.incoming
 few_rows r side.Outgoing zero sound = omega arith
 few_rows r side.Outgoing (suc i) sound = few_at IsSoundOutgoing (λ (f : Outgoing). f.rows) (λ x s. s.few) r.outgoing i sound.outgoing
 
+-- no file has more octets than it may
+short_at : {A : Type 0} (P : A → Type 0) (rows : A → List (List ℕ)) → ((x : A) → P x → units_in (rows x) ≤ MOST_UNITS) → (xs : List A) (i : ℕ) → All P xs → units_in (unwrap_or (slice_get (map rows xs) i) []) ≤ MOST_UNITS
+short_at P rows short [] i all = omega arith
+short_at P rows short (x ∷ xs) zero all = short x (All-head P x xs all)
+short_at P rows short (x ∷ xs) (suc i) all = short_at P rows short xs i (All-tail P x xs all)
+
+pub few_units : (r : Register) (which : Side) (n : ℕ) → IsSound r → units_in (file_rows r which n) ≤ MOST_UNITS
+few_units r side.Incoming zero sound = omega arith
+few_units r side.Incoming (suc i) sound = short_at IsSoundIncoming (λ (f : Incoming). f.rows) incoming_units r.incoming i sound.incoming
+few_units r side.Outgoing zero sound = omega arith
+few_units r side.Outgoing (suc i) sound = short_at IsSoundOutgoing (λ (f : Outgoing). f.rows) outgoing_units r.outgoing i sound.outgoing
+
 -- a part of few rows
-pub part_within : (from most : ℕ) (rows : List (List ℕ)) → length rows ≤ 1000000 → AreRowsWithin from most (take most (drop from rows))
+pub part_within : (from most : ℕ) (rows : List (List ℕ)) → length rows ≤ MOST_ROWS → AreRowsWithin from most (take most (drop from rows))
 part_within from most rows few = record {
   asked = omega (arith, length-take most (drop from rows));
   few = λ some. omega (arith, length-take most (drop from rows), length-drop from rows);

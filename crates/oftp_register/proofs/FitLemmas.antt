@@ -15,7 +15,7 @@ use Rattle.oftp_register.specs.declared.plain.lists.Lists.{Lists}
 use Rattle.oftp_register.specs.Register.{Register, Incoming}
 use Rattle.oftp_register.specs.Changes.{apply}
 use Rattle.oftp_register.specs.Soundness.{AtNumber, Ends, GoesOn, IfOpen, IsFit, IsSound, MayStart}
-use Rattle.oftp_register.specs.Lists.{IsPlace, Makes, incoming_of, register_in}
+use Rattle.oftp_register.specs.Lists.{IsPlace, CarriesOut, incoming_of, register_in}
 use Rattle.oftp_register.proofs.Places.{above, above_again}
 use Rattle.oftp_register.proofs.KeepLemmas.{apply_keeps}
 
@@ -76,7 +76,7 @@ start_asks o files identity format longest description count lent =
 
 -- a fit change leaves the register sound, whatever becomes of it
 pub makes_sound : {T : Type 0} (old new : Lists) (k : Change) (result : Result T OfficeFault) → IsSound (register_in old) → IsFit (register_in old) k
-    → Makes register_in (apply (register_in old) k) old new result → IsSound (register_in new)
+    → CarriesOut register_in (apply (register_in old) k) old new result → IsSound (register_in new)
 makes_sound old new k (Ok x) sound fit h = apply_keeps (register_in old) k (register_in new) sound fit h
 makes_sound old new k (Err Store) sound fit h = absurd h
 makes_sound old new k (Err Memory) sound fit h = subst IsSound (sym h) sound

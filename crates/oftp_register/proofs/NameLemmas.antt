@@ -6,7 +6,7 @@ use Rattle.std.proofs.lemmas.Bool.{and_parts, or_parts, or_from}
 use Rattle.std.proofs.lemmas.List.Folds.{list_any-append}
 use Rattle.std.proofs.lemmas.Slice.Eq.{bytes_eq-Decides}
 use Rattle.oftp_register.specs.declared.entry.Identity.{Identity}
-use Rattle.oftp_register.specs.Register.{Received, answers, same_identity}
+use Rattle.oftp_register.specs.Register.{Received, is_response_to, same_identity}
 use Rattle.oftp_register.specs.Soundness.{AreFiledOnce, AreNamedOnce}
 
 -- identities with equal fields are equal
@@ -34,11 +34,11 @@ once-append (x ∷ xs) y once new =
     (list_any-append (λ z. same_identity x z) xs (y ∷ []) ∙ or_from (list_any (λ z. same_identity x z) xs) (same_identity x y || false) once.0 (or_from (same_identity x y) false parts.0 refl), once-append xs y once.1 parts.1)
 
 -- one more response that isn't there yet
-pub filed-append : (xs : List Received) (y : Received) → AreFiledOnce xs → list_any (answers y.kind y.identity) xs ≡ false → AreFiledOnce (xs ++ y ∷ [])
+pub filed-append : (xs : List Received) (y : Received) → AreFiledOnce xs → list_any (is_response_to y.kind y.identity) xs ≡ false → AreFiledOnce (xs ++ y ∷ [])
 filed-append [] y once new = (refl, tt)
 filed-append (x ∷ xs) y once new =
-    let parts = or_parts (answers y.kind y.identity x) (list_any (answers y.kind y.identity) xs) new in
-    (list_any-append (λ (z : Received). answers z.kind z.identity x) xs (y ∷ []) ∙ or_from _ (answers y.kind y.identity x || false) once.0 (or_from (answers y.kind y.identity x) false parts.0 refl), filed-append xs y once.1 parts.1)
+    let parts = or_parts (is_response_to y.kind y.identity x) (list_any (is_response_to y.kind y.identity) xs) new in
+    (list_any-append (λ (z : Received). is_response_to z.kind z.identity x) xs (y ∷ []) ∙ or_from _ (is_response_to y.kind y.identity x || false) once.0 (or_from (is_response_to y.kind y.identity x) false parts.0 refl), filed-append xs y once.1 parts.1)
 
 -- a test of values is a test of what they are of
 pub list_any-map : {A B : Type 0} (p : B → Bool) (f : A → B) (xs : List A) → list_any p (map f xs) ≡ list_any (λ x. p (f x)) xs

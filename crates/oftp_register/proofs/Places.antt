@@ -7,7 +7,7 @@ use Rattle.oftp_register.specs.declared.change.Cause.TheVariants.{Unknown}
 use Rattle.oftp_register.specs.declared.office.OfficeFault.{OfficeFault}
 use Rattle.oftp_register.specs.declared.office.OfficeFault.TheVariants.{Store, Memory, Refused}
 use Rattle.oftp_register.specs.Changes.{mapped, at_number}
-use Rattle.oftp_register.specs.Lists.{Makes}
+use Rattle.oftp_register.specs.Lists.{CarriesOut}
 
 -- a mapped result, mapped again
 pub mapped-mapped : {A B C : Type 0} (g : B → C) (f : A → B) (r : Result A Cause) → mapped g (mapped f r) ≡ mapped (λ x. g (f x)) r
@@ -49,7 +49,7 @@ map-set_same view xs i x y is same =
 
 -- what a change makes of an entry it makes of the list
 pub makes_at : {S A T : Type 0} (view : S → A) (wanted : Result A Cause) (xs : List S) (i : ℕ) (x y : S) (result : Result T OfficeFault) → x ≡ get_or xs i x
-    → Makes view wanted x y result → Makes (map view) (mapped (λ z. set (map view xs) i z) wanted) xs (set xs i y) result
+    → CarriesOut view wanted x y result → CarriesOut (map view) (mapped (λ z. set (map view xs) i z) wanted) xs (set xs i y) result
 makes_at view wanted xs i x y (Ok u) is h = ap (mapped (λ z. set (map view xs) i z)) h ∙ ap Ok (sym (map-set view xs i y))
 makes_at view wanted xs i x y (Err Store) is h = h
 makes_at view wanted xs i x y (Err Memory) is h = map-set_same view xs i x y is h
@@ -57,14 +57,14 @@ makes_at view wanted xs i x y (Err (Refused cause)) is h = (ap (mapped (λ z. se
 
 -- a change of the entry with a number
 pub makes_at_number : {S A T : Type 0} (view : S → A) (f : A → Result A Cause) (xs : List S) (n i : ℕ) (x y : S) (result : Result T OfficeFault) → n ≡ i + 1 → i < length xs
-    → x ≡ get_or xs i x → Makes view (f (view x)) x y result → Makes (map view) (at_number f n (map view xs)) xs (set xs i y) result
+    → x ≡ get_or xs i x → CarriesOut view (f (view x)) x y result → CarriesOut (map view) (at_number f n (map view xs)) xs (set xs i y) result
 makes_at_number view f xs n i x y result number within is h =
     let e : at_number f n (map view xs) ≡ mapped (λ z. set (map view xs) i z) (f (view x)) = ap (λ k. at_number f k (map view xs)) (number ∙ add-one i) ∙ at_number-within view f xs i x within is in
     rw e (makes_at view (f (view x)) xs i x y result is h)
 
 -- what a change makes of a part it makes of the whole
 pub makes_part : {S A B C T : Type 0} (part : S → A) (whole : B → C) (place : A → C) (wanted : Result A Cause) (old new : S) (was is : B) (result : Result T OfficeFault)
-    → whole was ≡ place (part old) → whole is ≡ place (part new) → Makes part wanted old new result → Makes whole (mapped place wanted) was is result
+    → whole was ≡ place (part old) → whole is ≡ place (part new) → CarriesOut part wanted old new result → CarriesOut whole (mapped place wanted) was is result
 makes_part part whole place wanted old new was is (Ok u) before after h = ap (mapped place) h ∙ ap Ok (sym after)
 makes_part part whole place wanted old new was is (Err Store) before after h = h
 makes_part part whole place wanted old new was is (Err Memory) before after h = after ∙ ap place h ∙ sym before

@@ -10,13 +10,13 @@ use Rattle.oftp_register.specs.declared.plain.outgoing.OutgoingFile.{OutgoingFil
 use Rattle.oftp_register.specs.declared.plain.lists.Lists.{Lists}
 use Rattle.oftp_register.specs.Register.{Incoming, Outgoing}
 use Rattle.oftp_register.specs.Changes.{mapped, at_number, on_incoming, on_outgoing}
-use Rattle.oftp_register.specs.Lists.{IsPlace, Makes, incoming_of, outgoing_of, register_in}
+use Rattle.oftp_register.specs.Lists.{IsPlace, CarriesOut, incoming_of, outgoing_of, register_in}
 use Rattle.oftp_register.proofs.Places.{at_number-outside, makes_at_number, makes_part}
 
 -- a change of an incoming file
 pub incoming_changed : {T : Type 0} (f : Incoming → Result Incoming Cause) (o : Lists) (n i len : ℕ) (x y : IncomingFile) (result : Result T OfficeFault) → len ≡ vec_len o.incoming → IsPlace n len (Some i)
-    → x ≡ get_or o.incoming.items i x → Makes incoming_of (f (incoming_of x)) x y result
-    → Makes register_in (on_incoming f n (register_in o)) o (record o { incoming = with_item o.incoming i y }) result
+    → x ≡ get_or o.incoming.items i x → CarriesOut incoming_of (f (incoming_of x)) x y result
+    → CarriesOut register_in (on_incoming f n (register_in o)) o (record o { incoming = with_item o.incoming i y }) result
 incoming_changed f o n i len x y result length_is place is h =
     let files = o.incoming.items in
     let counted : len ≡ length files = length_is ∙ o.incoming.ok.0 in
@@ -33,8 +33,8 @@ incoming_unknown f o n len length_is h =
 
 -- a change of an outgoing file
 pub outgoing_changed : {T : Type 0} (f : Outgoing → Result Outgoing Cause) (o : Lists) (n i len : ℕ) (x y : OutgoingFile) (result : Result T OfficeFault) → len ≡ vec_len o.outgoing → IsPlace n len (Some i)
-    → x ≡ get_or o.outgoing.items i x → Makes outgoing_of (f (outgoing_of x)) x y result
-    → Makes register_in (on_outgoing f n (register_in o)) o (record o { outgoing = with_item o.outgoing i y }) result
+    → x ≡ get_or o.outgoing.items i x → CarriesOut outgoing_of (f (outgoing_of x)) x y result
+    → CarriesOut register_in (on_outgoing f n (register_in o)) o (record o { outgoing = with_item o.outgoing i y }) result
 outgoing_changed f o n i len x y result length_is place is h =
     let files = o.outgoing.items in
     let counted : len ≡ length files = length_is ∙ o.outgoing.ok.0 in

@@ -9,7 +9,7 @@ use Rattle.oftp_register.specs.declared.plain.lists.Lists.{Lists}
 use Rattle.oftp_register.specs.declared.office.OfficeFault.{OfficeFault}
 use Rattle.oftp_register.specs.Register.{Register, Incoming, same_identity}
 use Rattle.oftp_register.specs.Changes.{mapped, begun, gone_on, started, started_in}
-use Rattle.oftp_register.specs.Lists.{Makes, incoming_of, newly_started, register_in}
+use Rattle.oftp_register.specs.Lists.{CarriesOut, incoming_of, newly_started, register_in}
 use Rattle.oftp_register.proofs.Places.{mapped-mapped, makes_at, makes_part}
 
 -- the first file of this identity goes on
@@ -52,7 +52,7 @@ position-None p xs h =
 -- the start of a file that is there
 pub start_found : {T : Type 0} (o : Lists) (header : Incoming) (count : ℕ) (files : List IncomingFile) (found : Option ℕ) (i : ℕ) (x y : IncomingFile) (result : Result T OfficeFault) → files ≡ o.incoming.items
     → found ≡ position (λ (f : IncomingFile). same_identity f.identity header.identity) files → found ≡ Some i → x ≡ get_or o.incoming.items i x
-    → Makes incoming_of (gone_on header count (incoming_of x) x.state) x y result → Makes register_in (started (register_in o) header count) o (record o { incoming = with_item o.incoming i y }) result
+    → CarriesOut incoming_of (gone_on header count (incoming_of x) x.state) x y result → CarriesOut register_in (started (register_in o) header count) o (record o { incoming = with_item o.incoming i y }) result
 start_found o header count files found i x y result lent is at there h =
     let named = λ (f : IncomingFile). same_identity f.identity header.identity in
     let all = o.incoming.items in

@@ -5,27 +5,28 @@ use Rattle.oftp_vfile.specs.declared.format.Format.{Format}
 use Rattle.oftp_vfile.specs.declared.format.Format.TheVariants.{Fixed, Variable, Unstructured, Text}
 use Rattle.oftp_vfile.specs.VirtualFile.{AreBlocks, AreRows}
 use Rattle.oftp_register.specs.Soundness.{AreFullRows}
+use Rattle.oftp_vfile.specs.declared.format.TheConstants.{BLOCK}
 
 -- no row
 pub full-nil : (format : Format) (longest : ℕ) → AreFullRows format longest []
 full-nil Fixed longest = All-nil (λ (r : List ℕ). length r ≡ longest)
 full-nil Variable longest = All-nil (λ (r : List ℕ). length r ≤ longest)
-full-nil Unstructured longest = All-nil (λ (r : List ℕ). length r ≡ 1024)
-full-nil Text longest = All-nil (λ (r : List ℕ). length r ≡ 1024)
+full-nil Unstructured longest = All-nil (λ (r : List ℕ). length r ≡ BLOCK)
+full-nil Text longest = All-nil (λ (r : List ℕ). length r ≡ BLOCK)
 
 -- full rows and then more
 pub full-append : (format : Format) (longest : ℕ) (rows more : List (List ℕ)) → AreFullRows format longest rows → AreFullRows format longest more → AreFullRows format longest (rows ++ more)
 full-append Fixed longest rows more = All-append (λ (r : List ℕ). length r ≡ longest) rows more
 full-append Variable longest rows more = All-append (λ (r : List ℕ). length r ≤ longest) rows more
-full-append Unstructured longest rows more = All-append (λ (r : List ℕ). length r ≡ 1024) rows more
-full-append Text longest rows more = All-append (λ (r : List ℕ). length r ≡ 1024) rows more
+full-append Unstructured longest rows more = All-append (λ (r : List ℕ). length r ≡ BLOCK) rows more
+full-append Text longest rows more = All-append (λ (r : List ℕ). length r ≡ BLOCK) rows more
 
 -- the first of full rows
 pub full-take : (format : Format) (longest : ℕ) (n : ℕ) (rows : List (List ℕ)) → AreFullRows format longest rows → AreFullRows format longest (take n rows)
 full-take Fixed longest n rows = All-take (λ (r : List ℕ). length r ≡ longest) n rows
 full-take Variable longest n rows = All-take (λ (r : List ℕ). length r ≤ longest) n rows
-full-take Unstructured longest n rows = All-take (λ (r : List ℕ). length r ≡ 1024) n rows
-full-take Text longest n rows = All-take (λ (r : List ℕ). length r ≡ 1024) n rows
+full-take Unstructured longest n rows = All-take (λ (r : List ℕ). length r ≡ BLOCK) n rows
+full-take Text longest n rows = All-take (λ (r : List ℕ). length r ≡ BLOCK) n rows
 
 -- full blocks and then blocks
 blocks-append : (size : ℕ) (rows more : List (List ℕ)) → 0 < size → All (λ (r : List ℕ). length r ≡ size) rows → AreBlocks size more → AreBlocks size (rows ++ more)
@@ -40,8 +41,8 @@ blocks-append size (r ∷ q ∷ rows) more positive full blocks =
 pub rows-append : (format : Format) (longest : ℕ) (rows more : List (List ℕ)) → AreFullRows format longest rows → AreRows format longest more → AreRows format longest (rows ++ more)
 rows-append Fixed longest rows more = All-append (λ (r : List ℕ). length r ≡ longest) rows more
 rows-append Variable longest rows more = All-append (λ (r : List ℕ). length r ≤ longest) rows more
-rows-append Unstructured longest rows more = blocks-append 1024 rows more (omega arith)
-rows-append Text longest rows more = blocks-append 1024 rows more (omega arith)
+rows-append Unstructured longest rows more = blocks-append BLOCK rows more (omega arith)
+rows-append Text longest rows more = blocks-append BLOCK rows more (omega arith)
 
 -- blocks are full blocks and a last one, which may be shorter
 pub blocks_split : (size : ℕ) (full : List (List ℕ)) (last : List ℕ) → AreBlocks size (full ++ last ∷ []) → ((0 < length last) × (length last ≤ size)) × All (λ (r : List ℕ). length r ≡ size) full

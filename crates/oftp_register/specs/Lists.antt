@@ -26,8 +26,8 @@ response_of None = None
 response_of (Some r) = Some (issued_of r)
 
 -- a file that begins
-abbrev pub header_of : Header → Incoming
-header_of h = record { identity = h.identity; format = h.format; longest = h.longest; description = h.description; state = Open; rows = []; response = None }
+abbrev pub beginning_of : Header → Incoming
+beginning_of h = record { identity = h.identity; format = h.format; longest = h.longest; description = h.description; state = Open; rows = []; response = None }
 
 -- an incoming file
 abbrev pub incoming_of : IncomingFile → Incoming
@@ -55,11 +55,11 @@ newly_started r header count = mapped (λ file. record r { incoming = r.incoming
 
 -- What a change makes of a thing, where `wanted` is what it is to make or why it is refused. Only memory may run out, and then, as
 -- after a refusal, the thing is as it was.
-abbrev pub Makes : {S A T : Type 0} → (S → A) → Result A Cause → S → S → Result T OfficeFault → Type 0
-Makes view wanted old new (Ok x) = wanted ≡ Ok (view new)
-Makes view wanted old new (Err Store) = ⊥
-Makes view wanted old new (Err Memory) = view new ≡ view old
-Makes view wanted old new (Err (Refused cause)) = (wanted ≡ Err cause) × (view new ≡ view old)
+abbrev pub CarriesOut : {S A T : Type 0} → (S → A) → Result A Cause → S → S → Result T OfficeFault → Type 0
+CarriesOut view wanted old new (Ok x) = wanted ≡ Ok (view new)
+CarriesOut view wanted old new (Err Store) = ⊥
+CarriesOut view wanted old new (Err Memory) = view new ≡ view old
+CarriesOut view wanted old new (Err (Refused cause)) = (wanted ≡ Err cause) × (view new ≡ view old)
 
 -- the place in a list of so many entries of the entry with this number, if there is one
 abbrev pub IsPlace : ℕ → ℕ → Option ℕ → Type 0

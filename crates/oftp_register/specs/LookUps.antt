@@ -20,6 +20,7 @@ use Rattle.oftp_register.specs.declared.entries.Cursor.{Cursor}
 use Rattle.oftp_register.specs.declared.entries.Item.{Item}
 use Rattle.oftp_register.specs.declared.entries.Item.TheVariants as item
 use Rattle.oftp_register.specs.Register.{Register, Incoming, Outgoing, Issued, Received, same_identity}
+use Rattle.oftp_vfile.specs.declared.format.TheConstants.{MOST_ROWS}
 
 -- a response as it is handed out
 abbrev pub issued_response : Issued → IssuedResponse
@@ -27,11 +28,11 @@ issued_response r = record { kind = r.kind; reason = r.reason; text = r.text; di
 
 -- an incoming file as it is handed out
 abbrev pub incoming_entry : ℕ → Incoming → IncomingEntry
-incoming_entry n f = record { no = n; identity = f.identity; format = f.format; longest = f.longest; description = f.description; state = f.state; rows = length f.rows; units = units_in f.rows; response = option_map issued_response f.response }
+incoming_entry n f = record { no = n; identity = f.identity; format = f.format; longest = f.longest; description = f.description; state = f.state; rows = length f.rows; response = option_map issued_response f.response }
 
 -- an outgoing file as it is handed out
 abbrev pub outgoing_entry : ℕ → Outgoing → OutgoingEntry
-outgoing_entry n f = record { no = n; identity = f.identity; format = f.format; longest = f.longest; description = f.description; rows = length f.rows; units = units_in f.rows; mark = f.mark; state = f.state }
+outgoing_entry n f = record { no = n; identity = f.identity; format = f.format; longest = f.longest; description = f.description; rows = length f.rows; mark = f.mark; state = f.state }
 
 -- the response to an incoming file as it is handed out, if one was issued
 abbrev pub issued_entry : ℕ → Incoming → Option IssuedEntry
@@ -137,17 +138,19 @@ file_rows r side.Outgoing n = unwrap_or (entry_at n (map (λ (f : Outgoing). f.r
 abbrev pub rows_of : Register → Side → ℕ → ℕ → ℕ → List (List ℕ)
 rows_of r which n from most = take most (drop from (file_rows r which n))
 
+-- how many octets the rows of a file have, 0 for an unknown number
+abbrev pub units_of : Register → Side → ℕ → ℕ
+units_of r which n = units_in (file_rows r which n)
+
 -- an incoming file within the limits
 pub record IsIncomingWithin (e : IncomingEntry) : Type 0 where
   pub longest : IsLongest e.format e.longest
-  pub rows : e.rows ≤ 1000000
-  pub units : e.units ≤ 16384000000
+  pub rows : e.rows ≤ MOST_ROWS
 
 -- an outgoing file within the limits
 pub record IsOutgoingWithin (e : OutgoingEntry) : Type 0 where
   pub longest : IsLongest e.format e.longest
-  pub rows : e.rows ≤ 1000000
-  pub units : e.units ≤ 16384000000
+  pub rows : e.rows ≤ MOST_ROWS
   pub mark : e.mark ≤ e.rows
 
 -- an item within the limits
@@ -158,4 +161,4 @@ IsItemWithin (item.File file) = IsOutgoingWithin file
 -- rows that were asked for, from one on
 pub record AreRowsWithin (from most : ℕ) (rows : List (List ℕ)) : Type 0 where
   pub asked : length rows ≤ most
-  pub few : 0 < length rows → from + length rows ≤ 1000000
+  pub few : 0 < length rows → from + length rows ≤ MOST_ROWS

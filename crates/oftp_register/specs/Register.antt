@@ -69,9 +69,9 @@ same_kind NegativeEndResponse EndResponse = false
 same_kind NegativeEndResponse NegativeEndResponse = true
 
 -- a response of this kind to the file of this identity
-abbrev pub answers : ResponseKind → Identity → Received → Bool
-answers kind identity response = same_kind response.kind kind && same_identity response.identity identity
+abbrev pub is_response_to : ResponseKind → Identity → Received → Bool
+is_response_to kind identity response = same_kind response.kind kind && same_identity response.identity identity
 
 -- such a response came
 abbrev pub has_received : Register → ResponseKind → Identity → Bool
-has_received r kind identity = list_any (answers kind identity) r.received
+has_received r kind identity = list_any (is_response_to kind identity) r.received

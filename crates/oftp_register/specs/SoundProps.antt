@@ -11,8 +11,9 @@ use Rattle.oftp_register.specs.declared.entry.ResponseKind.{ResponseKind}
 use Rattle.oftp_register.specs.declared.entry.ResponseKind.TheVariants.{EndResponse, NegativeEndResponse}
 use Rattle.oftp_register.specs.declared.entry.IncomingState.{IncomingState}
 use Rattle.oftp_register.specs.declared.entry.IncomingState.TheVariants.{Open, Whole}
-use Rattle.oftp_register.specs.Register.{Register, Incoming, Issued, Outgoing, Received, answers, same_identity}
+use Rattle.oftp_register.specs.Register.{Register, Incoming, Issued, Outgoing, Received, is_response_to, same_identity}
 use Rattle.oftp_register.specs.Soundness.{AreFiledOnce, AreFullRows, AreNamedOnce, FitsState, IsAnsweredWhole, IsResponse, IsSound, IsSoundAnswer, IsSoundIncoming, IsSoundOutgoing, IsSoundReceived}
+use Rattle.oftp_vfile.specs.declared.format.TheConstants.{BLOCK}
 
 -- each part has one proof at most, and so the whole has
 longest-prop : (format : Format) (longest : ℕ) → IsProp (IsLongest format longest)
@@ -35,8 +36,8 @@ blocks-prop size (r ∷ q ∷ rows) = let equal : IsProp (length r ≡ size) = P
 rows-prop : (format : Format) (longest : ℕ) (rows : List (List ℕ)) → IsProp (AreRows format longest rows)
 rows-prop Fixed longest rows = Prim.hlevel props
 rows-prop Variable longest rows = Prim.hlevel props
-rows-prop Unstructured longest rows = blocks-prop 1024 rows
-rows-prop Text longest rows = blocks-prop 1024 rows
+rows-prop Unstructured longest rows = blocks-prop BLOCK rows
+rows-prop Text longest rows = blocks-prop BLOCK rows
 
 fits-prop : (state : IncomingState) (format : Format) (longest : ℕ) (rows : List (List ℕ)) → IsProp (FitsState state format longest rows)
 fits-prop Open format longest rows = full-prop format longest rows
@@ -80,7 +81,7 @@ named-prop (x ∷ xs) = let absent : IsProp (list_any (λ y. same_identity x y) 
 
 filed-prop : (xs : List Received) → IsProp (AreFiledOnce xs)
 filed-prop [] = Unit-prop
-filed-prop (x ∷ xs) = let absent : IsProp (list_any (λ (y : Received). answers y.kind y.identity x) xs ≡ false) = Prim.hlevel props in ×_prop absent (filed-prop xs)
+filed-prop (x ∷ xs) = let absent : IsProp (list_any (λ (y : Received). is_response_to y.kind y.identity x) xs ≡ false) = Prim.hlevel props in ×_prop absent (filed-prop xs)
 
 pub sound-prop : (r : Register) → IsProp (IsSound r)
 sound-prop r x y =

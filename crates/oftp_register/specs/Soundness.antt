@@ -11,15 +11,17 @@ use Rattle.oftp_register.specs.declared.entry.IncomingState.{IncomingState}
 use Rattle.oftp_register.specs.declared.entry.IncomingState.TheVariants.{Open, Whole}
 use Rattle.oftp_register.specs.declared.change.Change.{Change}
 use Rattle.oftp_register.specs.declared.change.Change.TheVariants as change
-use Rattle.oftp_register.specs.Register.{Register, Incoming, Outgoing, Issued, Received, answers, same_identity}
+use Rattle.oftp_register.specs.Register.{Register, Incoming, Outgoing, Issued, Received, is_response_to, same_identity}
 use Rattle.oftp_register.specs.Changes.{apply}
+use Rattle.oftp_vfile.specs.declared.format.TheConstants.{BLOCK, MOST_ROWS}
+use Rattle.oftp_register.specs.declared.fit.TheConstants.{MOST_FILES, MOST_OCTETS}
 
 -- Rows after which more may come: in U and T each is a full block (RFC 5024, section 1.5.4).
 abbrev pub AreFullRows : Format → ℕ → List (List ℕ) → Type 0
 AreFullRows Fixed longest rows = All (λ (r : List ℕ). length r ≡ longest) rows
 AreFullRows Variable longest rows = All (λ (r : List ℕ). length r ≤ longest) rows
-AreFullRows Unstructured longest rows = All (λ (r : List ℕ). length r ≡ 1024) rows
-AreFullRows Text longest rows = All (λ (r : List ℕ). length r ≡ 1024) rows
+AreFullRows Unstructured longest rows = All (λ (r : List ℕ). length r ≡ BLOCK) rows
+AreFullRows Text longest rows = All (λ (r : List ℕ). length r ≡ BLOCK) rows
 
 -- the rows of an incoming file fit its format: more may come while it is open
 abbrev pub FitsState : IncomingState → Format → ℕ → List (List ℕ) → Type 0
@@ -48,7 +50,7 @@ IsSoundReceived response = IsResponse response.kind response.reason response.cre
 -- what holds of each incoming file
 pub record IsSoundIncoming (f : Incoming) : Type 0 where
   pub longest : IsLongest f.format f.longest
-  pub few : length f.rows ≤ 1000000
+  pub few : length f.rows ≤ MOST_ROWS
   pub fits : FitsState f.state f.format f.longest f.rows
   pub answered : IsAnsweredWhole f.state f.response
   pub answer : IsSoundAnswer f.response
@@ -56,7 +58,7 @@ pub record IsSoundIncoming (f : Incoming) : Type 0 where
 -- what holds of each outgoing file
 pub record IsSoundOutgoing (f : Outgoing) : Type 0 where
   pub longest : IsLongest f.format f.longest
-  pub few : length f.rows ≤ 1000000
+  pub few : length f.rows ≤ MOST_ROWS
   pub fits : AreRows f.format f.longest f.rows
   pub marked : f.mark ≤ length f.rows
 
@@ -68,12 +70,12 @@ AreNamedOnce (x ∷ xs) = (list_any (λ y. same_identity x y) xs ≡ false) × A
 -- no two of these are of one kind and answer one file
 abbrev pub AreFiledOnce : List Received → Type 0
 AreFiledOnce [] = ⊤
-AreFiledOnce (x ∷ xs) = (list_any (λ y. answers y.kind y.identity x) xs ≡ false) × AreFiledOnce xs
+AreFiledOnce (x ∷ xs) = (list_any (λ y. is_response_to y.kind y.identity x) xs ≡ false) × AreFiledOnce xs
 
 -- what holds of each register
 pub record IsSound (r : Register) : Type 0 where
-  pub few : r.limits.files ≤ 1000000
-  pub small : r.limits.octets ≤ 1024000000
+  pub few : r.limits.files ≤ MOST_FILES
+  pub small : r.limits.octets ≤ MOST_OCTETS
   pub incoming : All IsSoundIncoming r.incoming
   pub outgoing : All IsSoundOutgoing r.outgoing
   pub received : All IsSoundReceived r.received
@@ -91,7 +93,7 @@ AtNumber P (suc (suc n)) (x ∷ entries) = AtNumber P (suc n) entries
 -- rows that make a whole file
 pub record IsFile (format : Format) (size : ℕ) (rows : List (List ℕ)) : Type 0 where
   pub longest : IsLongest format size
-  pub few : length rows ≤ 1000000
+  pub few : length rows ≤ MOST_ROWS
   pub fits : AreRows format size rows
 
 -- what is asked of a file while it is open
@@ -109,12 +111,12 @@ MayStart identity format size count file = same_identity file.identity identity 
 
 -- rows that may follow those of an open file
 pub record GoesOn (rows : List (List ℕ)) (file : Incoming) : Type 0 where
-  pub few : length file.rows + length rows ≤ 1000000
+  pub few : length file.rows + length rows ≤ MOST_ROWS
   pub fits : AreFullRows file.format file.longest rows
 
 -- rows that may end an open file
 pub record Ends (rows : List (List ℕ)) (file : Incoming) : Type 0 where
-  pub few : length file.rows + length rows ≤ 1000000
+  pub few : length file.rows + length rows ≤ MOST_ROWS
   pub fits : AreRows file.format file.longest rows
 
 -- The condition of a change: its longest record and its response are ones that there are, and the file that it leaves has at most

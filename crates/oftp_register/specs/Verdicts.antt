@@ -17,6 +17,7 @@ use Rattle.oftp_register.specs.declared.verdicts.StartVerdict.{StartVerdict}
 use Rattle.oftp_register.specs.declared.verdicts.StartVerdict.TheVariants as start
 use Rattle.oftp_register.specs.declared.verdicts.EndVerdict.{EndVerdict}
 use Rattle.oftp_register.specs.declared.verdicts.EndVerdict.TheVariants as «end»
+use Rattle.oftp_vfile.specs.declared.format.TheConstants.{LONGEST_RECORD}
 
 -- the format of a file that is offered
 abbrev pub format_of : Layout → Format
@@ -42,8 +43,8 @@ same_format a b = false
 
 -- its longest record is 1 to 16,384 octets in F and V
 abbrev pub has_length : Layout → Bool
-has_length (layout.Fixed longest) = nat_lt 0 longest && nat_le longest 16384
-has_length (layout.Variable longest) = nat_lt 0 longest && nat_le longest 16384
+has_length (layout.Fixed longest) = nat_lt 0 longest && nat_le longest LONGEST_RECORD
+has_length (layout.Variable longest) = nat_lt 0 longest && nat_le longest LONGEST_RECORD
 has_length layout.Unstructured = true
 has_length layout.Text = true
 

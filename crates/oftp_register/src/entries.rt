@@ -48,8 +48,6 @@ pub struct IncomingEntry {
     pub state: IncomingState,
     /// How many of its rows are here.
     pub rows: u64,
-    /// How many octets these rows have.
-    pub units: u64,
     /// The response to it, if one was issued.
     pub response: Option<IssuedResponse>,
 }
@@ -69,8 +67,6 @@ pub struct OutgoingEntry {
     pub description: Note,
     /// How many rows it has.
     pub rows: u64,
-    /// How many octets these rows have.
-    pub units: u64,
     /// How many rows a credit has covered.
     pub mark: u64,
     /// How far it has come.

@@ -3,6 +3,8 @@
 ghost use Rattle.std.specs.Prelude.{◌≡◌, ◌↔◌, ◌<◌, ◌≤◌, IsTrue, All, length};
 ghost use Rattle.oftp_vfile.specs.VirtualFile.{AreBlocks, AreRows};
 ghost use Rattle.oftp_register.specs.Soundness.{AreFullRows, IsFile, IsResponse};
+ghost use Rattle.oftp_vfile.specs.declared.format.TheConstants.{BLOCK};
+ghost use Rattle.oftp_register.specs.declared.fit.TheConstants.{MOST_FILES, MOST_OCTETS};
 
 use crate::entry::ResponseKind;
 use oftp_vfile::{BLOCK, Format, Limits, MOST_ROWS, Row};
@@ -14,9 +16,12 @@ pub const MOST_FILES: u64 = 1_000_000;
 /// How many octets of a file an office may hold at most.
 pub const MOST_OCTETS: u64 = 1_024_000_000;
 
+/// How many octets the rows of a file have at most: 1,000,000 records of 16,384.
+pub const MOST_UNITS: u64 = 16_384_000_000;
+
 /// Whether an office may be made with these limits: 1,000,000 files and 1,024,000,000 octets of a file at most.
 pub fn are_limits(limits: Limits) -> bool
-    ensures { IsTrue result ↔ (limits.files ≤ 1000000) × (limits.octets ≤ 1024000000) }
+    ensures { IsTrue result ↔ (limits.files ≤ MOST_FILES) × (limits.octets ≤ MOST_OCTETS) }
 {
     limits.files <= MOST_FILES && limits.octets <= MOST_OCTETS
 }
@@ -34,13 +39,13 @@ pub fn are_full_rows(format: Format, longest: u32, rows: &[Row]) -> bool
 }
 
 fn is_last_block(row: &Row) -> bool
-    ensures { IsTrue result ↔ (0 < length row.now) × (length row.now ≤ 1024) }
+    ensures { IsTrue result ↔ (0 < length row.now) × (length row.now ≤ BLOCK) }
 {
     !row.is_empty() && row.len() <= BLOCK
 }
 
 fn are_blocks(rows: &[Row]) -> bool
-    ensures { IsTrue result ↔ AreBlocks 1024 rows.now }
+    ensures { IsTrue result ↔ AreBlocks BLOCK rows.now }
 {
     match rows.split_last() {
         Some((last, full)) => {

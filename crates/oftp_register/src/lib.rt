@@ -20,7 +20,9 @@ pub use entries::{
     ReceivedResponse, Side,
 };
 pub use entry::{Dispatch, Identity, IncomingState, OutgoingState, ResponseKind};
-pub use fit::{MOST_FILES, MOST_OCTETS, are_full_rows, are_limits, are_rows, is_file, is_response};
+pub use fit::{
+    MOST_FILES, MOST_OCTETS, MOST_UNITS, are_full_rows, are_limits, are_rows, is_file, is_response,
+};
 pub use laws::changes_keep;
 pub use name::{DigitString, Name};
 pub use note::Note;

@@ -1,11 +1,11 @@
 //! What keeps a register.
 
-ghost use Rattle.std.specs.Prelude.{◌≡◌, ◌≤◌, ◌⊎◌, ℕ, Ok, IfSome, IfOk, OnOk, OnErr};
-ghost use Rattle.oftp_register.specs.Register.{Register, has_received};
-ghost use Rattle.oftp_register.specs.Changes.{apply};
-ghost use Rattle.oftp_register.specs.Soundness.{IsFit, IsSound};
-ghost use Rattle.oftp_register.specs.LookUps.{AreRowsWithin, IsIncomingWithin, IsItemWithin, IsOutgoingWithin, files_full, in_by_no, list_in, list_issued, list_out, list_received, look_in, look_out, next_item, out_by_no, rows_of};
-ghost use Rattle.oftp_register.specs.Offices.{Counts, IsRefused, Looks};
+ghost use Rattle.std.specs.Prelude.{◌≡◌, ◌≤◌, IfSome, IfOk};
+ghost use Rattle.oftp_register.specs.Register.{has_received};
+ghost use Rattle.oftp_register.specs.Soundness.{IsSound};
+ghost use Rattle.oftp_register.specs.LookUps.{AreRowsWithin, IsIncomingWithin, IsItemWithin, IsOutgoingWithin, files_full, in_by_no, list_in, list_issued, list_out, list_received, look_in, look_out, next_item, out_by_no, rows_of, units_of};
+ghost use Rattle.oftp_register.specs.Offices.{Commits, Leaves, LooksUp, Only, View};
+ghost use Rattle.oftp_register.specs.declared.fit.TheConstants.{MOST_FILES, MOST_OCTETS, MOST_UNITS};
 
 use crate::change::{Cause, Change};
 use crate::entries::{
@@ -52,30 +52,14 @@ impl<T: Drop> From<AllocFailed<T>> for OfficeFault {
 /// The answers are promised where the office stood before the call and what it read is what was written; both are facts that
 /// contracts alone see. What a stop may leave is promised in the same way, also after a fault.
 pub trait Office {
-    // what a stop may leave, and the registers that it stands for
-    ghost Content: { Type 0 };
-
-    ghost may_leave: { Self → Content → Type 0 };
-
-    ghost holds: { Content → Register → Type 0 };
-
-    // the register that the office keeps
-    ghost register: { Self → Register };
-
-    // The office is open, and what it keeps is the register.
-    ghost stands: { Self → Type 0 };
-
-    // So far what was read is what was written. It may fall at any call, and then no answer is promised.
-    ghost is_clean: { Self → Type 0 };
-
-    // how many faults were told, modulo 2^64
-    ghost told: { Self → ℕ };
+    // what the office shows to contracts
+    ghost view: { Self → View };
 
     /// How much the office may hold. It takes no memory.
     fn limits(&self) -> Limits
-        ensures answer { result ≡ (register self.now).limits }
+        ensures answer { result ≡ (view self.now).register.limits }
         // It holds of any store.
-        ensures within { (result.files ≤ 1000000) × (result.octets ≤ 1024000000) };
+        ensures within { (result.files ≤ MOST_FILES) × (result.octets ≤ MOST_OCTETS) };
 
     /// The incoming file of an identity. The register stays as it was.
     ///
@@ -83,9 +67,7 @@ pub trait Office {
     ///
     /// [`OfficeFault::Store`] and [`OfficeFault::Memory`].
     fn look_in(&mut self, identity: &Identity) -> Result<Option<IncomingEntry>, OfficeFault>
-        ensures looks { Looks is_clean stands register may_leave told self.old self.new result }
-        ensures answer { is_clean self.new → stands self.old
-            → IfOk result (λ found. found ≡ look_in (register self.old) identity.now) }
+        ensures looks { LooksUp (λ r found. found ≡ look_in r identity.now) (view self.old) (view self.new) result }
         // It holds of any store.
         ensures within { IfOk result (λ found. IfSome found IsIncomingWithin) };
 
@@ -95,9 +77,7 @@ pub trait Office {
     ///
     /// [`OfficeFault::Store`] and [`OfficeFault::Memory`].
     fn look_out(&mut self, identity: &Identity) -> Result<Option<OutgoingEntry>, OfficeFault>
-        ensures looks { Looks is_clean stands register may_leave told self.old self.new result }
-        ensures answer { is_clean self.new → stands self.old
-            → IfOk result (λ found. found ≡ look_out (register self.old) identity.now) }
+        ensures looks { LooksUp (λ r found. found ≡ look_out r identity.now) (view self.old) (view self.new) result }
         // It holds of any store.
         ensures within { IfOk result (λ found. IfSome found IsOutgoingWithin) };
 
@@ -107,9 +87,7 @@ pub trait Office {
     ///
     /// [`OfficeFault::Store`] and [`OfficeFault::Memory`].
     fn in_by_no(&mut self, no: u64) -> Result<Option<IncomingEntry>, OfficeFault>
-        ensures looks { Looks is_clean stands register may_leave told self.old self.new result }
-        ensures answer { is_clean self.new → stands self.old
-            → IfOk result (λ found. found ≡ in_by_no (register self.old) no) }
+        ensures looks { LooksUp (λ r found. found ≡ in_by_no r no) (view self.old) (view self.new) result }
         // It holds of any store.
         ensures within { IfOk result (λ found. IfSome found IsIncomingWithin) };
 
@@ -119,9 +97,7 @@ pub trait Office {
     ///
     /// [`OfficeFault::Store`] and [`OfficeFault::Memory`].
     fn out_by_no(&mut self, no: u64) -> Result<Option<OutgoingEntry>, OfficeFault>
-        ensures looks { Looks is_clean stands register may_leave told self.old self.new result }
-        ensures answer { is_clean self.new → stands self.old
-            → IfOk result (λ found. found ≡ out_by_no (register self.old) no) }
+        ensures looks { LooksUp (λ r found. found ≡ out_by_no r no) (view self.old) (view self.new) result }
         // It holds of any store.
         ensures within { IfOk result (λ found. IfSome found IsOutgoingWithin) };
 
@@ -131,9 +107,7 @@ pub trait Office {
     ///
     /// [`OfficeFault::Store`] and [`OfficeFault::Memory`].
     fn files_full(&mut self, side: Side) -> Result<bool, OfficeFault>
-        ensures looks { Looks is_clean stands register may_leave told self.old self.new result }
-        ensures answer { is_clean self.new → stands self.old
-            → IfOk result (λ full. full ≡ files_full (register self.old) side) };
+        ensures looks { LooksUp (λ r full. full ≡ files_full r side) (view self.old) (view self.new) result };
 
     /// Whether a response of this kind came for the file of this identity. The register stays as it was.
     ///
@@ -141,9 +115,7 @@ pub trait Office {
     ///
     /// [`OfficeFault::Store`] and [`OfficeFault::Memory`].
     fn has_received(&mut self, kind: ResponseKind, identity: &Identity) -> Result<bool, OfficeFault>
-        ensures looks { Looks is_clean stands register may_leave told self.old self.new result }
-        ensures answer { is_clean self.new → stands self.old
-            → IfOk result (λ there. there ≡ has_received (register self.old) kind identity.now) };
+        ensures looks { LooksUp (λ r there. there ≡ has_received r kind identity.now) (view self.old) (view self.new) result };
 
     /// What a session sends next to a partner: the first response that is due and wasn't tried, or where there is none and `files`
     /// is true, the first file that is waiting or closing and wasn't tried. The register stays as it was.
@@ -157,9 +129,7 @@ pub trait Office {
         cursor: Cursor,
         files: bool,
     ) -> Result<Option<Item>, OfficeFault>
-        ensures looks { Looks is_clean stands register may_leave told self.old self.new result }
-        ensures answer { is_clean self.new → stands self.old
-            → IfOk result (λ item. item ≡ next_item (register self.old) partner.now cursor files) }
+        ensures looks { LooksUp (λ r item. item ≡ next_item r partner.now cursor files) (view self.old) (view self.new) result }
         // It holds of any store.
         ensures within { IfOk result (λ found. IfSome found IsItemWithin) };
 
@@ -169,11 +139,19 @@ pub trait Office {
     ///
     /// [`OfficeFault::Store`] and [`OfficeFault::Memory`].
     fn rows_of(&mut self, side: Side, no: u64, from: u64, most: u64) -> Result<Rows, OfficeFault>
-        ensures looks { Looks is_clean stands register may_leave told self.old self.new result }
-        ensures answer { is_clean self.new → stands self.old
-            → IfOk result (λ rows. rows ≡ rows_of (register self.old) side no from most) }
+        ensures looks { LooksUp (λ r rows. rows ≡ rows_of r side no from most) (view self.old) (view self.new) result }
         // It holds of any store.
         ensures within { IfOk result (AreRowsWithin from most) };
+
+    /// How many octets the rows of a file have, 0 for a number that no file has. The register stays as it was.
+    ///
+    /// # Errors
+    ///
+    /// [`OfficeFault::Store`] and [`OfficeFault::Memory`].
+    fn units_of(&mut self, side: Side, no: u64) -> Result<u64, OfficeFault>
+        ensures looks { LooksUp (λ r units. units ≡ units_of r side no) (view self.old) (view self.new) result }
+        // It holds of any store.
+        ensures within { IfOk result (λ units. units ≤ MOST_UNITS) };
 
     /// All incoming files, in order of number. The register stays as it was.
     ///
@@ -181,9 +159,7 @@ pub trait Office {
     ///
     /// [`OfficeFault::Store`] and [`OfficeFault::Memory`].
     fn list_in(&mut self) -> Result<Vec<IncomingEntry>, OfficeFault>
-        ensures looks { Looks is_clean stands register may_leave told self.old self.new result }
-        ensures answer { is_clean self.new → stands self.old
-            → IfOk result (λ entries. entries.items ≡ list_in (register self.old)) };
+        ensures looks { LooksUp (λ r entries. entries.items ≡ list_in r) (view self.old) (view self.new) result };
 
     /// All outgoing files, in order of number. The register stays as it was.
     ///
@@ -191,9 +167,7 @@ pub trait Office {
     ///
     /// [`OfficeFault::Store`] and [`OfficeFault::Memory`].
     fn list_out(&mut self) -> Result<Vec<OutgoingEntry>, OfficeFault>
-        ensures looks { Looks is_clean stands register may_leave told self.old self.new result }
-        ensures answer { is_clean self.new → stands self.old
-            → IfOk result (λ entries. entries.items ≡ list_out (register self.old)) };
+        ensures looks { LooksUp (λ r entries. entries.items ≡ list_out r) (view self.old) (view self.new) result };
 
     /// All issued responses, in order of their files' numbers. The register stays as it was.
     ///
@@ -201,9 +175,7 @@ pub trait Office {
     ///
     /// [`OfficeFault::Store`] and [`OfficeFault::Memory`].
     fn list_issued(&mut self) -> Result<Vec<IssuedEntry>, OfficeFault>
-        ensures looks { Looks is_clean stands register may_leave told self.old self.new result }
-        ensures answer { is_clean self.new → stands self.old
-            → IfOk result (λ entries. entries.items ≡ list_issued (register self.old)) };
+        ensures looks { LooksUp (λ r entries. entries.items ≡ list_issued r) (view self.old) (view self.new) result };
 
     /// All responses that came, in order of number. The register stays as it was.
     ///
@@ -211,15 +183,13 @@ pub trait Office {
     ///
     /// [`OfficeFault::Store`] and [`OfficeFault::Memory`].
     fn list_received(&mut self) -> Result<Vec<ReceivedEntry>, OfficeFault>
-        ensures looks { Looks is_clean stands register may_leave told self.old self.new result }
-        ensures answer { is_clean self.new → stands self.old
-            → IfOk result (λ entries. entries.items ≡ list_received (register self.old)) };
+        ensures looks { LooksUp (λ r entries. entries.items ≡ list_received r) (view self.old) (view self.new) result };
 
-    /// Makes a change. When it returns `Ok`, a stop leaves the change made.
+    /// CarriesOut a change. When it returns `Ok`, a stop leaves the change made.
     ///
     /// The change has to be fit: the file that it leaves has at most 1,000,000 rows, which fit its format and longest record, and
-    /// an end response gives no reason, no creator and no text. [`is_file`], [`Format::allows_longest`], [`are_full_rows`], [`are_rows`] and
-    /// [`is_response`] are the tests that a caller can make before.
+    /// an end response gives no reason, no creator and no text. [`is_file`], [`Format::allows_longest`], [`are_full_rows`],
+    /// [`are_rows`] and [`is_response`] are the tests that a caller can make before. A change that isn't fit may do anything.
     ///
     /// [`is_file`]: crate::is_file
     /// [`Format::allows_longest`]: oftp_vfile::Format::allows_longest
@@ -233,24 +203,14 @@ pub trait Office {
     /// [`OfficeFault::Store`] and [`OfficeFault::Memory`] the office, where it is still open, keeps its register, and a stop
     /// leaves the change made or not made.
     fn commit(&mut self, change: Change<'_>) -> Result<(), OfficeFault>
-        requires fit { is_clean self.old → stands self.old → IsFit (register self.old) change }
-        ensures clean { is_clean self.new → is_clean self.old }
-        // An office that was shut stays shut.
-        ensures stood { is_clean self.new → stands self.new → stands self.old }
-        ensures done { is_clean self.new → stands self.old
-            → OnOk result ((apply (register self.old) change.entry ≡ Ok (register self.new)) × stands self.new) }
-        ensures refused { is_clean self.new → stands self.old
-            → IsRefused (apply (register self.old) change.entry) result (stands self.new) }
-        ensures same { is_clean self.new → stands self.old
-            → OnErr result (stands self.new → register self.new ≡ register self.old) }
-        ensures left { is_clean self.new → stands self.old → (c : Content) → may_leave self.new c
-            → may_leave self.old c ⊎ ((r : Register) × (apply (register self.old) change.entry ≡ Ok r) × holds c r) }
-        ensures counts { Counts (told self.old) (told self.new) result };
+        ensures commits { Commits change.entry (view self.old) (view self.new) result };
 
     // The register keeps its facts.
-    ghost sound: { (o : Self) → is_clean o → stands o → IsSound (register o) };
+    ghost sound: { (o : Self) → (view o).clean → (view o).stands → IsSound (view o).register };
 
     // What a stop leaves now is the register's alone.
-    ghost alone: { (o : Self) (c : Content) → is_clean o → stands o → may_leave o c
-        → holds c (register o) };
+    ghost alone: { (o : Self) → (view o).clean → (view o).stands → Only (view o).register (view o) };
+
+    // A stop leaves something.
+    ghost leaves: { (o : Self) → (view o).clean → Leaves (view o) };
 }

@@ -1,13 +1,14 @@
 //! A register in memory.
 
-ghost use Rattle.std.specs.Prelude.{◌≡◌, ◌↔◌, ◌≤◌, ⊤, ℕ, Ok, Err, IfSome, IfOk, IsTrue, MatchResult, map};
+ghost use Rattle.std.specs.Prelude.{◌≡◌, ◌↔◌, ◌≤◌, ⊤, ℕ, Ok, Err, IfSome, IfOk, IsTrue, MatchResult, map, refl};
 ghost use Rattle.oftp_register.specs.Register.{Register, empty, has_received};
 ghost use Rattle.oftp_register.specs.Changes.{apply};
 ghost use Rattle.oftp_register.specs.Offices.{Counts};
 ghost use Rattle.oftp_register.specs.Soundness.{IsFit, IsSound};
 ghost use Rattle.oftp_register.specs.SoundProps.{sound-prop};
-ghost use Rattle.oftp_register.specs.LookUps.{AreRowsWithin, IsIncomingWithin, IsItemWithin, IsOutgoingWithin, files_full, in_by_no, list_in, list_issued, list_out, list_received, look_in, look_out, next_item, out_by_no, rows_of};
-ghost use Rattle.oftp_register.specs.Lists.{Makes, received_of, register_in};
+ghost use Rattle.oftp_register.specs.LookUps.{AreRowsWithin, IsIncomingWithin, IsItemWithin, IsOutgoingWithin, files_full, in_by_no, list_in, list_issued, list_out, list_received, look_in, look_out, next_item, out_by_no, rows_of, units_of};
+ghost use Rattle.oftp_register.specs.Lists.{CarriesOut, received_of, register_in};
+ghost use Rattle.oftp_register.specs.declared.fit.TheConstants.{MOST_FILES, MOST_OCTETS, MOST_UNITS};
 
 mod incoming;
 mod lists;
@@ -35,12 +36,12 @@ pub struct PlainOffice {
 }
 
 impl PlainOffice {
-    ghost use Rattle.oftp_register.specs.Plain.{LooksInMemory, register_of};
+    ghost use Rattle.oftp_register.specs.Plain.{faults_of, register_of};
 
     /// An office with an empty register. [`are_limits`](crate::are_limits) tests the limits. It takes no memory.
     pub fn new(alloc: Global, limits: Limits) -> PlainOffice
-        requires files { limits.files ≤ 1000000 }
-        requires octets { limits.octets ≤ 1024000000 }
+        requires files { limits.files ≤ MOST_FILES }
+        requires octets { limits.octets ≤ MOST_OCTETS }
         ensures { register_of result ≡ empty limits }
     {
         PlainOffice {
@@ -51,8 +52,9 @@ impl PlainOffice {
 
     // Counts a growth that was refused.
     fn counted<T>(&mut self, found: Result<T, AllocError>) -> Result<T, OfficeFault>
-        ensures looks { LooksInMemory self.old self.new result }
-        ensures answer { MatchResult found (λ x. result ≡ Ok x) (λ _. result ≡ Err OfficeFault.Memory) }
+        ensures told { MatchResult found (λ x. result ≡ Ok x) (λ _. result ≡ Err OfficeFault.Memory) }
+        ensures register { register_of self.new ≡ register_of self.old }
+        ensures counts { Counts (faults_of self.old) (faults_of self.new) result }
     {
         match found {
             Ok(x) => Ok(x),
@@ -79,29 +81,16 @@ impl PlainOffice {
 }
 
 impl Office for PlainOffice {
-    ghost use Rattle.oftp_register.specs.Plain.{LooksInMemory, faults_of, register_of};
+    ghost use Rattle.oftp_register.specs.Plain.{LooksInMemory, faults_of, register_of, view_of};
 
-    ghost Content = { Register };
-
-    ghost may_leave = { λ o r. r ≡ register_of o };
-
-    ghost holds = { λ c r. c ≡ r };
-
-    ghost register = { register_of };
-
-    ghost stands = { λ _. ⊤ };
-
-    ghost is_clean = { λ _. ⊤ };
-
-    ghost told = { faults_of };
+    ghost view = { view_of };
 
     fn limits(&self) -> Limits {
         self.lists.limits
     }
 
     fn look_in(&mut self, identity: &Identity) -> Result<Option<IncomingEntry>, OfficeFault>
-        ensures looks { LooksInMemory self.old self.new result }
-        ensures answer { IfOk result (λ found. found ≡ look_in (register_of self.old) identity.now) }
+        ensures looks { LooksInMemory (λ r found. found ≡ look_in r identity.now) self.old self.new result }
         ensures within { IfOk result (λ found. IfSome found IsIncomingWithin) }
     {
         let found = self.lists.look_in(identity);
@@ -109,8 +98,7 @@ impl Office for PlainOffice {
     }
 
     fn look_out(&mut self, identity: &Identity) -> Result<Option<OutgoingEntry>, OfficeFault>
-        ensures looks { LooksInMemory self.old self.new result }
-        ensures answer { IfOk result (λ found. found ≡ look_out (register_of self.old) identity.now) }
+        ensures looks { LooksInMemory (λ r found. found ≡ look_out r identity.now) self.old self.new result }
         ensures within { IfOk result (λ found. IfSome found IsOutgoingWithin) }
     {
         let found = self.lists.look_out(identity);
@@ -118,8 +106,7 @@ impl Office for PlainOffice {
     }
 
     fn in_by_no(&mut self, no: u64) -> Result<Option<IncomingEntry>, OfficeFault>
-        ensures looks { LooksInMemory self.old self.new result }
-        ensures answer { IfOk result (λ found. found ≡ in_by_no (register_of self.old) no) }
+        ensures looks { LooksInMemory (λ r found. found ≡ in_by_no r no) self.old self.new result }
         ensures within { IfOk result (λ found. IfSome found IsIncomingWithin) }
     {
         let found = self.lists.in_by_no(no);
@@ -127,8 +114,7 @@ impl Office for PlainOffice {
     }
 
     fn out_by_no(&mut self, no: u64) -> Result<Option<OutgoingEntry>, OfficeFault>
-        ensures looks { LooksInMemory self.old self.new result }
-        ensures answer { IfOk result (λ found. found ≡ out_by_no (register_of self.old) no) }
+        ensures looks { LooksInMemory (λ r found. found ≡ out_by_no r no) self.old self.new result }
         ensures within { IfOk result (λ found. IfSome found IsOutgoingWithin) }
     {
         let found = self.lists.out_by_no(no);
@@ -155,8 +141,7 @@ impl Office for PlainOffice {
         cursor: Cursor,
         files: bool,
     ) -> Result<Option<Item>, OfficeFault>
-        ensures looks { LooksInMemory self.old self.new result }
-        ensures answer { IfOk result (λ item. item ≡ next_item (register_of self.old) partner.now cursor files) }
+        ensures looks { LooksInMemory (λ r item. item ≡ next_item r partner.now cursor files) self.old self.new result }
         ensures within { IfOk result (λ found. IfSome found IsItemWithin) }
     {
         let found = self.lists.next_item(partner, cursor, files);
@@ -164,41 +149,44 @@ impl Office for PlainOffice {
     }
 
     fn rows_of(&mut self, side: Side, no: u64, from: u64, most: u64) -> Result<Rows, OfficeFault>
-        ensures looks { LooksInMemory self.old self.new result }
-        ensures answer { IfOk result (λ rows. rows ≡ rows_of (register_of self.old) side no from most) }
+        ensures looks { LooksInMemory (λ r rows. rows ≡ rows_of r side no from most) self.old self.new result }
         ensures within { IfOk result (AreRowsWithin from most) }
     {
         let found = self.lists.rows_of(side, no, from, most);
         self.counted(found)
     }
 
+    fn units_of(&mut self, side: Side, no: u64) -> Result<u64, OfficeFault>
+        ensures answer { result ≡ Ok (units_of (register_of self.old) side no) }
+        ensures within { IfOk result (λ units. units ≤ MOST_UNITS) }
+        ensures same { self.new ≡ self.old }
+    {
+        Ok(self.lists.units_of(side, no))
+    }
+
     fn list_in(&mut self) -> Result<Vec<IncomingEntry>, OfficeFault>
-        ensures looks { LooksInMemory self.old self.new result }
-        ensures answer { IfOk result (λ entries. entries.items ≡ list_in (register_of self.old)) }
+        ensures looks { LooksInMemory (λ r entries. entries.items ≡ list_in r) self.old self.new result }
     {
         let found = self.lists.list_in();
         self.counted(found)
     }
 
     fn list_out(&mut self) -> Result<Vec<OutgoingEntry>, OfficeFault>
-        ensures looks { LooksInMemory self.old self.new result }
-        ensures answer { IfOk result (λ entries. entries.items ≡ list_out (register_of self.old)) }
+        ensures looks { LooksInMemory (λ r entries. entries.items ≡ list_out r) self.old self.new result }
     {
         let found = self.lists.list_out();
         self.counted(found)
     }
 
     fn list_issued(&mut self) -> Result<Vec<IssuedEntry>, OfficeFault>
-        ensures looks { LooksInMemory self.old self.new result }
-        ensures answer { IfOk result (λ entries. entries.items ≡ list_issued (register_of self.old)) }
+        ensures looks { LooksInMemory (λ r entries. entries.items ≡ list_issued r) self.old self.new result }
     {
         let found = self.lists.list_issued();
         self.counted(found)
     }
 
     fn list_received(&mut self) -> Result<Vec<ReceivedEntry>, OfficeFault>
-        ensures looks { LooksInMemory self.old self.new result }
-        ensures answer { IfOk result (λ entries. entries.items ≡ list_received (register_of self.old)) }
+        ensures looks { LooksInMemory (λ r entries. entries.items ≡ list_received r) self.old self.new result }
     {
         let found = self.lists.list_received();
         self.counted(found)
@@ -206,10 +194,13 @@ impl Office for PlainOffice {
 
     // It never tells a fault of a store.
     fn commit(&mut self, change: Change<'_>) -> Result<(), OfficeFault>
-        requires { IsFit (register_of self.old) change }
-        ensures made { Makes register_of (apply (register_of self.old) change.entry) self.old self.new result }
+        ensures made { CarriesOut register_of (apply (register_of self.old) change.entry) self.old self.new result }
         ensures counts { Counts (faults_of self.old) (faults_of self.new) result }
     {
+        if !self.is_fit(&change) {
+            self.faults = self.faults.wrapping_add(1);
+            return Err(OfficeFault::Memory);
+        }
         let made = self.lists.commit(change);
         if let Err(OfficeFault::Memory) = made {
             self.faults = self.faults.wrapping_add(1);
@@ -219,5 +210,7 @@ impl Office for PlainOffice {
 
     ghost sound = { λ o _ _. o.sound };
 
-    ghost alone = { λ o c _ _ left. left };
+    ghost alone = { λ o _ _ c left. left };
+
+    ghost leaves = { λ o _. ∣ (register_of o, refl) ∣₁ };
 }

@@ -150,7 +150,7 @@ fn change(alloc: Global, act: Act) -> Result<Change<'static>, OfficeFault> {
     }
 }
 
-// Makes a change that has to be fit: another is a fault of the fixture.
+// CarriesOut a change that has to be fit: another is a fault of the fixture.
 fn commit(office: &mut PlainOffice, change: Change<'_>) -> Result<(), OfficeFault> {
     if !office.is_fit(&change) {
         return Err(BAD);
@@ -192,12 +192,8 @@ fn kind_name(kind: ResponseKind) -> &'static str {
 fn add_incoming(all: &mut String, office: &mut PlainOffice) -> Result<(), OfficeFault> {
     for entry in office.list_in()? {
         let letter = letter(&entry.identity);
-        let IncomingEntry {
-            rows,
-            units,
-            state,
-            ..
-        } = &entry;
+        let units = office.units_of(Side::Incoming, entry.no)?;
+        let IncomingEntry { rows, state, .. } = &entry;
         write!(all, "in {letter} {state:?} {rows}/{units}")?;
         match &entry.response {
             Some(response) => {
@@ -215,12 +211,8 @@ fn add_outgoing(all: &mut String, office: &mut PlainOffice) -> Result<(), Office
     for entry in office.list_out()? {
         let letter = letter(&entry.identity);
         let state = state_name(entry.state);
-        let OutgoingEntry {
-            rows,
-            units,
-            mark,
-            ..
-        } = &entry;
+        let units = office.units_of(Side::Outgoing, entry.no)?;
+        let OutgoingEntry { rows, mark, .. } = &entry;
         write!(all, "out {letter} {state} {rows}/{units} mark {mark}; ")?;
     }
     Ok(())

@@ -2,7 +2,7 @@
 
 ghost use Rattle.std.specs.Prelude.{◌≡◌, ◌<◌, ◌^◌, false};
 ghost use Rattle.std.specs.Option.{option_copied};
-ghost use Rattle.oftp_register.specs.Verdicts.{end_verdict, format_of, has_length, is_plain, is_received, longest_of, restart_position, same_format, start_verdict};
+ghost use Rattle.oftp_register.specs.Verdicts.{end_verdict, format_of, has_length, is_plain, is_received, longest_of, restart_position, start_verdict};
 
 use crate::entries::IncomingEntry;
 use crate::entry::IncomingState;
@@ -71,18 +71,6 @@ pub fn longest_of(layout: Layout) -> u32
     }
 }
 
-fn is_format(a: Format, b: Format) -> bool
-    ensures { result ≡ same_format a b }
-{
-    match (a, b) {
-        (Format::Fixed, Format::Fixed) => true,
-        (Format::Variable, Format::Variable) => true,
-        (Format::Unstructured, Format::Unstructured) => true,
-        (Format::Text, Format::Text) => true,
-        _ => false,
-    }
-}
-
 // Whether the records aren't too long, nor all empty.
 fn has_length(layout: Layout) -> bool
     ensures { result ≡ has_length layout }
@@ -114,7 +102,7 @@ fn restart_position(sfid: &Sfid<'_>, found: Option<&IncomingEntry>, restart: boo
     match found {
         Some(entry)
             if restart
-                && is_format(entry.format, format_of(sfid.layout))
+                && entry.format == format_of(sfid.layout)
                 && entry.longest == longest_of(sfid.layout) => {
             Count::new(sfid.restart.get().min(entry.rows))
         }

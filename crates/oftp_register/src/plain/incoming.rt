@@ -5,9 +5,9 @@ ghost use Rattle.oftp_register.specs.Register.{Issued, Incoming, same_identity};
 ghost use Rattle.oftp_register.specs.Changes.{closed, given_up, gone_on, issued, kept, sent, sent_as};
 ghost use Rattle.oftp_register.specs.Soundness.{Ends, GoesOn, IfOpen, IsSoundIncoming, MayGoOn, MayStart};
 ghost use Rattle.oftp_register.specs.LookUps.{IsIncomingWithin, incoming_entry, is_due, issued_entry};
-ghost use Rattle.oftp_register.specs.Lists.{Makes, header_of, incoming_of, is_due_to, issued_of, response_of};
+ghost use Rattle.oftp_register.specs.Lists.{CarriesOut, beginning_of, incoming_of, is_due_to, issued_of, response_of};
+ghost use Rattle.oftp_vfile.specs.declared.format.TheConstants.{MOST_ROWS};
 
-use super::units::units_of;
 use crate::change::Cause;
 use crate::entries::{IncomingEntry, IssuedEntry, IssuedResponse};
 use crate::entry::{Dispatch, Identity, IncomingState};
@@ -62,7 +62,7 @@ impl Header {
 
 // The partner is ready to receive after a response.
 fn send(response: &mut IssuedResponse) -> Result<(), OfficeFault>
-    ensures { let was = issued_of response.old in Makes issued_of (sent_as was was.dispatch) response.old response.new result }
+    ensures { let was = issued_of response.old in CarriesOut issued_of (sent_as was was.dispatch) response.old response.new result }
 {
     match response.dispatch {
         Dispatch::Due => {
@@ -76,7 +76,7 @@ fn send(response: &mut IssuedResponse) -> Result<(), OfficeFault>
 impl IncomingFile {
     // A file that begins.
     pub(crate) fn new(alloc: Global, header: Header) -> IncomingFile
-        ensures { incoming_of result ≡ header_of header }
+        ensures { incoming_of result ≡ beginning_of header }
     {
         IncomingFile {
             identity: header.identity,
@@ -140,7 +140,7 @@ impl IncomingFile {
     }
 
     fn has_room(&self, rows: &Rows) -> bool
-        ensures { IsTrue result ↔ (length self.now.rows.items + length rows.now ≤ 1000000) }
+        ensures { IsTrue result ↔ (length self.now.rows.items + length rows.now ≤ MOST_ROWS) }
     {
         self.rows.len() <= MOST_ROWS && rows.len() <= MOST_ROWS - self.rows.len()
     }
@@ -148,7 +148,7 @@ impl IncomingFile {
     // An open file goes on after so many of its rows.
     pub(crate) fn go_on(&mut self, header: Header, count: u64) -> Result<(), OfficeFault>
         ensures { let file = incoming_of self.old in
-            Makes incoming_of (gone_on (header_of header) count file file.state) self.old self.new result }
+            CarriesOut incoming_of (gone_on (beginning_of header) count file file.state) self.old self.new result }
     {
         match self.state {
             IncomingState::Open if count <= self.rows.len() as u64 => {
@@ -165,7 +165,7 @@ impl IncomingFile {
 
     fn append(&mut self, rows: Rows) -> Result<(), OfficeFault>
         ensures { let file = incoming_of self.old in
-            Makes incoming_of (Ok (record file { rows = file.rows ++ rows })) self.old self.new result }
+            CarriesOut incoming_of (Ok (record file { rows = file.rows ++ rows })) self.old self.new result }
     {
         let mut rows = rows.into_vec();
         self.rows.append(&mut rows)?;
@@ -174,7 +174,7 @@ impl IncomingFile {
 
     // Rows are kept.
     pub(crate) fn keep(&mut self, rows: Rows) -> Result<(), OfficeFault>
-        ensures { Makes incoming_of (kept rows (incoming_of self.old)) self.old self.new result }
+        ensures { CarriesOut incoming_of (kept rows (incoming_of self.old)) self.old self.new result }
     {
         match self.state {
             IncomingState::Open => self.append(rows),
@@ -184,7 +184,7 @@ impl IncomingFile {
 
     // The last rows are kept.
     pub(crate) fn close(&mut self, rows: Rows) -> Result<(), OfficeFault>
-        ensures { Makes incoming_of (closed rows (incoming_of self.old)) self.old self.new result }
+        ensures { CarriesOut incoming_of (closed rows (incoming_of self.old)) self.old self.new result }
     {
         self.keep(rows)?;
         self.state = IncomingState::Whole;
@@ -193,7 +193,7 @@ impl IncomingFile {
 
     // The rows are given up.
     pub(crate) fn give_up(&mut self) -> Result<(), OfficeFault>
-        ensures { Makes incoming_of (given_up (incoming_of self.old)) self.old self.new result }
+        ensures { CarriesOut incoming_of (given_up (incoming_of self.old)) self.old self.new result }
     {
         match self.state {
             IncomingState::Open => {
@@ -206,7 +206,7 @@ impl IncomingFile {
 
     // A response is issued.
     pub(crate) fn issue(&mut self, response: IssuedResponse) -> Result<(), OfficeFault>
-        ensures { Makes incoming_of (issued (issued_of response) (incoming_of self.old)) self.old self.new result }
+        ensures { CarriesOut incoming_of (issued (issued_of response) (incoming_of self.old)) self.old self.new result }
     {
         match self.state {
             IncomingState::Whole if self.response.is_none() => {
@@ -219,7 +219,7 @@ impl IncomingFile {
 
     // The response was sent.
     pub(crate) fn send(&mut self) -> Result<(), OfficeFault>
-        ensures { Makes incoming_of (sent (incoming_of self.old)) self.old self.new result }
+        ensures { CarriesOut incoming_of (sent (incoming_of self.old)) self.old self.new result }
     {
         match &mut self.response {
             Some(response) => send(response),
@@ -245,7 +245,6 @@ impl IncomingFile {
             description: self.description.again(alloc)?,
             state: self.state,
             rows: self.rows.len() as u64,
-            units: units_of(&self.rows),
             response,
         })
     }
@@ -269,17 +268,9 @@ impl IncomingFile {
         ensures { result ≡ is_due_to partner.now (incoming_of self.now) }
     {
         match &self.response {
-            Some(response) => is_unsent(response.dispatch) && self.identity.originator.is(partner),
+            Some(response) => response.dispatch == Dispatch::Due
+                && self.identity.originator.is(partner),
             None => false,
         }
-    }
-}
-
-fn is_unsent(dispatch: Dispatch) -> bool
-    ensures { result ≡ is_due dispatch }
-{
-    match dispatch {
-        Dispatch::Due => true,
-        Dispatch::Sent => false,
     }
 }

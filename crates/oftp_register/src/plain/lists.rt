@@ -2,15 +2,17 @@
 
 ghost use Rattle.std.specs.Prelude.{◌≡◌, ◌↔◌, ◌≤◌, ◌<◌, ◌^◌, ℕ, Ok, IfOk, IfErr, IfSome, IsTrue, All, true, map, position, slice_get, take, drop, vec_len};
 ghost use Rattle.std.specs.List.{list_any};
-ghost use Rattle.oftp_register.specs.Register.{Register, answers, empty, has_received, same_identity, same_kind};
+ghost use Rattle.oftp_register.specs.Register.{Register, is_response_to, empty, has_received, same_identity};
 ghost use Rattle.oftp_register.specs.Changes.{apply, closed, closing, filed, given_up, handed, issued, kept, marked, on_incoming, on_outgoing, refused, reopened, sent, settled, started, submitted};
 ghost use Rattle.oftp_register.specs.declared.change.Change.TheVariants as change;
 ghost use Rattle.oftp_register.specs.Soundness.{AtNumber, Ends, GoesOn, IfOpen, IsFit, IsSound, MayStart};
-ghost use Rattle.oftp_register.specs.LookUps.{AreRowsWithin, IsIncomingWithin, IsItemWithin, IsOutgoingWithin, file_rows, files_full, in_by_no, list_in, list_issued, list_out, list_received, look_in, look_out, next_file, next_item, next_response, out_by_no, rows_of};
-ghost use Rattle.oftp_register.specs.Lists.{IsPlace, Makes, header_of, incoming_of, issued_of, newly_started, outgoing_of, received_of, register_in, to_send};
+ghost use Rattle.oftp_register.specs.LookUps.{AreRowsWithin, IsIncomingWithin, IsItemWithin, IsOutgoingWithin, file_rows, files_full, in_by_no, list_in, list_issued, list_out, list_received, look_in, look_out, next_file, next_item, next_response, out_by_no, rows_of, units_of};
+ghost use Rattle.oftp_register.specs.Lists.{IsPlace, CarriesOut, beginning_of, incoming_of, issued_of, newly_started, outgoing_of, received_of, register_in, to_send};
+ghost use Rattle.oftp_register.specs.declared.fit.TheConstants.{MOST_UNITS};
 
 use super::incoming::{Header, IncomingFile};
 use super::outgoing::OutgoingFile;
+use super::units::count_units;
 use crate::change::{Cause, Change};
 use crate::entries::{
     Cursor, IncomingEntry, IssuedEntry, IssuedResponse, Item, OutgoingEntry, ReceivedEntry,
@@ -90,20 +92,10 @@ fn settle_all(files: &mut [OutgoingFile], kind: ResponseKind, identity: &Identit
     }
 }
 
-fn is_kind(a: ResponseKind, b: ResponseKind) -> bool
-    ensures { result ≡ same_kind a b }
-{
-    match (a, b) {
-        (ResponseKind::EndResponse, ResponseKind::EndResponse) => true,
-        (ResponseKind::NegativeEndResponse, ResponseKind::NegativeEndResponse) => true,
-        _ => false,
-    }
-}
-
 fn is_answered(responses: &[ReceivedResponse], kind: ResponseKind, identity: &Identity) -> bool
-    ensures { result ≡ list_any (λ response. answers kind identity.now (received_of response)) responses.now }
+    ensures { result ≡ list_any (λ response. is_response_to kind identity.now (received_of response)) responses.now }
 {
-    responses.iter().any(|response| is_kind(response.kind, kind) && response.identity.is(identity))
+    responses.iter().any(|response| response.kind == kind && response.identity.is(identity))
 }
 
 // Whether the file of this identity, if it is there, may go on in this format after so many rows.
@@ -144,7 +136,7 @@ impl Lists {
 
     // A file with this header is to be sent.
     fn add_outgoing(&mut self, header: Header, rows: Rows) -> Result<(), OfficeFault>
-        ensures { Makes register_in (submitted (register_in self.old) (to_send header rows)) self.old self.new result }
+        ensures { CarriesOut register_in (submitted (register_in self.old) (to_send header rows)) self.old self.new result }
     {
         if is_among(&self.outgoing, &header.identity) {
             return Err(OfficeFault::Refused(Cause::Duplicate));
@@ -158,7 +150,7 @@ impl Lists {
 
     // A file with this header begins to come, or goes on.
     fn take_up(&mut self, header: Header, count: u64) -> Result<(), OfficeFault>
-        ensures { Makes register_in (started (register_in self.old) (header_of header) count) self.old self.new result }
+        ensures { CarriesOut register_in (started (register_in self.old) (beginning_of header) count) self.old self.new result }
     {
         match place_in(&self.incoming, &header.identity) {
             Some(place) => self.incoming[place].go_on(header, count),
@@ -167,7 +159,7 @@ impl Lists {
     }
 
     fn begin(&mut self, header: Header, count: u64) -> Result<(), OfficeFault>
-        ensures { Makes register_in (newly_started (register_in self.old) (header_of header) count) self.old self.new result }
+        ensures { CarriesOut register_in (newly_started (register_in self.old) (beginning_of header) count) self.old self.new result }
     {
         if count > 0 {
             return Err(OfficeFault::Refused(Cause::State));
@@ -181,7 +173,7 @@ impl Lists {
 
     // Rows of a file are kept.
     fn keep(&mut self, no: u64, rows: Rows) -> Result<(), OfficeFault>
-        ensures { Makes register_in (on_incoming (kept rows) no (register_in self.old)) self.old self.new result }
+        ensures { CarriesOut register_in (on_incoming (kept rows) no (register_in self.old)) self.old self.new result }
     {
         match place_of(no, self.incoming.len()) {
             Some(place) => self.incoming[place].keep(rows),
@@ -191,7 +183,7 @@ impl Lists {
 
     // The last rows of a file are kept.
     fn close(&mut self, no: u64, rows: Rows) -> Result<(), OfficeFault>
-        ensures { Makes register_in (on_incoming (closed rows) no (register_in self.old)) self.old self.new result }
+        ensures { CarriesOut register_in (on_incoming (closed rows) no (register_in self.old)) self.old self.new result }
     {
         match place_of(no, self.incoming.len()) {
             Some(place) => self.incoming[place].close(rows),
@@ -201,7 +193,7 @@ impl Lists {
 
     // The rows of a file are given up.
     fn give_up(&mut self, no: u64) -> Result<(), OfficeFault>
-        ensures { Makes register_in (on_incoming given_up no (register_in self.old)) self.old self.new result }
+        ensures { CarriesOut register_in (on_incoming given_up no (register_in self.old)) self.old self.new result }
     {
         match place_of(no, self.incoming.len()) {
             Some(place) => self.incoming[place].give_up(),
@@ -211,7 +203,7 @@ impl Lists {
 
     // This response comes.
     fn add_received(&mut self, response: ReceivedResponse) -> Result<(), OfficeFault>
-        ensures { Makes register_in (filed (register_in self.old) (received_of response)) self.old self.new result }
+        ensures { CarriesOut register_in (filed (register_in self.old) (received_of response)) self.old self.new result }
     {
         if self.is_received(response.kind, &response.identity) {
             return Err(OfficeFault::Refused(Cause::Duplicate));
@@ -224,7 +216,7 @@ impl Lists {
 
     // This response is issued.
     fn answer(&mut self, no: u64, response: IssuedResponse) -> Result<(), OfficeFault>
-        ensures { Makes register_in (on_incoming (issued (issued_of response)) no (register_in self.old)) self.old self.new result }
+        ensures { CarriesOut register_in (on_incoming (issued (issued_of response)) no (register_in self.old)) self.old self.new result }
     {
         match place_of(no, self.incoming.len()) {
             Some(place) => self.incoming[place].issue(response),
@@ -234,7 +226,7 @@ impl Lists {
 
     // So many rows of a file are covered by credit.
     fn mark(&mut self, no: u64, rows: u64) -> Result<(), OfficeFault>
-        ensures { Makes register_in (on_outgoing (marked rows) no (register_in self.old)) self.old self.new result }
+        ensures { CarriesOut register_in (on_outgoing (marked rows) no (register_in self.old)) self.old self.new result }
     {
         match place_of(no, self.outgoing.len()) {
             Some(place) => self.outgoing[place].mark(rows),
@@ -244,7 +236,7 @@ impl Lists {
 
     // The end of a file is about to be sent.
     fn begin_closing(&mut self, no: u64) -> Result<(), OfficeFault>
-        ensures { Makes register_in (on_outgoing closing no (register_in self.old)) self.old self.new result }
+        ensures { CarriesOut register_in (on_outgoing closing no (register_in self.old)) self.old self.new result }
     {
         match place_of(no, self.outgoing.len()) {
             Some(place) => self.outgoing[place].close(),
@@ -254,7 +246,7 @@ impl Lists {
 
     // The partner has a file.
     fn hand_over(&mut self, no: u64) -> Result<(), OfficeFault>
-        ensures { Makes register_in (on_outgoing handed no (register_in self.old)) self.old self.new result }
+        ensures { CarriesOut register_in (on_outgoing handed no (register_in self.old)) self.old self.new result }
     {
         match place_of(no, self.outgoing.len()) {
             Some(place) => self.outgoing[place].hand_over(),
@@ -264,7 +256,7 @@ impl Lists {
 
     // The partner doesn't take a file.
     fn refuse(&mut self, no: u64, reason: Count<2>) -> Result<(), OfficeFault>
-        ensures { Makes register_in (on_outgoing (refused reason) no (register_in self.old)) self.old self.new result }
+        ensures { CarriesOut register_in (on_outgoing (refused reason) no (register_in self.old)) self.old self.new result }
     {
         match place_of(no, self.outgoing.len()) {
             Some(place) => self.outgoing[place].refuse(reason),
@@ -274,7 +266,7 @@ impl Lists {
 
     // A file is to be sent again.
     fn reopen(&mut self, no: u64) -> Result<(), OfficeFault>
-        ensures { Makes register_in (on_outgoing reopened no (register_in self.old)) self.old self.new result }
+        ensures { CarriesOut register_in (on_outgoing reopened no (register_in self.old)) self.old self.new result }
     {
         match place_of(no, self.outgoing.len()) {
             Some(place) => self.outgoing[place].reopen(),
@@ -284,7 +276,7 @@ impl Lists {
 
     // The response to a file was sent.
     fn send(&mut self, no: u64) -> Result<(), OfficeFault>
-        ensures { Makes register_in (on_incoming sent no (register_in self.old)) self.old self.new result }
+        ensures { CarriesOut register_in (on_incoming sent no (register_in self.old)) self.old self.new result }
     {
         match place_of(no, self.incoming.len()) {
             Some(place) => self.incoming[place].send(),
@@ -363,7 +355,7 @@ impl Lists {
         description: &Text<'_>,
         rows: Rows,
     ) -> Result<(), OfficeFault>
-        ensures { Makes register_in (apply (register_in self.old) (change.Submit identity format longest description.now rows)) self.old self.new result }
+        ensures { CarriesOut register_in (apply (register_in self.old) (change.Submit identity format longest description.now rows)) self.old self.new result }
     {
         let header = Header::new(self.alloc, identity, format, longest, description)?;
         self.add_outgoing(header, rows)
@@ -379,7 +371,7 @@ impl Lists {
         description: &Text<'_>,
         count: u64,
     ) -> Result<(), OfficeFault>
-        ensures { Makes register_in (apply (register_in self.old) (change.Start identity format longest description.now count)) self.old self.new result }
+        ensures { CarriesOut register_in (apply (register_in self.old) (change.Start identity format longest description.now count)) self.old self.new result }
     {
         let header = Header::new(self.alloc, identity, format, longest, description)?;
         self.take_up(header, count)
@@ -395,7 +387,7 @@ impl Lists {
         creator: Name<25>,
         text: &Text<'_>,
     ) -> Result<(), OfficeFault>
-        ensures { Makes register_in (apply (register_in self.old) (change.File kind identity reason creator text.now)) self.old self.new result }
+        ensures { CarriesOut register_in (apply (register_in self.old) (change.File kind identity reason creator text.now)) self.old self.new result }
     {
         let response = ReceivedResponse::new(self.alloc, kind, identity, reason, creator, text)?;
         self.add_received(response)
@@ -410,16 +402,16 @@ impl Lists {
         reason: Count<2>,
         text: &Text<'_>,
     ) -> Result<(), OfficeFault>
-        ensures { Makes register_in (apply (register_in self.old) (change.Issue no kind reason text.now)) self.old self.new result }
+        ensures { CarriesOut register_in (apply (register_in self.old) (change.Issue no kind reason text.now)) self.old self.new result }
     {
         let response = IssuedResponse::new(self.alloc, kind, reason, text)?;
         self.answer(no, response)
     }
 
-    // Makes a change.
+    // CarriesOut a change.
     #[tactic(auto, unfolding(crate::specs::Changes::apply))]
     fn make(&mut self, change: Change<'_>) -> Result<(), OfficeFault>
-        ensures { Makes register_in (apply (register_in self.old) change.entry) self.old self.new result }
+        ensures { CarriesOut register_in (apply (register_in self.old) change.entry) self.old self.new result }
     {
         match change {
             Change::Submit {
@@ -461,11 +453,11 @@ impl Lists {
         }
     }
 
-    // Makes a change that is fit.
+    // CarriesOut a change that is fit.
     pub(crate) fn commit(&mut self, change: Change<'_>) -> Result<(), OfficeFault>
         requires sound { IsSound (register_in self.old) }
         requires fit { IsFit (register_in self.old) change }
-        ensures made { Makes register_in (apply (register_in self.old) change.entry) self.old self.new result }
+        ensures made { CarriesOut register_in (apply (register_in self.old) change.entry) self.old self.new result }
         ensures sound { IsSound (register_in self.new) }
     {
         self.make(change)
@@ -635,6 +627,15 @@ impl Lists {
         ensures within { IfOk result (AreRowsWithin from most) }
     {
         copy_of(self.alloc, part_of(self.file_rows(side, no), from, most))
+    }
+
+    // How many octets the rows of a file have.
+    pub(crate) fn units_of(&self, side: Side, no: u64) -> u64
+        requires { IsSound (register_in self.now) }
+        ensures value { result ≡ units_of (register_in self.now) side no }
+        ensures within { result ≤ MOST_UNITS }
+    {
+        count_units(self.file_rows(side, no))
     }
 
     // All incoming files.

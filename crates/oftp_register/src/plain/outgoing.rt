@@ -5,10 +5,9 @@ ghost use Rattle.oftp_register.specs.Register.{Outgoing};
 ghost use Rattle.oftp_register.specs.Soundness.{IsSoundOutgoing};
 ghost use Rattle.oftp_register.specs.LookUps.{IsOutgoingWithin, outgoing_entry};
 ghost use Rattle.oftp_register.specs.Changes.{closing, handed, marked, refused, reopened, settled};
-ghost use Rattle.oftp_register.specs.Lists.{Makes, is_on_its_way_to, outgoing_of, to_send};
+ghost use Rattle.oftp_register.specs.Lists.{CarriesOut, is_on_its_way_to, outgoing_of, to_send};
 
 use super::incoming::Header;
-use super::units::units_of;
 use crate::change::Cause;
 use crate::entries::OutgoingEntry;
 use crate::entry::{Identity, OutgoingState, ResponseKind};
@@ -64,7 +63,7 @@ impl OutgoingFile {
 
     // So many rows are covered by credit.
     pub(crate) fn mark(&mut self, rows: u64) -> Result<(), OfficeFault>
-        ensures { Makes outgoing_of (marked rows (outgoing_of self.old)) self.old self.new result }
+        ensures { CarriesOut outgoing_of (marked rows (outgoing_of self.old)) self.old self.new result }
     {
         match self.state {
             OutgoingState::Waiting if rows <= self.rows.len() as u64 => {
@@ -77,7 +76,7 @@ impl OutgoingFile {
 
     // The end is about to be sent.
     pub(crate) fn close(&mut self) -> Result<(), OfficeFault>
-        ensures { Makes outgoing_of (closing (outgoing_of self.old)) self.old self.new result }
+        ensures { CarriesOut outgoing_of (closing (outgoing_of self.old)) self.old self.new result }
     {
         match self.state {
             OutgoingState::Waiting => {
@@ -90,7 +89,7 @@ impl OutgoingFile {
 
     // The partner has it.
     pub(crate) fn hand_over(&mut self) -> Result<(), OfficeFault>
-        ensures { Makes outgoing_of (handed (outgoing_of self.old)) self.old self.new result }
+        ensures { CarriesOut outgoing_of (handed (outgoing_of self.old)) self.old self.new result }
     {
         match self.state {
             OutgoingState::Closing => {
@@ -103,7 +102,7 @@ impl OutgoingFile {
 
     // The partner doesn't take it.
     pub(crate) fn refuse(&mut self, reason: Count<2>) -> Result<(), OfficeFault>
-        ensures { Makes outgoing_of (refused reason (outgoing_of self.old)) self.old self.new result }
+        ensures { CarriesOut outgoing_of (refused reason (outgoing_of self.old)) self.old self.new result }
     {
         match self.state {
             OutgoingState::Waiting | OutgoingState::Closing => {
@@ -116,7 +115,7 @@ impl OutgoingFile {
 
     // It is to be sent again.
     pub(crate) fn reopen(&mut self) -> Result<(), OfficeFault>
-        ensures { Makes outgoing_of (reopened (outgoing_of self.old)) self.old self.new result }
+        ensures { CarriesOut outgoing_of (reopened (outgoing_of self.old)) self.old self.new result }
     {
         match self.state {
             OutgoingState::Closing => {
@@ -141,7 +140,6 @@ impl OutgoingFile {
             longest: self.longest,
             description: self.description.again(alloc)?,
             rows: self.rows.len() as u64,
-            units: units_of(&self.rows),
             mark: self.mark,
             state: self.state,
         })

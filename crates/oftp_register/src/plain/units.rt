@@ -6,7 +6,7 @@ ghost use Rattle.oftp_vfile.specs.VirtualFile.{units_in};
 use oftp_vfile::Row;
 
 // How many octets rows have.
-pub(crate) fn units_of(rows: &[Row]) -> u64
+pub(crate) fn count_units(rows: &[Row]) -> u64
     requires { units_in rows.now < 2 ^ 64 }
     ensures { result ≡ units_in rows.now }
 {

@@ -333,7 +333,8 @@ fn a_header_is_replaced(rt: HostRuntime) -> Result<(), Fail> {
     };
     commit(&mut office, start)?;
     let found = office.look_in(&file(b"D")?)?.ok_or("no file D")?;
-    assert_eq!(rt; (found.no, found.rows, found.units), (1, 1, 3));
+    assert_eq!(rt; (found.no, found.rows), (1, 1));
+    assert_eq!(rt; office.units_of(Side::Incoming, 1)?, 3);
     assert_eq!(rt; (found.format, found.longest), (Format::Fixed, 3));
     assert_eq!(rt; found.description.as_str(), "SCHEDULE");
     Ok(())
@@ -401,7 +402,8 @@ fn a_submitted_file_is_kept_whole(rt: HostRuntime) -> Result<(), Fail> {
     assert!(rt; found.identity.is(&file(b"A")?));
     assert_eq!(rt; (found.format, found.longest), (Format::Fixed, 3));
     assert_eq!(rt; found.description.as_str(), "SCHEDULE");
-    assert_eq!(rt; (found.rows, found.units, found.mark), (2, 6, 0));
+    assert_eq!(rt; (found.rows, found.mark), (2, 0));
+    assert_eq!(rt; office.units_of(Side::Outgoing, 1)?, 6);
     let kept = rows_from(&mut office, Side::Outgoing, 0, 9, alloc)?;
     assert_eq!(rt; kept.as_str(), "abc|def|");
     Ok(())

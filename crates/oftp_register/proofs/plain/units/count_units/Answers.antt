@@ -1,6 +1,6 @@
 use Rattle.std.proofs.Common.{List, ℕ, length, ap, arith}
 use Rattle.std.proofs.lemmas.List.Folds.{length-flat_map-take}
-use Rattle.oftp_register.proofs.plain.units.units_of.Goals as goal
+use Rattle.oftp_register.proofs.plain.units.count_units.Goals as goal
 
 pub overflow_add-units : goal.overflow_add-units
 overflow_add-units c =

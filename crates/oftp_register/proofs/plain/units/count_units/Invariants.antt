@@ -1,6 +1,6 @@
 use Rattle.std.proofs.Common.{◌≡◌, take}
 use Rattle.oftp_vfile.specs.VirtualFile.{units_in}
-use Rattle.oftp_register.proofs.plain.units.units_of.Given as goal
+use Rattle.oftp_register.proofs.plain.units.count_units.Given as goal
 
 -- the rows so far are counted
 abbrev pub invariant-loop-row : goal.invariant-loop-row
