@@ -12,11 +12,11 @@ use Rattle.sqlite.specs.Command.{Command}
 use Rattle.sqlite.specs.Command.TheVariants.{Select}
 use Rattle.sqlite.specs.Listing.{understood, reads_listing}
 use Rattle.sqlite.specs.State.{State, CommitsShowing, FailsToQuery, HasCleanDisk, IsUnchanged, Shown, Survives}
-use Rattle.sqlite.proofs.Callers.{IsPlain, command_of, never_commits, one_permutation, reads_as}
+use Rattle.sqlite.proofs.Callers.{IsPlain, command_of, one_permutation, reads_as}
 use Rattle.oftp_schema.specs.Schema.{about_tree, first_schema, no_schema, office_schema}
 use Rattle.oftp_schema.specs.Making.{HasAbout, about_rows, about_told}
 use Rattle.oftp_schema.specs.Calls.{IsSpared}
-use Rattle.oftp_schema.proofs.CallLemmas.{spared_query, unchanged_query}
+use Rattle.oftp_schema.proofs.CallLemmas.{query_leaves, spared_query, unchanged_query}
 use Rattle.sqlite.specs.declared.error.Error.{Error}
 use Rattle.oftp_schema.proofs.QueryLemmas.{plain_query, chosen, answers}
 
@@ -76,7 +76,7 @@ module _ (old new : State) (has : HasAbout old.now.schema) where
   about_failed e fails = spared_query query_text [] old new e (meant old.now.schema has).plain fails
 
   pub about_leaves : Survives old new (CommitsShowing query_text [] old) → HasCleanDisk new → (db : Trees) → new.may_leave db → old.may_leave db
-  about_leaves survives clean db h = elim (survives.crash clean db h) [ inl before ↦ before | inr now ↦ absurd (never_commits query_text [] old db (meant old.now.schema has).plain now) ]
+  about_leaves survives = query_leaves query_text [] old new (meant old.now.schema has).plain survives
 
   pub about_told_by : (schema : ℕ) (rows : List Row) → Shown query_text [] old new rows → IsTold schema old.now.trees rows
   about_told_by schema rows shown = finds_about schema old new rows has shown

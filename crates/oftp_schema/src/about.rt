@@ -34,8 +34,8 @@ fn tells(rows: &[Row], schema: u32) -> bool
     }
 }
 
-// Whether `about` tells a schema.
-pub(crate) fn about_tells<S: Alter>(conn: &mut Connection<S>, schema: u32) -> Result<bool, Error>
+/// Whether `about` tells a schema.
+pub fn about_tells<S: Alter>(conn: &mut Connection<S>, schema: u32) -> Result<bool, Error>
     requires has { HasAbout conn.old.schema }
     requires autocommit { conn.old.in_transaction ≡ false }
     ensures mode { conn.new.in_transaction ≡ false }

@@ -15,8 +15,8 @@ pub enum StoreFault {
     WrongSchema,
 }
 
-// A failed call of the store.
-pub(crate) fn fault_of(error: Error) -> StoreFault
+/// The fault that a failed call of the store is.
+pub fn fault_of(error: Error) -> StoreFault
     ensures { result ≢ StoreFault.WrongSchema }
 {
     match error {

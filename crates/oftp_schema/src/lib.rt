@@ -7,5 +7,8 @@ mod make;
 mod open;
 mod shape;
 
-pub use fault::StoreFault;
+pub use about::about_tells;
+pub use fault::{StoreFault, fault_of};
+pub use make::make_table;
 pub use open::prepare;
+pub use shape::{is_first, is_ours};

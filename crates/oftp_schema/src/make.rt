@@ -41,8 +41,8 @@ fn text_of(at: usize) -> &'static str
     }
 }
 
-// Makes one table, which its place in the order of making names.
-pub(crate) fn make_table<S: Alter>(tx: &mut Transaction<'_, S>, at: usize) -> Result<usize, Error>
+/// Makes one table, which its place in the order of making names.
+pub fn make_table<S: Alter>(tx: &mut Transaction<'_, S>, at: usize) -> Result<usize, Error>
     requires { at < 8 }
     ensures same_reference { tx.new.conn.ghost_name ≡ tx.old.conn.ghost_name }
     ensures runs { Runs (HasTables at) (Creates at) (state S.Store tx.old.conn.now) (state S.Store tx.new.conn.now) result }
