@@ -11,3 +11,4 @@ pub mod TxLemmas
 pub mod SplitLemmas
 pub mod StatementLemmas
 pub mod LandLemmas
+pub mod RowLemmas

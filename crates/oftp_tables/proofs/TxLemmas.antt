@@ -1,9 +1,9 @@
 -- How statements make a transaction over the office's tables.
-use Rattle.std.proofs.Common.{◌≡◌, true, false, Result, Ok, Err, OnOk, OnErr, IfErr, IsTrue, [], inl, inr, refl, sym, ap, subst, ◌∙◌}
+use Rattle.std.proofs.Common.{arith, ◌≡◌, true, false, Result, Ok, Err, OnOk, OnErr, IfErr, IsTrue, [], inl, inr, refl, sym, ap, subst, ◌∙◌}
 use Rattle.sqlite.specs.Tree.{Trees}
 use Rattle.sqlite.specs.Effect.{Database, IsDatabase}
 use Rattle.sqlite_catalog.specs.Listing.{IsSound}
-use Rattle.sqlite.specs.State.{State, Shows, KeepsCounts}
+use Rattle.sqlite.specs.State.{State, Shows, KeepsCounts, Survives}
 use Rattle.sqlite.specs.Steps.{FailsToCommit}
 use Rattle.sqlite.specs.declared.error.Error.{Error}
 use Rattle.oftp_schema.specs.Calls.{IsUndone}
@@ -56,3 +56,13 @@ begins old ours = record { is_open = ours.is_open; inside = refl; schema = ours.
 pub stays_inside : (Made : Trees → Trees → Type 0) (old new : State) → Moves Made old new → IsInside new
 stays_inside Made old new moved = record { is_open = moved.shown.is_open; inside = moved.shown.mode; schema = moved.schema; store = moved.store }
 
+-- nothing was done
+pub survives_none : (s : State) → Survives s s (λ _. ⊥)
+survives_none s = record {
+  clean = omega arith;
+  shield = λ h. h;
+  counts = omega arith;
+  limit = refl;
+  closes = λ k h. inl h;
+  crash = λ k db h. inl h;
+}
