@@ -3,9 +3,9 @@ use Rattle.sqlite.specs.Effect.{Database}
 use Rattle.sqlite.specs.Held.{state}
 use Rattle.sqlite.specs.State.{HasCleanDisk, IsUnchanged}
 use Rattle.oftp_schema.specs.Schema.{first_schema}
-use Rattle.oftp_migrate.specs.Steps.{AreNegatives}
-use Rattle.oftp_migrate.proofs.StepLemmas.{leaves_migrated}
-use Rattle.oftp_migrate.proofs.first.renew.Goals as goal
+use Rattle.oftp_open.specs.Steps.{AreNegatives}
+use Rattle.oftp_open.proofs.StepLemmas.{leaves_migrated}
+use Rattle.oftp_open.proofs.first.renew.Goals as goal
 
 pub returns-clause-left : goal.returns-clause-left
 returns-clause-left g c clean is_open has db h =

@@ -12,7 +12,7 @@ use Rattle.oftp_schema.specs.Schema.{about_tree, note_tree, office_schema}
 use Rattle.oftp_schema.specs.Making.{about_row}
 use Rattle.oftp_tables.specs.Tables.{Tables, number_value}
 use Rattle.oftp_tables.proofs.StatementLemmas.{Others}
-use Rattle.oftp_migrate.specs.First.{FirstTables, less_texts}
+use Rattle.oftp_open.specs.First.{FirstTables, less_texts}
 
 -- the numbers of the negative responses among these, which are numbered from a number on, as rows of one value
 

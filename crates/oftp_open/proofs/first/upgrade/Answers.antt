@@ -3,9 +3,9 @@ use Rattle.sqlite.specs.Effect.{Database}
 use Rattle.oftp_schema.specs.Schema.{office_schema}
 use Rattle.oftp_schema.specs.Making.{Creates, HasTables}
 use Rattle.oftp_schema.proofs.TxLemmas.{runs_then, runs_whatever}
-use Rattle.oftp_migrate.specs.Steps.{AddsNotes, SetsSchema, Upgrades}
-use Rattle.oftp_migrate.proofs.StepLemmas.{notes_made, upgrades}
-use Rattle.oftp_migrate.proofs.first.upgrade.Goals as goal
+use Rattle.oftp_open.specs.Steps.{AddsNotes, SetsSchema, Upgrades}
+use Rattle.oftp_open.proofs.StepLemmas.{notes_made, upgrades}
+use Rattle.oftp_open.proofs.first.upgrade.Goals as goal
 
 pub returns-clause-runs : goal.returns-clause-runs
 returns-clause-runs g c =

@@ -2,9 +2,9 @@ use Rattle.std.proofs.Common.{◌≡◌, [], ◌∷◌}
 use Rattle.oftp_schema.specs.Schema.{office_schema}
 use Rattle.oftp_schema.proofs.TxLemmas.{statement_runs}
 use Rattle.oftp_tables.specs.Tables.{number_value}
-use Rattle.oftp_migrate.specs.Steps.{SetsSchema}
-use Rattle.oftp_migrate.proofs.StepLemmas.{schema_text, sets_schema}
-use Rattle.oftp_migrate.proofs.first.set_schema.Goals as goal
+use Rattle.oftp_open.specs.Steps.{SetsSchema}
+use Rattle.oftp_open.proofs.StepLemmas.{schema_text, sets_schema}
+use Rattle.oftp_open.proofs.first.set_schema.Goals as goal
 
 pub returns-clause-runs : goal.returns-clause-runs
 returns-clause-runs g c =

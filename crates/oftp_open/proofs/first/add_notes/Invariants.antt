@@ -3,8 +3,8 @@ use Rattle.sqlite.specs.Held.{state}
 use Rattle.sqlite.specs.declared.error.Error.{Error}
 use Rattle.oftp_schema.specs.Schema.{office_schema}
 use Rattle.oftp_schema.specs.Calls.{Runs}
-use Rattle.oftp_migrate.specs.Steps.{AddsNotes}
-use Rattle.oftp_migrate.proofs.first.add_notes.Given as goal
+use Rattle.oftp_open.specs.Steps.{AddsNotes}
+use Rattle.oftp_open.proofs.first.add_notes.Given as goal
 
 abbrev pub invariant-notes : goal.invariant-notes
 invariant-notes g l =

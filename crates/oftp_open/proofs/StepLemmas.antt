@@ -30,8 +30,8 @@ use Rattle.oftp_schema.proofs.WriteLemmas.{inserts}
 use Rattle.oftp_tables.specs.Tables.{HoldIncoming, HoldOutgoing, note_if_negative, notes_from, number_value, received_row, rows_from}
 use Rattle.oftp_tables.proofs.SplitLemmas.{IsBelow, put_between}
 use Rattle.oftp_tables.proofs.StatementLemmas.{by_number_program, updates_row}
-use Rattle.oftp_migrate.specs.First.{FirstTables, IsMigrated}
-use Rattle.oftp_migrate.specs.Steps.{AddsNotes, AreNegatives, IsNumber, SetsSchema, Upgrades, empty_note, number_if_negative, numbers_from, put_notes}
+use Rattle.oftp_open.specs.First.{FirstTables, IsMigrated}
+use Rattle.oftp_open.specs.Steps.{AddsNotes, AreNegatives, IsNumber, SetsSchema, Upgrades, empty_note, number_if_negative, numbers_from, put_notes}
 
 -- ---- one note
 

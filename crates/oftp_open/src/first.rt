@@ -9,8 +9,8 @@ ghost use Rattle.sqlite.specs.State.{HasCleanDisk, IsUnchanged};
 ghost use Rattle.oftp_schema.specs.Schema.{first_schema, office_schema};
 ghost use Rattle.oftp_schema.specs.Calls.{IsSpared, MayLeave, Runs, Transacts};
 ghost use Rattle.oftp_schema.specs.Making.{HasFirst, HasOffice, IsAsBefore};
-ghost use Rattle.oftp_migrate.specs.First.{IsCommitted, IsMigrated};
-ghost use Rattle.oftp_migrate.specs.Steps.{AddsNotes, AreNegatives, SetsSchema, Upgrades};
+ghost use Rattle.oftp_open.specs.First.{IsCommitted, IsMigrated};
+ghost use Rattle.oftp_open.specs.Steps.{AddsNotes, AreNegatives, SetsSchema, Upgrades};
 
 use oftp_schema::{StoreFault, about_tells, fault_of, is_first, is_ours, make_table};
 use sqlite::{Alter, Connection, Error, Row, Transaction, params};
@@ -99,14 +99,8 @@ fn renew<S: Alter>(conn: &mut Connection<S>) -> Result<(), Error>
     upgrade_at_once(conn, numbers.as_slice())
 }
 
-/// Brings a store of schema 1 to schema 2, in one transaction: the table `received_note`, with one row of two empty texts for each
-/// received negative response, and `about`. A store of schema 2 is found.
-///
-/// # Errors
-///
-/// [`StoreFault::WrongSchema`] exactly where the store has neither schema, and also where it has no table; it is then as it was.
-/// After another fault the store has the tables that it had, or those of schema 2; `migrate` is called again.
-pub fn migrate<S: Alter>(conn: &mut Connection<S>) -> Result<(), StoreFault>
+// Brings a store of schema 1 to schema 2, or finds one of schema 2.
+pub(crate) fn bring<S: Alter>(conn: &mut Connection<S>) -> Result<(), StoreFault>
     requires { conn.old.in_transaction ≡ false }
     ensures mode { conn.new.in_transaction ≡ false }
     ensures clean { doubt (state S.Store conn.old).is_clean ≤ doubt (state S.Store conn.new).is_clean }

@@ -2,9 +2,9 @@ use Rattle.std.proofs.Common.{◌≡◌, ◌∙◌, ◌+◌, [], ◌∷◌, take
 use Rattle.sqlite.specs.Effect.{Database}
 use Rattle.oftp_schema.specs.Schema.{office_schema}
 use Rattle.oftp_schema.proofs.TxLemmas.{nothing_runs, runs_then, runs_whatever}
-use Rattle.oftp_migrate.specs.Steps.{AddsNotes}
-use Rattle.oftp_migrate.proofs.StepLemmas.{no_notes, next_note}
-use Rattle.oftp_migrate.proofs.first.add_notes.Goals as goal
+use Rattle.oftp_open.specs.Steps.{AddsNotes}
+use Rattle.oftp_open.proofs.StepLemmas.{no_notes, next_note}
+use Rattle.oftp_open.proofs.first.add_notes.Goals as goal
 
 pub notes-init : goal.notes-init
 notes-init g c = record { same_reference = refl; runs = nothing_runs (λ db. db.schema ≡ office_schema) (AddsNotes []) _ _ no_notes }

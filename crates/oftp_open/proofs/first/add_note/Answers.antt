@@ -3,9 +3,9 @@ use Rattle.sqlite.specs.Order.{column}
 use Rattle.sqlite.specs.Values.{bound_value}
 use Rattle.oftp_schema.specs.Schema.{office_schema}
 use Rattle.oftp_schema.proofs.TxLemmas.{statement_runs}
-use Rattle.oftp_migrate.specs.Steps.{AddsNotes}
-use Rattle.oftp_migrate.proofs.StepLemmas.{adds_note, note_text}
-use Rattle.oftp_migrate.proofs.first.add_note.Goals as goal
+use Rattle.oftp_open.specs.Steps.{AddsNotes}
+use Rattle.oftp_open.proofs.StepLemmas.{adds_note, note_text}
+use Rattle.oftp_open.proofs.first.add_note.Goals as goal
 
 pub returns-clause-runs : goal.returns-clause-runs
 returns-clause-runs g c =

@@ -28,7 +28,7 @@ use Rattle.oftp_schema.proofs.TermLemmas.{equal, equal_texts}
 use Rattle.oftp_tables.specs.Tables.{kind_text, number_value, received_row, rows_from}
 use Rattle.oftp_tables.proofs.OrderedLemmas.{less}
 use Rattle.oftp_tables.proofs.SortedLemmas.{ordered_query, found, answers_in_order}
-use Rattle.oftp_migrate.specs.Steps.{AreNegatives, number_if_negative, numbers_from}
+use Rattle.oftp_open.specs.Steps.{AreNegatives, number_if_negative, numbers_from}
 
 abbrev pub negatives_text : List ℕ
 negatives_text = codes "SELECT no FROM received WHERE kind = 'NERP' ORDER BY no"

@@ -3,8 +3,8 @@ use Rattle.std.specs.declared.alloc.Global.{Global}
 use Rattle.sqlite.specs.Order.{Row}
 use Rattle.oftp_schema.proofs.CallLemmas.{query_leaves, unchanged_query}
 use Rattle.oftp_schema.proofs.SchemaLemmas.{if_ok}
-use Rattle.oftp_migrate.proofs.NumberLemmas.{finds_negatives, negatives_text, on_shown, plain_at}
-use Rattle.oftp_migrate.proofs.first.find_negatives.Goals as goal
+use Rattle.oftp_open.proofs.NumberLemmas.{finds_negatives, negatives_text, on_shown, plain_at}
+use Rattle.oftp_open.proofs.first.find_negatives.Goals as goal
 
 pub returns-clause-same : goal.returns-clause-same
 returns-clause-same g c clean has = on_shown _ _ _ (c.query_all.ensures.ok clean) (λ (rows : Vec Row Global). unchanged_query negatives_text [] _ _ rows.items (plain_at _ has))
