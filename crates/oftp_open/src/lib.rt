@@ -3,5 +3,7 @@
 
 mod first;
 mod open;
+#[cfg(test)]
+mod tests;
 
 pub use open::{migrate_tables, open_tables};
