@@ -64,7 +64,8 @@ office_at r s ours at =
 
 -- ---- what it stands for then
 
-stands : (r : Register) (s : State) → IsTrue s.is_open → s.in_transaction ≡ false → s.now ≡ s.committed → s.now.schema ≡ office_schema → IsDatabase s.now → Tables r s.now.trees → IsSound r → StandsFor r s
+stands : (r : Register) (s : State) → IsTrue s.is_open → s.in_transaction ≡ false → s.now ≡ s.committed → s.now.schema ≡ office_schema → IsDatabase s.now → Tables r s.now.trees → IsSound r
+    → StandsFor r s
 stands r s is_open autocommit settled schema store tables sound =
     let is : register_in r.limits s.now.trees ≡ r = register_of r s.now.trees tables sound in (
       record {
@@ -98,7 +99,8 @@ opens r old new (Ok x) mode at (inl none) made found = let it = made none in sta
 opens r old new (Ok x) mode at (inr ours) made found = stands_found r old new ours mode at (found ours)
 opens r old new (Err e) mode at known made found = tt
 
-pub finds : {E : Type 0} (r : Register) (old new : State) (result : Result (Unit {0}) E) → old.in_transaction ≡ false → IsAt r old → HasOffice old.now → OnOk result (IsUnchanged old new) → OnOk result (StandsFor r new)
+pub finds : {E : Type 0} (r : Register) (old new : State) (result : Result (Unit {0}) E) → old.in_transaction ≡ false → IsAt r old → HasOffice old.now → OnOk result (IsUnchanged old new)
+    → OnOk result (StandsFor r new)
 finds r old new (Ok x) mode at ours same = stands_found r old new ours mode at same
 finds r old new (Err e) mode at ours same = tt
 
@@ -124,7 +126,8 @@ has_first r s at = record {
 migrated_tables : (r : Register) (old : State) (new : Database) → IsAtFirst r old → IsMigrated old.now new → Tables r new.trees
 migrated_tables r old new at made = subst (λ (x : Register). Tables x new.trees) at.content.textless (made.tables r at.content.tables)
 
-pub migrates : {E : Type 0} (r : Register) (old new : State) (result : Result (Unit {0}) E) → IsAtFirst r old → OnOk result (IsMigrated old.now new.now × IsCommitted old new) → OnOk result (StandsFor r new)
+pub migrates : {E : Type 0} (r : Register) (old new : State) (result : Result (Unit {0}) E) → IsAtFirst r old → OnOk result (IsMigrated old.now new.now × IsCommitted old new)
+    → OnOk result (StandsFor r new)
 migrates r old new (Ok x) at made =
     let shown = made.1 in
     stands r new shown.is_open shown.mode (sym shown.committed_is) made.0.schema made.0.sound (migrated_tables r old new.now at made.0) at.content.sound

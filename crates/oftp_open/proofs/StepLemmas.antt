@@ -55,10 +55,12 @@ note_plain : IsPlain (understood office_schema note_text)
 unfolding understood everything
 note_plain = (refl, refl)
 
-note_cast : (number : Row) (rows : List Row) → IsNumber number → put_row (with_rowid Chosen rows (cast_row notes (bound_value (column number 0) ∷ Null ∷ Text [] ∷ Text [] ∷ []))) rows ≡ put_row (empty_note number) rows
+note_cast : (number : Row) (rows : List Row) → IsNumber number
+    → put_row (with_rowid Chosen rows (cast_row notes (bound_value (column number 0) ∷ Null ∷ Text [] ∷ Text [] ∷ []))) rows ≡ put_row (empty_note number) rows
 note_cast number rows it = rw it.is (simp (cast_null, cast_int))
 
-pub adds_note : (old new : State) (number : Row) (count : ℕ) → old.now.schema ≡ office_schema → ExecutesInside 0 note_text (bound_value (column number 0) ∷ []) old new (Ok count) → AddsNotes (number ∷ []) old.now new.now
+pub adds_note : (old new : State) (number : Row) (count : ℕ) → old.now.schema ≡ office_schema → ExecutesInside 0 note_text (bound_value (column number 0) ∷ []) old new (Ok count)
+    → AddsNotes (number ∷ []) old.now new.now
 adds_note old new number count has h =
     let params = bound_value (column number 0) ∷ [] in
     let text = statement_of note_text (understood office_schema note_text) in
@@ -79,7 +81,8 @@ all_first : (P : Row → Type 0) (xs : List Row) (x : Row) → AllByRecursion P 
 all_first P [] x all = (tt, all.0)
 all_first P (y ∷ xs) x all = let more = all_first P xs x all.1 in ((all.0, more.0), more.1)
 
-others_then : (tree : ℕ) (a b c : Trees) (ts : List Table) → AllByRecursion (λ (t : Table). (t.tree ≡ tree → ⊥) → b t.tree ≡ a t.tree) ts → AllByRecursion (λ (t : Table). (t.tree ≡ tree → ⊥) → c t.tree ≡ b t.tree) ts
+others_then : (tree : ℕ) (a b c : Trees) (ts : List Table) → AllByRecursion (λ (t : Table). (t.tree ≡ tree → ⊥) → b t.tree ≡ a t.tree) ts
+    → AllByRecursion (λ (t : Table). (t.tree ≡ tree → ⊥) → c t.tree ≡ b t.tree) ts
     → AllByRecursion (λ (t : Table). (t.tree ≡ tree → ⊥) → c t.tree ≡ a t.tree) ts
 others_then tree a b c [] one two = tt
 others_then tree a b c (t ∷ ts) one two = (λ other. two.0 other ∙ one.0 other, others_then tree a b c ts one.1 two.1)
@@ -185,7 +188,8 @@ upgrades numbers a b c d made noted set = record {
       let seven : a.trees 7 ≡ d.trees 7 = sym (to_d.1.1.1.1.0 (λ e. omega (arith, e)) ∙ to_c.1.1.1.1.0 (λ e. omega (arith, e)) ∙ kept.1.1.1.1.0) in
       let nine : a.trees 9 ≡ d.trees 9 = sym (to_d.1.1.1.1.1.0 (λ e. omega (arith, e)) ∙ to_c.1.1.1.1.1.0 (λ e. omega (arith, e)) ∙ kept.1.1.1.1.1.0) in
       let ten : d.trees 10 ≡ a.trees 10 = to_d.1.1.1.1.1.1.0 (λ e. omega (arith, e)) ∙ to_c.1.1.1.1.1.1.0 (λ e. omega (arith, e)) ∙ kept.1.1.1.1.1.1.0 in
-      let notes : d.trees 12 ≡ put_notes numbers [] = to_d.1.1.1.1.1.1.1.0 (λ e. omega (arith, e)) ∙ noted.notes (subst (AllByRecursion IsNumber) (sym is) (are_numbers 1 r.received)) ∙ ap (put_notes numbers) made.empty in
+      let notes : d.trees 12 ≡ put_notes numbers [] =
+      to_d.1.1.1.1.1.1.1.0 (λ e. omega (arith, e)) ∙ noted.notes (subst (AllByRecursion IsNumber) (sym is) (are_numbers 1 r.received)) ∙ ap (put_notes numbers) made.empty in
       record {
         about = set.about (to_c.0 (λ e. omega (arith, e)) ∙ kept.0 ∙ first.about);
         incoming = subst (holds (d.trees 1) (d.trees 3)) nine (subst (λ rows. holds (d.trees 1) rows (a.trees 9)) three (subst (λ files. holds files (a.trees 3) (a.trees 9)) one first.incoming));

@@ -48,7 +48,8 @@ pub fn migrate_tables<S: Alter>(conn: &mut Connection<S>) -> Result<(), StoreFau
     ensures known { HasCleanDisk (state S.Store conn.new) → OnOk result (HasFirst (state S.Store conn.old).now ⊎ HasOffice (state S.Store conn.old).now) }
     ensures wrong { HasCleanDisk (state S.Store conn.new) → IfErr result (λ fault. fault ≡ StoreFault.WrongSchema
         → ¬ (HasFirst (state S.Store conn.old).now ⊎ HasOffice (state S.Store conn.old).now) × IsAsBefore (state S.Store conn.old) (state S.Store conn.new)) }
-    ensures found { HasCleanDisk (state S.Store conn.new) → (r : Register) → IsAt r (state S.Store conn.old) → HasOffice (state S.Store conn.old).now → OnOk result (StandsFor r (state S.Store conn.new)) }
+    ensures found { HasCleanDisk (state S.Store conn.new) → (r : Register) → IsAt r (state S.Store conn.old) → HasOffice (state S.Store conn.old).now
+        → OnOk result (StandsFor r (state S.Store conn.new)) }
     ensures migrated { HasCleanDisk (state S.Store conn.new) → (r : Register) → IsAtFirst r (state S.Store conn.old) → OnOk result (StandsFor r (state S.Store conn.new)) }
     ensures left { HasCleanDisk (state S.Store conn.new) → (r : Register) → IsAtFirst r (state S.Store conn.old) → (db : Trees) → (state S.Store conn.new).may_leave db
         → (state S.Store conn.old).may_leave db ⊎ IsContentOf db r }

@@ -60,7 +60,8 @@ spared_write sql params old new e (inr h) =
     ]
 
 -- what a text of a known meaning may commit
-pub commits_as : (sql : List ℕ) (params : Row) (s : State) (schema : Schema) → s.now.schema ≡ schema → (command : Command) → command_of (understood schema sql) ≡ command → IsPlain (understood schema sql)
+pub commits_as : (sql : List ℕ) (params : Row) (s : State) (schema : Schema) → s.now.schema ≡ schema → (command : Command) → command_of (understood schema sql) ≡ command
+    → IsPlain (understood schema sql)
     → (db : Trees) → CommitsBy sql params s db → MayCommit s None command (statement_of sql (understood schema sql)) params db
 unfolding CommitsBy
 commits_as sql params s schema has command is plain db h =

@@ -86,7 +86,8 @@ defined_same t i j (Text sql) few tree p q =
     p.2 ∙ ap (λ n. let it : Index = record p.0 { tree = n; table = t.tree } in it) tree ∙ ap (λ (m : Index). let it : Index = record m { tree = j.tree; table = t.tree } in it) made ∙ sym q.2
 defined_same t i j (Blob b) few tree p q = absurd p
 
-index_same : (ts : List Table) → IsAscending (λ (s t : Table). same_name s.name t.name ≡ false) ts → AllByRecursion (λ (t : Table). length t.uniques ≤ 1) ts → (row : Row) (i j : Index) → IsIndexRow ts row i → IsIndexRow ts row j → i ≡ j
+index_same : (ts : List Table) → IsAscending (λ (s t : Table). same_name s.name t.name ≡ false) ts → AllByRecursion (λ (t : Table). length t.uniques ≤ 1) ts → (row : Row) (i j : Index)
+    → IsIndexRow ts row i → IsIndexRow ts row j → i ≡ j
 index_same ts named few row i j p q =
     let owner = same_words _ p.table.name q.table.name p.described.owner_is q.described.owner_is in
     let table : p.table ≡ q.table = one_table ts p.table q.table named p.listed q.listed owner in
@@ -104,7 +105,8 @@ schema_is ours s db unviewed few ours_is theirs =
     let objects = db catalog_tree in
     let tables : s.tables ≡ ours.tables = zip_same IsTableRow IsTableRow table_same (filter is_table_row objects) s.tables ours.tables q.tables p.tables in
     let theirs_indexes : AllZip (IsIndexRow ours.tables) (filter is_index_row objects) s.indexes = subst (λ ts. AllZip (IsIndexRow ts) (filter is_index_row objects) s.indexes) tables q.indexes in
-    let indexes : s.indexes ≡ ours.indexes = zip_same (IsIndexRow ours.tables) (IsIndexRow ours.tables) (index_same ours.tables p.named few) (filter is_index_row objects) s.indexes ours.indexes theirs_indexes p.indexes in
+    let indexes : s.indexes ≡ ours.indexes =
+    zip_same (IsIndexRow ours.tables) (IsIndexRow ours.tables) (index_same ours.tables p.named few) (filter is_index_row objects) s.indexes ours.indexes theirs_indexes p.indexes in
     let views : s.views ≡ [] = no_views (filter is_view_row objects) s.views (subst (λ ws. AllZip IsViewRow (filter is_view_row objects) ws) unviewed p.views) q.views in
     ap (λ ts. let it : Schema = record { tables = ts; indexes = s.indexes; views = s.views } in it) tables ∙ ap (λ is. let it : Schema = record { tables = ours.tables; indexes = is; views = s.views } in it) indexes
     ∙ ap (λ ws. let it : Schema = record { tables = ours.tables; indexes = ours.indexes; views = ws } in it) (views ∙ sym unviewed)

@@ -21,7 +21,8 @@ inside_err sql params old new e (inl h) = spared_keeps old new h.1
 inside_err sql params old new e (inr h) = record { was_open = λ _. h.2.0.was_open; committed = λ _. h.2.0.committed_is }
 
 -- a failed statement, in a transaction or past its end
-pub keeps_on : (sql : List ℕ) (params : Row) (old new : State) (result : Result ℕ Error) → (old.in_transaction ≡ false → KeepsCommit old new) → (IsTrue old.in_transaction → ExecutesInside 0 sql params old new result) → OnErr result (KeepsCommit old new)
+pub keeps_on : (sql : List ℕ) (params : Row) (old new : State) (result : Result ℕ Error) → (old.in_transaction ≡ false → KeepsCommit old new)
+    → (IsTrue old.in_transaction → ExecutesInside 0 sql params old new result) → OnErr result (KeepsCommit old new)
 keeps_on sql params old new (Ok count) ended runs = tt
 keeps_on sql params old new (Err e) ended runs =
     elim (cases_Bool old.in_transaction) [
@@ -30,7 +31,8 @@ keeps_on sql params old new (Err e) ended runs =
     ]
 
 -- a statement that ran did so in a transaction
-pub ran_on : (sql : List ℕ) (params : Row) (old new : State) (result : Result ℕ Error) (e : Error) (P : Type 0) → (old.in_transaction ≡ false → result ≡ Err e) → (IsTrue old.in_transaction → ExecutesInside 0 sql params old new result)
+pub ran_on : (sql : List ℕ) (params : Row) (old new : State) (result : Result ℕ Error) (e : Error) (P : Type 0) → (old.in_transaction ≡ false → result ≡ Err e)
+    → (IsTrue old.in_transaction → ExecutesInside 0 sql params old new result)
     → ((count : ℕ) → ExecutesInside 0 sql params old new (Ok count) → P) → OnOk result P
 ran_on sql params old new (Err e) other P ended runs then = tt
 ran_on sql params old new (Ok count) e P ended runs then =
@@ -89,7 +91,8 @@ runs_weaker Before Known Made Then old new result knows makes one = record {
 }
 
 -- no statement
-pub nothing_runs : {T E : Type 0} (Before : Database → Type 0) (Made : Database → Database → Type 0) (s : State) (result : Result T E) → ((d : Database) → Before d → Made d d) → Runs Before Made s s result
+pub nothing_runs : {T E : Type 0} (Before : Database → Type 0) (Made : Database → Database → Type 0) (s : State) (result : Result T E) → ((d : Database) → Before d → Made d d)
+    → Runs Before Made s s result
 nothing_runs Before Made s result made = record {
   done = λ clean within before. on_ok result _ (made s.now before, record { was_open = within.is_open; is_open = within.is_open; now_is = refl; committed_is = refl; mode = within.inside });
   failed = λ clean within before. on_err result _ (record { was_open = λ h. h; committed = λ h. refl });
@@ -117,11 +120,13 @@ runs_then Before Between First Next Both a b c x result so both one two = record
     inside stays = record { is_open = stays.is_open; inside = stays.mode }
 
 -- whatever they told
-pub runs_whatever : {T U E F : Type 0} (Before : Database → Type 0) (Made : Database → Database → Type 0) (old new : State) (x : T) (y : U) → Runs {E = E} Before Made old new (Ok x) → Runs {E = F} Before Made old new (Ok y)
+pub runs_whatever : {T U E F : Type 0} (Before : Database → Type 0) (Made : Database → Database → Type 0) (old new : State) (x : T) (y : U) → Runs {E = E} Before Made old new (Ok x)
+    → Runs {E = F} Before Made old new (Ok y)
 runs_whatever Before Made old new x y one = record { done = one.done; failed = λ clean within before. tt; survives = one.survives }
 
 -- the first of them failed
-pub runs_fails : {T U E F : Type 0} (Before : Database → Type 0) (Made Other : Database → Database → Type 0) (old new : State) (e : E) (f : F) → Runs {T = T} Before Made old new (Err e) → Runs {T = U} Before Other old new (Err f)
+pub runs_fails : {T U E F : Type 0} (Before : Database → Type 0) (Made Other : Database → Database → Type 0) (old new : State) (e : E) (f : F) → Runs {T = T} Before Made old new (Err e)
+    → Runs {T = U} Before Other old new (Err f)
 runs_fails Before Made Other old new e f one = record { done = λ clean within before. tt; failed = one.failed; survives = one.survives }
 
 -- ---- the transaction
