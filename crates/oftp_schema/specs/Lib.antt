@@ -1,0 +1,4 @@
+pub mod Schema
+pub mod Shape
+pub mod Calls
+pub mod Making

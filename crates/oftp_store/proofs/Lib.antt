@@ -1,0 +1,5 @@
+mod EditTexts
+mod EditLemmas
+mod RowEditLemmas
+mod ReceivedEditLemmas
+mod TransactionLemmas

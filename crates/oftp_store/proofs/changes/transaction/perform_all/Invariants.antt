@@ -1,0 +1,16 @@
+use Rattle.std.proofs.Common.{◌≡◌, take}
+use Rattle.sqlite.specs.State.{HasCleanDisk, Survives}
+use Rattle.sqlite.specs.Held.{state}
+use Rattle.oftp_tables.specs.Calls.{IsInside, Moves}
+use Rattle.oftp_store.specs.Edits.{MakesAll}
+use Rattle.oftp_store.proofs.changes.transaction.perform_all.Given as goal
+
+abbrev pub invariant-edits : goal.invariant-edits
+invariant-edits g l =
+    let old = state g.S.Store l.fn.tx.conn.now in
+    let now = state g.S.Store l.tx.conn.now in
+    record {
+      same_reference : l.tx.conn.ghost_name ≡ l.fn.tx.conn.ghost_name;
+      survives : Survives old now (λ _. ⊥);
+      kept : HasCleanDisk now → IsInside old → Moves (MakesAll (take l.edit-index l.edits)) old now;
+    }

@@ -1,0 +1,104 @@
+-- What the edits of a transaction make of a register.
+use Rattle.std.specs.Prelude.{◌≡◌, ◌+◌, ◌<◌, ◌^◌, ℕ, List, [], ◌∷◌, ◌++◌, length, take, Option, Some, None, ⊤}
+use Rattle.sqlite.specs.Tree.{Trees}
+use Rattle.oftp_register.specs.declared.entry.Dispatch.TheVariants.{Due, Sent}
+use Rattle.oftp_register.specs.declared.entry.IncomingState.TheVariants.{Open, Whole}
+use Rattle.oftp_register.specs.declared.entry.OutgoingState.TheVariants.{Waiting}
+use Rattle.oftp_register.specs.declared.entries.Side.{Side}
+use Rattle.oftp_register.specs.declared.entries.Side.TheVariants as side
+use Rattle.oftp_register.specs.Register.{Register, Incoming, Issued, Outgoing, Received}
+use Rattle.std.specs.List.{AllByRecursion}
+use Rattle.oftp_register.specs.declared.entry.Identity.{Identity}
+use Rattle.oftp_register.specs.declared.entry.ResponseKind.{ResponseKind}
+use Rattle.oftp_register.specs.declared.entry.ResponseKind.TheVariants.{NegativeEndResponse}
+use Rattle.oftp_schema.specs.Schema.{about_tree, in_file_tree, in_row_tree, issued_tree, note_tree, out_file_tree, out_row_tree, received_tree}
+use Rattle.oftp_tables.specs.Tables.{HoldIncoming, HoldOutgoing, Tables, about_row, notes_from, received_row, rows_from}
+use Rattle.oftp_store.specs.declared.changes.edit.Edit.{Edit}
+use Rattle.oftp_store.specs.declared.changes.edit.Deed.{Deed}
+use Rattle.oftp_store.specs.declared.changes.edit.Deed.TheVariants.{AddIncoming, AddOutgoing, SetHeader, SetWhole, SetOutgoing, AddRows, CutRows, AddIssued, SetSent, AddReceived}
+
+-- the incoming file with a number, of which a fact holds, is another
+pub record ChangesIncoming (n : ℕ) (Was : Incoming → Type 0) (change : Incoming → Incoming) (r s : Register) : Type 0 where
+  pub before : List Incoming
+  pub file : Incoming
+  pub after : List Incoming
+  pub here : r.incoming ≡ before ++ file ∷ after
+  pub number : n ≡ 1 + length before
+  pub was : Was file
+  pub now : s ≡ record r { incoming = before ++ change file ∷ after }
+
+-- the outgoing file with a number, of which a fact holds, is another
+pub record ChangesOutgoing (n : ℕ) (Was : Outgoing → Type 0) (change : Outgoing → Outgoing) (r s : Register) : Type 0 where
+  pub before : List Outgoing
+  pub file : Outgoing
+  pub after : List Outgoing
+  pub here : r.outgoing ≡ before ++ file ∷ after
+  pub number : n ≡ 1 + length before
+  pub was : Was file
+  pub now : s ≡ record r { outgoing = before ++ change file ∷ after }
+
+-- an entry takes the next number
+pub record IsNext {X : Type 0} (n : ℕ) (entries : List X) : Type 0 where
+  pub number : n ≡ 1 + length entries
+
+-- rows behind those that are here
+abbrev pub AddsRowsTo : Side → ℕ → ℕ → List (List ℕ) → Register → Register → Type 0
+AddsRowsTo side.Incoming n from rows = ChangesIncoming n (λ f. length f.rows ≡ from) (λ f. record f { rows = f.rows ++ rows })
+AddsRowsTo side.Outgoing n from rows = ChangesOutgoing n (λ f. length f.rows ≡ from) (λ f. record f { rows = f.rows ++ rows })
+
+-- what is made of the entry with a number
+abbrev pub IsDone : ℕ → Deed → Register → Register → Type 0
+IsDone n (AddIncoming identity format longest description) r s =
+    IsNext n r.incoming × (s ≡ record r { incoming = r.incoming ++ (record { identity = identity.now; format = format; longest = longest; description = description.now; state = Open; rows = []; response = None }) ∷ [] })
+IsDone n (AddOutgoing identity format longest description) r s =
+    IsNext n r.outgoing × (s ≡ record r { outgoing = r.outgoing ++ (record { identity = identity.now; format = format; longest = longest; description = description.now; rows = []; mark = 0; state = Waiting }) ∷ [] })
+IsDone n (SetHeader format longest description) r s = ChangesIncoming n (λ f. ⊤) (λ f. record f { format = format; longest = longest; description = description.now }) r s
+IsDone n SetWhole r s = ChangesIncoming n (λ f. ⊤) (λ f. record f { state = Whole }) r s
+IsDone n (SetOutgoing mark state) r s = ChangesOutgoing n (λ f. ⊤) (λ f. record f { mark = mark; state = state }) r s
+IsDone n (AddRows which from rows) r s = AddsRowsTo which n from rows.now r s
+IsDone n (CutRows count) r s = ChangesIncoming n (λ f. ⊤) (λ f. record f { rows = take count f.rows }) r s
+IsDone n (AddIssued kind reason text) r s =
+    ChangesIncoming n (λ f. f.response ≡ None) (λ f. record f { response = Some (record { kind = kind; reason = reason; text = text.now; dispatch = Due }) }) r s
+IsDone n (SetSent) r s = (answer : Issued) × ChangesIncoming n (λ f. f.response ≡ Some answer) (λ f. record f { response = Some (record answer { dispatch = Sent }) }) r s
+IsDone n (AddReceived kind identity reason creator text) r s =
+    IsNext n r.received × (s ≡ record r { received = r.received ++ (record { kind = kind; identity = identity.now; reason = reason; creator = creator.now; text = text.now }) ∷ [] })
+
+abbrev pub IsEdited : Edit → Register → Register → Type 0
+IsEdited edit r s = IsDone edit.no edit.deed r s
+
+-- edits in turn
+abbrev pub AreEdited : List Edit → Register → Register → Type 0
+AreEdited [] r s = r ≡ s
+AreEdited (edit ∷ edits) r s = (mid : Register) × IsEdited edit r mid × AreEdited edits mid s
+
+-- the tables of a register become those of the register with a deed, and with edits in turn
+
+abbrev pub Makes : ℕ → Deed → Trees → Trees → Type 0
+Makes n deed old new = (r s : Register) → IsDone n deed r s → Tables r old → Tables s new
+
+abbrev pub MakesAll : List Edit → Trees → Trees → Type 0
+MakesAll edits old new = (r s : Register) → AreEdited edits r s → Tables r old → Tables s new
+
+-- the tables of a register become those with more rows of a file
+abbrev pub MakesRows : Side → ℕ → ℕ → List (List ℕ) → Trees → Trees → Type 0
+MakesRows which n from rows old new = (r s : Register) → AddsRowsTo which n from rows r s → Tables r old → Tables s new
+
+-- the tables of a register, where `received` has one more response and `received_note` hasn't
+pub record HoldNoteless (r : Register) (x : Received) (db : Trees) : Type 0 where
+  pub about : db about_tree ≡ about_row ∷ []
+  pub incoming : HoldIncoming r.incoming (db in_file_tree) (db in_row_tree) (db issued_tree)
+  pub outgoing : HoldOutgoing r.outgoing (db out_file_tree) (db out_row_tree)
+  pub responses_are : db received_tree ≡ rows_from received_row 1 (r.received ++ x ∷ [])
+  pub notes_are : db note_tree ≡ notes_from 1 r.received
+  pub reasons : AllByRecursion (λ (y : Received). y.reason < 100) (r.received ++ x ∷ [])
+
+-- a response is added without its note
+abbrev pub MakesNoteless : ℕ → ResponseKind → Identity → ℕ → Trees → Trees → Type 0
+MakesNoteless n kind identity reason old new =
+    (r : Register) (creator text : List ℕ) → IsNext n r.received → Tables r old → HoldNoteless r (record { kind = kind; identity = identity; reason = reason; creator = creator; text = text }) new
+
+-- the note of the last response is added, which is a negative one
+abbrev pub MakesNote : ℕ → List ℕ → List ℕ → Trees → Trees → Type 0
+MakesNote n creator text old new =
+    (r : Register) (identity : Identity) (reason : ℕ) → IsNext n r.received
+    → (let x : Received = record { kind = NegativeEndResponse; identity = identity; reason = reason; creator = creator; text = text } in HoldNoteless r x old → Tables (record r { received = r.received ++ x ∷ [] }) new)

@@ -1,0 +1,60 @@
+-- The texts of the statements.
+use Rattle.std.specs.Prelude.{ℕ, List, codes}
+use Rattle.oftp_register.specs.declared.entries.Side.{Side}
+use Rattle.oftp_register.specs.declared.entries.Side.TheVariants as side
+
+-- ---- what changes make
+
+abbrev pub set_outgoing_text : List ℕ
+set_outgoing_text = codes "UPDATE out_file SET mark = ?2, state = ?3, reason = ?4 WHERE no = ?1"
+
+abbrev pub set_header_text : List ℕ
+set_header_text = codes "UPDATE in_file SET format = ?2, longest = ?3, description = ?4 WHERE no = ?1"
+
+abbrev pub set_whole_text : List ℕ
+set_whole_text = codes "UPDATE in_file SET state = 'whole' WHERE no = ?1"
+
+abbrev pub set_sent_text : List ℕ
+set_sent_text = codes "UPDATE issued SET sent = 1 WHERE no = ?1"
+
+abbrev pub add_incoming_text : List ℕ
+add_incoming_text = codes "INSERT INTO in_file (no, dataset, date, time, originator, destination, format, longest, description, state) VALUES (?1, ?2, ?3, ?4, ?5, ?6, ?7, ?8, ?9, 'open')"
+
+abbrev pub add_outgoing_text : List ℕ
+add_outgoing_text =
+    codes "INSERT INTO out_file (no, dataset, date, time, originator, destination, format, longest, description, mark, state, reason) VALUES (?1, ?2, ?3, ?4, ?5, ?6, ?7, ?8, ?9, 0, 'waiting', '')"
+
+abbrev pub add_issued_text : List ℕ
+add_issued_text = codes "INSERT INTO issued (no, kind, reason, note, sent) VALUES (?1, ?2, ?3, ?4, 0)"
+
+abbrev pub add_received_text : List ℕ
+add_received_text = codes "INSERT INTO received (no, kind, dataset, date, time, originator, destination, reason) VALUES (?1, ?2, ?3, ?4, ?5, ?6, ?7, ?8)"
+
+abbrev pub add_note_text : List ℕ
+add_note_text = codes "INSERT INTO received_note (no, creator, note) VALUES (?1, ?2, ?3)"
+
+abbrev pub add_row_text : Side → List ℕ
+add_row_text side.Incoming = codes "INSERT INTO in_row (no, pos, body) VALUES (?1, ?2, ?3)"
+add_row_text side.Outgoing = codes "INSERT INTO out_row (no, pos, body) VALUES (?1, ?2, ?3)"
+
+abbrev pub cut_rows_text : List ℕ
+cut_rows_text = codes "DELETE FROM in_row WHERE no = ?1 AND pos >= ?2"
+
+-- ---- what look-ups ask
+
+abbrev pub in_header_text : List ℕ
+in_header_text = codes "SELECT dataset, date, time, originator, destination, format, longest, description, state FROM in_file WHERE no = ?1"
+
+abbrev pub out_header_text : List ℕ
+out_header_text = codes "SELECT dataset, date, time, originator, destination, format, longest, description, mark, state, reason FROM out_file WHERE no = ?1"
+
+abbrev pub response_text : List ℕ
+response_text = codes "SELECT kind, reason, note, sent FROM issued WHERE no = ?1"
+
+abbrev pub last_row_text : Side → List ℕ
+last_row_text side.Incoming = codes "SELECT pos FROM in_row WHERE no = ?1 ORDER BY pos DESC LIMIT 1"
+last_row_text side.Outgoing = codes "SELECT pos FROM out_row WHERE no = ?1 ORDER BY pos DESC LIMIT 1"
+
+abbrev pub some_rows_text : Side → List ℕ
+some_rows_text side.Incoming = codes "SELECT body FROM in_row WHERE no = ?1 AND pos >= ?2 ORDER BY pos LIMIT ?3"
+some_rows_text side.Outgoing = codes "SELECT body FROM out_row WHERE no = ?1 AND pos >= ?2 ORDER BY pos LIMIT ?3"

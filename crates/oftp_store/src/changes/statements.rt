@@ -1,0 +1,478 @@
+//! The statements of the changes, each in a transaction. A number is below 2^63.
+
+ghost use Rattle.std.specs.Prelude.{◌≡◌, ◌+◌, ◌<◌, ◌^◌, [], ◌∷◌, ℕ, length, OnOk, OnErr};
+ghost use Rattle.sqlite.specs.Held.{state};
+ghost use Rattle.sqlite.specs.State.{HasCleanDisk, Survives};
+ghost use Rattle.oftp_wire.specs.Octets.{decimal};
+ghost use Rattle.oftp_schema.specs.Calls.{KeepsCommit};
+ghost use Rattle.oftp_tables.specs.Calls.{IsInside, Moves};
+ghost use Rattle.oftp_tables.specs.Tables.{HasRefusal, format_text, kind_text, out_state_text, reason_text, refusal_text};
+ghost use Rattle.oftp_register.specs.declared.entry.OutgoingState.{OutgoingState};
+ghost use Rattle.oftp_register.specs.declared.entry.ResponseKind.TheVariants.{NegativeEndResponse};
+ghost use Rattle.oftp_store.specs.Edits.{Makes, MakesNote, MakesNoteless, MakesRows};
+ghost use Rattle.oftp_store.specs.Texts.{add_row_text};
+ghost use Rattle.oftp_store.specs.declared.changes.edit.Deed.TheVariants.{AddIncoming, AddIssued, AddOutgoing, AddReceived, AddRows, CutRows, SetHeader, SetOutgoing, SetSent, SetWhole};
+
+use arrayvec::ArrayVec;
+use oftp_register::{Identity, Name, OutgoingState, ResponseKind, Side};
+use oftp_tables::number;
+use oftp_vfile::{Format, Row};
+use oftp_wire::{Count, Text};
+use sqlite::types::ValueRef;
+use sqlite::{Alter, Error, Transaction, params};
+
+// The two digits of a reason.
+fn two_digits(reason: Count<2>) -> ArrayVec<u8, 2>
+    ensures digits { result.items ≡ decimal 2 reason }
+    ensures small { reason < 100 }
+{
+    let value = reason.get();
+    let mut digits = ArrayVec::new();
+    digits.push(b'0' + (value / 10) as u8);
+    digits.push(b'0' + (value % 10) as u8);
+    digits
+}
+
+// The reason of a refused file, and nothing for another.
+fn refusal_text(state: OutgoingState) -> ArrayVec<u8, 2>
+    ensures text { result.items ≡ refusal_text state }
+    ensures small { HasRefusal state }
+{
+    match state {
+        OutgoingState::Refused(reason) => two_digits(reason),
+        _ => ArrayVec::new(),
+    }
+}
+
+// The reason of a negative response, and nothing for another.
+fn reason_text(kind: ResponseKind, reason: Count<2>) -> ArrayVec<u8, 2>
+    ensures text { result.items ≡ reason_text kind reason }
+    ensures small { reason < 100 }
+{
+    let digits = two_digits(reason);
+    match kind {
+        ResponseKind::EndResponse => ArrayVec::new(),
+        ResponseKind::NegativeEndResponse => digits,
+    }
+}
+
+// The state of an outgoing file as the tables have it.
+fn state_text(state: &OutgoingState) -> &'static str
+    ensures { result.now ≡ out_state_text state.now }
+{
+    match state {
+        OutgoingState::Waiting => "waiting",
+        OutgoingState::Closing => "closing",
+        OutgoingState::Handed => "handed",
+        OutgoingState::Refused(_) => "refused",
+        OutgoingState::Delivered => "delivered",
+        OutgoingState::Returned => "returned",
+    }
+}
+
+// The format as the tables have it.
+fn format_text(format: Format) -> &'static str
+    ensures { result.now ≡ format_text format }
+{
+    match format {
+        Format::Fixed => "F",
+        Format::Variable => "V",
+        Format::Unstructured => "U",
+        Format::Text => "T",
+    }
+}
+
+// The kind of response as the tables have it.
+fn kind_text(kind: ResponseKind) -> &'static str
+    ensures { result.now ≡ kind_text kind }
+{
+    match kind {
+        ResponseKind::EndResponse => "EERP",
+        ResponseKind::NegativeEndResponse => "NERP",
+    }
+}
+
+// Sets mark, state and reason of an outgoing file by their texts.
+fn set_outgoing_texts<'x, S: Alter>(
+    tx: &mut Transaction<'_, S>,
+    no: u64,
+    mark: u32,
+    stage: &'x [u8],
+    reason: &'x [u8],
+) -> Result<usize, Error>
+    requires { no < 2 ^ 63 }
+    ensures same_reference { tx.new.conn.ghost_name ≡ tx.old.conn.ghost_name }
+    ensures done { HasCleanDisk (state S.Store tx.new.conn.now) → IsInside (state S.Store tx.old.conn.now) → (to : OutgoingState) → stage.now ≡ out_state_text to → reason.now ≡ refusal_text to → HasRefusal to
+        → OnOk result (Moves (Makes no (SetOutgoing mark to)) (state S.Store tx.old.conn.now) (state S.Store tx.new.conn.now)) }
+    ensures failed { HasCleanDisk (state S.Store tx.new.conn.now) → OnErr result (KeepsCommit (state S.Store tx.old.conn.now) (state S.Store tx.new.conn.now)) }
+    ensures survives { Survives (state S.Store tx.old.conn.now) (state S.Store tx.new.conn.now) (λ _. ⊥) }
+{
+    tx.execute(
+        "UPDATE out_file SET mark = ?2, state = ?3, reason = ?4 WHERE no = ?1",
+        &[
+            ValueRef::Int(number(no)),
+            ValueRef::Int(i64::from(mark)),
+            ValueRef::Text(stage),
+            ValueRef::Text(reason),
+        ],
+    )
+}
+
+/// Sets mark and state of an outgoing file.
+pub(crate) fn set_outgoing<S: Alter>(
+    tx: &mut Transaction<'_, S>,
+    no: u64,
+    mark: u32,
+    stage: OutgoingState,
+) -> Result<usize, Error>
+    requires { no < 2 ^ 63 }
+    ensures same_reference { tx.new.conn.ghost_name ≡ tx.old.conn.ghost_name }
+    ensures done { HasCleanDisk (state S.Store tx.new.conn.now) → IsInside (state S.Store tx.old.conn.now) → OnOk result (Moves (Makes no (SetOutgoing mark stage)) (state S.Store tx.old.conn.now) (state S.Store tx.new.conn.now)) }
+    ensures failed { HasCleanDisk (state S.Store tx.new.conn.now) → OnErr result (KeepsCommit (state S.Store tx.old.conn.now) (state S.Store tx.new.conn.now)) }
+    ensures survives { Survives (state S.Store tx.old.conn.now) (state S.Store tx.new.conn.now) (λ _. ⊥) }
+{
+    let text = state_text(&stage);
+    let reason = refusal_text(stage);
+    set_outgoing_texts(tx, no, mark, text.as_bytes(), reason.as_slice())
+}
+
+/// Sets the header of an incoming file, but for its identity.
+pub(crate) fn set_header<S: Alter>(
+    tx: &mut Transaction<'_, S>,
+    no: u64,
+    format: Format,
+    longest: u32,
+    description: &Text<'_>,
+) -> Result<usize, Error>
+    requires { no < 2 ^ 63 }
+    ensures same_reference { tx.new.conn.ghost_name ≡ tx.old.conn.ghost_name }
+    ensures done { HasCleanDisk (state S.Store tx.new.conn.now) → IsInside (state S.Store tx.old.conn.now) → OnOk result (Moves (Makes no (SetHeader format longest description.entry)) (state S.Store tx.old.conn.now) (state S.Store tx.new.conn.now)) }
+    ensures failed { HasCleanDisk (state S.Store tx.new.conn.now) → OnErr result (KeepsCommit (state S.Store tx.old.conn.now) (state S.Store tx.new.conn.now)) }
+    ensures survives { Survives (state S.Store tx.old.conn.now) (state S.Store tx.new.conn.now) (λ _. ⊥) }
+{
+    tx.execute(
+        "UPDATE in_file SET format = ?2, longest = ?3, description = ?4 WHERE no = ?1",
+        params![number(no), format_text(format), longest, description.text()],
+    )
+}
+
+/// Sets an incoming file whole.
+pub(crate) fn set_whole<S: Alter>(
+    tx: &mut Transaction<'_, S>,
+    no: u64,
+) -> Result<usize, Error>
+    requires { no < 2 ^ 63 }
+    ensures same_reference { tx.new.conn.ghost_name ≡ tx.old.conn.ghost_name }
+    ensures done { HasCleanDisk (state S.Store tx.new.conn.now) → IsInside (state S.Store tx.old.conn.now) → OnOk result (Moves (Makes no SetWhole) (state S.Store tx.old.conn.now) (state S.Store tx.new.conn.now)) }
+    ensures failed { HasCleanDisk (state S.Store tx.new.conn.now) → OnErr result (KeepsCommit (state S.Store tx.old.conn.now) (state S.Store tx.new.conn.now)) }
+    ensures survives { Survives (state S.Store tx.old.conn.now) (state S.Store tx.new.conn.now) (λ _. ⊥) }
+{
+    tx.execute(
+        "UPDATE in_file SET state = 'whole' WHERE no = ?1",
+        params![number(no)],
+    )
+}
+
+/// Sets the response to an incoming file sent.
+pub(crate) fn set_sent<S: Alter>(
+    tx: &mut Transaction<'_, S>,
+    no: u64,
+) -> Result<usize, Error>
+    requires { no < 2 ^ 63 }
+    ensures same_reference { tx.new.conn.ghost_name ≡ tx.old.conn.ghost_name }
+    ensures done { HasCleanDisk (state S.Store tx.new.conn.now) → IsInside (state S.Store tx.old.conn.now) → OnOk result (Moves (Makes no SetSent) (state S.Store tx.old.conn.now) (state S.Store tx.new.conn.now)) }
+    ensures failed { HasCleanDisk (state S.Store tx.new.conn.now) → OnErr result (KeepsCommit (state S.Store tx.old.conn.now) (state S.Store tx.new.conn.now)) }
+    ensures survives { Survives (state S.Store tx.old.conn.now) (state S.Store tx.new.conn.now) (λ _. ⊥) }
+{
+    tx.execute(
+        "UPDATE issued SET sent = 1 WHERE no = ?1",
+        params![number(no)],
+    )
+}
+
+/// Adds an incoming file without rows, which is open.
+pub(crate) fn add_incoming<'x, S: Alter>(
+    tx: &mut Transaction<'_, S>,
+    no: u64,
+    identity: &'x Identity,
+    format: Format,
+    longest: u32,
+    description: &'x Text<'x>,
+) -> Result<usize, Error>
+    requires { no < 2 ^ 63 }
+    ensures same_reference { tx.new.conn.ghost_name ≡ tx.old.conn.ghost_name }
+    ensures done { HasCleanDisk (state S.Store tx.new.conn.now) → IsInside (state S.Store tx.old.conn.now) → OnOk result (Moves (Makes no (AddIncoming identity.entry format longest description.entry)) (state S.Store tx.old.conn.now) (state S.Store tx.new.conn.now)) }
+    ensures failed { HasCleanDisk (state S.Store tx.new.conn.now) → OnErr result (KeepsCommit (state S.Store tx.old.conn.now) (state S.Store tx.new.conn.now)) }
+    ensures survives { Survives (state S.Store tx.old.conn.now) (state S.Store tx.new.conn.now) (λ _. ⊥) }
+{
+    tx.execute(
+        "INSERT INTO in_file (no, dataset, date, time, originator, destination, format, longest, description, state) VALUES (?1, ?2, ?3, ?4, ?5, ?6, ?7, ?8, ?9, 'open')",
+        &[
+            ValueRef::Int(number(no)),
+            ValueRef::Text(identity.dataset.octets()),
+            ValueRef::Text(identity.date.octets()),
+            ValueRef::Text(identity.time.octets()),
+            ValueRef::Text(identity.originator.octets()),
+            ValueRef::Text(identity.destination.octets()),
+            ValueRef::Text(format_text(format).as_bytes()),
+            ValueRef::Int(i64::from(longest)),
+            ValueRef::Text(description.text().as_bytes()),
+        ],
+    )
+}
+
+/// Adds an outgoing file without rows, which is waiting.
+pub(crate) fn add_outgoing<'x, S: Alter>(
+    tx: &mut Transaction<'_, S>,
+    no: u64,
+    identity: &'x Identity,
+    format: Format,
+    longest: u32,
+    description: &'x Text<'x>,
+) -> Result<usize, Error>
+    requires { no < 2 ^ 63 }
+    ensures same_reference { tx.new.conn.ghost_name ≡ tx.old.conn.ghost_name }
+    ensures done { HasCleanDisk (state S.Store tx.new.conn.now) → IsInside (state S.Store tx.old.conn.now) → OnOk result (Moves (Makes no (AddOutgoing identity.entry format longest description.entry)) (state S.Store tx.old.conn.now) (state S.Store tx.new.conn.now)) }
+    ensures failed { HasCleanDisk (state S.Store tx.new.conn.now) → OnErr result (KeepsCommit (state S.Store tx.old.conn.now) (state S.Store tx.new.conn.now)) }
+    ensures survives { Survives (state S.Store tx.old.conn.now) (state S.Store tx.new.conn.now) (λ _. ⊥) }
+{
+    tx.execute(
+        "INSERT INTO out_file (no, dataset, date, time, originator, destination, format, longest, description, mark, state, reason) VALUES (?1, ?2, ?3, ?4, ?5, ?6, ?7, ?8, ?9, 0, 'waiting', '')",
+        &[
+            ValueRef::Int(number(no)),
+            ValueRef::Text(identity.dataset.octets()),
+            ValueRef::Text(identity.date.octets()),
+            ValueRef::Text(identity.time.octets()),
+            ValueRef::Text(identity.originator.octets()),
+            ValueRef::Text(identity.destination.octets()),
+            ValueRef::Text(format_text(format).as_bytes()),
+            ValueRef::Int(i64::from(longest)),
+            ValueRef::Text(description.text().as_bytes()),
+        ],
+    )
+}
+
+// Adds the response to an incoming file by the text of its reason.
+fn add_issued_texts<'x, S: Alter>(
+    tx: &mut Transaction<'_, S>,
+    no: u64,
+    kind: ResponseKind,
+    reason: &'x [u8],
+    text: &'x Text<'x>,
+) -> Result<usize, Error>
+    requires { no < 2 ^ 63 }
+    ensures same_reference { tx.new.conn.ghost_name ≡ tx.old.conn.ghost_name }
+    ensures done { HasCleanDisk (state S.Store tx.new.conn.now) → IsInside (state S.Store tx.old.conn.now) → (number : ℕ) → number < 100 → reason.now ≡ reason_text kind number → OnOk result (Moves (Makes no (AddIssued kind number text.entry)) (state S.Store tx.old.conn.now) (state S.Store tx.new.conn.now)) }
+    ensures failed { HasCleanDisk (state S.Store tx.new.conn.now) → OnErr result (KeepsCommit (state S.Store tx.old.conn.now) (state S.Store tx.new.conn.now)) }
+    ensures survives { Survives (state S.Store tx.old.conn.now) (state S.Store tx.new.conn.now) (λ _. ⊥) }
+{
+    tx.execute(
+        "INSERT INTO issued (no, kind, reason, note, sent) VALUES (?1, ?2, ?3, ?4, 0)",
+        &[
+            ValueRef::Int(number(no)),
+            ValueRef::Text(kind_text(kind).as_bytes()),
+            ValueRef::Text(reason),
+            ValueRef::Text(text.text().as_bytes()),
+        ],
+    )
+}
+
+/// Adds the response to an incoming file, which is due.
+pub(crate) fn add_issued<S: Alter>(
+    tx: &mut Transaction<'_, S>,
+    no: u64,
+    kind: ResponseKind,
+    reason: Count<2>,
+    text: &Text<'_>,
+) -> Result<usize, Error>
+    requires { no < 2 ^ 63 }
+    ensures same_reference { tx.new.conn.ghost_name ≡ tx.old.conn.ghost_name }
+    ensures done { HasCleanDisk (state S.Store tx.new.conn.now) → IsInside (state S.Store tx.old.conn.now) → OnOk result (Moves (Makes no (AddIssued kind reason text.entry)) (state S.Store tx.old.conn.now) (state S.Store tx.new.conn.now)) }
+    ensures failed { HasCleanDisk (state S.Store tx.new.conn.now) → OnErr result (KeepsCommit (state S.Store tx.old.conn.now) (state S.Store tx.new.conn.now)) }
+    ensures survives { Survives (state S.Store tx.old.conn.now) (state S.Store tx.new.conn.now) (λ _. ⊥) }
+{
+    let digits = reason_text(kind, reason);
+    add_issued_texts(tx, no, kind, digits.as_slice(), text)
+}
+
+// Adds a response that came, without its note, by the text of its reason.
+fn add_received_texts<'x, S: Alter>(
+    tx: &mut Transaction<'_, S>,
+    no: u64,
+    kind: ResponseKind,
+    identity: &'x Identity,
+    reason: &'x [u8],
+) -> Result<usize, Error>
+    requires { no < 2 ^ 63 }
+    ensures same_reference { tx.new.conn.ghost_name ≡ tx.old.conn.ghost_name }
+    ensures done { HasCleanDisk (state S.Store tx.new.conn.now) → IsInside (state S.Store tx.old.conn.now) → (number : ℕ) → number < 100 → reason.now ≡ reason_text kind number → OnOk result (Moves (MakesNoteless no kind identity.now number) (state S.Store tx.old.conn.now) (state S.Store tx.new.conn.now)) }
+    ensures failed { HasCleanDisk (state S.Store tx.new.conn.now) → OnErr result (KeepsCommit (state S.Store tx.old.conn.now) (state S.Store tx.new.conn.now)) }
+    ensures survives { Survives (state S.Store tx.old.conn.now) (state S.Store tx.new.conn.now) (λ _. ⊥) }
+{
+    tx.execute(
+        "INSERT INTO received (no, kind, dataset, date, time, originator, destination, reason) VALUES (?1, ?2, ?3, ?4, ?5, ?6, ?7, ?8)",
+        &[
+            ValueRef::Int(number(no)),
+            ValueRef::Text(kind_text(kind).as_bytes()),
+            ValueRef::Text(identity.dataset.octets()),
+            ValueRef::Text(identity.date.octets()),
+            ValueRef::Text(identity.time.octets()),
+            ValueRef::Text(identity.originator.octets()),
+            ValueRef::Text(identity.destination.octets()),
+            ValueRef::Text(reason),
+        ],
+    )
+}
+
+// Adds a response that came, without its note.
+fn add_noteless<S: Alter>(
+    tx: &mut Transaction<'_, S>,
+    no: u64,
+    kind: ResponseKind,
+    identity: &Identity,
+    reason: Count<2>,
+) -> Result<usize, Error>
+    requires { no < 2 ^ 63 }
+    ensures same_reference { tx.new.conn.ghost_name ≡ tx.old.conn.ghost_name }
+    ensures done { HasCleanDisk (state S.Store tx.new.conn.now) → IsInside (state S.Store tx.old.conn.now) → OnOk result (Moves (MakesNoteless no kind identity.now reason) (state S.Store tx.old.conn.now) (state S.Store tx.new.conn.now)) }
+    ensures failed { HasCleanDisk (state S.Store tx.new.conn.now) → OnErr result (KeepsCommit (state S.Store tx.old.conn.now) (state S.Store tx.new.conn.now)) }
+    ensures survives { Survives (state S.Store tx.old.conn.now) (state S.Store tx.new.conn.now) (λ _. ⊥) }
+{
+    let digits = reason_text(kind, reason);
+    add_received_texts(tx, no, kind, identity, digits.as_slice())
+}
+
+// Adds the note of a negative response.
+fn add_note<'x, S: Alter>(
+    tx: &mut Transaction<'_, S>,
+    no: u64,
+    creator: &'x Name<25>,
+    text: &'x Text<'x>,
+) -> Result<usize, Error>
+    requires { no < 2 ^ 63 }
+    ensures same_reference { tx.new.conn.ghost_name ≡ tx.old.conn.ghost_name }
+    ensures done { HasCleanDisk (state S.Store tx.new.conn.now) → IsInside (state S.Store tx.old.conn.now) → OnOk result (Moves (MakesNote no creator.now text.now) (state S.Store tx.old.conn.now) (state S.Store tx.new.conn.now)) }
+    ensures failed { HasCleanDisk (state S.Store tx.new.conn.now) → OnErr result (KeepsCommit (state S.Store tx.old.conn.now) (state S.Store tx.new.conn.now)) }
+    ensures survives { Survives (state S.Store tx.old.conn.now) (state S.Store tx.new.conn.now) (λ _. ⊥) }
+{
+    tx.execute(
+        "INSERT INTO received_note (no, creator, note) VALUES (?1, ?2, ?3)",
+        &[
+            ValueRef::Int(number(no)),
+            ValueRef::Text(creator.octets()),
+            ValueRef::Text(text.text().as_bytes()),
+        ],
+    )
+}
+
+/// Takes the rows of an incoming file away, from a position on.
+pub(crate) fn cut_rows<S: Alter>(
+    tx: &mut Transaction<'_, S>,
+    no: u64,
+    count: u32,
+) -> Result<usize, Error>
+    requires { no < 2 ^ 63 }
+    ensures same_reference { tx.new.conn.ghost_name ≡ tx.old.conn.ghost_name }
+    ensures done { HasCleanDisk (state S.Store tx.new.conn.now) → IsInside (state S.Store tx.old.conn.now) → OnOk result (Moves (Makes no (CutRows count)) (state S.Store tx.old.conn.now) (state S.Store tx.new.conn.now)) }
+    ensures failed { HasCleanDisk (state S.Store tx.new.conn.now) → OnErr result (KeepsCommit (state S.Store tx.old.conn.now) (state S.Store tx.new.conn.now)) }
+    ensures survives { Survives (state S.Store tx.old.conn.now) (state S.Store tx.new.conn.now) (λ _. ⊥) }
+{
+    tx.execute(
+        "DELETE FROM in_row WHERE no = ?1 AND pos >= ?2",
+        params![number(no), count],
+    )
+}
+
+// The text that adds a row to a file of a side.
+fn add_row_text(side: Side) -> &'static str
+    ensures { result.now ≡ add_row_text side }
+{
+    match side {
+        Side::Incoming => "INSERT INTO in_row (no, pos, body) VALUES (?1, ?2, ?3)",
+        Side::Outgoing => "INSERT INTO out_row (no, pos, body) VALUES (?1, ?2, ?3)",
+    }
+}
+
+// Adds a row to a file.
+fn add_row<S: Alter>(
+    tx: &mut Transaction<'_, S>,
+    side: Side,
+    no: u64,
+    at: u32,
+    body: &Row,
+) -> Result<usize, Error>
+    requires { no < 2 ^ 63 }
+    ensures same_reference { tx.new.conn.ghost_name ≡ tx.old.conn.ghost_name }
+    ensures done { HasCleanDisk (state S.Store tx.new.conn.now) → IsInside (state S.Store tx.old.conn.now) → OnOk result (Moves (MakesRows side no at (body.now ∷ [])) (state S.Store tx.old.conn.now) (state S.Store tx.new.conn.now)) }
+    ensures failed { HasCleanDisk (state S.Store tx.new.conn.now) → OnErr result (KeepsCommit (state S.Store tx.old.conn.now) (state S.Store tx.new.conn.now)) }
+    ensures survives { Survives (state S.Store tx.old.conn.now) (state S.Store tx.new.conn.now) (λ _. ⊥) }
+{
+    tx.execute(
+        add_row_text(side),
+        params![number(no), at, body.octets()],
+    )
+}
+
+/// Adds rows to a file, behind those that it has.
+pub(crate) fn add_rows<S: Alter>(
+    tx: &mut Transaction<'_, S>,
+    side: Side,
+    no: u64,
+    from: u32,
+    rows: &[Row],
+) -> Result<(), Error>
+    requires number { no < 2 ^ 63 }
+    requires room { from + length rows.now < 2 ^ 32 }
+    ensures same_reference { tx.new.conn.ghost_name ≡ tx.old.conn.ghost_name }
+    ensures done { HasCleanDisk (state S.Store tx.new.conn.now) → IsInside (state S.Store tx.old.conn.now) → OnOk result (Moves (MakesRows side no from rows.now) (state S.Store tx.old.conn.now) (state S.Store tx.new.conn.now)) }
+    ensures failed { HasCleanDisk (state S.Store tx.new.conn.now) → IsInside (state S.Store tx.old.conn.now) → OnErr result (KeepsCommit (state S.Store tx.old.conn.now) (state S.Store tx.new.conn.now)) }
+    ensures survives { Survives (state S.Store tx.old.conn.now) (state S.Store tx.new.conn.now) (λ _. ⊥) }
+{
+    let mut at = from;
+    'rows: for row in rows {
+        add_row(tx, side, no, at, row)?;
+        at += 1;
+    }
+    Ok(())
+}
+
+// Adds a negative response that came, with its note.
+fn add_negative<S: Alter>(
+    tx: &mut Transaction<'_, S>,
+    no: u64,
+    identity: &Identity,
+    reason: Count<2>,
+    creator: &Name<25>,
+    text: &Text<'_>,
+) -> Result<usize, Error>
+    requires { no < 2 ^ 63 }
+    ensures same_reference { tx.new.conn.ghost_name ≡ tx.old.conn.ghost_name }
+    ensures done { HasCleanDisk (state S.Store tx.new.conn.now) → IsInside (state S.Store tx.old.conn.now) → OnOk result (Moves (Makes no (AddReceived NegativeEndResponse identity.entry reason creator.entry text.entry)) (state S.Store tx.old.conn.now) (state S.Store tx.new.conn.now)) }
+    ensures failed { HasCleanDisk (state S.Store tx.new.conn.now) → IsInside (state S.Store tx.old.conn.now) → OnErr result (KeepsCommit (state S.Store tx.old.conn.now) (state S.Store tx.new.conn.now)) }
+    ensures survives { Survives (state S.Store tx.old.conn.now) (state S.Store tx.new.conn.now) (λ _. ⊥) }
+{
+    add_noteless(tx, no, ResponseKind::NegativeEndResponse, identity, reason)?;
+    add_note(tx, no, creator, text)
+}
+
+/// Adds a response that came. An end response has no creator and no text.
+pub(crate) fn add_received<S: Alter>(
+    tx: &mut Transaction<'_, S>,
+    no: u64,
+    kind: ResponseKind,
+    identity: &Identity,
+    reason: Count<2>,
+    creator: &Name<25>,
+    text: &Text<'_>,
+) -> Result<usize, Error>
+    requires { no < 2 ^ 63 }
+    ensures same_reference { tx.new.conn.ghost_name ≡ tx.old.conn.ghost_name }
+    ensures done { HasCleanDisk (state S.Store tx.new.conn.now) → IsInside (state S.Store tx.old.conn.now) → OnOk result (Moves (Makes no (AddReceived kind identity.entry reason creator.entry text.entry)) (state S.Store tx.old.conn.now) (state S.Store tx.new.conn.now)) }
+    ensures failed { HasCleanDisk (state S.Store tx.new.conn.now) → IsInside (state S.Store tx.old.conn.now) → OnErr result (KeepsCommit (state S.Store tx.old.conn.now) (state S.Store tx.new.conn.now)) }
+    ensures survives { Survives (state S.Store tx.old.conn.now) (state S.Store tx.new.conn.now) (λ _. ⊥) }
+{
+    match kind {
+        ResponseKind::EndResponse => add_noteless(tx, no, kind, identity, reason),
+        ResponseKind::NegativeEndResponse => add_negative(tx, no, identity, reason, creator, text),
+    }
+}

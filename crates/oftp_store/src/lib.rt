@@ -1,0 +1,4 @@
+//! The office over a SQLite database.
+#![tactic(auto)]
+
+mod changes;

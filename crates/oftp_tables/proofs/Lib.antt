@@ -1,0 +1,14 @@
+pub mod CallLemmas
+pub mod PlaceLemmas
+pub mod BodyLemmas
+pub mod BackLemmas
+pub mod SortedLemmas
+pub mod OrderedLemmas
+pub mod CutLemmas
+pub mod SpotLemmas
+pub mod ManyLemmas
+pub mod TxLemmas
+pub mod SplitLemmas
+pub mod StatementLemmas
+pub mod LandLemmas
+pub mod RowLemmas

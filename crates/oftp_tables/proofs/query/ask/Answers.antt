@@ -1,0 +1,13 @@
+use Rattle.sqlite.specs.Values.{bound}
+use Rattle.oftp_schema.specs.Schema.{office_schema}
+use Rattle.oftp_schema.proofs.CallLemmas.{queries_failed, queries_shown}
+use Rattle.oftp_tables.proofs.CallLemmas.{looks_of}
+use Rattle.oftp_tables.proofs.query.ask.Goals as goal
+
+pub returns-in-Ok-clause-looks : goal.returns-in-Ok-clause-looks
+returns-in-Ok-clause-looks g c plain =
+    looks_of _ _ _ (queries_shown office_schema c.args.sql.now (bound c.args.params.now) _ _ plain c.query_all.ensures.survives.clean c.query_all.ensures.mode c.query_all.ensures.survives _ (λ clean. (_, c.in-Ok.ensures.ok clean))) tt
+
+pub returns-in-Err-clause-looks : goal.returns-in-Err-clause-looks
+returns-in-Err-clause-looks g c plain =
+    looks_of _ _ _ (queries_failed office_schema c.args.sql.now (bound c.args.params.now) _ _ plain c.query_all.ensures.survives.clean c.query_all.ensures.mode c.query_all.ensures.survives c.fault_of.result _ (λ clean. c.in-Err.ensures.err clean)) c.fault_of.ensures

@@ -1,0 +1,55 @@
+//! Statements over the office's tables.
+
+ghost use Rattle.std.specs.Prelude.{◌≡◌, ◌<◌, ◌^◌, pos, IfOk};
+ghost use Rattle.sqlite.specs.Held.{state};
+ghost use Rattle.sqlite.specs.Schema.{Schema};
+ghost use Rattle.sqlite.specs.Given.{IsPlain};
+ghost use Rattle.sqlite.specs.Listing.{understood};
+ghost use Rattle.sqlite.specs.Values.{bound};
+ghost use Rattle.sqlite.specs.State.{HasCleanDisk, Shown};
+ghost use Rattle.oftp_register.specs.Offices.{IsFailure};
+ghost use Rattle.oftp_schema.specs.Schema.{office_schema};
+ghost use Rattle.oftp_tables.specs.Calls.{Looks};
+
+use oftp_register::OfficeFault;
+use sqlite::types::ValueRef;
+use sqlite::{Alter, Connection, Error, ErrorCode, Row};
+
+/// A number as a value of the database.
+pub fn number(no: u64) -> i64
+    requires { no < 2 ^ 63 }
+    ensures { result ≡ pos no }
+{
+    no as i64
+}
+
+/// An error of the store as the office tells it: want of memory, and where no number is left, is [`OfficeFault::Memory`].
+pub fn fault_of(error: Error) -> OfficeFault
+    ensures { IsFailure result }
+{
+    match error {
+        Error::SqliteFailure(ErrorCode::OutOfMemory) | Error::SqliteFailure(ErrorCode::NoRowid) => {
+            OfficeFault::Memory
+        }
+        _ => OfficeFault::Store,
+    }
+}
+
+/// Asks the store, by the text of a SELECT over the office's tables. All rows of the answer are held in memory.
+///
+/// # Errors
+///
+/// [`OfficeFault::Memory`] where a growth was refused, and else [`OfficeFault::Store`].
+pub fn ask<S: Alter>(
+    conn: &mut Connection<S>,
+    sql: &str,
+    params: &[ValueRef<'_>],
+) -> Result<Vec<Row>, OfficeFault>
+    ensures looks { ((schema : Schema) → schema ≡ office_schema → IsPlain (understood schema sql.now)) → Looks (state S.Store conn.old) (state S.Store conn.new) result }
+    ensures shown { HasCleanDisk (state S.Store conn.new) → IfOk result (λ rows. Shown sql.now (bound params.now) (state S.Store conn.old) (state S.Store conn.new) rows.items) }
+{
+    match conn.query_all(sql, params) {
+        Ok(rows) => Ok(rows),
+        Err(error) => Err(fault_of(error)),
+    }
+}

@@ -1,0 +1,263 @@
+//! The values that rows tell. A value that fits no part of an entry is `None`, and counts as a failure of the store.
+
+ghost use Rattle.std.specs.Prelude.{◌≡◌, ◌+◌, ◌<◌, ℕ, List, IfOk, IfSome, IfErr, pos};
+ghost use Rattle.sqlite.specs.declared.types.Value.TheVariants.{Int};
+ghost use Rattle.sqlite.specs.Order.{bytes, column};
+ghost use Rattle.oftp_wire.specs.Octets.{number};
+ghost use Rattle.oftp_register.specs.Offices.{IsFailure};
+ghost use Rattle.oftp_tables.specs.Tables.{dispatch_in, format_in, identity_in, in_state_in, kind_in, number_in, out_state_in};
+
+use oftp_register::{
+    DigitString, Dispatch, Identity, IncomingState, Name, Note, OfficeFault, OutgoingState,
+    ResponseKind,
+};
+use oftp_vfile::Format;
+use oftp_wire::{Count, Digits, Text, X};
+use sqlite::Row;
+use sqlite::types::ValueRef;
+use std::alloc::Global;
+
+/// The name that a row tells at a place.
+pub fn name_at<const N: usize>(row: &Row, at: usize) -> Option<Name<N>>
+    ensures { IfSome result (λ name. name ≡ bytes (column row.now at)) }
+{
+    match row.get_ref(at) {
+        Ok(ValueRef::Text(text)) => match X::new(text) {
+            Some(field) => Some(Name::of(&field)),
+            None => None,
+        },
+        _ => None,
+    }
+}
+
+/// The digits that a row tells at a place.
+pub fn digits_at<const N: usize>(row: &Row, at: usize) -> Option<DigitString<N>>
+    ensures { IfSome result (λ digits. digits ≡ bytes (column row.now at)) }
+{
+    match row.get_ref(at) {
+        Ok(ValueRef::Text(text)) => match Digits::new(text) {
+            Some(field) => Some(DigitString::of(&field)),
+            None => None,
+        },
+        _ => None,
+    }
+}
+
+/// The identity that a row tells, in five columns from a place on.
+pub fn identity_at(row: &Row, at: usize) -> Option<Identity>
+    requires { at < 100 }
+    ensures { IfSome result (λ identity. identity ≡ identity_in at row.now) }
+{
+    Some(Identity {
+        dataset: name_at(row, at)?,
+        date: digits_at(row, at + 1)?,
+        time: digits_at(row, at + 2)?,
+        originator: name_at(row, at + 3)?,
+        destination: name_at(row, at + 4)?,
+    })
+}
+
+/// The format that a row tells at a place.
+pub fn format_at(row: &Row, at: usize) -> Option<Format>
+    ensures { IfSome result (λ format. format ≡ format_in (bytes (column row.now at))) }
+{
+    match row.get_ref(at) {
+        Ok(ValueRef::Text(text)) => {
+            if text == b"F".as_slice() {
+                Some(Format::Fixed)
+            } else if text == b"V".as_slice() {
+                Some(Format::Variable)
+            } else if text == b"U".as_slice() {
+                Some(Format::Unstructured)
+            } else if text == b"T".as_slice() {
+                Some(Format::Text)
+            } else {
+                None
+            }
+        }
+        _ => None,
+    }
+}
+
+/// The number of octets or rows that a row tells at a place.
+pub fn number_at(row: &Row, at: usize) -> Option<u32>
+    ensures { IfSome result (λ n. n ≡ number_in (column row.now at)) }
+{
+    match row.get_ref(at) {
+        Ok(ValueRef::Int(n)) => match u32::try_from(n) {
+            Ok(n) => Some(n),
+            Err(_) => None,
+        },
+        _ => None,
+    }
+}
+
+/// The number of an entry that a row tells at a place.
+pub fn no_at(row: &Row, at: usize) -> Option<u64>
+    ensures { IfSome result (λ n. column row.now at ≡ Int (pos n)) }
+{
+    match row.get_ref(at) {
+        Ok(ValueRef::Int(n)) => match u64::try_from(n) {
+            Ok(n) => Some(n),
+            Err(_) => None,
+        },
+        _ => None,
+    }
+}
+
+/// The text that a row tells at a place.
+///
+/// # Errors
+///
+/// [`OfficeFault::Store`] where there is none that fits, and [`OfficeFault::Memory`].
+pub fn text_at(alloc: Global, row: &Row, at: usize) -> Result<Note, OfficeFault>
+    ensures told { IfOk result (λ note. note ≡ bytes (column row.now at)) }
+    ensures fails { IfErr result IsFailure }
+{
+    match row.get_ref(at) {
+        Ok(ValueRef::Text(text)) => match str::from_utf8(text) {
+            Ok(text) => match Text::new(text) {
+                Some(text) => match Note::of(alloc, &text) {
+                    Ok(note) => Ok(note),
+                    Err(_) => Err(OfficeFault::Memory),
+                },
+                None => Err(OfficeFault::Store),
+            },
+            Err(_) => Err(OfficeFault::Store),
+        },
+        _ => Err(OfficeFault::Store),
+    }
+}
+
+/// The state of an incoming file that a row tells at a place.
+pub fn incoming_state_at(row: &Row, at: usize) -> Option<IncomingState>
+    ensures { IfSome result (λ state. state ≡ in_state_in (bytes (column row.now at))) }
+{
+    match row.get_ref(at) {
+        Ok(ValueRef::Text(text)) => {
+            if text == b"open".as_slice() {
+                Some(IncomingState::Open)
+            } else if text == b"whole".as_slice() {
+                Some(IncomingState::Whole)
+            } else {
+                None
+            }
+        }
+        _ => None,
+    }
+}
+
+// The state of an outgoing file that isn't refused.
+fn unrefused_state_of(text: &[u8]) -> Option<OutgoingState>
+    ensures { IfSome result (λ state. (reason : List ℕ) → state ≡ out_state_in text.now reason) }
+{
+    if text == b"waiting".as_slice() {
+        Some(OutgoingState::Waiting)
+    } else if text == b"closing".as_slice() {
+        Some(OutgoingState::Closing)
+    } else if text == b"handed".as_slice() {
+        Some(OutgoingState::Handed)
+    } else if text == b"delivered".as_slice() {
+        Some(OutgoingState::Delivered)
+    } else if text == b"returned".as_slice() {
+        Some(OutgoingState::Returned)
+    } else {
+        None
+    }
+}
+
+/// The state of an outgoing file that a row tells at a place, with the reason of a refusal at the next.
+pub fn outgoing_state_at(row: &Row, at: usize) -> Option<OutgoingState>
+    requires { at < 100 }
+    ensures { IfSome result (λ state. state ≡ out_state_in (bytes (column row.now at)) (bytes (column row.now (at + 1)))) }
+{
+    match row.get_ref(at) {
+        Ok(ValueRef::Text(text)) => {
+            if text == b"refused".as_slice() {
+                match reason_at(row, at + 1) {
+                    Some(reason) => Some(OutgoingState::Refused(reason)),
+                    None => None,
+                }
+            } else {
+                unrefused_state_of(text)
+            }
+        }
+        _ => None,
+    }
+}
+
+/// The kind of response that a row tells at a place.
+pub fn kind_at(row: &Row, at: usize) -> Option<ResponseKind>
+    ensures { IfSome result (λ kind. kind ≡ kind_in (bytes (column row.now at))) }
+{
+    match row.get_ref(at) {
+        Ok(ValueRef::Text(text)) => {
+            if text == b"EERP".as_slice() {
+                Some(ResponseKind::EndResponse)
+            } else if text == b"NERP".as_slice() {
+                Some(ResponseKind::NegativeEndResponse)
+            } else {
+                None
+            }
+        }
+        _ => None,
+    }
+}
+
+// The number that two digits make, 0 where there is none.
+fn reason_of(text: &[u8]) -> Option<Count<2>>
+    ensures { IfSome result (λ reason. reason ≡ number text.now) }
+{
+    match text {
+        [] => Some(Count::new(0)),
+        [tens, units] => {
+            let tens = *tens;
+            let units = *units;
+            if 48 <= tens && tens < 58 && 48 <= units && units < 58 {
+                Some(Count::new(u64::from(tens - 48) * 10 + u64::from(units - 48)))
+            } else {
+                None
+            }
+        }
+        _ => None,
+    }
+}
+
+/// The reason that a row tells at a place, 0 where it is empty.
+pub fn reason_at(row: &Row, at: usize) -> Option<Count<2>>
+    ensures { IfSome result (λ reason. reason ≡ number (bytes (column row.now at))) }
+{
+    match row.get_ref(at) {
+        Ok(ValueRef::Text(text)) => reason_of(text),
+        _ => None,
+    }
+}
+
+/// Whether a response was sent, as a row tells it at a place.
+pub fn dispatch_at(row: &Row, at: usize) -> Option<Dispatch>
+    ensures { IfSome result (λ dispatch. dispatch ≡ dispatch_in (number_in (column row.now at))) }
+{
+    match number_at(row, at) {
+        Some(0) => Some(Dispatch::Due),
+        Some(1) => Some(Dispatch::Sent),
+        _ => None,
+    }
+}
+
+/// The body of a row of a file.
+///
+/// # Errors
+///
+/// [`OfficeFault::Store`] where there is none, and [`OfficeFault::Memory`].
+pub fn body_at(alloc: Global, row: &Row, at: usize) -> Result<oftp_vfile::Row, OfficeFault>
+    ensures told { IfOk result (λ body. body ≡ bytes (column row.now at)) }
+    ensures fails { IfErr result IsFailure }
+{
+    match row.get_ref(at) {
+        Ok(ValueRef::Blob(body)) => match Vec::from_slice(alloc, body) {
+            Ok(octets) => Ok(oftp_vfile::Row::new(octets)),
+            Err(_) => Err(OfficeFault::Memory),
+        },
+        _ => Err(OfficeFault::Store),
+    }
+}
