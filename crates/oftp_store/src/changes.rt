@@ -1,5 +1,7 @@
 //! The changes of the register in the database.
 
+mod arrival;
 mod edit;
 mod statements;
+mod step;
 mod transaction;

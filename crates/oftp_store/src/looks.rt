@@ -1,0 +1,6 @@
+//! The look-ups in the database.
+
+pub(crate) mod header;
+pub(crate) mod place;
+pub(crate) mod response;
+pub(crate) mod rows;
