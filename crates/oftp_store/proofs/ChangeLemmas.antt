@@ -3,22 +3,28 @@ use Rattle.std.proofs.Common.{◌≡◌, ◌≤◌, ◌+◌, ◌&&◌, ℕ, zero
 use Rattle.oftp_register.specs.declared.change.Cause.{Cause}
 use Rattle.oftp_register.specs.declared.change.Cause.TheVariants.{Unknown, State as Unfit}
 use Rattle.oftp_register.specs.declared.change.Change.{Change}
-use Rattle.oftp_register.specs.Register.{Register, Incoming, Outgoing}
-use Rattle.oftp_register.specs.Changes.{apply, at_number, closed, given_up, if_open, kept, mapped, on_incoming}
+use Rattle.oftp_register.specs.Register.{Register, Incoming, Issued, Outgoing}
+use Rattle.oftp_register.specs.Changes.{apply, at_number, closed, given_up, if_open, if_unanswered, issued, issued_on, kept, mapped, on_incoming, sent, sent_as, sent_of}
 use Rattle.oftp_register.specs.declared.change.Change.TheVariants as change
 use Rattle.oftp_register.specs.declared.entries.Side.TheVariants as side
 use Rattle.oftp_register.specs.declared.entry.IncomingState.{IncomingState}
 use Rattle.oftp_register.specs.declared.entry.IncomingState.TheVariants.{Open, Whole}
 use Rattle.std.proofs.Common.{Bor}
+use Rattle.std.specs.Option.{option_map}
+use Rattle.oftp_wire.specs.declared.field.Text.{Text as Words}
+use Rattle.oftp_register.specs.declared.entry.Dispatch.{Dispatch}
+use Rattle.oftp_register.specs.declared.entry.Dispatch.TheVariants.{Due, Sent}
+use Rattle.oftp_register.specs.declared.entry.ResponseKind.{ResponseKind}
+use Rattle.oftp_store.specs.declared.looks.place.Answered.{Answered}
 use Rattle.oftp_store.specs.declared.looks.place.Place.{Place}
 use Rattle.oftp_register.specs.LookUps.{entry_at}
 use Rattle.oftp_tables.proofs.SpotLemmas.{Spot, changed_past, changed_there, past, spot, there, zeroth}
 use Rattle.oftp_store.specs.Edits.{AreEdited, IsEdited}
 use Rattle.oftp_store.specs.Reads.{IsPlaced, IsToldOf}
-use Rattle.oftp_store.specs.Places.{place_of, stage_of}
+use Rattle.oftp_store.specs.Places.{answered_of, dispatch_of, is_answerable, is_due_response, is_sendable, place_of, stage_of}
 use Rattle.oftp_store.specs.Steps.{change_by, is_allowed, mark_after, state_after, stepped}
 use Rattle.oftp_store.specs.declared.changes.edit.Edit.{Edit}
-use Rattle.oftp_store.specs.declared.changes.edit.Deed.TheVariants.{AddRows, CutRows, SetOutgoing, SetWhole}
+use Rattle.oftp_store.specs.declared.changes.edit.Deed.TheVariants.{AddIssued, AddRows, CutRows, SetOutgoing, SetSent, SetWhole}
 use Rattle.oftp_store.specs.declared.changes.step.Step.{Step}
 use Rattle.oftp_store.specs.declared.changes.step.Step.TheVariants.{Mark, BeginClosing, HandOver, Refuse, Reopen}
 use Rattle.oftp_store.specs.declared.looks.place.Stage.{Stage}
@@ -194,3 +200,88 @@ made_by_give_up n r count (before, f, after, placed, is) =
         now = ap (λ st. let q : Register = record r { incoming = before ++ (record f { rows = []; state = st }) ∷ after } in q) (sym is_open);
       }, refl);
     }
+
+-- ---- the response to an incoming file
+
+-- what a response makes of a file in a state, with a response or without
+abbrev answers_so : Issued → Incoming → IncomingState → Option Issued → Result Incoming Cause
+answers_so x f Open o = Err Unfit
+answers_so x f Whole o = if_unanswered x f o
+
+so_is : (x : Issued) (f : Incoming) (state : IncomingState) → issued_on x f state ≡ answers_so x f state f.response
+so_is x f Open = refl
+so_is x f Whole = refl
+
+pub unknown_issue : (n : ℕ) (r : Register) (kind : ResponseKind) (reason : ℕ) (text : List ℕ) → IsToldOf answered_of r.incoming n None → apply r (change.Issue n kind reason text) ≡ Err Unknown
+unfolding apply
+unknown_issue n r kind reason text none = unknown_in (issued (record { kind = kind; reason = reason; text = text; dispatch = Due })) n r none
+
+pub unfit_issue : (n : ℕ) (r : Register) (kind : ResponseKind) (reason : ℕ) (text : List ℕ) (answered : Answered) → IsToldOf answered_of r.incoming n (Some answered) → is_answerable answered ≡ false → apply r (change.Issue n kind reason text) ≡ Err Unfit
+unfolding apply
+unfit_issue n r kind reason text answered (before, f, after, placed, is) refused =
+    in_placed (issued x) n r before f after (Err Unfit) placed (so_is x f f.state ∙ go f.state f.response (sym (ap is_answerable is) ∙ refused))
+  where
+    x : Issued
+    x = record { kind = kind; reason = reason; text = text; dispatch = Due }
+
+    go : (state : IncomingState) (o : Option Issued) → (let a : Answered = record { state = state; response = option_map dispatch_of o } in is_answerable a ≡ false) → answers_so x f state o ≡ Err Unfit
+    go Open o h = refl
+    go Whole None h = absurd (let no_such = h in cc)
+    go Whole (Some other) h = refl
+
+pub made_by_issue : (n : ℕ) (r : Register) (kind : ResponseKind) (reason : ℕ) (text : Bor Words) (answered : Answered) → IsToldOf answered_of r.incoming n (Some answered) → is_answerable answered ≡ true
+    → (let edit : Edit = record { no = n; deed = AddIssued kind reason text } in IsMadeBy (edit ∷ []) r (change.Issue n kind reason text.now))
+unfolding apply
+made_by_issue n r kind reason text answered (before, f, after, placed, is) allowed =
+    let x : Issued = record { kind = kind; reason = reason; text = text.now; dispatch = Due } in
+    let parts = go f.state f.response (sym (ap is_answerable is) ∙ allowed) in
+    let s : Register = record r { incoming = before ++ (record f { response = Some x }) ∷ after } in
+    record {
+      now = s;
+      is = in_placed (issued x) n r before f after (Ok (record f { response = Some x })) placed (ap (issued_on x f) parts.0 ∙ ap (if_unanswered x f) parts.1);
+      limits = refl;
+      edited = (s, record { before = before; file = f; after = after; here = placed.here; number = placed.number; was = parts.1; now = refl }, refl);
+    }
+  where
+    go : (state : IncomingState) (o : Option Issued) → (let a : Answered = record { state = state; response = option_map dispatch_of o } in is_answerable a ≡ true) → (state ≡ Whole) × (o ≡ None)
+    go Open o h = absurd (let no_such = h in cc)
+    go Whole None h = (refl, refl)
+    go Whole (Some other) h = absurd (let no_such = h in cc)
+
+pub unknown_send : (n : ℕ) (r : Register) → IsToldOf answered_of r.incoming n None → apply r (change.Send n) ≡ Err Unknown
+unfolding apply
+unknown_send n r none = unknown_in sent n r none
+
+pub unfit_send : (n : ℕ) (r : Register) (answered : Answered) → IsToldOf answered_of r.incoming n (Some answered) → is_sendable answered ≡ false → apply r (change.Send n) ≡ Err Unfit
+unfolding apply
+unfit_send n r answered (before, f, after, placed, is) refused = in_placed sent n r before f after (Err Unfit) placed (go f.response (sym (ap is_sendable is) ∙ refused))
+  where
+    due : (x : Issued) (d : Dispatch) → is_due_response (Some d) ≡ false → mapped (λ answer. let g : Incoming = record f { response = Some answer } in g) (sent_as x d) ≡ Err Unfit
+    due x Due h = absurd (let no_such = h in cc)
+    due x Sent h = refl
+
+    go : (o : Option Issued) → (let a : Answered = record { state = f.state; response = option_map dispatch_of o } in is_sendable a ≡ false) → sent_of f o ≡ Err Unfit
+    go None h = refl
+    go (Some x) h = due x x.dispatch h
+
+pub made_by_send : (n : ℕ) (r : Register) (answered : Answered) → IsToldOf answered_of r.incoming n (Some answered) → is_sendable answered ≡ true → (let edit : Edit = record { no = n; deed = SetSent } in IsMadeBy (edit ∷ []) r (change.Send n))
+unfolding apply
+made_by_send n r answered (before, f, after, placed, is) allowed =
+    let part = go f.response (sym (ap is_sendable is) ∙ allowed) in
+    let x = part.0 in
+    let y : Issued = record x { dispatch = Sent } in
+    let s : Register = record r { incoming = before ++ (record f { response = Some y }) ∷ after } in
+    record {
+      now = s;
+      is = in_placed sent n r before f after (Ok (record f { response = Some y })) placed (ap (sent_of f) part.1 ∙ ap (λ d. mapped (λ answer. let g : Incoming = record f { response = Some answer } in g) (sent_as x d)) part.2);
+      limits = refl;
+      edited = (s, (x, record { before = before; file = f; after = after; here = placed.here; number = placed.number; was = part.1; now = refl }), refl);
+    }
+  where
+    due : (x : Issued) (d : Dispatch) → is_due_response (Some d) ≡ true → d ≡ Due
+    due x Due h = refl
+    due x Sent h = absurd (let no_such = h in cc)
+
+    go : (o : Option Issued) → (let a : Answered = record { state = f.state; response = option_map dispatch_of o } in is_sendable a ≡ true) → (x : Issued) × (o ≡ Some x) × (x.dispatch ≡ Due)
+    go None h = absurd (let no_such = h in cc)
+    go (Some x) h = (x, refl, due x x.dispatch h)

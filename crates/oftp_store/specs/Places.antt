@@ -1,5 +1,8 @@
 -- What changes ask of the file with a number.
-use Rattle.std.specs.Prelude.{ℕ, length, Option}
+use Rattle.std.specs.Prelude.{ℕ, length, Bool, true, false, Option, Some, None}
+use Rattle.oftp_register.specs.declared.entry.Dispatch.TheVariants.{Due, Sent}
+use Rattle.oftp_register.specs.declared.entry.IncomingState.{IncomingState}
+use Rattle.oftp_register.specs.declared.entry.IncomingState.TheVariants.{Open, Whole}
 use Rattle.std.specs.Option.{option_map}
 use Rattle.oftp_register.specs.declared.entry.Dispatch.{Dispatch}
 use Rattle.oftp_register.specs.Register.{Incoming, Issued, Outgoing}
@@ -18,3 +21,26 @@ dispatch_of x = x.dispatch
 
 abbrev pub answered_of : Incoming → Answered
 answered_of f = record { state = f.state; response = option_map dispatch_of f.response }
+
+-- a file may be answered that is whole and wasn't
+
+abbrev pub is_unanswered : Option Dispatch → Bool
+is_unanswered None = true
+is_unanswered (Some dispatch) = false
+
+abbrev pub is_answerable_in : IncomingState → Option Dispatch → Bool
+is_answerable_in Open response = false
+is_answerable_in Whole response = is_unanswered response
+
+abbrev pub is_answerable : Answered → Bool
+is_answerable a = is_answerable_in a.state a.response
+
+-- a response is sent that is due
+
+abbrev pub is_due_response : Option Dispatch → Bool
+is_due_response None = false
+is_due_response (Some Due) = true
+is_due_response (Some Sent) = false
+
+abbrev pub is_sendable : Answered → Bool
+is_sendable a = is_due_response a.response

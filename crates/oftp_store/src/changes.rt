@@ -2,6 +2,7 @@
 
 mod arrival;
 mod edit;
+mod response;
 mod statements;
 mod step;
 mod transaction;

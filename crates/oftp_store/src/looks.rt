@@ -1,5 +1,6 @@
 //! The look-ups in the database.
 
+pub(crate) mod entry;
 pub(crate) mod header;
 pub(crate) mod place;
 pub(crate) mod response;
