@@ -17,7 +17,7 @@ use Rattle.oftp_register.specs.Offices.{IsFailure, IsRefused}
 use Rattle.oftp_schema.specs.Schema.{office_schema}
 use Rattle.oftp_schema.specs.Calls.{IsSpared, IsUndone}
 use Rattle.oftp_tables.specs.Tables.{Tables, register_in}
-use Rattle.oftp_store.specs.Stands.{Holds, IsContentOf, Stands}
+use Rattle.oftp_open.specs.Stands.{Holds, IsContentOf, Stands}
 use Rattle.oftp_tables.specs.Calls.{Changes, IsOurs, Looks, MayLeave}
 use Rattle.oftp_store.specs.Commits.{CommitsOn}
 use Rattle.oftp_store.specs.Edits.{AreEdited, MakesAll}

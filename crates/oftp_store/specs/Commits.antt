@@ -11,7 +11,7 @@ use Rattle.oftp_register.specs.Changes.{apply}
 use Rattle.oftp_register.specs.Soundness.{IsFit}
 use Rattle.oftp_register.specs.Offices.{IsRefused}
 use Rattle.oftp_tables.specs.Tables.{register_in}
-use Rattle.oftp_store.specs.Stands.{IsContentOf, Stands}
+use Rattle.oftp_open.specs.Stands.{IsContentOf, Stands}
 
 -- The change is made, or it is refused for its cause, or the store failed and the register stays where the connection is open. A
 -- stop leaves it made or not made.

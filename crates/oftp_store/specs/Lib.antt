@@ -1,7 +1,6 @@
 pub mod Texts
 pub mod Edits
 pub mod Reads
-pub mod Stands
 pub mod Commits
 pub mod Steps
 pub mod Places
