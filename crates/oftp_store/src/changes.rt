@@ -1,8 +1,8 @@
 //! The changes of the register in the database.
 
-mod arrival;
-mod edit;
-mod response;
+pub(crate) mod arrival;
+pub(crate) mod edit;
+pub(crate) mod response;
 mod statements;
-mod step;
-mod transaction;
+pub(crate) mod step;
+pub(crate) mod transaction;
