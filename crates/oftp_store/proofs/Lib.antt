@@ -3,3 +3,9 @@ mod EditLemmas
 mod RowEditLemmas
 mod ReceivedEditLemmas
 mod TransactionLemmas
+mod NumberLemmas
+mod HeaderLemmas
+mod RowLookLemmas
+mod CommitLemmas
+mod ChangeLemmas
+mod PlaceLemmas

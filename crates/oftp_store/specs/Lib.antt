@@ -1,2 +1,6 @@
 pub mod Texts
 pub mod Edits
+pub mod Reads
+pub mod Commits
+pub mod Steps
+pub mod Places

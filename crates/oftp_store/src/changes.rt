@@ -1,5 +1,8 @@
 //! The changes of the register in the database.
 
-mod edit;
+pub(crate) mod arrival;
+pub(crate) mod edit;
+pub(crate) mod response;
 mod statements;
-mod transaction;
+pub(crate) mod step;
+pub(crate) mod transaction;

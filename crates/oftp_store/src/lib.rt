@@ -1,4 +1,5 @@
-//! The office over a SQLite database.
+//! The office over a SQLite database: its look-ups and changes by the number of a file.
 #![tactic(auto)]
 
 mod changes;
+mod looks;

@@ -1,5 +1,5 @@
 -- Rows in order of number: where the row of a number stands, or goes.
-use Rattle.std.proofs.Common.{◌≡◌, ◌==◌, ◌+◌, ◌<◌, ◌≤◌, ℕ, suc, pos, ◌<ℤ◌, Bool, true, false, cond, List, [], ◌∷◌, ◌++◌, length, refl, sym, ap, subst, ◌∙◌, arith, append_assoc, Equal, Greater}
+use Rattle.std.proofs.Common.{◌≡◌, ◌==◌, ◌+◌, ◌<◌, ◌≤◌, ℕ, pos, ◌<ℤ◌, true, false, List, [], ◌∷◌, ◌++◌, length, refl, sym, ap, subst, ◌∙◌, arith, append_assoc, Equal, Greater}
 use Rattle.std.specs.List.{AllByRecursion}
 use Rattle.std.proofs.lemmas.Int.{ints}
 use Rattle.std.proofs.lemmas.Bool.Decides.{nat_tests}
@@ -9,7 +9,7 @@ use Rattle.sqlite.specs.declared.types.Value.TheVariants.{Int}
 use Rattle.sqlite.specs.Order.{Row, column, value_cmp}
 use Rattle.sqlite.specs.Tree.{put_row, without_rowid}
 use Rattle.sqlite.specs.Term.{Term, col, eval_all}
-use Rattle.oftp_schema.proofs.TermLemmas.{equal, equal_numbers, and_true}
+use Rattle.oftp_schema.proofs.TermLemmas.{equal, equal_numbers}
 use Rattle.oftp_schema.proofs.QueryLemmas.{chosen}
 use Rattle.oftp_tables.specs.Tables.{number_value, rows_from}
 use Rattle.oftp_tables.proofs.OrderedLemmas.{less}

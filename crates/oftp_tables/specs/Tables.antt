@@ -1,5 +1,5 @@
 -- What the tables hold for a register.
-use Rattle.std.specs.Prelude.{length, ◌^◌, ◌≡◌, ◌+◌, ◌<◌, ◌==◌, ℕ, Bool, true, false, if◌then◌else◌, List, [], ◌∷◌, ◌++◌, map, drop, filter, find, codes, pos, negsuc, Option, Some, None, nat_le, ⊤, IsTrue}
+use Rattle.std.specs.Prelude.{length, ◌^◌, ◌≡◌, ◌+◌, ◌<◌, ◌==◌, ℕ, Bool, true, false, if◌then◌else◌, List, [], ◌∷◌, ◌++◌, map, drop, filter, find, codes, pos, negsuc, Option, Some, None, nat_le, ⊤}
 use Rattle.std.specs.List.{AllByRecursion}
 use Rattle.std.specs.Option.{option_map}
 use Rattle.std.specs.List.Sorted.{IsPermutation}
