@@ -3,3 +3,7 @@ mod EditLemmas
 mod RowEditLemmas
 mod ReceivedEditLemmas
 mod TransactionLemmas
+mod FirstLemmas
+mod LastLemmas
+mod IdentityLemmas
+mod NextLemmas

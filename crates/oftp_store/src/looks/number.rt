@@ -1,0 +1,23 @@
+//! The number that an answer tells.
+
+ghost use Rattle.std.specs.Prelude.{IfOk, IfErr};
+ghost use Rattle.oftp_register.specs.Offices.{IsFailure};
+ghost use Rattle.oftp_store.specs.Numbers.{TellsNo};
+
+use oftp_register::OfficeFault;
+use oftp_tables::no_at;
+use sqlite::Row;
+
+/// The number in the first row of an answer.
+pub(crate) fn no_told(rows: &[Row]) -> Result<Option<u64>, OfficeFault>
+    ensures told { IfOk result (TellsNo rows.now) }
+    ensures fails { IfErr result IsFailure }
+{
+    match rows {
+        [] => Ok(None),
+        [row, ..] => match no_at(row, 0) {
+            Some(no) => Ok(Some(no)),
+            None => Err(OfficeFault::Store),
+        },
+    }
+}
