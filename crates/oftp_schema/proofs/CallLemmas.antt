@@ -95,13 +95,15 @@ unfolding FailsToQuery
 open_failed sql params old new e (inl h) = spared_open old new (not_run sql params old new e h)
 open_failed sql params old new e (inr h) = fails_open sql (timed params h.0.formats h.1.now) old new h.0 e h.0.returning h.2
 
+-- a query commits nothing
+pub query_leaves : (sql : List ℕ) (params : Row) (old new : State) → IsPlain (understood old.now.schema sql) → Survives old new (CommitsShowing sql params old)
+    → HasCleanDisk new → (db : Trees) → new.may_leave db → old.may_leave db
+query_leaves sql params old new plain survives clean db h = elim (survives.crash clean db h) [ inl before ↦ before | inr now ↦ absurd (never_commits sql params old db plain now) ]
+
 -- ---- a query over the tables of a schema
 
 module _ (ours : Schema) (sql : List ℕ) (params : Row) (old new : State) (plain : (schema : Schema) → schema ≡ ours → IsPlain (understood schema sql))
     (clean : doubt old.is_clean ≤ doubt new.is_clean) (mode : old.in_transaction ≡ false → new.in_transaction ≡ false) (survives : Survives old new (CommitsShowing sql params old)) where
-  leaves_no_more : old.now.schema ≡ ours → HasCleanDisk new → (db : Trees) → new.may_leave db → old.may_leave db
-  leaves_no_more has k db h = elim (survives.crash k db h) [ inl before ↦ before | inr now ↦ absurd (never_commits sql params old db (plain _ has) now) ]
-
   -- it answered
   pub queries_shown : {T E : Type 0} (result : Result T E) → (HasCleanDisk new → (rows : List Row) × Shown sql params old new rows) → IsQuery ours old new result
   queries_shown result shown = record {
@@ -110,7 +112,7 @@ module _ (ours : Schema) (sql : List ℕ) (params : Row) (old new : State) (plai
     was_open = λ k h. open_shown sql params old new (shown k).0 (shown k).1;
     same = λ k has. on_ok result _ (unchanged_query sql params old new (shown k).0 (plain _ has) (shown k).1);
     failed = λ k has. on_err result _ (inl (unchanged_query sql params old new (shown k).0 (plain _ has) (shown k).1));
-    left = λ k has. leaves_no_more has k;
+    left = λ k has. query_leaves sql params old new (plain _ has) survives k;
   }
 
   -- it failed
@@ -121,7 +123,7 @@ module _ (ours : Schema) (sql : List ℕ) (params : Row) (old new : State) (plai
     was_open = λ k h. open_failed sql params old new e (fails k) h;
     same = λ k has. tt;
     failed = λ k has. spared_query sql params old new e (plain _ has) (fails k);
-    left = λ k has. leaves_no_more has k;
+    left = λ k has. query_leaves sql params old new (plain _ has) survives k;
   }
 
 -- what is made of the rows that a query answered

@@ -6,3 +6,4 @@ pub mod TermLemmas
 pub mod SchemaLemmas
 pub mod ShapeLemmas
 pub mod MakeLemmas
+pub mod AboutLemmas

@@ -1,9 +1,8 @@
 -- What the CREATE statements make.
-use Rattle.std.proofs.Common.{◌≡◌, ◌+◌, ◌<◌, ◌∙◌, ℕ, zero, suc, pos, List, [], ◌∷◌, ◌++◌, codes, true, false, None, Result, Ok, Err, OnOk, OnErr, IfErr, IsTrue, inl, inr, refl, sym, ap, subst, arith}
+use Rattle.std.proofs.Common.{◌≡◌, ◌+◌, ◌<◌, ◌∙◌, ℕ, zero, suc, pos, List, [], ◌∷◌, ◌++◌, codes, false, None, Ok, refl, sym, ap, subst, arith}
 use Rattle.std.specs.List.{AllByRecursion}
 use Rattle.sqlite_tied.specs.Compute.{everything}
 use Rattle.sqlite.specs.declared.types.Value.TheVariants.{Null, Int}
-use Rattle.sqlite.specs.declared.error.Error.{Error}
 use Rattle.sqlite.specs.Order.{Row}
 use Rattle.sqlite.specs.Table.{Table}
 use Rattle.sqlite.specs.Tree.{Trees, put_row}
@@ -18,16 +17,12 @@ use Rattle.sqlite.specs.Edit.{with_rowid}
 use Rattle.sqlite.specs.Cast.{cast_row}
 use Rattle.sqlite.specs.Rowids.TheVariants.{Chosen}
 use Rattle.sqlite.specs.Listing.{understood}
-use Rattle.sqlite.specs.Effect.{Database, IsDatabase}
+use Rattle.sqlite.specs.Effect.{Database}
 use Rattle.sqlite.specs.Does.{Does, Tally, lacks_sequence}
-use Rattle.sqlite.specs.Steps.{FailsToCommit}
-use Rattle.sqlite.specs.State.{State, ExecutesInside, KeepsCounts, Shows, Writes, mode_of}
+use Rattle.sqlite.specs.State.{State, ExecutesInside, Writes, mode_of}
 use Rattle.sqlite.proofs.Callers.{IsPlain, command_of, statement_of, runs_as}
-use Rattle.sqlite_catalog.specs.Listing.{IsSound}
 use Rattle.oftp_schema.specs.Schema.{about, about_tree, office_schema, schema_at, table_at, text_at}
-use Rattle.oftp_schema.specs.Calls.{IsUndone, StaysInside}
-use Rattle.oftp_schema.specs.Making.{AreNew, Creates, HasEmptyTables, HasTables, IsBlank, IsMade, IsMadeContent, IsReady, about_row}
-use Rattle.oftp_schema.proofs.TxLemmas.{stays_then}
+use Rattle.oftp_schema.specs.Making.{Creates, HasEmptyTables, HasTables, IsEmpty, IsNew, about_row}
 use Rattle.oftp_schema.proofs.WriteLemmas.{inserts, same_value, went}
 use Rattle.oftp_schema.proofs.TermLemmas.{no_works, cast_null, cast_int}
 
@@ -51,26 +46,25 @@ meant (suc (suc (suc (suc (suc (suc zero)))))) h = record { command = refl; whol
 meant (suc (suc (suc (suc (suc (suc (suc zero))))))) h = record { command = refl; whole = refl; plain = (refl, refl); table = refl; uncounted = refl }
 meant (suc (suc (suc (suc (suc (suc (suc (suc n)))))))) h = absurd (omega arith)
 
-pub makes : (n count : ℕ) (old new : State) → n < 8 → HasTables n old → ExecutesInside 0 (text_at n) [] old new (Ok count) → Creates n old new
+pub makes : (n count : ℕ) (old new : State) → n < 8 → HasTables n old.now → ExecutesInside 0 (text_at n) [] old new (Ok count) → Creates n old.now new.now
 makes n count old new low has h =
     let it = meant n low in
     let text = text_at n in
-    let w = subst (λ t. Writes old new None CreateTable t [] count) it.whole (runs_as text [] old new (schema_at n) has.schema CreateTable it.command it.plain count h.0) in
+    let w = subst (λ t. Writes old new None CreateTable t [] count) it.whole (runs_as text [] old new (schema_at n) has CreateTable it.command it.plain count h.0) in
     let all = went w.changed in
     let first = went all.1 in
     let made = first.1 in
     let both : Ok made.table ≡ Ok (table_at n) = sym made.defined ∙ it.table in
     let same : made.table ≡ table_at n = same_value both in
-    let schema : first.0.schema ≡ schema_at (suc n) = made.is ∙ ap (λ s. created s made.table) has.schema ∙ ap (created (schema_at n)) same in
+    let schema : first.0.schema ≡ schema_at (suc n) = made.is ∙ ap (λ s. created s made.table) has ∙ ap (created (schema_at n)) same in
     let plain : lacks_sequence first.0.schema ≡ false = ap lacks_sequence schema ∙ it.uncounted in
     let now : new.now ≡ first.0 = ap (λ (p : Tally × Database). p.1) (same_value all.2) ∙ same_value (rw plain at first.2) in
     let next : suc n ≡ n + 1 = omega arith in
-    let after : HasTables (suc n) new = record { schema = ap (λ (d : Database). d.schema) now ∙ schema; sound = w.sound; is_open = h.1.is_open; inside = h.1.mode } in
     record {
-      has = subst (λ k. HasTables k new) next after;
-      empty = subst (λ (d : Database). d.trees (next_tree (schema_at n)) ≡ []) (sym now) (subst (λ s. first.0.trees (next_tree s) ≡ []) has.schema made.empty);
-      others = subst (λ (d : Database). KeepsRows (schema_at n).tables old.now.trees d.trees) (sym now) (subst (λ (s : Schema). KeepsRows s.tables old.now.trees first.0.trees) has.schema made.others);
-      stays = h.1;
+      has = subst (λ k. HasTables k new.now) next (ap (λ (d : Database). d.schema) now ∙ schema);
+      sound = w.sound;
+      empty = subst (λ (d : Database). d.trees (next_tree (schema_at n)) ≡ []) (sym now) (subst (λ s. first.0.trees (next_tree s) ≡ []) has made.empty);
+      others = subst (λ (d : Database). KeepsRows (schema_at n).tables old.now.trees d.trees) (sym now) (subst (λ (s : Schema). KeepsRows s.tables old.now.trees first.0.trees) has made.others);
     }
 
 stay_empty : (ts : List Table) (old new : Trees) → KeepsRows ts old new → AllByRecursion (λ (t : Table). old t.tree ≡ []) ts → AllByRecursion (λ (t : Table). new t.tree ≡ []) ts
@@ -82,18 +76,17 @@ and_last P [] t all last = (last, tt)
 and_last P (x ∷ xs) t all last = (all.0, and_last P xs t all.1 last)
 
 -- one table more with no row
-pub stays_empty : (n : ℕ) (old new : State) → HasEmptyTables n old → Creates n old new → HasEmptyTables (n + 1) new
+pub stays_empty : (n : ℕ) (old new : Database) → HasEmptyTables n old → Creates n old new → HasEmptyTables (n + 1) new
 stays_empty n old new empty made =
     let next : suc n ≡ n + 1 = omega arith in
     let last : Table = record (table_at n) { tree = next_tree (schema_at n) } in
     let ts = (schema_at n).tables in
-    let all : AllByRecursion (λ (t : Table). new.now.trees t.tree ≡ []) (schema_at (suc n)).tables =
-    and_last (λ (t : Table). new.now.trees t.tree ≡ []) ts last (stay_empty ts old.now.trees new.now.trees made.others empty.empty) made.empty in
-    record { has = made.has; empty = subst (λ k. AllByRecursion (λ (t : Table). new.now.trees t.tree ≡ []) (schema_at k).tables) next all }
+    let all : AllByRecursion (λ (t : Table). new.trees t.tree ≡ []) (schema_at (suc n)).tables =
+    and_last (λ (t : Table). new.trees t.tree ≡ []) ts last (stay_empty ts old.trees new.trees made.others empty.empty) made.empty in
+    record { has = made.has; empty = subst (λ k. AllByRecursion (λ (t : Table). new.trees t.tree ≡ []) (schema_at k).tables) next all }
 
--- the step of the loop
-pub one_more : (n : ℕ) (old now new : State) → HasEmptyTables n now × StaysInside old now → Creates n now new → HasEmptyTables (n + 1) new × StaysInside old new
-one_more n old now new up made = (stays_empty n now new up.0 made, stays_then old now new up.1 made.stays)
+pub none_yet : (db : Database) → IsEmpty db → HasEmptyTables 0 db
+none_yet db none = record { has = none; empty = tt }
 
 -- ---- the row of `about`
 
@@ -114,67 +107,28 @@ about_plain : IsPlain (understood office_schema add_about_text)
 unfolding understood everything
 about_plain = (refl, refl)
 
-pub readies : (count : ℕ) (old new : State) → HasEmptyTables 8 old → ExecutesInside 0 add_about_text [] old new (Ok count) → IsReady new × StaysInside old new
+pub readies : (count : ℕ) (old new : State) → HasEmptyTables 8 old.now → ExecutesInside 0 add_about_text [] old new (Ok count) → IsNew new.now
 readies count old new up h =
     let text = statement_of add_about_text (understood office_schema add_about_text) in
-    let w = runs_as add_about_text [] old new office_schema up.has.schema insert about_is about_plain count h.0 in
+    let w = runs_as add_about_text [] old new office_schema up.has insert about_is about_plain count h.0 in
     let source : Row = Int (pos 1) ∷ Null ∷ Int (pos 2) ∷ [] in
-    let does = subst (λ s. Does old.step_limit (mode_of old) [] (record old.now { schema = s }) text None insert (Ok (w.tally, new.now))) up.has.schema w.changed in
+    let does = subst (λ s. Does old.step_limit (mode_of old) [] (record old.now { schema = s }) text None insert (Ok (w.tally, new.now))) up.has w.changed in
     let before : Database = record { schema = office_schema; trees = old.now.trees } in
     let made = inserts (mode_of old) old.step_limit [] before text 0 about terms 3 source (w.tally, new.now) refl refl (no_works about_tree) does in
     let others = made.1.tables in
     let none = up.empty in
-    let row : (rows : List Row) → put_row (with_rowid Chosen rows (cast_row about source)) [] ≡ about_row 2 ∷ [] = λ rows. simp (cast_null, cast_int) in (
-      record {
-        schema = made.0;
-        sound = w.sound;
-        tables = record {
-          about = made.1.rows ∙ ap (λ (rows : List Row). put_row (with_rowid Chosen rows (cast_row about source)) rows) none.0 ∙ row [];
-          in_files = others.1.0 (λ e. omega (arith, e)) ∙ none.1.0;
-          in_rows = others.1.1.0 (λ e. omega (arith, e)) ∙ none.1.1.0;
-          out_files = others.1.1.1.0 (λ e. omega (arith, e)) ∙ none.1.1.1.0;
-          out_rows = others.1.1.1.1.0 (λ e. omega (arith, e)) ∙ none.1.1.1.1.0;
-          issued = others.1.1.1.1.1.0 (λ e. omega (arith, e)) ∙ none.1.1.1.1.1.0;
-          received = others.1.1.1.1.1.1.0 (λ e. omega (arith, e)) ∙ none.1.1.1.1.1.1.0;
-          notes = others.1.1.1.1.1.1.1.0 (λ e. omega (arith, e)) ∙ none.1.1.1.1.1.1.1.0;
-        };
-      },
-      h.1,
-    )
-
--- ---- the commit
-
-module _ (old last new : State) (ready : IsReady last) (inside : StaysInside (record old { in_transaction = true }) last) where
-  pub commits_ready : Shows last new last.now last.now false → IsMade new
-  commits_ready shown = record {
-    is_open = shown.is_open;
-    autocommit = shown.mode;
-    settled = shown.now_is ∙ sym shown.committed_is;
-    ready = record {
-      schema = ap (λ (d : Database). d.schema) shown.now_is ∙ ready.schema;
-      sound = subst IsDatabase (sym shown.now_is) ready.sound;
-      tables = subst (λ (d : Database). AreNew d.trees) (sym shown.now_is) ready.tables;
-    };
-  }
-
-  pub leaves_ready : (db : Trees) → db ≡ last.now.trees → IsMadeContent db
-  leaves_ready db is = subst IsMadeContent (sym is) (record { sound = subst (λ schema. IsSound schema last.now.trees) ready.schema ready.sound; tables = ready.tables })
-
-  pub ready_fails : (e : Error) → FailsToCommit last new e → IsUndone old new
-  ready_fails e (inl failed) =
-      let back = failed.3 in
-      record { was_open = λ h. inside.was_open; undone = λ h. ((back.undone h).0 ∙ inside.committed_is, (back.undone h).1 ∙ inside.committed_is) }
-  ready_fails e (inr past) = absurd (let no_such = sym inside.mode ∙ past.1 in cc)
-
-pub commits_ready_on : (old last new : State) (result : Result (Unit {0}) Error) → IsReady last → StaysInside (record old { in_transaction = true }) last
-    → OnOk result (IsTrue last.in_transaction × Shows last new last.now last.now false × KeepsCounts last new × (new.marks ≡ [])) → OnOk result (IsMade new)
-commits_ready_on old last new (Ok x) ready inside h = commits_ready old last new ready inside h.1
-commits_ready_on old last new (Err e) ready inside h = tt
-
-pub ready_fails_on : (old last new : State) (result : Result (Unit {0}) Error) → IsReady last → StaysInside (record old { in_transaction = true }) last → IfErr result (FailsToCommit last new) → OnErr result (IsUndone old new)
-ready_fails_on old last new (Ok x) ready inside h = tt
-ready_fails_on old last new (Err e) ready inside h = ready_fails old last new ready inside e h
-
--- where the making begins
-pub begins_blank : (s : State) → IsBlank s → HasEmptyTables 0 (record s { in_transaction = true })
-begins_blank s blank = record { has = record { schema = blank.schema; sound = blank.sound; is_open = blank.is_open; inside = refl }; empty = tt }
+    let row : (rows : List Row) → put_row (with_rowid Chosen rows (cast_row about source)) [] ≡ about_row 2 ∷ [] = λ rows. simp (cast_null, cast_int) in
+    record {
+      schema = made.0;
+      sound = w.sound;
+      tables = record {
+        about = made.1.rows ∙ ap (λ (rows : List Row). put_row (with_rowid Chosen rows (cast_row about source)) rows) none.0 ∙ row [];
+        in_files = others.1.0 (λ e. omega (arith, e)) ∙ none.1.0;
+        in_rows = others.1.1.0 (λ e. omega (arith, e)) ∙ none.1.1.0;
+        out_files = others.1.1.1.0 (λ e. omega (arith, e)) ∙ none.1.1.1.0;
+        out_rows = others.1.1.1.1.0 (λ e. omega (arith, e)) ∙ none.1.1.1.1.0;
+        issued = others.1.1.1.1.1.0 (λ e. omega (arith, e)) ∙ none.1.1.1.1.1.0;
+        received = others.1.1.1.1.1.1.0 (λ e. omega (arith, e)) ∙ none.1.1.1.1.1.1.0;
+        notes = others.1.1.1.1.1.1.1.0 (λ e. omega (arith, e)) ∙ none.1.1.1.1.1.1.1.0;
+      };
+    }

@@ -18,7 +18,7 @@ use Rattle.sqlite_schema.specs.declared.schema.Index.{Index}
 use Rattle.sqlite_schema.specs.declared.schema.View.{View as Stored}
 use Rattle.sqlite_catalog.specs.Listing.{IsSound, IsTableRow, IsIndexRow, IsViewRow, IsDefined, automatic, is_view_row, is_table_row, is_index_row}
 use Rattle.std.proofs.Common.{Result, IfOk, IfErr}
-use Rattle.oftp_schema.specs.Schema.{office_schema, no_schema}
+use Rattle.oftp_schema.specs.Schema.{first_schema, office_schema, no_schema}
 use Rattle.oftp_schema.proofs.WriteLemmas.{same_value}
 
 zip_same : {A B : Type 0} (R S : A → B → Type 0) → ((x : A) (y z : B) → R x y → S x z → y ≡ z) → (xs : List A) (ys zs : List B) → AllZip R xs ys → AllZip S xs zs → ys ≡ zs
@@ -111,6 +111,9 @@ schema_is ours s db unviewed few ours_is theirs =
 
 pub same_schema : (s : Schema) (db : Trees) → IsSound office_schema db → IsSound s db → s ≡ office_schema
 same_schema s db = schema_is office_schema s db refl (omega arith, (omega arith, (omega arith, (omega arith, (omega arith, (omega arith, (omega arith, (omega arith, tt))))))))
+
+pub same_first : (s : Schema) (db : Trees) → IsSound first_schema db → IsSound s db → s ≡ first_schema
+same_first s db = schema_is first_schema s db refl (omega arith, (omega arith, (omega arith, (omega arith, (omega arith, (omega arith, (omega arith, tt)))))))
 
 pub no_tables : (s : Schema) (db : Trees) → IsSound no_schema db → IsSound s db → s ≡ no_schema
 no_tables s db = schema_is no_schema s db refl tt

@@ -3,8 +3,8 @@ use Rattle.std.proofs.Common.{◌≡◌, [], false, refl, sym, ap, subst, ◌∙
 use Rattle.std.specs.Fmt.{digits}
 use Rattle.sqlite.specs.Table.{Table}
 use Rattle.sqlite_schema.specs.declared.schema.Stamps.{Stamps}
-use Rattle.oftp_schema.specs.Schema.{office_schema}
-use Rattle.oftp_schema.specs.Shape.{AreAlike, HasNothingElse, our_schema}
+use Rattle.oftp_schema.specs.Schema.{first_schema, office_schema}
+use Rattle.oftp_schema.specs.Shape.{AreAlike, HasNothingElse, first_shape, our_schema}
 
 stamps_same : (s : Stamps) → s.places ≡ [] → s.terms ≡ [] → s.formats ≡ [] → s ≡ record { places = []; terms = []; formats = [] }
 stamps_same s p t f =
@@ -43,3 +43,7 @@ same_then t u e is = subst (λ x. AreAlike x u) (sym is) (alike u e)
 pub ours_is : our_schema ≡ office_schema
 unfolding digits
 ours_is = refl
+
+pub first_is : first_shape ≡ first_schema
+unfolding digits
+first_is = refl

@@ -1,16 +1,16 @@
 -- How statements make a transaction.
-use Rattle.std.proofs.Common.{◌≡◌, ◌∙◌, ◌⊎◌, ℕ, List, true, false, cond, Option, Some, None, Result, Ok, Err, IfOk, IfErr, OnOk, OnErr, IsTrue, inl, inr, refl, ap}
-use Rattle.std.specs.Prelude.{Vec}
-use Rattle.std.specs.declared.alloc.Global.{Global}
+use Rattle.std.proofs.Common.{◌≡◌, ◌∙◌, ℕ, List, [], true, false, Result, Ok, Err, IfErr, OnOk, OnErr, IsTrue, inl, inr, refl, sym, subst, arith}
+use Rattle.sqlite_trees.specs.declared.store.Store.{Ghosts}
+use Rattle.sqlite.specs.Held.{Held, state}
+use Rattle.sqlite.specs.Effect.{Database}
+use Rattle.sqlite.specs.Steps.{FailsToCommit}
+use Rattle.sqlite.proofs.StateLemmas.{survives_then}
 use Rattle.std.proofs.lemmas.Bool.{cases_Bool}
 use Rattle.sqlite.specs.Order.{Row}
-use Rattle.sqlite.specs.Clock.{timed}
 use Rattle.sqlite.specs.declared.error.Error.{Error}
-use Rattle.sqlite.specs.State.{State, ExecutesInside, FailsToQuery, FailsToShow, IsRolledBack, IsTooLate, Shown, ShowsRows}
-use Rattle.sqlite_resolve.specs.declared.compiled.Compiled.{Compiled}
-use Rattle.sqlite_schema.specs.declared.command.Returning.{Returning}
-use Rattle.oftp_schema.specs.Calls.{IsSpared, IsUndone, KeepsCommit, StaysInside}
-use Rattle.oftp_schema.proofs.CallLemmas.{not_run}
+use Rattle.sqlite.specs.State.{State, ExecutesInside, HasCleanDisk, IsRolledBack, KeepsCommit, KeepsCounts, Shows, Survives}
+use Rattle.oftp_schema.proofs.CallLemmas.{on_ok, on_err}
+use Rattle.oftp_schema.specs.Calls.{IsInside, IsSpared, IsUndone, Runs, StaysInside, Transacts}
 
 pub spared_keeps : (old new : State) → IsSpared old new → KeepsCommit old new
 spared_keeps old new (inl same) = record { was_open = λ _. same.0.was_open; committed = λ _. same.0.committed_is }
@@ -53,23 +53,133 @@ dropped old last new kept back = record {
   undone = λ h. let same = kept.committed (back.was_open h) in ((back.undone h).0 ∙ same, (back.undone h).1 ∙ same);
 }
 
--- ---- a look-up of a store that may be any, in a transaction that is given up
+-- ---- statements in turn
 
-shows_keep : (sql : List ℕ) (params : Row) (old new : State) (c : Compiled) (rows : List Row) (o : Option Returning) → old.in_transaction ≡ true → ShowsRows old new sql c params rows o → KeepsCommit old new
-shows_keep sql params old new c rows None inside h = spared_keeps old new (inl h.3)
-shows_keep sql params old new c rows (Some what) inside h =
-    let shown = h.1.shown in
-    record { was_open = λ _. shown.was_open; committed = λ _. shown.committed_is ∙ ap (λ b. cond b old.committed new.now) inside }
+map_ok : {T E P Q : Type 0} (result : Result T E) → (P → Q) → OnOk result P → OnOk result Q
+map_ok (Ok x) f h = f h
+map_ok (Err e) f h = tt
 
-fails_keep : (sql : List ℕ) (params : Row) (old new : State) (c : Compiled) (e : Error) (o : Option Returning) → FailsToShow old new sql c params e o → KeepsCommit old new
-fails_keep sql params old new c e None h = spared_keeps old new (inl h.3)
-fails_keep sql params old new c e (Some what) (inl refused) = spared_keeps old new (inl refused.1)
-fails_keep sql params old new c e (Some what) (inr failed) = spared_keeps old new (inr failed.3)
+map_err : {T E P Q : Type 0} (result : Result T E) → (P → Q) → OnErr result P → OnErr result Q
+map_err (Ok x) f h = tt
+map_err (Err e) f h = f h
 
-pub query_keeps : (sql : List ℕ) (params : Row) (old new : State) (answer : Result (Vec Row Global) Error) → old.in_transaction ≡ true → IfOk answer (λ rows. Shown sql params old new rows.items)
-    → IfErr answer (λ e. FailsToQuery sql params old new e ⊎ IsTooLate sql params old new e) → KeepsCommit old new
-unfolding Shown FailsToQuery
-query_keeps sql params old new (Ok rows) inside h err = shows_keep sql (timed params h.0.formats h.1.now) old new h.0 rows.items h.0.returning inside h.2
-query_keeps sql params old new (Err e) inside ok (inl (inl h)) = spared_keeps old new (not_run sql params old new e h)
-query_keeps sql params old new (Err e) inside ok (inl (inr h)) = fails_keep sql (timed params h.0.formats h.1.now) old new h.0 e h.0.returning h.2
-query_keeps sql params old new (Err e) inside ok (inr late) = spared_keeps old new (inl late.5)
+-- one statement
+pub statement_runs : {S : Type 0} (g : Ghosts S) (old new : Held S) (Before : Database → Type 0) (Made : Database → Database → Type 0) (sql : List ℕ) (params : Row) (e : Error) (result : Result ℕ Error)
+    → ((state g old).in_transaction ≡ false → (result ≡ Err e) × (new ≡ old))
+    → (HasCleanDisk (state g new) → IsTrue (state g old).in_transaction → ExecutesInside 0 sql params (state g old) (state g new) result)
+    → Survives (state g old) (state g new) (λ _. ⊥)
+    → ((count : ℕ) → Before (state g old).now → ExecutesInside 0 sql params (state g old) (state g new) (Ok count) → Made (state g old).now (state g new).now)
+    → Runs Before Made (state g old) (state g new) result
+statement_runs g old new Before Made sql params e result ended runs survives made = record {
+  done = λ clean within before. ran_on sql params (state g old) (state g new) result e _ (λ past. (ended past).0) (runs clean) (λ count h. (made count before h, h.1));
+  failed = λ clean within before. keeps_on sql params (state g old) (state g new) result (λ past. kept (ended past).1) (runs clean);
+  survives = survives;
+}
+  where
+    kept : new ≡ old → KeepsCommit (state g old) (state g new)
+    kept is = rw is (record { was_open = λ h. h; committed = λ h. refl })
+
+-- what was known before is more, and what was made as much
+pub runs_weaker : {T E : Type 0} (Before Known : Database → Type 0) (Made Then : Database → Database → Type 0) (old new : State) (result : Result T E) → ((d : Database) → Known d → Before d)
+    → ((d e : Database) → Known d → Made d e → Then d e) → Runs Before Made old new result → Runs Known Then old new result
+runs_weaker Before Known Made Then old new result knows makes one = record {
+  done = λ clean within known. map_ok result (λ made. (makes old.now new.now known made.0, made.1)) (one.done clean within (knows old.now known));
+  failed = λ clean within known. one.failed clean within (knows old.now known);
+  survives = one.survives;
+}
+
+-- no statement
+pub nothing_runs : {T E : Type 0} (Before : Database → Type 0) (Made : Database → Database → Type 0) (s : State) (result : Result T E) → ((d : Database) → Before d → Made d d) → Runs Before Made s s result
+nothing_runs Before Made s result made = record {
+  done = λ clean within before. on_ok result _ (made s.now before, record { was_open = within.is_open; is_open = within.is_open; now_is = refl; committed_is = refl; mode = within.inside });
+  failed = λ clean within before. on_err result _ (record { was_open = λ h. h; committed = λ h. refl });
+  survives = record { clean = omega arith; shield = λ is. is; counts = omega arith; limit = refl; closes = λ clean is. inl is; crash = λ clean db left. inl left };
+}
+
+-- some statements and then others
+pub runs_then : {T U E F : Type 0} (Before Between : Database → Type 0) (First Next Both : Database → Database → Type 0) (a b c : State) (x : T) (result : Result U F)
+    → ((d e : Database) → Before d → First d e → Between e) → ((d e f : Database) → First d e → Next e f → Both d f)
+    → Runs {E = E} Before First a b (Ok x) → Runs Between Next b c result → Runs Before Both a c result
+runs_then Before Between First Next Both a b c x result so both one two = record {
+  done = λ clean within before.
+      let first = one.done (earlier clean) within before in
+      map_ok result (λ next. (both a.now b.now c.now first.0 next.0, stays_then a b c first.1 next.1)) (two.done clean (inside first.1) (so a.now b.now before first.0));
+  failed = λ clean within before.
+      let first = one.done (earlier clean) within before in
+      map_err result (stays_keeps a b c first.1) (two.failed clean (inside first.1) (so a.now b.now before first.0));
+  survives = survives_then a b c _ _ (λ _. ⊥) (λ _ db none. none) (λ _ db none. none) one.survives two.survives;
+}
+  where
+    earlier : HasCleanDisk c → HasCleanDisk b
+    earlier clean = omega (arith, two.survives.clean, clean)
+
+    inside : StaysInside a b → IsInside b
+    inside stays = record { is_open = stays.is_open; inside = stays.mode }
+
+-- whatever they told
+pub runs_whatever : {T U E F : Type 0} (Before : Database → Type 0) (Made : Database → Database → Type 0) (old new : State) (x : T) (y : U) → Runs {E = E} Before Made old new (Ok x) → Runs {E = F} Before Made old new (Ok y)
+runs_whatever Before Made old new x y one = record { done = one.done; failed = λ clean within before. tt; survives = one.survives }
+
+-- the first of them failed
+pub runs_fails : {T U E F : Type 0} (Before : Database → Type 0) (Made Other : Database → Database → Type 0) (old new : State) (e : E) (f : F) → Runs {T = T} Before Made old new (Err e) → Runs {T = U} Before Other old new (Err f)
+runs_fails Before Made Other old new e f one = record { done = λ clean within before. tt; failed = one.failed; survives = one.survives }
+
+-- ---- the transaction
+
+module _ (Before : Database → Type 0) (Made : Database → Database → Type 0) (old last new : State) where
+  begun : IsTrue old.is_open → IsInside (record old { in_transaction = true })
+  begun is = record { is_open = is; inside = refl }
+
+  -- it was given up after a failure
+  pub transacts_fails : {T U E F : Type 0} (e : E) (f : F) → Runs {T = T} Before Made (record old { in_transaction = true }) last (Err e)
+      → new.in_transaction ≡ false → (HasCleanDisk new → IsRolledBack last new) → Survives last new (λ _. ⊥) → Transacts {T = U} Before Made old new (Err f)
+  transacts_fails e f inside mode back survives = record {
+    clean = omega (arith, inside.survives.clean, survives.clean);
+    mode = mode;
+    done = λ clean within before. tt;
+    failed = λ clean within before. undone (inside.failed (earlier clean) (begun within) before) (back clean);
+    left = λ clean within before db h. elim (survives.crash clean db h) [
+      | inl then ↦ elim (inside.survives.crash (earlier clean) db then) [ inl first ↦ inl first | inr none ↦ absurd none ]
+      | inr none ↦ absurd none
+    ];
+  }
+    where
+      earlier : HasCleanDisk new → HasCleanDisk last
+      earlier clean = omega (arith, survives.clean, clean)
+
+      undone : KeepsCommit (record old { in_transaction = true }) last → IsRolledBack last new → IsUndone old new
+      undone kept back = record {
+        was_open = λ h. kept.was_open (back.was_open h);
+        undone = λ h. let same = kept.committed (back.was_open h) in ((back.undone h).0 ∙ same, (back.undone h).1 ∙ same);
+      }
+
+  -- its end was tried
+  pub transacts_ends : {T E : Type 0} (x : T) (result : Result (Unit {0}) Error) → Runs {E = E} Before Made (record old { in_transaction = true }) last (Ok x) → new.in_transaction ≡ false
+      → (HasCleanDisk new → OnOk result (IsTrue last.in_transaction × Shows last new last.now last.now false × KeepsCounts last new × (new.marks ≡ [])))
+      → (HasCleanDisk new → IfErr result (FailsToCommit last new)) → Survives last new (λ db. db ≡ last.now.trees) → Transacts Before Made old new result
+  transacts_ends x result inside mode ok err survives = record {
+    clean = omega (arith, inside.survives.clean, survives.clean);
+    mode = mode;
+    done = λ clean within before. let made = inside.done (earlier clean) (begun within) before in map_ok result (λ h. ended made.0 made.1 h.1) (ok clean);
+    failed = λ clean within before. fails result (inside.done (earlier clean) (begun within) before).1 (err clean);
+    left = λ clean within before db h. elim (survives.crash clean db h) [
+      | inl then ↦ elim (inside.survives.crash (earlier clean) db then) [ inl first ↦ inl first | inr none ↦ absurd none ]
+      | inr is ↦ inr (last.now, (inside.done (earlier clean) (begun within) before).0, is)
+    ];
+  }
+    where
+      earlier : HasCleanDisk new → HasCleanDisk last
+      earlier clean = omega (arith, survives.clean, clean)
+
+      ended : Made old.now last.now → StaysInside (record old { in_transaction = true }) last → Shows last new last.now last.now false → Made old.now new.now × Shows old new new.now new.now false
+      ended made stays shown = (
+        subst (Made old.now) (sym shown.now_is) made,
+        record { was_open = stays.was_open; is_open = shown.is_open; now_is = refl; committed_is = shown.committed_is ∙ sym shown.now_is; mode = shown.mode },
+      )
+
+      fails : (result : Result (Unit {0}) Error) → StaysInside (record old { in_transaction = true }) last → IfErr result (FailsToCommit last new) → OnErr result (IsUndone old new)
+      fails (Ok done) stays h = tt
+      fails (Err e) stays (inl failed) =
+          let back = failed.3 in
+          record { was_open = λ h. stays.was_open; undone = λ h. ((back.undone h).0 ∙ stays.committed_is, (back.undone h).1 ∙ stays.committed_is) }
+      fails (Err e) stays (inr past) = absurd (let no_such = sym stays.mode ∙ past.1 in cc)

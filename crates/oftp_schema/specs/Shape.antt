@@ -102,6 +102,14 @@ later_tables = record out_row { tree = 7 } ∷ record issued { tree = 9 } ∷ re
 abbrev pub our_tables : List Table
 our_tables = record about { tree = 0 } ∷ record in_file { tree = 1 } ∷ record in_row { tree = 3 } ∷ record out_file { tree = 5 } ∷ later_tables
 
+-- likewise schema 1, whose indexes are the same
+
+abbrev pub first_later_tables : List Table
+first_later_tables = record out_row { tree = 7 } ∷ record issued { tree = 9 } ∷ record received { tree = 10 } ∷ []
+
+abbrev pub first_tables : List Table
+first_tables = record about { tree = 0 } ∷ record in_file { tree = 1 } ∷ record in_row { tree = 3 } ∷ record out_file { tree = 5 } ∷ first_later_tables
+
 abbrev pub later_indexes : List Index
 later_indexes = index_of (codes "sqlite_autoindex_out_row_1") 8 7 (1 ∷ 2 ∷ []) ∷ index_of (codes "sqlite_autoindex_received_1") 11 10 (2 ∷ 3 ∷ 4 ∷ 5 ∷ 6 ∷ 7 ∷ []) ∷ []
 
@@ -113,3 +121,6 @@ our_indexes = index_of (codes "sqlite_autoindex_in_file_1") 2 1 (2 ∷ 3 ∷ 4 �
 
 abbrev pub our_schema : Schema
 our_schema = record { tables = our_tables; indexes = our_indexes; views = [] }
+
+abbrev pub first_shape : Schema
+first_shape = record { tables = first_tables; indexes = our_indexes; views = [] }

@@ -1,12 +1,10 @@
 //! The making of the tables.
 
-ghost use Rattle.std.specs.Prelude.{◌≡◌, ◌+◌, ◌<◌, ◌≤◌, OnOk, OnErr, false};
+ghost use Rattle.std.specs.Prelude.{◌≡◌, ◌<◌, false};
 ghost use Rattle.sqlite.specs.Held.{state};
-ghost use Rattle.sqlite.specs.View.{doubt};
-ghost use Rattle.sqlite.specs.State.{HasCleanDisk, Survives};
 ghost use Rattle.oftp_schema.specs.Schema.{text_at};
-ghost use Rattle.oftp_schema.specs.Calls.{IsUndone, KeepsCommit, StaysInside};
-ghost use Rattle.oftp_schema.specs.Making.{Creates, HasEmptyTables, HasTables, IsBlank, IsMade, IsMadeContent, IsReady};
+ghost use Rattle.oftp_schema.specs.Calls.{Runs, Transacts};
+ghost use Rattle.oftp_schema.specs.Making.{Creates, HasEmptyTables, HasTables, IsEmpty, IsNew};
 
 use sqlite::{Alter, Connection, Error, Transaction};
 
@@ -43,22 +41,18 @@ fn text_of(at: usize) -> &'static str
     }
 }
 
-// Makes one table, which its place in the order of making names.
-pub(crate) fn make_table<S: Alter>(tx: &mut Transaction<'_, S>, at: usize) -> Result<usize, Error>
+/// Makes one table, which its place in the order of making names.
+pub fn make_table<S: Alter>(tx: &mut Transaction<'_, S>, at: usize) -> Result<usize, Error>
     requires { at < 8 }
     ensures same_reference { tx.new.conn.ghost_name ≡ tx.old.conn.ghost_name }
-    ensures done { HasCleanDisk (state S.Store tx.new.conn.now) → HasTables at (state S.Store tx.old.conn.now) → OnOk result (Creates at (state S.Store tx.old.conn.now) (state S.Store tx.new.conn.now)) }
-    ensures failed { HasCleanDisk (state S.Store tx.new.conn.now) → OnErr result (KeepsCommit (state S.Store tx.old.conn.now) (state S.Store tx.new.conn.now)) }
-    ensures survives { Survives (state S.Store tx.old.conn.now) (state S.Store tx.new.conn.now) (λ _. ⊥) }
+    ensures runs { Runs (HasTables at) (Creates at) (state S.Store tx.old.conn.now) (state S.Store tx.new.conn.now) result }
 {
     tx.execute(text_of(at), &[])
 }
 
 fn make_tables<S: Alter>(tx: &mut Transaction<'_, S>) -> Result<(), Error>
     ensures same_reference { tx.new.conn.ghost_name ≡ tx.old.conn.ghost_name }
-    ensures done { HasCleanDisk (state S.Store tx.new.conn.now) → HasEmptyTables 0 (state S.Store tx.old.conn.now) → OnOk result (HasEmptyTables 8 (state S.Store tx.new.conn.now) × StaysInside (state S.Store tx.old.conn.now) (state S.Store tx.new.conn.now)) }
-    ensures failed { HasCleanDisk (state S.Store tx.new.conn.now) → HasEmptyTables 0 (state S.Store tx.old.conn.now) → OnErr result (KeepsCommit (state S.Store tx.old.conn.now) (state S.Store tx.new.conn.now)) }
-    ensures survives { Survives (state S.Store tx.old.conn.now) (state S.Store tx.new.conn.now) (λ _. ⊥) }
+    ensures runs { Runs IsEmpty (λ old new. HasEmptyTables 8 new) (state S.Store tx.old.conn.now) (state S.Store tx.new.conn.now) result }
 {
     'tables: for at in 0..8 {
         make_table(tx, at)?;
@@ -68,24 +62,26 @@ fn make_tables<S: Alter>(tx: &mut Transaction<'_, S>) -> Result<(), Error>
 
 fn add_about<S: Alter>(tx: &mut Transaction<'_, S>) -> Result<usize, Error>
     ensures same_reference { tx.new.conn.ghost_name ≡ tx.old.conn.ghost_name }
-    ensures done { HasCleanDisk (state S.Store tx.new.conn.now) → HasEmptyTables 8 (state S.Store tx.old.conn.now) → OnOk result (IsReady (state S.Store tx.new.conn.now) × StaysInside (state S.Store tx.old.conn.now) (state S.Store tx.new.conn.now)) }
-    ensures failed { HasCleanDisk (state S.Store tx.new.conn.now) → OnErr result (KeepsCommit (state S.Store tx.old.conn.now) (state S.Store tx.new.conn.now)) }
-    ensures survives { Survives (state S.Store tx.old.conn.now) (state S.Store tx.new.conn.now) (λ _. ⊥) }
+    ensures runs { Runs (HasEmptyTables 8) (λ old new. IsNew new) (state S.Store tx.old.conn.now) (state S.Store tx.new.conn.now) result }
 {
     tx.execute("INSERT INTO about (id, schema) VALUES (1, 2)", &[])
 }
 
-/// Makes the tables in a database that has none, in one transaction.
-pub fn create<S: Alter>(conn: &mut Connection<S>) -> Result<(), Error>
+fn make_all<S: Alter>(tx: &mut Transaction<'_, S>) -> Result<(), Error>
+    ensures same_reference { tx.new.conn.ghost_name ≡ tx.old.conn.ghost_name }
+    ensures runs { Runs IsEmpty (λ old new. IsNew new) (state S.Store tx.old.conn.now) (state S.Store tx.new.conn.now) result }
+{
+    make_tables(tx)?;
+    add_about(tx)?;
+    Ok(())
+}
+
+// Makes the tables in a database that has none, in one transaction.
+pub(crate) fn create<S: Alter>(conn: &mut Connection<S>) -> Result<(), Error>
     requires { conn.old.in_transaction ≡ false }
-    ensures mode { conn.new.in_transaction ≡ false }
-    ensures done { HasCleanDisk (state S.Store conn.new) → IsBlank (state S.Store conn.old) → OnOk result (IsMade (state S.Store conn.new)) }
-    ensures failed { HasCleanDisk (state S.Store conn.new) → IsBlank (state S.Store conn.old) → OnErr result (IsUndone (state S.Store conn.old) (state S.Store conn.new)) }
-    ensures survives { IsBlank (state S.Store conn.old) → Survives (state S.Store conn.old) (state S.Store conn.new) IsMadeContent }
-    ensures clean { doubt (state S.Store conn.old).is_clean ≤ doubt (state S.Store conn.new).is_clean }
+    ensures { Transacts IsEmpty (λ old new. IsNew new) (state S.Store conn.old) (state S.Store conn.new) result }
 {
     let mut tx = conn.transaction();
-    make_tables(&mut tx)?;
-    add_about(&mut tx)?;
+    make_all(&mut tx)?;
     tx.commit()
 }

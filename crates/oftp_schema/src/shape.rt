@@ -5,8 +5,8 @@ ghost use Rattle.sqlite_schema.specs.declared.schema.Kind.TheVariants as kind;
 ghost use Rattle.sqlite_schema.specs.declared.schema.Action.TheVariants as action;
 ghost use Rattle.sqlite_value.specs.Keys.{plain};
 ghost use Rattle.oftp_schema.specs.Schema as schema;
-ghost use Rattle.oftp_schema.specs.Schema.{no_schema, office_schema};
-ghost use Rattle.oftp_schema.specs.Shape.{AreAlike, AreIdentity, HasNothingElse, IsFramed, IsKeyed, IsNotUnique, IsUniqueOn, in_file_identified, in_file_last, in_file_rest, index_of, last_indexes, later_indexes, later_tables, our_indexes, our_schema, our_tables, out_file_identified, out_file_last, out_file_rest, received_identified, received_rest, reference_to};
+ghost use Rattle.oftp_schema.specs.Schema.{first_schema, no_schema, office_schema};
+ghost use Rattle.oftp_schema.specs.Shape.{AreAlike, AreIdentity, HasNothingElse, first_later_tables, first_shape, first_tables, IsFramed, IsKeyed, IsNotUnique, IsUniqueOn, in_file_identified, in_file_last, in_file_rest, index_of, last_indexes, later_indexes, later_tables, our_indexes, our_schema, our_tables, out_file_identified, out_file_last, out_file_rest, received_identified, received_rest, reference_to};
 
 use sqlite_schema::code::Terms;
 use sqlite_schema::schema::{Action, Column, Index, Kind, Reference, Schema, Table};
@@ -572,6 +572,28 @@ fn are_tables(tables: &[Table]) -> bool
     }
 }
 
+// Whether these are the later tables of schema 1.
+fn are_first_later(tables: &[Table]) -> bool
+    ensures { IsTrue result ↔ (tables.now ≡ first_later_tables) }
+{
+    match tables {
+        [e, f, g] => is_out_row(e) && is_issued(f) && is_received(g),
+        _ => false,
+    }
+}
+
+// Whether these are the tables of schema 1.
+fn are_first_tables(tables: &[Table]) -> bool
+    ensures { IsTrue result ↔ (tables.now ≡ first_tables) }
+{
+    match tables {
+        [a, b, c, d, rest @ ..] => {
+            is_about(a) && is_in_file(b) && is_in_row(c) && is_out_file(d) && are_first_later(rest)
+        }
+        _ => false,
+    }
+}
+
 // Whether these are the later indexes of the office's tables.
 fn are_later_indexes(indexes: &[Index]) -> bool
     ensures { IsTrue result ↔ (indexes.now ≡ later_indexes) }
@@ -620,15 +642,31 @@ fn is_our_shape(schema: &Schema) -> bool
         && are_indexes(schema.indexes.as_slice())
 }
 
-/// Whether the schema is the office's.
+/// Whether a database has the tables of schema 2, as the office makes them, and nothing else.
 pub fn is_ours(schema: &Schema) -> bool
     ensures { IsTrue result ↔ (schema.now ≡ office_schema) }
 {
     is_our_shape(schema)
 }
 
+// Whether the schema has the tables and indexes of schema 1, and no view.
+fn is_first_shape(schema: &Schema) -> bool
+    ensures { IsTrue result ↔ (schema.now ≡ first_shape) }
+{
+    schema.views.is_empty()
+        && are_first_tables(schema.tables.as_slice())
+        && are_indexes(schema.indexes.as_slice())
+}
+
+/// Whether a database has the tables of schema 1, as they were made, and nothing else.
+pub fn is_first(schema: &Schema) -> bool
+    ensures { IsTrue result ↔ (schema.now ≡ first_schema) }
+{
+    is_first_shape(schema)
+}
+
 /// Whether there is no table, no index and no view.
-pub fn is_blank(schema: &Schema) -> bool
+pub(crate) fn is_blank(schema: &Schema) -> bool
     ensures { IsTrue result ↔ (schema.now ≡ no_schema) }
 {
     schema.tables.is_empty() && schema.indexes.is_empty() && schema.views.is_empty()

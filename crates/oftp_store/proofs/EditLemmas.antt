@@ -260,14 +260,14 @@ outgoing_added old new n held identity format longest description count has h =
 abbrev our_issued : Table
 our_issued = record issued { tree = issued_tree }
 
-abbrev issued_piece : ℕ → Incoming → List Row
+abbrev pub issued_piece : ℕ → Incoming → List Row
 issued_piece n f = issued_if_any n f.response
 
-issued_pieces : (n : ℕ) (files : List Incoming) → issued_from n files ≡ pieces_from issued_piece n files
+pub issued_pieces : (n : ℕ) (files : List Incoming) → issued_from n files ≡ pieces_from issued_piece n files
 issued_pieces n [] = refl
 issued_pieces n (f ∷ files) = ap (λ rows. issued_piece n f ++ rows) (issued_pieces (n + 1) files)
 
-issued_number : (n : ℕ) (f : Incoming) → HaveNumber n (issued_piece n f)
+pub issued_number : (n : ℕ) (f : Incoming) → HaveNumber n (issued_piece n f)
 issued_number n f = elim f.response as (λ o. HaveNumber n (issued_if_any n o)) [ None ↦ tt | Some x ↦ (refl, tt) ]
 
 -- the response of one file is another

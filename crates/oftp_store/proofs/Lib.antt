@@ -7,3 +7,9 @@ mod FirstLemmas
 mod LastLemmas
 mod IdentityLemmas
 mod NextLemmas
+mod NumberLemmas
+mod HeaderLemmas
+mod RowLookLemmas
+mod CommitLemmas
+mod ChangeLemmas
+mod PlaceLemmas

@@ -1,5 +1,8 @@
 //! The changes of the register in the database.
 
+mod arrival;
 mod edit;
+mod response;
 mod statements;
+mod step;
 mod transaction;

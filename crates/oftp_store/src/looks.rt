@@ -4,3 +4,8 @@ pub(crate) mod identity;
 pub(crate) mod last;
 pub(crate) mod next;
 mod number;
+pub(crate) mod entry;
+pub(crate) mod header;
+pub(crate) mod place;
+pub(crate) mod response;
+pub(crate) mod rows;

@@ -50,7 +50,7 @@ dispatch_back : (d : Dispatch) → dispatch_in (sent_number d) ≡ d
 dispatch_back Due = refl
 dispatch_back Sent = refl
 
-out_state_back : (s : OutgoingState) → HasRefusal s → out_state_in (out_state_text s) (refusal_text s) ≡ s
+pub out_state_back : (s : OutgoingState) → HasRefusal s → out_state_in (out_state_text s) (refusal_text s) ≡ s
 out_state_back Waiting h = refl
 out_state_back Closing h = refl
 out_state_back Handed h = refl

@@ -1,9 +1,10 @@
 //! The transaction of a change.
 
-ghost use Rattle.std.specs.Prelude.{◌≡◌, ◌≤◌, ◌<◌, ◌^◌, OnOk, OnErr, false};
+ghost use Rattle.std.specs.Prelude.{◌≡◌, ◌≤◌, ◌<◌, ◌^◌, IfErr, OnOk, OnErr, false};
 ghost use Rattle.sqlite.specs.Held.{state};
 ghost use Rattle.sqlite.specs.View.{doubt};
 ghost use Rattle.sqlite.specs.State.{HasCleanDisk, Survives};
+ghost use Rattle.oftp_register.specs.Offices.{IsFailure};
 ghost use Rattle.oftp_schema.specs.Calls.{IsUndone, KeepsCommit};
 ghost use Rattle.oftp_tables.specs.Calls.{Changes, IsInside, IsOurs, MayLeave, Moves};
 ghost use Rattle.oftp_store.specs.Edits.{Makes, MakesAll};
@@ -13,6 +14,8 @@ use super::statements::{
     add_incoming, add_issued, add_outgoing, add_received, add_rows, cut_rows, set_header,
     set_outgoing, set_sent, set_whole,
 };
+use oftp_register::OfficeFault;
+use oftp_tables::fault_of;
 use sqlite::{Alter, Connection, Error, Transaction};
 
 // Makes an edit of the entry with a number that the database can hold.
@@ -126,4 +129,23 @@ pub(crate) fn carry_out<S: Alter>(
     let mut tx = conn.transaction();
     perform_all(&mut tx, edits)?;
     tx.commit()
+}
+
+/// Makes edits in turn, in one transaction, and tells a fault of the office.
+pub(crate) fn make_edits<S: Alter>(
+    conn: &mut Connection<S>,
+    edits: &[Edit<'_>],
+) -> Result<(), OfficeFault>
+    requires { conn.old.in_transaction ≡ false }
+    ensures mode { conn.new.in_transaction ≡ false }
+    ensures clean { doubt (state S.Store conn.old).is_clean ≤ doubt (state S.Store conn.new).is_clean }
+    ensures done { HasCleanDisk (state S.Store conn.new) → IsOurs (state S.Store conn.old) → OnOk result (Changes (MakesAll edits.now) (state S.Store conn.old) (state S.Store conn.new)) }
+    ensures failed { HasCleanDisk (state S.Store conn.new) → IsOurs (state S.Store conn.old) → OnErr result (IsUndone (state S.Store conn.old) (state S.Store conn.new)) }
+    ensures survives { IsOurs (state S.Store conn.old) → Survives (state S.Store conn.old) (state S.Store conn.new) (MayLeave (MakesAll edits.now) (state S.Store conn.old)) }
+    ensures failure { IfErr result IsFailure }
+{
+    match carry_out(conn, edits) {
+        Ok(()) => Ok(()),
+        Err(error) => Err(fault_of(error)),
+    }
 }

@@ -1,20 +1,20 @@
-use Rattle.std.proofs.Common.{◌∙◌, arith}
-use Rattle.sqlite.specs.Held.{state}
-use Rattle.sqlite.specs.State.{HasCleanDisk}
-use Rattle.sqlite.proofs.StateLemmas.{survives_then}
-use Rattle.oftp_schema.proofs.MakeLemmas.{one_more}
+use Rattle.std.proofs.Common.{◌∙◌, ◌+◌, ℕ, refl}
+use Rattle.sqlite.specs.Effect.{Database}
+use Rattle.oftp_schema.specs.Calls.{Runs}
+use Rattle.oftp_schema.specs.Making.{Creates, HasEmptyTables, HasTables, IsEmpty}
+use Rattle.oftp_schema.proofs.TxLemmas.{nothing_runs, runs_then, runs_weaker, runs_whatever}
+use Rattle.oftp_schema.proofs.MakeLemmas.{none_yet, stays_empty}
 use Rattle.oftp_schema.proofs.make.make_tables.Goals as goal
+
+pub tables-init : goal.tables-init
+tables-init g c = record { same_reference = refl; runs = nothing_runs IsEmpty (λ old new. HasEmptyTables 0 new) _ _ none_yet }
 
 pub tables-preserved : goal.tables-preserved
 tables-preserved g c =
-    let old = state g.S.Store c.args.tx.now.conn.now in
-    let now = state g.S.Store c.tables.tx.conn.now in
-    let new = state g.S.Store c.make_table.new.tx.conn.now in
+    let at = c.tables.at in
+    let up = λ (n : ℕ) (old new : Database). HasEmptyTables n new in
+    let created : Runs (HasEmptyTables at) (up (at + 1)) _ _ _ = runs_weaker (HasTables at) (HasEmptyTables at) (Creates at) (up (at + 1)) _ _ _ (λ d empty. empty.has) (λ d e. stays_empty at d e) c.in_ok-make_table.ensures.runs in
     record {
       same_reference = c.make_table.ensures.same_reference ∙ c.tables.invariant.same_reference;
-      survives = survives_then old now new _ _ (λ _. ⊥) (λ _ db none. none) (λ _ db none. none) c.tables.invariant.survives c.make_table.ensures.survives;
-      made = λ clean none.
-          let before : HasCleanDisk now = omega (arith, c.make_table.ensures.survives.clean) in
-          let up = c.tables.invariant.made before none in
-          one_more c.tables.at old now new up (c.in_ok-make_table.ensures.done clean up.0.has);
+      runs = runs_whatever IsEmpty (up (at + 1)) _ _ _ tt (runs_then IsEmpty (HasEmptyTables at) (up at) (up (at + 1)) (up (at + 1)) _ _ _ tt _ (λ d e none empty. empty) (λ d e f empty made. made) c.tables.invariant.runs created);
     }

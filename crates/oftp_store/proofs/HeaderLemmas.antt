@@ -1,0 +1,140 @@
+-- Headers and responses are read back.
+use Rattle.std.proofs.Common.{◌≡◌, ◌+◌, ◌≤◌, ℕ, false, List, [], ◌∷◌, ◌++◌, length, codes, Option, Some, None, All, append-nil, refl, sym, ap, subst, ◌∙◌, arith}
+use Rattle.std.specs.List.{AllByRecursion}
+use Rattle.std.specs.List.Sorted.{IsPermutation}
+use Rattle.std.specs.Option.{option_map}
+use Rattle.sqlite_tied.specs.Compute.{everything}
+use Rattle.sqlite.specs.declared.types.Value.TheVariants.{Null}
+use Rattle.sqlite.specs.Order.{Row}
+use Rattle.sqlite.specs.Term.{Term, col, eval_all}
+use Rattle.sqlite.specs.Command.{Command}
+use Rattle.sqlite.specs.Command.TheVariants.{Select}
+use Rattle.sqlite.specs.Listing.{understood, reads_listing}
+use Rattle.sqlite.specs.State.{State, Shown}
+use Rattle.sqlite.proofs.Callers.{IsPlain, command_of, reads_as, one_permutation}
+use Rattle.oftp_schema.specs.Schema.{in_file_tree, issued_tree, office_schema, out_file_tree}
+use Rattle.oftp_schema.proofs.QueryLemmas.{answers, chosen, plain_query}
+use Rattle.oftp_register.specs.declared.entries.IssuedResponse.{IssuedResponse}
+use Rattle.oftp_register.specs.Register.{Register, Incoming, Issued, Outgoing}
+use Rattle.oftp_register.specs.Soundness.{IsSound, IsSoundAnswer, IsSoundIncoming}
+use Rattle.oftp_register.specs.LookUps.{issued_response}
+use Rattle.oftp_tables.specs.Tables.{HasReason, HasRefusal, Tables, in_file_row, in_state_in, in_state_text, issued_from, issued_if_any, issued_in, issued_row, number_value, out_file_row, out_state_in, out_state_text, refusal_text}
+use Rattle.oftp_tables.proofs.BackLemmas.{all_at_place, at_place, format_back, in_state_back, issued_back, out_state_back}
+use Rattle.oftp_tables.proofs.SplitLemmas.{among, by_number, chosen_none, chosen_one}
+use Rattle.oftp_store.specs.Reads.{IsPlaced, IsResponseTo, IsToldOf, first_told, incoming_header_in, incoming_header_of, outgoing_header_in, outgoing_header_of, response_in}
+use Rattle.oftp_store.specs.Texts.{in_header_text, out_header_text, response_text}
+use Rattle.oftp_store.specs.declared.looks.header.IncomingHeader.{IncomingHeader}
+use Rattle.oftp_store.specs.declared.looks.header.OutgoingHeader.{OutgoingHeader}
+use Rattle.oftp_store.proofs.EditLemmas.{issued_number, issued_piece, issued_pieces}
+use Rattle.oftp_store.proofs.NumberLemmas.{OneRow, no_rows, nowhere, one_row, somewhere}
+
+-- ---- incoming files
+
+abbrev in_project : List Term
+in_project = col 1 2 ∷ col 1 3 ∷ col 1 4 ∷ col 1 5 ∷ col 1 6 ∷ col 1 7 ∷ col 1 8 ∷ col 1 9 ∷ col 1 10 ∷ []
+
+abbrev in_select : Command
+in_select =
+    Select (record { lets = []; body = plain_query in_file_tree by_number in_project })
+    (codes "dataset" ∷ codes "date" ∷ codes "time" ∷ codes "originator" ∷ codes "destination" ∷ codes "format" ∷ codes "longest" ∷ codes "description" ∷ codes "state" ∷ [])
+
+in_is : (command_of (understood office_schema in_header_text) ≡ in_select) × (reads_listing office_schema in_header_text ≡ false)
+unfolding understood everything
+in_is = (refl, refl)
+
+pub in_header_plain : IsPlain (understood office_schema in_header_text)
+unfolding understood everything
+in_header_plain = (refl, refl)
+
+in_back : (k : ℕ) (f : Incoming) → incoming_header_in (eval_all in_project ((number_value k ∷ []) ∷ in_file_row k f ∷ [])) ≡ incoming_header_of f
+in_back k f =
+    ap (λ x. let h : IncomingHeader = record { identity = f.identity; format = x; longest = f.longest; description = f.description; state = in_state_in (in_state_text f.state) } in h) (format_back f.format)
+    ∙ ap (λ x. let h : IncomingHeader = record { identity = f.identity; format = f.format; longest = f.longest; description = f.description; state = x } in h) (in_state_back f.state)
+
+pub finds_in_header : (old new : State) (k : ℕ) (rows : List Row) → old.now.schema ≡ office_schema → Shown in_header_text (number_value k ∷ []) old new rows → (r : Register) → Tables r old.now.trees
+    → IsToldOf incoming_header_of r.incoming k (first_told incoming_header_in rows)
+finds_in_header old new k rows has h r kept =
+    let params = number_value k ∷ [] in
+    let read = reads_as in_header_text params old new office_schema has in_select in_is.0 in_header_plain in_is.1 rows h in
+    go (one_row in_file_row (λ n x. refl) r.incoming k in_project rows (subst (λ table. IsPermutation (chosen by_number in_project params table) rows) kept.incoming.headers (answers old.now.trees in_file_tree by_number in_project params rows (read.answer Null))))
+  where
+    go : OneRow in_file_row r.incoming k in_project rows → IsToldOf incoming_header_of r.incoming k (first_told incoming_header_in rows)
+    go (nowhere none unknown) = subst (λ rows. IsToldOf incoming_header_of r.incoming k (first_told incoming_header_in rows)) (sym none) unknown
+    go (somewhere before f after placed one) = subst (λ rows. IsToldOf incoming_header_of r.incoming k (first_told incoming_header_in rows)) (sym one) (before, f, after, placed, in_back k f)
+
+-- ---- outgoing files
+
+abbrev out_project : List Term
+out_project = col 1 2 ∷ col 1 3 ∷ col 1 4 ∷ col 1 5 ∷ col 1 6 ∷ col 1 7 ∷ col 1 8 ∷ col 1 9 ∷ col 1 10 ∷ col 1 11 ∷ col 1 12 ∷ []
+
+abbrev out_select : Command
+out_select =
+    Select (record { lets = []; body = plain_query out_file_tree by_number out_project })
+    (codes "dataset" ∷ codes "date" ∷ codes "time" ∷ codes "originator" ∷ codes "destination" ∷ codes "format" ∷ codes "longest" ∷ codes "description" ∷ codes "mark" ∷ codes "state" ∷ codes "reason" ∷ [])
+
+out_is : (command_of (understood office_schema out_header_text) ≡ out_select) × (reads_listing office_schema out_header_text ≡ false)
+unfolding understood everything
+out_is = (refl, refl)
+
+pub out_header_plain : IsPlain (understood office_schema out_header_text)
+unfolding understood everything
+out_header_plain = (refl, refl)
+
+out_back : (k : ℕ) (f : Outgoing) → HasRefusal f.state → outgoing_header_in (eval_all out_project ((number_value k ∷ []) ∷ out_file_row k f ∷ [])) ≡ outgoing_header_of f
+out_back k f small =
+    ap (λ x. let h : OutgoingHeader = record { identity = f.identity; format = x; longest = f.longest; description = f.description; mark = f.mark; state = out_state_in (out_state_text f.state) (refusal_text f.state) } in h) (format_back f.format)
+    ∙ ap (λ x. let h : OutgoingHeader = record { identity = f.identity; format = f.format; longest = f.longest; description = f.description; mark = f.mark; state = x } in h) (out_state_back f.state small)
+
+pub finds_out_header : (old new : State) (k : ℕ) (rows : List Row) → old.now.schema ≡ office_schema → Shown out_header_text (number_value k ∷ []) old new rows → (r : Register) → Tables r old.now.trees
+    → IsToldOf outgoing_header_of r.outgoing k (first_told outgoing_header_in rows)
+finds_out_header old new k rows has h r kept =
+    let params = number_value k ∷ [] in
+    let read = reads_as out_header_text params old new office_schema has out_select out_is.0 out_header_plain out_is.1 rows h in
+    go (one_row out_file_row (λ n x. refl) r.outgoing k out_project rows (subst (λ table. IsPermutation (chosen by_number out_project params table) rows) kept.outgoing.headers (answers old.now.trees out_file_tree by_number out_project params rows (read.answer Null))))
+  where
+    go : OneRow out_file_row r.outgoing k out_project rows → IsToldOf outgoing_header_of r.outgoing k (first_told outgoing_header_in rows)
+    go (nowhere none unknown) = subst (λ rows. IsToldOf outgoing_header_of r.outgoing k (first_told outgoing_header_in rows)) (sym none) unknown
+    go (somewhere before f after placed one) =
+        let small = at_place (λ (x : Outgoing). HasRefusal x.state) before f after (subst (AllByRecursion (λ (x : Outgoing). HasRefusal x.state)) placed.here kept.outgoing.reasons) in
+        subst (λ rows. IsToldOf outgoing_header_of r.outgoing k (first_told outgoing_header_in rows)) (sym one) (before, f, after, placed, out_back k f small)
+
+-- ---- responses
+
+abbrev response_project : List Term
+response_project = col 1 2 ∷ col 1 3 ∷ col 1 4 ∷ col 1 5 ∷ []
+
+abbrev response_select : Command
+response_select = Select (record { lets = []; body = plain_query issued_tree by_number response_project }) (codes "kind" ∷ codes "reason" ∷ codes "note" ∷ codes "sent" ∷ [])
+
+response_is : (command_of (understood office_schema response_text) ≡ response_select) × (reads_listing office_schema response_text ≡ false)
+unfolding understood everything
+response_is = (refl, refl)
+
+pub response_plain : IsPlain (understood office_schema response_text)
+unfolding understood everything
+response_plain = (refl, refl)
+
+pub finds_response : (old new : State) (k : ℕ) (rows : List Row) → old.now.schema ≡ office_schema → Shown response_text (number_value k ∷ []) old new rows → (r : Register) → Tables r old.now.trees → IsSound r
+    → IsResponseTo r k (first_told response_in rows)
+finds_response old new k rows has h r kept sound before f after placed =
+    let params = number_value k ∷ [] in
+    let read = reads_as response_text params old new office_schema has response_select response_is.0 response_plain response_is.1 rows h in
+    let perm = answers old.now.trees issued_tree by_number response_project params rows (read.answer Null) in
+    let place = among issued_piece issued_number k before f after placed.number in
+    let table : old.now.trees issued_tree ≡ _ = kept.incoming.responses ∙ ap (issued_from 1) placed.here ∙ issued_pieces 1 (before ++ f ∷ after) ∙ place.rows in
+    let small = at_place (λ (x : Incoming). HasReason x.response) before f after (subst (AllByRecursion (λ (x : Incoming). HasReason x.response)) placed.here kept.incoming.reasons) in
+    let right = (all_at_place IsSoundIncoming before f after (subst (All IsSoundIncoming) placed.here sound.incoming)).answer in
+    go f.response small right (subst (λ table. IsPermutation (chosen by_number response_project params table) rows) table perm)
+  where
+    lo : List Row
+    lo = Rattle.oftp_tables.proofs.SplitLemmas.pieces_from issued_piece 1 before
+
+    hi : List Row
+    hi = Rattle.oftp_tables.proofs.SplitLemmas.pieces_from issued_piece (k + 1) after
+
+    go : (o : Option Issued) → HasReason o → IsSoundAnswer o → IsPermutation (chosen by_number response_project (number_value k ∷ []) (lo ++ (issued_if_any k o ++ hi))) rows → first_told response_in rows ≡ option_map issued_response o
+    go None small right perm =
+        ap (first_told response_in) (no_rows rows (subst (λ all. IsPermutation all rows) (chosen_none response_project k [] lo hi (among issued_piece issued_number k before f after placed.number).split) perm))
+    go (Some x) small right perm =
+        ap (first_told response_in) (one_permutation _ rows (subst (λ all. IsPermutation all rows) (chosen_one response_project k [] (issued_row k x) lo hi refl (among issued_piece issued_number k before f after placed.number).split) perm))
+        ∙ ap (λ (i : Issued). Some (issued_response i)) (issued_back k x small right)

@@ -1,0 +1,98 @@
+-- What changes ask of the file with a number, from its header, its rows and its response.
+use Rattle.std.proofs.Common.{◌≡◌, ◌++◌, ◌+◌, ℕ, List, [], ◌∷◌, length, map, Option, Some, None, unwrap_or, refl, sym, ap, subst, ◌∙◌, arith}
+use Rattle.std.specs.Option.{option_map}
+use Rattle.std.proofs.lemmas.List.{map-append, length-map}
+use Rattle.sqlite.specs.Effect.{Database}
+use Rattle.sqlite.specs.State.{State, IsUnchanged}
+use Rattle.oftp_schema.specs.Schema.{office_schema}
+use Rattle.oftp_register.specs.declared.entry.Dispatch.{Dispatch}
+use Rattle.oftp_register.specs.declared.entries.IssuedResponse.{IssuedResponse}
+use Rattle.oftp_register.specs.declared.entries.Side.TheVariants as side
+use Rattle.oftp_register.specs.Register.{Register, Incoming, Issued, Outgoing}
+use Rattle.oftp_register.specs.LookUps.{entry_at, file_rows, in_by_no, incoming_entry, issued_response, out_by_no, outgoing_entry}
+use Rattle.oftp_register.specs.declared.entries.IncomingEntry.{IncomingEntry}
+use Rattle.oftp_register.specs.declared.entries.OutgoingEntry.{OutgoingEntry}
+use Rattle.oftp_tables.specs.Tables.{Tables, rows_in, rows_out}
+use Rattle.oftp_store.specs.Reads.{IsPlaced, IsResponseTo, IsToldOf, incoming_header_of, outgoing_header_of}
+use Rattle.oftp_store.specs.Places.{answered_of, dispatch_of, place_of, stage_of}
+use Rattle.oftp_store.specs.declared.looks.header.IncomingHeader.{IncomingHeader}
+use Rattle.oftp_store.specs.declared.looks.header.OutgoingHeader.{OutgoingHeader}
+use Rattle.oftp_store.specs.declared.looks.place.Place.{Place}
+use Rattle.oftp_store.specs.declared.looks.place.Stage.{Stage}
+use Rattle.oftp_store.specs.declared.looks.place.Answered.{Answered}
+use Rattle.oftp_store.proofs.NumberLemmas.{entry_known, entry_placed, entry_unknown}
+
+-- what a look-up leaves
+pub after_look : (r : Register) (old new : State) → IsUnchanged old new → old.now.schema ≡ office_schema → Tables r old.now.trees → (new.now.schema ≡ office_schema) × Tables r new.now.trees
+after_look r old new same has kept = (ap (λ (d : Database). d.schema) same.0.now_is ∙ has, subst (λ (d : Database). Tables r d.trees) (sym same.0.now_is) kept)
+
+-- what each entry has, at a number
+mapped_placed : {X Y : Type 0} (f : X → Y) (k : ℕ) (xs before : List X) (x : X) (after : List X) → IsPlaced xs k before x after → entry_at k (map f xs) ≡ Some (f x)
+mapped_placed f k xs before x after placed =
+    entry_placed k (map f xs) (map f before) (f x) (map f after) (record { here = ap (map f) placed.here ∙ map-append f before (x ∷ after); number = omega (arith, placed.number, length-map before f) })
+
+pub in_rows_placed : (r : Register) (k : ℕ) (before : List Incoming) (f : Incoming) (after : List Incoming) → IsPlaced r.incoming k before f after → file_rows r side.Incoming k ≡ f.rows
+in_rows_placed r k before f after placed = ap (λ o. unwrap_or o []) (mapped_placed rows_in k r.incoming before f after placed)
+
+pub out_rows_placed : (r : Register) (k : ℕ) (before : List Outgoing) (f : Outgoing) (after : List Outgoing) → IsPlaced r.outgoing k before f after → file_rows r side.Outgoing k ≡ f.rows
+out_rows_placed r k before f after placed = ap (λ o. unwrap_or o []) (mapped_placed rows_out k r.outgoing before f after placed)
+
+pub place_told : (r : Register) (k count : ℕ) (h : IncomingHeader) → IsToldOf incoming_header_of r.incoming k (Some h) → count ≡ length (file_rows r side.Incoming k)
+    → (let place : Place = record { state = h.state; rows = count } in IsToldOf place_of r.incoming k (Some place))
+place_told r k count h (before, f, after, placed, is) counted = (
+  before,
+  f,
+  after,
+  placed,
+  ap (λ st. let p : Place = record { state = st; rows = count } in p) (ap (λ (h : IncomingHeader). h.state) is) ∙ ap (λ n. let p : Place = record { state = f.state; rows = n } in p) (counted ∙ ap length (in_rows_placed r k before f after placed)),
+)
+
+pub stage_told : (r : Register) (k count : ℕ) (h : OutgoingHeader) → IsToldOf outgoing_header_of r.outgoing k (Some h) → count ≡ length (file_rows r side.Outgoing k)
+    → (let stage : Stage = record { mark = h.mark; state = h.state; rows = count } in IsToldOf stage_of r.outgoing k (Some stage))
+stage_told r k count h (before, f, after, placed, is) counted = (
+  before,
+  f,
+  after,
+  placed,
+  ap (λ (h : OutgoingHeader). let s : Stage = record { mark = h.mark; state = h.state; rows = count } in s) is
+  ∙ ap (λ n. let s : Stage = record { mark = f.mark; state = f.state; rows = n } in s) (counted ∙ ap length (out_rows_placed r k before f after placed)),
+)
+
+pub answered_told : (r : Register) (k : ℕ) (h : IncomingHeader) (found : Option IssuedResponse) → IsToldOf incoming_header_of r.incoming k (Some h) → IsResponseTo r k found
+    → (let answered : Answered = record { state = h.state; response = option_map (λ (i : IssuedResponse). i.dispatch) found } in IsToldOf answered_of r.incoming k (Some answered))
+answered_told r k h found (before, f, after, placed, is) response = (
+  before,
+  f,
+  after,
+  placed,
+  ap (λ st. let a : Answered = record { state = st; response = option_map (λ (i : IssuedResponse). i.dispatch) found } in a) (ap (λ (h : IncomingHeader). h.state) is)
+  ∙ ap (λ o. let a : Answered = record { state = f.state; response = option_map (λ (i : IssuedResponse). i.dispatch) o } in a) (response before f after placed)
+  ∙ ap (λ o. let a : Answered = record { state = f.state; response = o } in a) (twice f.response),
+)
+  where
+    twice : (o : Option Issued) → option_map (λ (i : IssuedResponse). i.dispatch) (option_map issued_response o) ≡ option_map dispatch_of o
+    twice None = refl
+    twice (Some x) = refl
+
+-- ---- entries
+
+pub no_incoming : (r : Register) (k : ℕ) → entry_at k r.incoming ≡ None → in_by_no r k ≡ None
+no_incoming r k none = entry_unknown incoming_entry (λ (e : IncomingEntry). e.no) (λ n x. refl) k r.incoming none
+
+pub no_outgoing : (r : Register) (k : ℕ) → entry_at k r.outgoing ≡ None → out_by_no r k ≡ None
+no_outgoing r k none = entry_unknown outgoing_entry (λ (e : OutgoingEntry). e.no) (λ n x. refl) k r.outgoing none
+
+pub incoming_told : (r : Register) (k count : ℕ) (h : IncomingHeader) (response : Option IssuedResponse) → IsToldOf incoming_header_of r.incoming k (Some h) → count ≡ length (file_rows r side.Incoming k) → IsResponseTo r k response
+    → (let e : IncomingEntry = record { no = k; identity = h.identity; format = h.format; longest = h.longest; description = h.description; state = h.state; rows = count; response = response } in Some e ≡ in_by_no r k)
+incoming_told r k count h response (before, f, after, placed, header) counted answered =
+    ap (λ (h : IncomingHeader). let e : IncomingEntry = record { no = k; identity = h.identity; format = h.format; longest = h.longest; description = h.description; state = h.state; rows = count; response = response } in Some e) header
+    ∙ ap (λ m. let e : IncomingEntry = record { no = k; identity = f.identity; format = f.format; longest = f.longest; description = f.description; state = f.state; rows = m; response = response } in Some e) (counted ∙ ap length (in_rows_placed r k before f after placed))
+    ∙ ap (λ o. let e : IncomingEntry = record { no = k; identity = f.identity; format = f.format; longest = f.longest; description = f.description; state = f.state; rows = length f.rows; response = o } in Some e) (answered before f after placed)
+    ∙ sym (entry_known incoming_entry (λ (e : IncomingEntry). e.no) (λ n x. refl) k r.incoming before f after placed)
+
+pub outgoing_told : (r : Register) (k count : ℕ) (h : OutgoingHeader) → IsToldOf outgoing_header_of r.outgoing k (Some h) → count ≡ length (file_rows r side.Outgoing k)
+    → (let e : OutgoingEntry = record { no = k; identity = h.identity; format = h.format; longest = h.longest; description = h.description; rows = count; mark = h.mark; state = h.state } in Some e ≡ out_by_no r k)
+outgoing_told r k count h (before, f, after, placed, header) counted =
+    ap (λ (h : OutgoingHeader). let e : OutgoingEntry = record { no = k; identity = h.identity; format = h.format; longest = h.longest; description = h.description; rows = count; mark = h.mark; state = h.state } in Some e) header
+    ∙ ap (λ m. let e : OutgoingEntry = record { no = k; identity = f.identity; format = f.format; longest = f.longest; description = f.description; rows = m; mark = f.mark; state = f.state } in Some e) (counted ∙ ap length (out_rows_placed r k before f after placed))
+    ∙ sym (entry_known outgoing_entry (λ (e : OutgoingEntry). e.no) (λ n x. refl) k r.outgoing before f after placed)

@@ -1,0 +1,26 @@
+-- What a change does to a connection.
+use Rattle.std.specs.Prelude.{◌≡◌, ◌≤◌, ◌⊎◌, Result, Ok, OnOk, OnErr, IsTrue, false}
+use Rattle.sqlite.specs.Tree.{Trees}
+use Rattle.sqlite.specs.View.{doubt}
+use Rattle.sqlite.specs.State.{State, HasCleanDisk}
+use Rattle.oftp_vfile.specs.declared.format.Limits.{Limits}
+use Rattle.oftp_register.specs.declared.change.Change.{Change}
+use Rattle.oftp_register.specs.declared.office.OfficeFault.{OfficeFault}
+use Rattle.oftp_register.specs.Register.{Register}
+use Rattle.oftp_register.specs.Changes.{apply}
+use Rattle.oftp_register.specs.Soundness.{IsFit}
+use Rattle.oftp_register.specs.Offices.{IsRefused}
+use Rattle.oftp_tables.specs.Tables.{register_in}
+use Rattle.oftp_open.specs.Stands.{IsContentOf, Stands}
+
+-- The change is made, or it is refused for its cause, or the store failed and the register stays where the connection is open. A
+-- stop leaves it made or not made.
+pub record CommitsOn {T : Type 0} (change : Change) (old new : State) (result : Result T OfficeFault) : Type 0 where
+  pub clean : doubt old.is_clean ≤ doubt new.is_clean
+  pub mode : old.in_transaction ≡ false → new.in_transaction ≡ false
+  pub done : HasCleanDisk new → (limits : Limits) → Stands limits old → IsFit (register_in limits old.now.trees) change
+      → OnOk result ((apply (register_in limits old.now.trees) change ≡ Ok (register_in limits new.now.trees)) × Stands limits new)
+  pub refused : HasCleanDisk new → (limits : Limits) → Stands limits old → IsRefused (apply (register_in limits old.now.trees) change) result (Stands limits new)
+  pub same : HasCleanDisk new → (limits : Limits) → Stands limits old → OnErr result (IsTrue new.is_open → register_in limits new.now.trees ≡ register_in limits old.now.trees)
+  pub left : HasCleanDisk new → (limits : Limits) → Stands limits old → IsFit (register_in limits old.now.trees) change → (db : Trees) → new.may_leave db
+      → old.may_leave db ⊎ ((r : Register) × (apply (register_in limits old.now.trees) change ≡ Ok r) × IsContentOf db r)

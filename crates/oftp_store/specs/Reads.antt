@@ -1,0 +1,80 @@
+-- What is read back from the rows of an answer.
+use Rattle.std.specs.Prelude.{◌≡◌, ◌+◌, ◌++◌, ◌^◌, nat_lt, ℕ, if◌then◌else◌, List, [], ◌∷◌, length, pos, negsuc, Option, Some, None}
+use Rattle.std.specs.Option.{option_map}
+use Rattle.sqlite.specs.declared.types.Value.{Value}
+use Rattle.sqlite.specs.declared.types.Value.TheVariants.{Null, Int, Text, Blob, Real}
+use Rattle.sqlite.specs.Order.{Row, bytes, column}
+use Rattle.oftp_wire.specs.Octets.{number}
+use Rattle.oftp_register.specs.declared.entries.IssuedResponse.{IssuedResponse}
+use Rattle.oftp_register.specs.Register.{Register, Incoming, Outgoing}
+use Rattle.oftp_register.specs.LookUps.{entry_at, issued_response}
+use Rattle.oftp_tables.specs.Tables.{dispatch_in, format_in, identity_in, in_state_in, kind_in, number_in, out_state_in}
+use Rattle.oftp_store.specs.declared.looks.header.IncomingHeader.{IncomingHeader}
+use Rattle.oftp_store.specs.declared.looks.header.OutgoingHeader.{OutgoingHeader}
+
+-- ---- headers
+
+abbrev pub incoming_header_in : Row → IncomingHeader
+incoming_header_in row = record {
+  identity = identity_in 0 row;
+  format = format_in (bytes (column row 5));
+  longest = number_in (column row 6);
+  description = bytes (column row 7);
+  state = in_state_in (bytes (column row 8));
+}
+
+abbrev pub outgoing_header_in : Row → OutgoingHeader
+outgoing_header_in row = record {
+  identity = identity_in 0 row;
+  format = format_in (bytes (column row 5));
+  longest = number_in (column row 6);
+  description = bytes (column row 7);
+  mark = number_in (column row 8);
+  state = out_state_in (bytes (column row 9)) (bytes (column row 10));
+}
+
+-- what an answer tells, if it has a row
+abbrev pub first_told : {A : Type 0} → (Row → A) → List Row → Option A
+first_told read [] = None
+first_told read (row ∷ rows) = Some (read row)
+
+abbrev pub incoming_header_of : Incoming → IncomingHeader
+incoming_header_of f = record { identity = f.identity; format = f.format; longest = f.longest; description = f.description; state = f.state }
+
+abbrev pub outgoing_header_of : Outgoing → OutgoingHeader
+outgoing_header_of f = record { identity = f.identity; format = f.format; longest = f.longest; description = f.description; mark = f.mark; state = f.state }
+
+-- the entry with a number, between the others
+pub record IsPlaced {X : Type 0} (entries : List X) (k : ℕ) (before : List X) (x : X) (after : List X) : Type 0 where
+  pub here : entries ≡ before ++ x ∷ after
+  pub number : k ≡ 1 + length before
+
+-- what is told of the entry with a number, if there is one
+abbrev pub IsToldOf : {X H : Type 0} → (X → H) → List X → ℕ → Option H → Type 0
+IsToldOf {X} tell entries k None = entry_at k entries ≡ None
+IsToldOf {X} tell entries k (Some told) = (before : List X) × (x : X) × (after : List X) × IsPlaced entries k before x after × (told ≡ tell x)
+
+-- ---- responses
+
+abbrev pub response_in : Row → IssuedResponse
+response_in row = record { kind = kind_in (bytes (column row 0)); reason = number (bytes (column row 1)); text = bytes (column row 2); dispatch = dispatch_in (number_in (column row 3)) }
+
+-- the response to the file with a number
+abbrev pub IsResponseTo : Register → ℕ → Option IssuedResponse → Type 0
+IsResponseTo r k found = (before : List Incoming) (f : Incoming) (after : List Incoming) → IsPlaced r.incoming k before f after → found ≡ option_map issued_response f.response
+
+-- ---- the number of rows
+
+-- the place that a value tells, if it tells one
+abbrev pub place_told : Value → Option ℕ
+place_told (Int (pos n)) = if nat_lt n (2 ^ 32) then Some n else None
+place_told (Int (negsuc n)) = None
+place_told (Text t) = None
+place_told Null = None
+place_told (Real x) = None
+place_told (Blob b) = None
+
+-- the rows of an answer tell the last place of a file, or that there is no row
+abbrev pub TellsCount : List Row → ℕ → Type 0
+TellsCount [] count = count ≡ 0
+TellsCount (row ∷ rows) count = (at : ℕ) × (place_told (column row 0) ≡ Some at) × (count ≡ at + 1)
