@@ -1,5 +1,5 @@
 -- What a query answers that asks for the first number whose row passes.
-use Rattle.std.proofs.Common.{◌≡◌, ◌+◌, ◌<◌, ◌++◌, ℕ, pos, nat_lt, Bool, true, false, cond, if◌then◌else◌, List, [], ◌∷◌, map, take, find, slice_get, is_some, ◌||◌, Option, Some, None, Less, refl, sym, ap, subst, ◌∙◌, arith}
+use Rattle.std.proofs.Common.{◌≡◌, ◌==◌, ◌+◌, ◌<◌, ◌≤◌, ◌++◌, ℕ, pos, nat_lt, Bool, true, false, cond, if◌then◌else◌, List, [], ◌∷◌, map, take, find, slice_get, is_some, ◌||◌, Option, Some, None, Less, refl, sym, ap, subst, ◌∙◌, arith}
 use Rattle.std.specs.List.{AllByRecursion, list_all, list_any}
 use Rattle.std.specs.Option.{option_map}
 use Rattle.std.proofs.lemmas.Bool.Decides.{nat_tests}
@@ -14,6 +14,9 @@ use Rattle.sqlite.specs.Query.{Query, IsAnswer, Output, output, output_cmp}
 use Rattle.sqlite.specs.Program.{overlay}
 use Rattle.std.specs.List.Sorted.{IsPermutation}
 use Rattle.std.proofs.lemmas.List.Sorted.{IsPermutation-refl}
+use Rattle.sqlite.specs.Effect.{Database}
+use Rattle.sqlite.specs.State.{State, IsUnchanged}
+use Rattle.oftp_schema.specs.Schema.{office_schema}
 use Rattle.oftp_schema.proofs.TermLemmas.{number_cmp}
 use Rattle.oftp_register.specs.LookUps.{numbered}
 use Rattle.oftp_tables.specs.Tables.{number_value, rows_from}
@@ -123,3 +126,46 @@ any_wanted wanted n (x ∷ xs) = go (wanted x) (any_wanted wanted (n + 1) xs)
 pub any_told : (ns : List ℕ) (rows : List Row) → rows ≡ first_row ns → is_some (slice_get rows 0) ≡ is_some (slice_get ns 0)
 any_told [] rows is = ap (λ (rows : List Row). is_some (slice_get rows 0)) is
 any_told (n ∷ ns) rows is = ap (λ (rows : List Row). is_some (slice_get rows 0)) is
+
+-- ---- an entry by its number
+
+-- the tables are the office's after a look-up
+pub still : (old new : State) → IsUnchanged old new → old.now.schema ≡ office_schema → new.now.schema ≡ office_schema
+still old new same has = ap (λ (d : Database). d.schema) same.0.now_is ∙ has
+
+pub none_told : {E : Type 0} (number : E → ℕ) (found : Option E) → None ≡ option_map number found → None ≡ found
+none_told number None is = refl
+none_told number (Some e) is = absurd (let no_such = is in cc)
+
+module _ {X E : Type 0} (entry : ℕ → X → E) (no : E → ℕ) (same : (n : ℕ) (x : X) → no (entry n x) ≡ n) (wanted : E → Bool) where
+  none_below : (k n : ℕ) (xs : List X) → option_map no (find wanted (numbered entry n xs)) ≡ Some k → n ≤ k
+  none_below k n [] is = absurd (let no_such = is in cc)
+  none_below k n (x ∷ xs) is = go (wanted (entry n x)) (none_below k (n + 1) xs) is
+    where
+      here : Some (no (entry n x)) ≡ Some k → no (entry n x) ≡ k
+      here e = cc
+
+      go : (b : Bool) → (option_map no (find wanted (numbered entry (n + 1) xs)) ≡ Some k → n + 1 ≤ k) → option_map no (cond b (Some (entry n x)) (find wanted (numbered entry (n + 1) xs))) ≡ Some k → n ≤ k
+      go true later is = let at = here is in omega (arith, at, same n x)
+      go false later is = let more = later is in omega (arith, more)
+
+  -- the entry that is wanted is the one with its number
+  pub same_by_number : (k n : ℕ) (xs : List X) → option_map no (find wanted (numbered entry n xs)) ≡ Some k → find (λ e. no e == k) (numbered entry n xs) ≡ find wanted (numbered entry n xs)
+  same_by_number k n [] is = refl
+  same_by_number k n (x ∷ xs) is = go (wanted (entry n x)) (none_below k (n + 1) xs) (same_by_number k (n + 1) xs) is
+    where
+      rest : Option E
+      rest = find wanted (numbered entry (n + 1) xs)
+
+      here : Some (no (entry n x)) ≡ Some k → no (entry n x) ≡ k
+      here e = cc
+
+      go : (b : Bool) → (option_map no rest ≡ Some k → n + 1 ≤ k) → (option_map no rest ≡ Some k → find (λ e. no e == k) (numbered entry (n + 1) xs) ≡ rest)
+          → option_map no (cond b (Some (entry n x)) rest) ≡ Some k
+          → cond (no (entry n x) == k) (Some (entry n x)) (find (λ e. no e == k) (numbered entry (n + 1) xs)) ≡ cond b (Some (entry n x)) rest
+      go true below later is = let at = here is in let yes : (no (entry n x) == k) ≡ true = grind (arith, nat_tests, at) in rw yes refl
+      go false below later is =
+          let above = below is in
+          let own = same n x in
+          let other : (no (entry n x) == k) ≡ false = grind (arith, nat_tests, above, own) in
+          rw other (later is)

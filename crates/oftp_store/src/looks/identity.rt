@@ -1,6 +1,6 @@
 //! Files and responses by identity.
 
-ghost use Rattle.std.specs.Prelude.{◌≡◌, is_some, slice_get, IfOk};
+ghost use Rattle.std.specs.Prelude.{◌≡◌, ◌<◌, ◌^◌, is_some, slice_get, IfOk, IfSome};
 ghost use Rattle.sqlite.specs.Held.{state};
 ghost use Rattle.sqlite.specs.State.{HasCleanDisk};
 ghost use Rattle.oftp_register.specs.Register.{Register, has_received};
@@ -47,6 +47,7 @@ pub(crate) fn no_of<S: Alter>(
 ) -> Result<Option<u64>, OfficeFault>
     ensures looks { Looks (state S.Store conn.old) (state S.Store conn.new) result }
     ensures answer { HasCleanDisk (state S.Store conn.new) → conn.old.schema ≡ office_schema → IfOk result (λ no. (r : Register) → Tables r (state S.Store conn.old).now.trees → no ≡ no_of r side identity.now) }
+    ensures small { IfOk result (λ found. IfSome found (λ no. no < 2 ^ 63)) }
 {
     match ask(
         conn,

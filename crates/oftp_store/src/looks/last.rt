@@ -1,6 +1,6 @@
 //! The last number of a table.
 
-ghost use Rattle.std.specs.Prelude.{◌≡◌, IfOk, IfErr};
+ghost use Rattle.std.specs.Prelude.{◌≡◌, ◌<◌, ◌^◌, IfOk, IfErr};
 ghost use Rattle.sqlite.specs.Held.{state};
 ghost use Rattle.sqlite.specs.State.{HasCleanDisk};
 ghost use Rattle.oftp_register.specs.Register.{Register};
@@ -39,13 +39,14 @@ fn last_text(table: Table) -> &'static str
 // The last number that an answer tells, 0 where there is none.
 fn last_told(rows: &[Row]) -> Result<u64, OfficeFault>
     ensures told { IfOk result (TellsLast rows.now) }
+    ensures small { IfOk result (λ no. no < 2 ^ 63) }
     ensures fails { IfErr result IsFailure }
 {
     match rows {
         [] => Ok(0),
         [row, ..] => match no_at(row, 0) {
-            Some(no) => Ok(no),
-            None => Err(OfficeFault::Store),
+            Some(no) if no < 0x8000_0000_0000_0000 => Ok(no),
+            _ => Err(OfficeFault::Store),
         },
     }
 }
@@ -57,6 +58,7 @@ pub(crate) fn last_no<S: Alter>(
 ) -> Result<u64, OfficeFault>
     ensures looks { Looks (state S.Store conn.old) (state S.Store conn.new) result }
     ensures answer { HasCleanDisk (state S.Store conn.new) → conn.old.schema ≡ office_schema → IfOk result (λ no. (r : Register) → Tables r (state S.Store conn.old).now.trees → no ≡ entries_in r table) }
+    ensures small { IfOk result (λ no. no < 2 ^ 63) }
 {
     match ask(conn, last_text(table), &[]) {
         Ok(rows) => last_told(rows.as_slice()),

@@ -1,6 +1,6 @@
 //! What is sent next to a partner.
 
-ghost use Rattle.std.specs.Prelude.{◌≡◌, ◌<◌, ◌^◌, IfOk};
+ghost use Rattle.std.specs.Prelude.{◌≡◌, ◌<◌, ◌^◌, IfOk, IfSome};
 ghost use Rattle.sqlite.specs.Held.{state};
 ghost use Rattle.sqlite.specs.State.{HasCleanDisk};
 ghost use Rattle.oftp_register.specs.Register.{Register};
@@ -24,6 +24,7 @@ pub(crate) fn next_file_no<S: Alter>(
     requires { tried < 2 ^ 63 }
     ensures looks { Looks (state S.Store conn.old) (state S.Store conn.new) result }
     ensures answer { HasCleanDisk (state S.Store conn.new) → conn.old.schema ≡ office_schema → IfOk result (λ no. (r : Register) → Tables r (state S.Store conn.old).now.trees → no ≡ next_file_no r partner.now tried) }
+    ensures small { IfOk result (λ found. IfSome found (λ no. no < 2 ^ 63)) }
 {
     match ask(
         conn,
@@ -47,6 +48,7 @@ pub(crate) fn next_response_no<S: Alter>(
     requires { tried < 2 ^ 63 }
     ensures looks { Looks (state S.Store conn.old) (state S.Store conn.new) result }
     ensures answer { HasCleanDisk (state S.Store conn.new) → conn.old.schema ≡ office_schema → IfOk result (λ no. (r : Register) → Tables r (state S.Store conn.old).now.trees → no ≡ next_response_no r partner.now tried) }
+    ensures small { IfOk result (λ found. IfSome found (λ no. no < 2 ^ 63)) }
 {
     match ask(
         conn,
