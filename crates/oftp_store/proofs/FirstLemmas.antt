@@ -76,13 +76,16 @@ module _ {X : Type 0} (row : ℕ → X → Row) (numbers : (n : ℕ) (x : X) →
   outputs tree n (x ∷ xs) = rw (passes n x) (go (test n x) (outputs tree (n + 1) xs))
     where
       go : (b : Bool) → map (output (first_query tree filter)) (found filter params (rows_from row (n + 1) xs)) ≡ map shown (passing test (n + 1) xs)
-          → map (output (first_query tree filter)) (cond b ((params ∷ row n x ∷ []) ∷ []) [] ++ found filter params (rows_from row (n + 1) xs)) ≡ map shown (cond b (n ∷ passing test (n + 1) xs) (passing test (n + 1) xs))
+          → map (output (first_query tree filter)) (cond b ((params ∷ row n x ∷ []) ∷ []) [] ++ found filter params (rows_from row (n + 1) xs))
+              ≡ map shown (cond b (n ∷ passing test (n + 1) xs) (passing test (n + 1) xs))
       go true more = let here : output (first_query tree filter) (params ∷ row n x ∷ []) ≡ shown n = ap (λ v. (v ∷ [], v ∷ [])) (numbers n x) in rw here (ap (λ os. shown n ∷ os) more)
       go false more = more
 
-  pub answers_first : (db : Trees) (tree : ℕ) (rows : List Row) (xs : List X) → db tree ≡ rows_from row 1 xs → IsAnswer (first_query tree filter) (overlay db []) params rows → rows ≡ first_row (passing test 1 xs)
+  pub answers_first : (db : Trees) (tree : ℕ) (rows : List Row) (xs : List X) → db tree ≡ rows_from row 1 xs → IsAnswer (first_query tree filter) (overlay db []) params rows
+      → rows ≡ first_row (passing test 1 xs)
   answers_first db tree rows xs is answer =
-      let outputs_are : map (output (first_query tree filter)) (found filter params (db tree)) ≡ map shown (passing test 1 xs) = ap (λ t. map (output (first_query tree filter)) (found filter params t)) is ∙ outputs tree 1 xs in
+      let outputs_are : map (output (first_query tree filter)) (found filter params (db tree))
+          ≡ map shown (passing test 1 xs) = ap (λ t. map (output (first_query tree filter)) (found filter params t)) is ∙ outputs tree 1 xs in
       answers_in_order db tree filter (col 1 0 ∷ []) ((col 1 0, rising) ∷ []) (lit (Int (pos 1))) params rows (map shown (passing test 1 xs)) answer (ascending filter test tree 1 xs)
       (subst (IsPermutation (map shown (passing test 1 xs))) (sym outputs_are) (IsPermutation-refl _))
       ∙ first_shown (passing test 1 xs)
@@ -101,7 +104,8 @@ number_told (n ∷ ns) rows told is tells = subst (λ rows. TellsNo rows told �
     some None t = absurd t
     some (Some m) t = cc
 
-module _ {X E : Type 0} (entry : ℕ → X → E) (no : E → ℕ) (same : (n : ℕ) (x : X) → no (entry n x) ≡ n) (wanted : E → Bool) (test : ℕ → X → Bool) (alike : (n : ℕ) (x : X) → wanted (entry n x) ≡ test n x) where
+module _ {X E : Type 0} (entry : ℕ → X → E) (no : E → ℕ) (same : (n : ℕ) (x : X) → no (entry n x) ≡ n) (wanted : E → Bool) (test : ℕ → X → Bool) (alike : (n : ℕ) (x : X)
+    → wanted (entry n x) ≡ test n x) where
   -- it is the number of the first entry that is wanted
   pub first_wanted : (n : ℕ) (xs : List X) → slice_get (passing test n xs) 0 ≡ option_map no (find wanted (numbered entry n xs))
   first_wanted n [] = refl
@@ -145,7 +149,8 @@ module _ {X E : Type 0} (entry : ℕ → X → E) (no : E → ℕ) (same : (n : 
       here : Some (no (entry n x)) ≡ Some k → no (entry n x) ≡ k
       here e = cc
 
-      go : (b : Bool) → (option_map no (find wanted (numbered entry (n + 1) xs)) ≡ Some k → n + 1 ≤ k) → option_map no (cond b (Some (entry n x)) (find wanted (numbered entry (n + 1) xs))) ≡ Some k → n ≤ k
+      go : (b : Bool) → (option_map no (find wanted (numbered entry (n + 1) xs)) ≡ Some k → n + 1 ≤ k)
+          → option_map no (cond b (Some (entry n x)) (find wanted (numbered entry (n + 1) xs))) ≡ Some k → n ≤ k
       go true later is = let at = here is in omega (arith, at, same n x)
       go false later is = let more = later is in omega (arith, more)
 

@@ -56,15 +56,21 @@ incoming_passes it n f = simp (equal_texts, and_true)
 outgoing_passes : (it : Identity) (n : ℕ) (f : Outgoing) → list_all (holds (identity_values it ∷ out_file_row n f ∷ [])) by_identity ≡ same_identity f.identity it
 outgoing_passes it n f = simp (equal_texts, and_true)
 
-no_there : (which : Side) (it : Identity) (rows : List Row) (told : Option ℕ) (r : Register) (db : Trees) → TellsNo rows told → Tables r db → IsAnswer (first_query (tree_of which) by_identity) (overlay db []) (identity_values it) rows → told ≡ no_of r which it
+no_there : (which : Side) (it : Identity) (rows : List Row) (told : Option ℕ) (r : Register) (db : Trees) → TellsNo rows told → Tables r db
+    → IsAnswer (first_query (tree_of which) by_identity) (overlay db []) (identity_values it) rows → told ≡ no_of r which it
 no_there side.Incoming it rows told r db tells kept answer =
-    number_told _ rows told (answers_first in_file_row (λ n x. refl) by_identity (identity_values it) (λ n (f : Incoming). same_identity f.identity it) (incoming_passes it) db in_file_tree rows r.incoming kept.incoming.headers answer) tells
-    ∙ first_wanted incoming_entry (λ (e : IncomingEntry). e.no) (λ n x. refl) (λ (e : IncomingEntry). same_identity e.identity it) (λ n (f : Incoming). same_identity f.identity it) (λ n x. refl) 1 r.incoming
+    number_told _ rows told (answers_first in_file_row (λ n x. refl) by_identity (identity_values it) (λ n (f : Incoming). same_identity f.identity it)
+        (incoming_passes it) db in_file_tree rows r.incoming kept.incoming.headers answer) tells
+    ∙ first_wanted incoming_entry (λ (e : IncomingEntry). e.no) (λ n x. refl) (λ (e : IncomingEntry). same_identity e.identity it) (λ n (f : Incoming). same_identity f.identity it)
+        (λ n x. refl) 1 r.incoming
 no_there side.Outgoing it rows told r db tells kept answer =
-    number_told _ rows told (answers_first out_file_row (λ n x. refl) by_identity (identity_values it) (λ n (f : Outgoing). same_identity f.identity it) (outgoing_passes it) db out_file_tree rows r.outgoing kept.outgoing.headers answer) tells
-    ∙ first_wanted outgoing_entry (λ (e : OutgoingEntry). e.no) (λ n x. refl) (λ (e : OutgoingEntry). same_identity e.identity it) (λ n (f : Outgoing). same_identity f.identity it) (λ n x. refl) 1 r.outgoing
+    number_told _ rows told (answers_first out_file_row (λ n x. refl) by_identity (identity_values it) (λ n (f : Outgoing). same_identity f.identity it)
+        (outgoing_passes it) db out_file_tree rows r.outgoing kept.outgoing.headers answer) tells
+    ∙ first_wanted outgoing_entry (λ (e : OutgoingEntry). e.no) (λ n x. refl) (λ (e : OutgoingEntry). same_identity e.identity it) (λ n (f : Outgoing). same_identity f.identity it)
+        (λ n x. refl) 1 r.outgoing
 
-pub finds_no : (which : Side) (old new : State) (it : Identity) (rows : List Row) (told : Option ℕ) → old.now.schema ≡ office_schema → Shown (no_of_text which) (identity_values it) old new rows → TellsNo rows told
+pub finds_no : (which : Side) (old new : State) (it : Identity) (rows : List Row) (told : Option ℕ) → old.now.schema ≡ office_schema
+    → Shown (no_of_text which) (identity_values it) old new rows → TellsNo rows told
     → (r : Register) → Tables r old.now.trees → told ≡ no_of r which it
 finds_no which old new it rows told has h tells r kept =
     let read = reads_as (no_of_text which) (identity_values it) old new office_schema has (no_of_select which) (no_of_is which).0 (no_of_plain which) (no_of_is which).1 rows h in
@@ -73,7 +79,8 @@ finds_no which old new it rows told has h tells r kept =
 -- ---- responses that came
 
 abbrev by_response : ResponseKind → List Term
-by_response kind = equal (col 1 2) (lit (Text (kind_text kind))) ∷ equal (col 1 3) (col 0 0) ∷ equal (col 1 4) (col 0 1) ∷ equal (col 1 5) (col 0 2) ∷ equal (col 1 6) (col 0 3) ∷ equal (col 1 7) (col 0 4) ∷ []
+by_response kind = equal (col 1 2) (lit (Text (kind_text kind))) ∷ equal (col 1 3) (col 0 0) ∷ equal (col 1 4) (col 0 1) ∷ equal (col 1 5) (col 0 2) ∷ equal (col 1 6) (col 0 3) ∷ equal
+    (col 1 7) (col 0 4) ∷ []
 
 abbrev filed_select : ResponseKind → Command
 filed_select kind = Select (record { lets = []; body = first_query received_tree (by_response kind) }) (codes "no" ∷ [])
@@ -101,5 +108,6 @@ pub finds_filed : (kind : ResponseKind) (old new : State) (it : Identity) (rows 
     → (r : Register) → Tables r old.now.trees → is_some (slice_get rows 0) ≡ has_received r kind it
 finds_filed kind old new it rows has h r kept =
     let read = reads_as (has_filed_text kind) (identity_values it) old new office_schema has (filed_select kind) (filed_is kind).0 (filed_plain kind) (filed_is kind).1 rows h in
-    any_told _ rows (answers_first received_row (λ n x. refl) (by_response kind) (identity_values it) (λ n x. is_response_to kind it x) (response_passes kind it) old.now.trees received_tree rows r.received kept.received.responses_are (read.answer Null))
+    any_told _ rows (answers_first received_row (λ n x. refl) (by_response kind) (identity_values it) (λ n x. is_response_to kind it x)
+        (response_passes kind it) old.now.trees received_tree rows r.received kept.received.responses_are (read.answer Null))
     ∙ any_wanted (is_response_to kind it) 1 r.received

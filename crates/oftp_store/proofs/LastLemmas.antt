@@ -51,7 +51,8 @@ turned_over zero = IsPermutation-refl []
 turned_over (suc m) =
     let same : 1 + m ≡ suc m = omega arith in
     IsPermutation-trans _ (shown (suc m) ∷ numbers_up 1 m) _ (IsPermutation-cons (shown (suc m)) _ _ (turned_over m))
-    (subst (IsPermutation (shown (suc m) ∷ numbers_up 1 m)) (sym (up_last 1 m ∙ ap (λ k. numbers_up 1 m ++ shown k ∷ []) same)) (IsPermutation-sym _ _ (IsPermutation-to_front (numbers_up 1 m) (shown (suc m)))))
+    (subst (IsPermutation (shown (suc m) ∷ numbers_up 1 m)) (sym (up_last 1 m
+        ∙ ap (λ k. numbers_up 1 m ++ shown k ∷ []) same)) (IsPermutation-sym _ _ (IsPermutation-to_front (numbers_up 1 m) (shown (suc m)))))
 
 falling_numbers : (tree m : ℕ) → IsAscending (λ a b. output_cmp (last_query tree) a b ≡ Less) (numbers_down m)
 falling_numbers tree zero = tt
@@ -114,7 +115,8 @@ last_is_told (suc m) told rows is tells = subst (λ rows. TellsLast rows told �
     same : TellsLast (last_row (suc m)) told → told ≡ suc m
     same t = cc
 
-pub finds_last_no : (which : Table) (old new : State) (rows : List Row) (told : ℕ) → old.now.schema ≡ office_schema → Shown (last_text which) [] old new rows → TellsLast rows told → (r : Register) → Tables r old.now.trees → told ≡ entries_in r which
+pub finds_last_no : (which : Table) (old new : State) (rows : List Row) (told : ℕ) → old.now.schema ≡ office_schema → Shown (last_text which) [] old new rows → TellsLast rows told
+    → (r : Register) → Tables r old.now.trees → told ≡ entries_in r which
 finds_last_no which old new rows told has h tells r kept =
     let read = reads_as (last_text which) [] old new office_schema has (last_select which) (last_is which).0 (last_plain which) (last_is which).1 rows h in
     last_is_told (entries_in r which) told rows (last_there which r old.now.trees rows kept (read.answer Null)) tells

@@ -83,7 +83,8 @@ pub next_file_plain : IsPlain (understood office_schema next_file_text)
 unfolding understood everything
 next_file_plain = (refl, refl)
 
-on_its_way : (s : OutgoingState) → is_true (binary by.Or (binary (by.Compare compare.Eq Binary) (Text (out_state_text s)) (Text (codes "waiting"))) (binary (by.Compare compare.Eq Binary) (Text (out_state_text s)) (Text (codes "closing")))) ≡ is_on_its_way s
+on_its_way : (s : OutgoingState) → is_true (binary by.Or (binary (by.Compare compare.Eq Binary) (Text (out_state_text s)) (Text (codes "waiting"))) (binary (by.Compare compare.Eq Binary)
+    (Text (out_state_text s)) (Text (codes "closing")))) ≡ is_on_its_way s
 unfolding binary value_cmp lib.Ieee.is_nan lib.Ieee.lt
 on_its_way Waiting = refl
 on_its_way Closing = refl
@@ -98,12 +99,14 @@ is_next partner tried n f = nat_lt tried n && (is_on_its_way f.state && bytes_eq
 file_passes : (partner : List ℕ) (tried n : ℕ) (f : Outgoing) → list_all (holds (next_params tried partner ∷ out_file_row n f ∷ [])) next_file_filter ≡ is_next partner tried n f
 file_passes partner tried n f = simp (greater_numbers, on_its_way, equal_texts, and_true)
 
-pub finds_next_file : (old new : State) (partner : List ℕ) (tried : ℕ) (rows : List Row) (told : Option ℕ) → old.now.schema ≡ office_schema → Shown next_file_text (next_params tried partner) old new rows → TellsNo rows told
+pub finds_next_file : (old new : State) (partner : List ℕ) (tried : ℕ) (rows : List Row) (told : Option ℕ) → old.now.schema ≡ office_schema
+    → Shown next_file_text (next_params tried partner) old new rows → TellsNo rows told
     → (r : Register) → Tables r old.now.trees → told ≡ next_file_no r partner tried
 finds_next_file old new partner tried rows told has h tells r kept =
     let params = next_params tried partner in
     let read = reads_as next_file_text params old new office_schema has next_file_select next_file_is.0 next_file_plain next_file_is.1 rows h in
-    number_told _ rows told (answers_first out_file_row (λ n x. refl) next_file_filter params (is_next partner tried) (file_passes partner tried) old.now.trees out_file_tree rows r.outgoing kept.outgoing.headers (read.answer Null)) tells
+    number_told _ rows told (answers_first out_file_row (λ n x. refl) next_file_filter params (is_next partner tried)
+        (file_passes partner tried) old.now.trees out_file_tree rows r.outgoing kept.outgoing.headers (read.answer Null)) tells
     ∙ first_wanted outgoing_entry (λ (e : OutgoingEntry). e.no) (λ n x. refl) (is_next_file partner tried) (is_next partner tried) (λ n x. refl) 1 r.outgoing
 
 -- ---- responses
@@ -137,7 +140,8 @@ unsent : (d : Dispatch) → (sent_number d == 0) ≡ is_due d
 unsent Due = refl
 unsent Sent = refl
 
-pair_passes : (partner : List ℕ) (tried k m : ℕ) (x : Issued) (g : Incoming) → list_all (holds (next_params tried partner ∷ issued_row k x ∷ in_file_row m g ∷ [])) due_filter ≡ ((m == k) && is_due_in partner tried k g (Some x))
+pair_passes : (partner : List ℕ) (tried k m : ℕ) (x : Issued) (g : Incoming)
+    → list_all (holds (next_params tried partner ∷ issued_row k x ∷ in_file_row m g ∷ [])) due_filter ≡ ((m == k) && is_due_in partner tried k g (Some x))
 pair_passes partner tried k m x g = simp (equal_numbers, greater_numbers, equal_texts, and_true, unsent)
 
 -- a row of one table with its row of the other
@@ -156,7 +160,8 @@ module _ (partner : List ℕ) (tried k : ℕ) (x : Issued) where
       → pairs params (issued_row k x) (rows_from in_file_row n (before ++ f ∷ after)) ≡ cond (is_due_in partner tried k f (Some x)) ((params ∷ issued_row k x ∷ in_file_row k f ∷ []) ∷ []) []
   pairs_there n [] f after is =
       let here : k ≡ n = omega (arith, is) in
-      subst (λ m. pairs params (issued_row k x) (rows_from in_file_row m (f ∷ after)) ≡ cond (is_due_in partner tried k f (Some x)) ((params ∷ issued_row k x ∷ in_file_row k f ∷ []) ∷ []) []) here first
+      subst (λ m. pairs params (issued_row k x) (rows_from in_file_row m (f ∷ after))
+          ≡ cond (is_due_in partner tried k f (Some x)) ((params ∷ issued_row k x ∷ in_file_row k f ∷ []) ∷ []) []) here first
     where
       alike : (k == k) ≡ true
       alike = grind (arith, nat_tests)
@@ -167,7 +172,8 @@ module _ (partner : List ℕ) (tried k : ℕ) (x : Issued) where
 
       first : pairs params (issued_row k x) (rows_from in_file_row k (f ∷ after)) ≡ cond (is_due_in partner tried k f (Some x)) ((params ∷ issued_row k x ∷ in_file_row k f ∷ []) ∷ []) []
       first = rw (pair_passes partner tried k k x f, alike, pairs_low (k + 1) after (omega arith)) (nothing _)
-  pairs_there n (g ∷ before) f after is = let other : (n == k) ≡ false = grind (arith, nat_tests, is) in rw (pair_passes partner tried k n x g, other) (pairs_there (n + 1) before f after (omega (arith, is)))
+  pairs_there n (g ∷ before) f after is = let other : (n == k)
+      ≡ false = grind (arith, nat_tests, is) in rw (pair_passes partner tried k n x g, other) (pairs_there (n + 1) before f after (omega (arith, is)))
 
 -- all pairs
 abbrev all_pairs : Row → List Row → List Row → List Env
@@ -218,12 +224,14 @@ due_rows db partner tried rows files issued headers a =
     ap (λ t. all_pairs params t (overlay db [] in_file_tree)) (no_overlay db issued_tree ∙ issued) ∙ ap (all_pairs params (issued_from 1 files)) (no_overlay db in_file_tree ∙ headers) in
     let kept : a.kept ≡ wanted = a.distinct ∙ ap (map (output due_query)) (a.grouped ∙ tables) ∙ due_shown partner tried 1 files [] files refl refl in
     let there : IsPermutation wanted a.ordered = subst (λ os. IsPermutation os a.ordered) kept a.same in
-    let order_is : a.ordered ≡ wanted = sorted_unique (output_cmp due_query) (on_total (λ (o : Output). o.0) (key_cmp_total (rising ∷ []) 0)) wanted a.ordered (ascending due_filter (is_answer_due partner tried) issued_tree 1 files) there a.sorted in
+    let order_is : a.ordered ≡ wanted = sorted_unique (output_cmp due_query) (on_total (λ (o : Output). o.0) (key_cmp_total (rising ∷ []) 0)) wanted a.ordered (ascending due_filter
+        (is_answer_due partner tried) issued_tree 1 files) there a.sorted in
     a.shown ∙ ap (λ (os : List Output). Rattle.sqlite.specs.Query.page due_query params (map (λ (o : Output). o.1) os)) order_is ∙ first_shown (passing (is_answer_due partner tried) 1 files)
 
 -- the number of the first entry that is wanted
 first_due : (partner : List ℕ) (tried n : ℕ) (files : List Incoming)
-    → slice_get (passing (is_answer_due partner tried) n files) 0 ≡ option_map (λ (e : IssuedEntry). e.no) (find (is_next_response partner tried) (filter_map (λ entry. entry) (numbered issued_entry n files)))
+    → slice_get (passing (is_answer_due partner tried) n files) 0
+        ≡ option_map (λ (e : IssuedEntry). e.no) (find (is_next_response partner tried) (filter_map (λ entry. entry) (numbered issued_entry n files)))
 first_due partner tried n [] = refl
 first_due partner tried n (f ∷ files) = go f.response (first_due partner tried (n + 1) files)
   where
@@ -236,7 +244,8 @@ first_due partner tried n (f ∷ files) = go f.response (first_due partner tried
     entry : Issued → IssuedEntry
     entry x = record { no = n; identity = f.identity; response = issued_response x }
 
-    pick : (b : Bool) (x : Issued) → slice_get later 0 ≡ option_map (λ (e : IssuedEntry). e.no) rest → slice_get (cond b (n ∷ later) later) 0 ≡ option_map (λ (e : IssuedEntry). e.no) (cond b (Some (entry x)) rest)
+    pick : (b : Bool) (x : Issued) → slice_get later 0 ≡ option_map (λ (e : IssuedEntry). e.no) rest
+        → slice_get (cond b (n ∷ later) later) 0 ≡ option_map (λ (e : IssuedEntry). e.no) (cond b (Some (entry x)) rest)
     pick true x more = refl
     pick false x more = more
 
@@ -246,7 +255,8 @@ first_due partner tried n (f ∷ files) = go f.response (first_due partner tried
     go None more = more
     go (Some x) more = pick (is_due_in partner tried n f (Some x)) x more
 
-pub finds_next_response : (old new : State) (partner : List ℕ) (tried : ℕ) (rows : List Row) (told : Option ℕ) → old.now.schema ≡ office_schema → Shown next_response_text (next_params tried partner) old new rows → TellsNo rows told
+pub finds_next_response : (old new : State) (partner : List ℕ) (tried : ℕ) (rows : List Row) (told : Option ℕ) → old.now.schema ≡ office_schema
+    → Shown next_response_text (next_params tried partner) old new rows → TellsNo rows told
     → (r : Register) → Tables r old.now.trees → told ≡ next_response_no r partner tried
 finds_next_response old new partner tried rows told has h tells r kept =
     let params = next_params tried partner in

@@ -24,7 +24,8 @@ pub(crate) fn look_in<S: Alter>(
     identity: &Identity,
 ) -> Result<Option<IncomingEntry>, OfficeFault>
     ensures looks { Looks (state S.Store conn.old) (state S.Store conn.new) result }
-    ensures answer { HasCleanDisk (state S.Store conn.new) → conn.old.schema ≡ office_schema → IfOk result (λ found. (r : Register) → Tables r (state S.Store conn.old).now.trees → IsSound r → found ≡ look_in r identity.now) }
+    ensures answer { HasCleanDisk (state S.Store conn.new) → conn.old.schema ≡ office_schema → IfOk result (λ found. (r : Register) → Tables r (state S.Store conn.old).now.trees
+        → IsSound r → found ≡ look_in r identity.now) }
     ensures within { IfOk result (λ found. IfSome found IsIncomingWithin) }
 {
     match no_of(conn, Side::Incoming, identity) {
@@ -41,7 +42,8 @@ pub(crate) fn look_out<S: Alter>(
     identity: &Identity,
 ) -> Result<Option<OutgoingEntry>, OfficeFault>
     ensures looks { Looks (state S.Store conn.old) (state S.Store conn.new) result }
-    ensures answer { HasCleanDisk (state S.Store conn.new) → conn.old.schema ≡ office_schema → IfOk result (λ found. (r : Register) → Tables r (state S.Store conn.old).now.trees → found ≡ look_out r identity.now) }
+    ensures answer { HasCleanDisk (state S.Store conn.new) → conn.old.schema ≡ office_schema → IfOk result (λ found. (r : Register) → Tables r (state S.Store conn.old).now.trees
+        → found ≡ look_out r identity.now) }
     ensures within { IfOk result (λ found. IfSome found IsOutgoingWithin) }
 {
     match no_of(conn, Side::Outgoing, identity) {
@@ -60,7 +62,8 @@ pub(crate) fn next_file<S: Alter>(
 ) -> Result<Option<OutgoingEntry>, OfficeFault>
     requires { tried < 2 ^ 63 }
     ensures looks { Looks (state S.Store conn.old) (state S.Store conn.new) result }
-    ensures answer { HasCleanDisk (state S.Store conn.new) → conn.old.schema ≡ office_schema → IfOk result (λ found. (r : Register) → Tables r (state S.Store conn.old).now.trees → found ≡ next_file r partner.now tried) }
+    ensures answer { HasCleanDisk (state S.Store conn.new) → conn.old.schema ≡ office_schema → IfOk result (λ found. (r : Register) → Tables r (state S.Store conn.old).now.trees
+        → found ≡ next_file r partner.now tried) }
     ensures within { IfOk result (λ found. IfSome found IsOutgoingWithin) }
 {
     match next_file_no(conn, partner, tried) {

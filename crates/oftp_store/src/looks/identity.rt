@@ -46,7 +46,8 @@ pub(crate) fn no_of<S: Alter>(
     identity: &Identity,
 ) -> Result<Option<u64>, OfficeFault>
     ensures looks { Looks (state S.Store conn.old) (state S.Store conn.new) result }
-    ensures answer { HasCleanDisk (state S.Store conn.new) → conn.old.schema ≡ office_schema → IfOk result (λ no. (r : Register) → Tables r (state S.Store conn.old).now.trees → no ≡ no_of r side identity.now) }
+    ensures answer { HasCleanDisk (state S.Store conn.new) → conn.old.schema ≡ office_schema → IfOk result (λ no. (r : Register) → Tables r (state S.Store conn.old).now.trees
+        → no ≡ no_of r side identity.now) }
     ensures small { IfOk result (λ found. IfSome found (λ no. no < 2 ^ 63)) }
 {
     match ask(
@@ -79,7 +80,8 @@ pub(crate) fn has_filed<S: Alter>(
     identity: &Identity,
 ) -> Result<bool, OfficeFault>
     ensures looks { Looks (state S.Store conn.old) (state S.Store conn.new) result }
-    ensures answer { HasCleanDisk (state S.Store conn.new) → conn.old.schema ≡ office_schema → IfOk result (λ there. (r : Register) → Tables r (state S.Store conn.old).now.trees → there ≡ has_received r kind identity.now) }
+    ensures answer { HasCleanDisk (state S.Store conn.new) → conn.old.schema ≡ office_schema → IfOk result (λ there. (r : Register) → Tables r (state S.Store conn.old).now.trees
+        → there ≡ has_received r kind identity.now) }
 {
     match ask(
         conn,

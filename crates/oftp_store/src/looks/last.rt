@@ -57,7 +57,8 @@ pub(crate) fn last_no<S: Alter>(
     table: Table,
 ) -> Result<u64, OfficeFault>
     ensures looks { Looks (state S.Store conn.old) (state S.Store conn.new) result }
-    ensures answer { HasCleanDisk (state S.Store conn.new) → conn.old.schema ≡ office_schema → IfOk result (λ no. (r : Register) → Tables r (state S.Store conn.old).now.trees → no ≡ entries_in r table) }
+    ensures answer { HasCleanDisk (state S.Store conn.new) → conn.old.schema ≡ office_schema → IfOk result (λ no. (r : Register) → Tables r (state S.Store conn.old).now.trees
+        → no ≡ entries_in r table) }
     ensures small { IfOk result (λ no. no < 2 ^ 63) }
 {
     match ask(conn, last_text(table), &[]) {

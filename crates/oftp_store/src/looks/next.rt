@@ -23,7 +23,8 @@ pub(crate) fn next_file_no<S: Alter>(
 ) -> Result<Option<u64>, OfficeFault>
     requires { tried < 2 ^ 63 }
     ensures looks { Looks (state S.Store conn.old) (state S.Store conn.new) result }
-    ensures answer { HasCleanDisk (state S.Store conn.new) → conn.old.schema ≡ office_schema → IfOk result (λ no. (r : Register) → Tables r (state S.Store conn.old).now.trees → no ≡ next_file_no r partner.now tried) }
+    ensures answer { HasCleanDisk (state S.Store conn.new) → conn.old.schema ≡ office_schema → IfOk result (λ no. (r : Register) → Tables r (state S.Store conn.old).now.trees
+        → no ≡ next_file_no r partner.now tried) }
     ensures small { IfOk result (λ found. IfSome found (λ no. no < 2 ^ 63)) }
 {
     match ask(
@@ -47,7 +48,8 @@ pub(crate) fn next_response_no<S: Alter>(
 ) -> Result<Option<u64>, OfficeFault>
     requires { tried < 2 ^ 63 }
     ensures looks { Looks (state S.Store conn.old) (state S.Store conn.new) result }
-    ensures answer { HasCleanDisk (state S.Store conn.new) → conn.old.schema ≡ office_schema → IfOk result (λ no. (r : Register) → Tables r (state S.Store conn.old).now.trees → no ≡ next_response_no r partner.now tried) }
+    ensures answer { HasCleanDisk (state S.Store conn.new) → conn.old.schema ≡ office_schema → IfOk result (λ no. (r : Register) → Tables r (state S.Store conn.old).now.trees
+        → no ≡ next_response_no r partner.now tried) }
     ensures small { IfOk result (λ found. IfSome found (λ no. no < 2 ^ 63)) }
 {
     match ask(

@@ -19,5 +19,6 @@ returns-in-Ok-Some-clause-answer g c clean has =
     let early : HasCleanDisk first = omega (arith, c.find_outgoing.ensures.looks.clean, clean) in
     let one : IsUnchanged old first = c.in-Ok-Some.ensures.looks.same early has in
     IfOk-weaker c.find_outgoing.result _ _ (λ found tells r kept.
-    tells r (after_look r old first one has kept).1 ∙ same_by_number outgoing_entry (λ (e : OutgoingEntry). e.no) (λ n x. refl) (is_next_file c.args.partner.now c.args.tried) _ 1 r.outgoing (sym (rw c.in-Ok-Some.field-0-is at (c.in-Ok-Some.ensures.answer early has r kept))))
+    tells r (after_look r old first one has kept).1 ∙ same_by_number outgoing_entry (λ (e : OutgoingEntry). e.no) (λ n x. refl)
+        (is_next_file c.args.partner.now c.args.tried) _ 1 r.outgoing (sym (rw c.in-Ok-Some.field-0-is at (c.in-Ok-Some.ensures.answer early has r kept))))
     (c.find_outgoing.ensures.answer clean (still old first one has))
