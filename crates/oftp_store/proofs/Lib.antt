@@ -3,6 +3,10 @@ mod EditLemmas
 mod RowEditLemmas
 mod ReceivedEditLemmas
 mod TransactionLemmas
+mod FirstLemmas
+mod LastLemmas
+mod IdentityLemmas
+mod NextLemmas
 mod NumberLemmas
 mod HeaderLemmas
 mod RowLookLemmas

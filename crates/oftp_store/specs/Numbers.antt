@@ -1,0 +1,75 @@
+-- The look-ups that answer a number.
+use Rattle.std.specs.Prelude.{◌≡◌, ℕ, List, [], ◌∷◌, length, codes, pos, Option, Some, None, ⊤}
+use Rattle.std.specs.Option.{option_map}
+use Rattle.sqlite.specs.declared.types.Value.TheVariants.{Int}
+use Rattle.sqlite.specs.Order.{Row, column}
+use Rattle.oftp_register.specs.declared.entry.Identity.{Identity}
+use Rattle.oftp_register.specs.declared.entry.ResponseKind.{ResponseKind}
+use Rattle.oftp_register.specs.declared.entry.ResponseKind.TheVariants.{EndResponse, NegativeEndResponse}
+use Rattle.oftp_register.specs.declared.entries.Side.{Side}
+use Rattle.oftp_register.specs.declared.entries.Side.TheVariants as side
+use Rattle.oftp_register.specs.declared.entries.IncomingEntry.{IncomingEntry}
+use Rattle.oftp_register.specs.declared.entries.OutgoingEntry.{OutgoingEntry}
+use Rattle.oftp_register.specs.declared.entries.IssuedEntry.{IssuedEntry}
+use Rattle.oftp_register.specs.Register.{Register}
+use Rattle.oftp_register.specs.LookUps.{look_in, look_out, next_file, next_response}
+use Rattle.oftp_store.specs.declared.looks.last.Table.{Table}
+use Rattle.oftp_store.specs.declared.looks.last.Table.TheVariants as table
+
+-- an answer tells the number in its first row, or that there is none
+abbrev pub TellsNo : List Row → Option ℕ → Type 0
+TellsNo [] None = ⊤
+TellsNo [] (Some n) = ⊥
+TellsNo (row ∷ rows) None = ⊥
+TellsNo (row ∷ rows) (Some n) = column row 0 ≡ Int (pos n)
+
+-- an answer tells the number in its first row, or 0
+abbrev pub TellsLast : List Row → ℕ → Type 0
+TellsLast [] n = n ≡ 0
+TellsLast (row ∷ rows) n = column row 0 ≡ Int (pos n)
+
+-- ---- the last number of a table
+
+abbrev pub last_text : Table → List ℕ
+last_text table.IncomingFiles = codes "SELECT no FROM in_file ORDER BY no DESC LIMIT 1"
+last_text table.OutgoingFiles = codes "SELECT no FROM out_file ORDER BY no DESC LIMIT 1"
+last_text table.ReceivedResponses = codes "SELECT no FROM received ORDER BY no DESC LIMIT 1"
+
+-- how many entries a table has
+abbrev pub entries_in : Register → Table → ℕ
+entries_in r table.IncomingFiles = length r.incoming
+entries_in r table.OutgoingFiles = length r.outgoing
+entries_in r table.ReceivedResponses = length r.received
+
+-- ---- the number of an identity
+
+abbrev pub no_of_text : Side → List ℕ
+no_of_text side.Incoming = codes "SELECT no FROM in_file WHERE dataset = ?1 AND date = ?2 AND time = ?3 AND originator = ?4 AND destination = ?5 ORDER BY no LIMIT 1"
+no_of_text side.Outgoing = codes "SELECT no FROM out_file WHERE dataset = ?1 AND date = ?2 AND time = ?3 AND originator = ?4 AND destination = ?5 ORDER BY no LIMIT 1"
+
+abbrev pub has_filed_text : ResponseKind → List ℕ
+has_filed_text EndResponse =
+    codes "SELECT no FROM received WHERE kind = 'EERP' AND dataset = ?1 AND date = ?2 AND time = ?3 AND originator = ?4 AND destination = ?5 ORDER BY no LIMIT 1"
+has_filed_text NegativeEndResponse =
+    codes "SELECT no FROM received WHERE kind = 'NERP' AND dataset = ?1 AND date = ?2 AND time = ?3 AND originator = ?4 AND destination = ?5 ORDER BY no LIMIT 1"
+
+-- the number of the file of an identity, if there is one
+abbrev pub no_of : Register → Side → Identity → Option ℕ
+no_of r side.Incoming identity = option_map (λ (e : IncomingEntry). e.no) (look_in r identity)
+no_of r side.Outgoing identity = option_map (λ (e : OutgoingEntry). e.no) (look_out r identity)
+
+-- ---- what is sent next
+
+abbrev pub next_file_text : List ℕ
+next_file_text = codes "SELECT no FROM out_file WHERE no > ?1 AND (state = 'waiting' OR state = 'closing') AND destination = ?2 ORDER BY no LIMIT 1"
+
+abbrev pub next_response_text : List ℕ
+next_response_text = codes "SELECT issued.no FROM issued JOIN in_file ON in_file.no = issued.no WHERE issued.no > ?1 AND sent = 0 AND originator = ?2 ORDER BY issued.no LIMIT 1"
+
+-- the number of the first file to a partner that is on its way and wasn't tried, if there is one
+abbrev pub next_file_no : Register → List ℕ → ℕ → Option ℕ
+next_file_no r partner tried = option_map (λ (e : OutgoingEntry). e.no) (next_file r partner tried)
+
+-- the number of the file with the first response that is due to a partner and wasn't tried, if there is one
+abbrev pub next_response_no : Register → List ℕ → ℕ → Option ℕ
+next_response_no r partner tried = option_map (λ (e : IssuedEntry). e.no) (next_response r partner tried)
