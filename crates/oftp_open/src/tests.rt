@@ -117,10 +117,7 @@ fn migrated(rt: HostRuntime) -> Result<(), Fail> {
     make_first(&mut conn)?;
     assert_eq!(rt; open(&mut conn), Err(StoreFault::WrongSchema));
     assert_eq!(rt; migrate(&mut conn), Ok(()));
-    assert_eq!(rt;
-        number(&mut conn, "SELECT count(*) FROM received_note")?,
-        2
-    );
+    assert_eq!(rt; number(&mut conn, "SELECT count(*) FROM received_note")?, 2);
     assert_eq!(rt;
         number(
             &mut conn,

@@ -1,8 +1,7 @@
 -- What the changes of one file by its number make of a register.
-use Rattle.std.proofs.Common.{◌≡◌, ◌≤◌, ◌+◌, ◌&&◌, ℕ, zero, suc, true, false, cond, nat_le, List, [], ◌∷◌, ◌++◌, length, Option, Some, None, Result, Ok, Err, refl, sym, ap, subst, ◌∙◌, arith}
+use Rattle.std.proofs.Common.{◌≡◌, ◌≤◌, ◌+◌, ℕ, zero, suc, true, false, cond, List, [], ◌∷◌, ◌++◌, length, Option, Some, None, Result, Ok, Err, refl, sym, ap, ◌∙◌, arith}
 use Rattle.oftp_register.specs.declared.change.Cause.{Cause}
 use Rattle.oftp_register.specs.declared.change.Cause.TheVariants.{Unknown, State as Unfit}
-use Rattle.oftp_register.specs.declared.change.Change.{Change}
 use Rattle.oftp_register.specs.Register.{Register, Incoming, Issued, Outgoing}
 use Rattle.oftp_register.specs.Changes.{apply, at_number, closed, given_up, if_open, if_unanswered, issued, issued_on, kept, mapped, on_incoming, sent, sent_as, sent_of}
 use Rattle.oftp_register.specs.declared.change.Change.TheVariants as change
@@ -135,15 +134,19 @@ made_by_keep n r rows count (before, f, after, placed, is) =
       now = s;
       is = open_in (λ f. f.rows ++ rows.now) Open n r before f after placed is_open;
       limits = refl;
-      edited = (s, record {
-        before = before;
-        file = f;
-        after = after;
-        here = placed.here;
-        number = placed.number;
-        was = sym (ap (λ (p : Place). p.rows) is);
-        now = ap (λ st. let q : Register = record r { incoming = before ++ (record f { rows = f.rows ++ rows.now; state = st }) ∷ after } in q) (sym is_open);
-      }, refl);
+      edited = (
+        s,
+        record {
+          before = before;
+          file = f;
+          after = after;
+          here = placed.here;
+          number = placed.number;
+          was = sym (ap (λ (p : Place). p.rows) is);
+          now = ap (λ st. let q : Register = record r { incoming = before ++ (record f { rows = f.rows ++ rows.now; state = st }) ∷ after } in q) (sym is_open);
+        },
+        refl,
+      );
     }
 
 pub unknown_close : (n : ℕ) (r : Register) (rows : List (List ℕ)) → IsToldOf place_of r.incoming n None → apply r (change.Close n rows) ≡ Err Unknown
@@ -165,11 +168,15 @@ made_by_close n r rows count (before, f, after, placed, is) =
       now = s;
       is = open_in (λ f. f.rows ++ rows.now) Whole n r before f after placed (sym (ap (λ (p : Place). p.state) is));
       limits = refl;
-      edited = (mid, record { before = before; file = f; after = after; here = placed.here; number = placed.number; was = sym (ap (λ (p : Place). p.rows) is); now = refl }, (
-        s,
-        record { before = before; file = g; after = after; here = refl; number = placed.number; was = tt; now = refl },
-        refl,
-      ));
+      edited = (
+        mid,
+        record { before = before; file = f; after = after; here = placed.here; number = placed.number; was = sym (ap (λ (p : Place). p.rows) is); now = refl },
+        (
+          s,
+          record { before = before; file = g; after = after; here = refl; number = placed.number; was = tt; now = refl },
+          refl,
+        ),
+      );
     }
 
 pub unknown_give_up : (n : ℕ) (r : Register) → IsToldOf place_of r.incoming n None → apply r (change.GiveUp n) ≡ Err Unknown
@@ -190,15 +197,19 @@ made_by_give_up n r count (before, f, after, placed, is) =
       now = s;
       is = open_in (λ f. []) Open n r before f after placed is_open;
       limits = refl;
-      edited = (s, record {
-        before = before;
-        file = f;
-        after = after;
-        here = placed.here;
-        number = placed.number;
-        was = tt;
-        now = ap (λ st. let q : Register = record r { incoming = before ++ (record f { rows = []; state = st }) ∷ after } in q) (sym is_open);
-      }, refl);
+      edited = (
+        s,
+        record {
+          before = before;
+          file = f;
+          after = after;
+          here = placed.here;
+          number = placed.number;
+          was = tt;
+          now = ap (λ st. let q : Register = record r { incoming = before ++ (record f { rows = []; state = st }) ∷ after } in q) (sym is_open);
+        },
+        refl,
+      );
     }
 
 -- ---- the response to an incoming file

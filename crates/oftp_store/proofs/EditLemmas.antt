@@ -1,5 +1,5 @@
 -- What the statements on one row of a number make of the tables of a register.
-use Rattle.std.proofs.Common.{◌≡◌, ◌+◌, ◌<◌, ◌^◌, ℕ, suc, pos, List, [], ◌∷◌, ◌++◌, length, map, Option, Some, None, codes, append-nil, length-append, refl, sym, ap, subst, ◌∙◌, arith, Ok}
+use Rattle.std.proofs.Common.{◌≡◌, ◌+◌, ◌<◌, ◌^◌, ℕ, suc, pos, List, [], ◌∷◌, ◌++◌, length, map, Some, None, codes, append-nil, length-append, refl, sym, ap, subst, ◌∙◌, arith, Ok}
 use Rattle.std.specs.List.{AllByRecursion}
 use Rattle.std.specs.List.Sorted.{IsPermutation}
 use Rattle.std.proofs.lemmas.List.{map-append}
@@ -20,15 +20,14 @@ use Rattle.oftp_register.specs.declared.entry.OutgoingState.TheVariants.{Waiting
 use Rattle.oftp_register.specs.declared.entry.ResponseKind.{ResponseKind}
 use Rattle.oftp_register.specs.Register.{Register, Incoming, Issued, Outgoing}
 use Rattle.oftp_tables.specs.Calls.{Moves}
-use Rattle.oftp_tables.specs.Tables.{HasReason, HasRefusal, HoldIncoming, HoldOutgoing, Tables, bodies_from, body_rows, format_text, identity_values, in_file_row, issued_from, issued_if_any, issued_row, kind_text, less_rowids, number_value, out_file_row, out_state_text, reason_text, refusal_text, rows_from, rows_in, rows_out}
+use Rattle.oftp_tables.specs.Tables.{HasReason, HasRefusal, Tables, bodies_from, body_rows, format_text, identity_values, in_file_row, issued_from, issued_if_any, issued_row, kind_text, less_rowids, number_value, out_file_row, out_state_text, reason_text, refusal_text, rows_from, rows_in, rows_out}
 use Rattle.oftp_tables.proofs.SplitLemmas.{HaveNumber, IsAmong, IsSplit, among, pieces_below, pieces_from, rows_pieces}
 use Rattle.oftp_tables.proofs.StatementLemmas.{Others, PutsIn, Rewrites, updates_row, inserts_row}
 use Rattle.oftp_tables.proofs.LandLemmas.{lands}
 use Rattle.oftp_tables.proofs.BackLemmas.{at_place}
 use Rattle.std.proofs.Common.{Bor}
-use Rattle.oftp_store.specs.Edits.{ChangesIncoming, ChangesOutgoing, IsDone, IsNext, Makes}
+use Rattle.oftp_store.specs.Edits.{Makes}
 use Rattle.oftp_store.specs.Texts.{add_incoming_text, add_issued_text, add_outgoing_text, set_header_text, set_outgoing_text, set_sent_text, set_whole_text}
-use Rattle.oftp_store.specs.declared.changes.edit.Deed.{Deed}
 use Rattle.oftp_store.specs.declared.changes.edit.Deed.TheVariants.{AddIncoming, AddIssued, AddOutgoing, SetHeader, SetOutgoing, SetSent, SetWhole}
 use Rattle.oftp_store.proofs.EditTexts.{add_incoming_is, add_incoming_plain, add_incoming_terms, add_issued_is, add_issued_plain, add_issued_terms, add_outgoing_is, add_outgoing_plain, add_outgoing_terms, set_header_is, set_header_plain, set_header_terms, set_outgoing_is, set_outgoing_plain, set_outgoing_terms, set_sent_is, set_sent_plain, set_sent_terms, set_whole_is, set_whole_plain, set_whole_terms}
 

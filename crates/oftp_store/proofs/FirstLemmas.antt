@@ -77,7 +77,7 @@ module _ {X : Type 0} (row : ℕ → X → Row) (numbers : (n : ℕ) (x : X) →
     where
       go : (b : Bool) → map (output (first_query tree filter)) (found filter params (rows_from row (n + 1) xs)) ≡ map shown (passing test (n + 1) xs)
           → map (output (first_query tree filter)) (cond b ((params ∷ row n x ∷ []) ∷ []) [] ++ found filter params (rows_from row (n + 1) xs))
-              ≡ map shown (cond b (n ∷ passing test (n + 1) xs) (passing test (n + 1) xs))
+          ≡ map shown (cond b (n ∷ passing test (n + 1) xs) (passing test (n + 1) xs))
       go true more = let here : output (first_query tree filter) (params ∷ row n x ∷ []) ≡ shown n = ap (λ v. (v ∷ [], v ∷ [])) (numbers n x) in rw here (ap (λ os. shown n ∷ os) more)
       go false more = more
 
@@ -85,7 +85,7 @@ module _ {X : Type 0} (row : ℕ → X → Row) (numbers : (n : ℕ) (x : X) →
       → rows ≡ first_row (passing test 1 xs)
   answers_first db tree rows xs is answer =
       let outputs_are : map (output (first_query tree filter)) (found filter params (db tree))
-          ≡ map shown (passing test 1 xs) = ap (λ t. map (output (first_query tree filter)) (found filter params t)) is ∙ outputs tree 1 xs in
+      ≡ map shown (passing test 1 xs) = ap (λ t. map (output (first_query tree filter)) (found filter params t)) is ∙ outputs tree 1 xs in
       answers_in_order db tree filter (col 1 0 ∷ []) ((col 1 0, rising) ∷ []) (lit (Int (pos 1))) params rows (map shown (passing test 1 xs)) answer (ascending filter test tree 1 xs)
       (subst (IsPermutation (map shown (passing test 1 xs))) (sym outputs_are) (IsPermutation-refl _))
       ∙ first_shown (passing test 1 xs)

@@ -1,5 +1,5 @@
 -- Headers and responses are read back.
-use Rattle.std.proofs.Common.{◌≡◌, ◌+◌, ◌≤◌, ℕ, false, List, [], ◌∷◌, ◌++◌, length, codes, Option, Some, None, All, append-nil, refl, sym, ap, subst, ◌∙◌, arith}
+use Rattle.std.proofs.Common.{◌≡◌, ◌+◌, ℕ, false, List, [], ◌∷◌, ◌++◌, codes, Option, Some, None, All, refl, sym, ap, subst, ◌∙◌}
 use Rattle.std.specs.List.{AllByRecursion}
 use Rattle.std.specs.List.Sorted.{IsPermutation}
 use Rattle.std.specs.Option.{option_map}
@@ -14,14 +14,13 @@ use Rattle.sqlite.specs.State.{State, Shown}
 use Rattle.sqlite.proofs.Callers.{IsPlain, command_of, reads_as, one_permutation}
 use Rattle.oftp_schema.specs.Schema.{in_file_tree, issued_tree, office_schema, out_file_tree}
 use Rattle.oftp_schema.proofs.QueryLemmas.{answers, chosen, plain_query}
-use Rattle.oftp_register.specs.declared.entries.IssuedResponse.{IssuedResponse}
 use Rattle.oftp_register.specs.Register.{Register, Incoming, Issued, Outgoing}
 use Rattle.oftp_register.specs.Soundness.{IsSound, IsSoundAnswer, IsSoundIncoming}
 use Rattle.oftp_register.specs.LookUps.{issued_response}
-use Rattle.oftp_tables.specs.Tables.{HasReason, HasRefusal, Tables, in_file_row, in_state_in, in_state_text, issued_from, issued_if_any, issued_in, issued_row, number_value, out_file_row, out_state_in, out_state_text, refusal_text}
+use Rattle.oftp_tables.specs.Tables.{HasReason, HasRefusal, Tables, in_file_row, in_state_in, in_state_text, issued_from, issued_if_any, issued_row, number_value, out_file_row, out_state_in, out_state_text, refusal_text}
 use Rattle.oftp_tables.proofs.BackLemmas.{all_at_place, at_place, format_back, in_state_back, issued_back, out_state_back}
 use Rattle.oftp_tables.proofs.SplitLemmas.{among, by_number, chosen_none, chosen_one}
-use Rattle.oftp_store.specs.Reads.{IsPlaced, IsResponseTo, IsToldOf, first_told, incoming_header_in, incoming_header_of, outgoing_header_in, outgoing_header_of, response_in}
+use Rattle.oftp_store.specs.Reads.{IsResponseTo, IsToldOf, first_told, incoming_header_in, incoming_header_of, outgoing_header_in, outgoing_header_of, response_in}
 use Rattle.oftp_store.specs.Texts.{in_header_text, out_header_text, response_text}
 use Rattle.oftp_store.specs.declared.looks.header.IncomingHeader.{IncomingHeader}
 use Rattle.oftp_store.specs.declared.looks.header.OutgoingHeader.{OutgoingHeader}

@@ -1,5 +1,5 @@
 -- What the queries by identity answer.
-use Rattle.std.proofs.Common.{◌≡◌, ◌&&◌, ℕ, false, List, [], ◌∷◌, codes, is_some, slice_get, Option, refl, ap, ◌∙◌}
+use Rattle.std.proofs.Common.{◌≡◌, ℕ, false, List, [], ◌∷◌, codes, is_some, slice_get, Option, refl, ◌∙◌}
 use Rattle.std.specs.List.{list_all}
 use Rattle.sqlite_tied.specs.Compute.{everything}
 use Rattle.sqlite.specs.declared.types.Value.TheVariants.{Null, Text}
@@ -60,14 +60,14 @@ no_there : (which : Side) (it : Identity) (rows : List Row) (told : Option ℕ) 
     → IsAnswer (first_query (tree_of which) by_identity) (overlay db []) (identity_values it) rows → told ≡ no_of r which it
 no_there side.Incoming it rows told r db tells kept answer =
     number_told _ rows told (answers_first in_file_row (λ n x. refl) by_identity (identity_values it) (λ n (f : Incoming). same_identity f.identity it)
-        (incoming_passes it) db in_file_tree rows r.incoming kept.incoming.headers answer) tells
+    (incoming_passes it) db in_file_tree rows r.incoming kept.incoming.headers answer) tells
     ∙ first_wanted incoming_entry (λ (e : IncomingEntry). e.no) (λ n x. refl) (λ (e : IncomingEntry). same_identity e.identity it) (λ n (f : Incoming). same_identity f.identity it)
-        (λ n x. refl) 1 r.incoming
+    (λ n x. refl) 1 r.incoming
 no_there side.Outgoing it rows told r db tells kept answer =
     number_told _ rows told (answers_first out_file_row (λ n x. refl) by_identity (identity_values it) (λ n (f : Outgoing). same_identity f.identity it)
-        (outgoing_passes it) db out_file_tree rows r.outgoing kept.outgoing.headers answer) tells
+    (outgoing_passes it) db out_file_tree rows r.outgoing kept.outgoing.headers answer) tells
     ∙ first_wanted outgoing_entry (λ (e : OutgoingEntry). e.no) (λ n x. refl) (λ (e : OutgoingEntry). same_identity e.identity it) (λ n (f : Outgoing). same_identity f.identity it)
-        (λ n x. refl) 1 r.outgoing
+    (λ n x. refl) 1 r.outgoing
 
 pub finds_no : (which : Side) (old new : State) (it : Identity) (rows : List Row) (told : Option ℕ) → old.now.schema ≡ office_schema
     → Shown (no_of_text which) (identity_values it) old new rows → TellsNo rows told
@@ -109,5 +109,5 @@ pub finds_filed : (kind : ResponseKind) (old new : State) (it : Identity) (rows 
 finds_filed kind old new it rows has h r kept =
     let read = reads_as (has_filed_text kind) (identity_values it) old new office_schema has (filed_select kind) (filed_is kind).0 (filed_plain kind) (filed_is kind).1 rows h in
     any_told _ rows (answers_first received_row (λ n x. refl) (by_response kind) (identity_values it) (λ n x. is_response_to kind it x)
-        (response_passes kind it) old.now.trees received_tree rows r.received kept.received.responses_are (read.answer Null))
+    (response_passes kind it) old.now.trees received_tree rows r.received kept.received.responses_are (read.answer Null))
     ∙ any_wanted (is_response_to kind it) 1 r.received

@@ -10,7 +10,7 @@ use Rattle.sqlite.specs.Collation.TheVariants.{Binary}
 use Rattle.sqlite.specs.declared.types.Value.TheVariants.{Int, Null}
 use Rattle.sqlite.specs.Order.{Row, column}
 use Rattle.sqlite.specs.Tree.{Trees}
-use Rattle.sqlite.specs.Term.{Term, lit, col}
+use Rattle.sqlite.specs.Term.{lit, col}
 use Rattle.sqlite.specs.Query.{Query, IsAnswer, Output, output, output_cmp}
 use Rattle.sqlite.specs.Program.{overlay}
 use Rattle.sqlite.specs.Command.{Command}
@@ -52,7 +52,7 @@ turned_over (suc m) =
     let same : 1 + m ≡ suc m = omega arith in
     IsPermutation-trans _ (shown (suc m) ∷ numbers_up 1 m) _ (IsPermutation-cons (shown (suc m)) _ _ (turned_over m))
     (subst (IsPermutation (shown (suc m) ∷ numbers_up 1 m)) (sym (up_last 1 m
-        ∙ ap (λ k. numbers_up 1 m ++ shown k ∷ []) same)) (IsPermutation-sym _ _ (IsPermutation-to_front (numbers_up 1 m) (shown (suc m)))))
+    ∙ ap (λ k. numbers_up 1 m ++ shown k ∷ []) same)) (IsPermutation-sym _ _ (IsPermutation-to_front (numbers_up 1 m) (shown (suc m)))))
 
 falling_numbers : (tree m : ℕ) → IsAscending (λ a b. output_cmp (last_query tree) a b ≡ Less) (numbers_down m)
 falling_numbers tree zero = tt

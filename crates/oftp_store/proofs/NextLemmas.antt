@@ -1,5 +1,5 @@
 -- What the queries for what is sent next answer.
-use Rattle.std.proofs.Common.{◌≡◌, ◌==◌, ◌&&◌, ◌+◌, ◌<◌, ◌++◌, ℕ, pos, nat_lt, Bool, true, false, cond, List, [], ◌∷◌, length, map, flat_map, find, slice_get, codes, Option, Some, None, is_gt, Less, Equal, Greater, inl, inr, refl, sym, ap, subst, ◌∙◌, arith}
+use Rattle.std.proofs.Common.{◌≡◌, ◌==◌, ◌&&◌, ◌+◌, ◌<◌, ◌++◌, ℕ, pos, nat_lt, Bool, true, false, cond, List, [], ◌∷◌, length, map, flat_map, find, slice_get, codes, Option, Some, None, is_gt, inl, inr, refl, sym, ap, subst, ◌∙◌, arith}
 use Rattle.std.specs.List.{list_all, filter_map}
 use Rattle.std.specs.List.Sorted.{IsPermutation}
 use Rattle.std.specs.Option.{option_map}
@@ -8,7 +8,6 @@ use Rattle.std.specs.Str.{bytes_eq}
 use Rattle.std.proofs.lemmas.Bool.{cases_Bool}
 use Rattle.std.proofs.lemmas.Bool.Decides.{nat_tests}
 use Rattle.std.proofs.lemmas.Cmp.{on_total}
-use Rattle.std.proofs.lemmas.List.Sorted.{IsPermutation-refl, IsPermutation-trans}
 use Rattle.sqlite_tied.specs.Compute.{everything}
 use Rattle.sqlite_sql.proofs.QueryLemmas.{key_cmp_total}
 use Rattle.sqlite_keyed.proofs.SortLemmas.{sorted_unique}
@@ -106,7 +105,7 @@ finds_next_file old new partner tried rows told has h tells r kept =
     let params = next_params tried partner in
     let read = reads_as next_file_text params old new office_schema has next_file_select next_file_is.0 next_file_plain next_file_is.1 rows h in
     number_told _ rows told (answers_first out_file_row (λ n x. refl) next_file_filter params (is_next partner tried)
-        (file_passes partner tried) old.now.trees out_file_tree rows r.outgoing kept.outgoing.headers (read.answer Null)) tells
+    (file_passes partner tried) old.now.trees out_file_tree rows r.outgoing kept.outgoing.headers (read.answer Null)) tells
     ∙ first_wanted outgoing_entry (λ (e : OutgoingEntry). e.no) (λ n x. refl) (is_next_file partner tried) (is_next partner tried) (λ n x. refl) 1 r.outgoing
 
 -- ---- responses
@@ -161,7 +160,7 @@ module _ (partner : List ℕ) (tried k : ℕ) (x : Issued) where
   pairs_there n [] f after is =
       let here : k ≡ n = omega (arith, is) in
       subst (λ m. pairs params (issued_row k x) (rows_from in_file_row m (f ∷ after))
-          ≡ cond (is_due_in partner tried k f (Some x)) ((params ∷ issued_row k x ∷ in_file_row k f ∷ []) ∷ []) []) here first
+      ≡ cond (is_due_in partner tried k f (Some x)) ((params ∷ issued_row k x ∷ in_file_row k f ∷ []) ∷ []) []) here first
     where
       alike : (k == k) ≡ true
       alike = grind (arith, nat_tests)
@@ -225,13 +224,13 @@ due_rows db partner tried rows files issued headers a =
     let kept : a.kept ≡ wanted = a.distinct ∙ ap (map (output due_query)) (a.grouped ∙ tables) ∙ due_shown partner tried 1 files [] files refl refl in
     let there : IsPermutation wanted a.ordered = subst (λ os. IsPermutation os a.ordered) kept a.same in
     let order_is : a.ordered ≡ wanted = sorted_unique (output_cmp due_query) (on_total (λ (o : Output). o.0) (key_cmp_total (rising ∷ []) 0)) wanted a.ordered (ascending due_filter
-        (is_answer_due partner tried) issued_tree 1 files) there a.sorted in
+    (is_answer_due partner tried) issued_tree 1 files) there a.sorted in
     a.shown ∙ ap (λ (os : List Output). Rattle.sqlite.specs.Query.page due_query params (map (λ (o : Output). o.1) os)) order_is ∙ first_shown (passing (is_answer_due partner tried) 1 files)
 
 -- the number of the first entry that is wanted
 first_due : (partner : List ℕ) (tried n : ℕ) (files : List Incoming)
     → slice_get (passing (is_answer_due partner tried) n files) 0
-        ≡ option_map (λ (e : IssuedEntry). e.no) (find (is_next_response partner tried) (filter_map (λ entry. entry) (numbered issued_entry n files)))
+    ≡ option_map (λ (e : IssuedEntry). e.no) (find (is_next_response partner tried) (filter_map (λ entry. entry) (numbered issued_entry n files)))
 first_due partner tried n [] = refl
 first_due partner tried n (f ∷ files) = go f.response (first_due partner tried (n + 1) files)
   where

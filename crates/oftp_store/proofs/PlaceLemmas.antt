@@ -1,11 +1,10 @@
 -- What changes ask of the file with a number, from its header, its rows and its response.
-use Rattle.std.proofs.Common.{◌≡◌, ◌++◌, ◌+◌, ℕ, List, [], ◌∷◌, length, map, Option, Some, None, unwrap_or, refl, sym, ap, subst, ◌∙◌, arith}
+use Rattle.std.proofs.Common.{◌≡◌, ℕ, List, [], ◌∷◌, length, map, Option, Some, None, unwrap_or, refl, sym, ap, subst, ◌∙◌, arith}
 use Rattle.std.specs.Option.{option_map}
 use Rattle.std.proofs.lemmas.List.{map-append, length-map}
 use Rattle.sqlite.specs.Effect.{Database}
 use Rattle.sqlite.specs.State.{State, IsUnchanged}
 use Rattle.oftp_schema.specs.Schema.{office_schema}
-use Rattle.oftp_register.specs.declared.entry.Dispatch.{Dispatch}
 use Rattle.oftp_register.specs.declared.entries.IssuedResponse.{IssuedResponse}
 use Rattle.oftp_register.specs.declared.entries.Side.TheVariants as side
 use Rattle.oftp_register.specs.Register.{Register, Incoming, Issued, Outgoing}
@@ -55,7 +54,7 @@ stage_told r k count h (before, f, after, placed, is) counted = (
   after,
   placed,
   ap (λ (h : OutgoingHeader). let s : Stage = record { mark = h.mark; state = h.state; rows = count } in s) is
-  ∙ ap (λ n. let s : Stage = record { mark = f.mark; state = f.state; rows = n } in s) (counted ∙ ap length (out_rows_placed r k before f after placed)),
+      ∙ ap (λ n. let s : Stage = record { mark = f.mark; state = f.state; rows = n } in s) (counted ∙ ap length (out_rows_placed r k before f after placed)),
 )
 
 pub answered_told : (r : Register) (k : ℕ) (h : IncomingHeader) (found : Option IssuedResponse) → IsToldOf incoming_header_of r.incoming k (Some h) → IsResponseTo r k found
@@ -66,8 +65,8 @@ answered_told r k h found (before, f, after, placed, is) response = (
   after,
   placed,
   ap (λ st. let a : Answered = record { state = st; response = option_map (λ (i : IssuedResponse). i.dispatch) found } in a) (ap (λ (h : IncomingHeader). h.state) is)
-  ∙ ap (λ o. let a : Answered = record { state = f.state; response = option_map (λ (i : IssuedResponse). i.dispatch) o } in a) (response before f after placed)
-  ∙ ap (λ o. let a : Answered = record { state = f.state; response = o } in a) (twice f.response),
+      ∙ ap (λ o. let a : Answered = record { state = f.state; response = option_map (λ (i : IssuedResponse). i.dispatch) o } in a) (response before f after placed)
+      ∙ ap (λ o. let a : Answered = record { state = f.state; response = o } in a) (twice f.response),
 )
   where
     twice : (o : Option Issued) → option_map (λ (i : IssuedResponse). i.dispatch) (option_map issued_response o) ≡ option_map dispatch_of o

@@ -1,9 +1,8 @@
 -- What the statements on a response that came make of the tables of a register.
-use Rattle.std.proofs.Common.{◌≡◌, ◌+◌, ◌<◌, ℕ, pos, List, [], ◌∷◌, ◌++◌, length, Ok, append-nil, append_assoc, refl, sym, ap, subst, ◌∙◌, arith}
-use Rattle.std.specs.List.{AllByRecursion}
-use Rattle.sqlite.specs.declared.types.Value.TheVariants.{Null, Int, Text}
-use Rattle.sqlite.specs.Order.{Row, column}
-use Rattle.sqlite.specs.Tree.{Trees, with_tree}
+use Rattle.std.proofs.Common.{◌≡◌, ◌+◌, ◌<◌, ℕ, List, [], ◌∷◌, ◌++◌, Ok, append-nil, refl, sym, ap, subst, ◌∙◌, arith}
+use Rattle.sqlite.specs.declared.types.Value.TheVariants.{Null, Text}
+use Rattle.sqlite.specs.Order.{Row}
+use Rattle.sqlite.specs.Tree.{Trees}
 use Rattle.sqlite.specs.Table.{Table}
 use Rattle.sqlite.specs.State.{State, ExecutesInside}
 use Rattle.oftp_schema.specs.Schema.{note_tree, office_schema, received, received_note, received_tree}
@@ -15,11 +14,11 @@ use Rattle.oftp_register.specs.declared.entry.ResponseKind.{ResponseKind}
 use Rattle.oftp_register.specs.declared.entry.ResponseKind.TheVariants.{EndResponse, NegativeEndResponse}
 use Rattle.oftp_register.specs.Register.{Register, Received}
 use Rattle.oftp_tables.specs.Calls.{Moves}
-use Rattle.oftp_tables.specs.Tables.{HoldIncoming, HoldOutgoing, HoldReceived, Tables, about_row, identity_values, kind_text, note_if_negative, notes_from, number_value, reason_text, received_row, rows_from}
+use Rattle.oftp_tables.specs.Tables.{HoldIncoming, HoldOutgoing, Tables, identity_values, kind_text, note_if_negative, notes_from, number_value, reason_text, received_row}
 use Rattle.oftp_tables.proofs.SplitLemmas.{HaveNumber, IsSplit, among, pieces_below, pieces_from}
-use Rattle.oftp_tables.proofs.StatementLemmas.{Others, PutsIn, inserts_row}
+use Rattle.oftp_tables.proofs.StatementLemmas.{PutsIn, inserts_row}
 use Rattle.oftp_register.specs.declared.name.Name.{Name}
-use Rattle.oftp_store.specs.Edits.{HoldNoteless, IsNext, Makes, MakesNote, MakesNoteless}
+use Rattle.oftp_store.specs.Edits.{HoldNoteless, Makes, MakesNote, MakesNoteless}
 use Rattle.oftp_store.specs.declared.changes.edit.Deed.TheVariants.{AddReceived}
 use Rattle.oftp_store.specs.Texts.{add_note_text, add_received_text}
 use Rattle.oftp_store.proofs.EditTexts.{add_note_is, add_note_plain, add_note_terms, add_received_is, add_received_plain, add_received_terms}

@@ -1,5 +1,5 @@
 -- What the statements on the rows of a file make of the tables of a register.
-use Rattle.std.proofs.Common.{◌≡◌, ◌+◌, ◌<◌, ◌^◌, ◌&&◌, ◌-◌, ◌≢◌, ℕ, ℤ, suc, Bool, true, false, not, cond, nat_le, List, [], ◌∷◌, ◌++◌, length, map, drop, take, filter, get_or, Option, Some, None, Ok, append-nil, append_assoc, length-append, slice_get, refl, sym, ap, subst, ◌∙◌, arith}
+use Rattle.std.proofs.Common.{◌≡◌, ◌+◌, ◌<◌, ◌&&◌, ℕ, ℤ, Bool, true, false, not, cond, nat_le, List, [], ◌∷◌, ◌++◌, length, map, drop, take, filter, get_or, Some, None, Ok, append-nil, append_assoc, length-append, slice_get, refl, sym, ap, subst, ◌∙◌, arith}
 use Rattle.std.specs.List.{AllByRecursion, list_all}
 use Rattle.std.specs.List.Sorted.{IsPermutation}
 use Rattle.std.proofs.lemmas.List.{map-append, length-map, take_more, length-take}
@@ -10,12 +10,11 @@ use Rattle.sqlite_schema.specs.declared.program.Program.{Program}
 use Rattle.sqlite_rules.specs.Calls.{ids_of}
 use Rattle.sqlite.specs.declared.types.Value.TheVariants.{Null, Int}
 use Rattle.sqlite.specs.Order.{Row, column}
-use Rattle.sqlite.specs.Tree.{Trees, put_row, with_tree}
+use Rattle.sqlite.specs.Tree.{Trees, put_row}
 use Rattle.sqlite.specs.Term.{Term, lit, col, holds, eval_all}
-use Rattle.sqlite.specs.Command.{Command}
 use Rattle.sqlite.specs.Command.TheVariants.{Insert, Delete}
 use Rattle.sqlite.specs.Source.TheVariants.{Values}
-use Rattle.sqlite.specs.Edit.{id_in, is_taken, next_rowid, with_rowid, without_all}
+use Rattle.sqlite.specs.Edit.{id_in, is_taken, next_rowid, with_rowid}
 use Rattle.sqlite.specs.Cast.{cast_row}
 use Rattle.sqlite.specs.Rowids.TheVariants.{Chosen}
 use Rattle.sqlite.specs.Listing.{understood}
@@ -31,7 +30,7 @@ use Rattle.oftp_register.specs.declared.entries.Side.{Side}
 use Rattle.oftp_register.specs.declared.entries.Side.TheVariants as side
 use Rattle.oftp_register.specs.Register.{Register, Incoming, Outgoing}
 use Rattle.oftp_tables.specs.Calls.{IsInside, Moves}
-use Rattle.oftp_tables.specs.Tables.{AreNumbered, HasReason, HasRefusal, Tables, body_row, body_rows, bodies_from, has_number, in_file_row, issued_from, issued_if_any, less_rowids, number_value, out_file_row, rows_from, rows_in, rows_out}
+use Rattle.oftp_tables.specs.Tables.{AreNumbered, HasReason, HasRefusal, Tables, body_row, bodies_from, has_number, in_file_row, issued_from, issued_if_any, less_rowids, number_value, out_file_row, rows_from, rows_in, rows_out}
 use Rattle.oftp_tables.proofs.BodyLemmas.{bodies_cut, bodies_more}
 use Rattle.oftp_tables.proofs.CutLemmas.{deleted, id_of}
 use Rattle.oftp_tables.proofs.LandLemmas.{lands}
@@ -40,10 +39,10 @@ use Rattle.oftp_tables.proofs.PlaceLemmas.{place}
 use Rattle.oftp_tables.proofs.RowLemmas.{from_filter, from_passes, from_same, from_test, put_fresh, put_numbered}
 use Rattle.oftp_tables.proofs.StatementLemmas.{Others}
 use Rattle.oftp_tables.proofs.TxLemmas.{moves_then}
-use Rattle.oftp_store.specs.Edits.{AddsRowsTo, ChangesIncoming, ChangesOutgoing, Makes, MakesRows}
+use Rattle.oftp_store.specs.Edits.{Makes, MakesRows}
 use Rattle.oftp_store.specs.Texts.{add_row_text, cut_rows_text}
 use Rattle.oftp_store.specs.declared.changes.edit.Deed.TheVariants.{CutRows}
-use Rattle.oftp_store.proofs.EditLemmas.{all_but, length_but, moves_as, same_but}
+use Rattle.oftp_store.proofs.EditLemmas.{all_but, length_but}
 
 -- ---- the table of a side
 

@@ -1,5 +1,5 @@
 -- What changes ask of the file with a number.
-use Rattle.std.specs.Prelude.{ℕ, length, Bool, true, false, Option, Some, None}
+use Rattle.std.specs.Prelude.{length, Bool, true, false, Option, Some, None}
 use Rattle.oftp_register.specs.declared.entry.Dispatch.TheVariants.{Due, Sent}
 use Rattle.oftp_register.specs.declared.entry.IncomingState.{IncomingState}
 use Rattle.oftp_register.specs.declared.entry.IncomingState.TheVariants.{Open, Whole}

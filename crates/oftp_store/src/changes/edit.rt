@@ -30,7 +30,10 @@ pub(crate) enum Deed<'a> {
     /// It is an incoming file, and is whole.
     SetWhole,
     /// It is an outgoing file, and has this mark and this state.
-    SetOutgoing { mark: u32, state: OutgoingState },
+    SetOutgoing {
+        mark: u32,
+        state: OutgoingState,
+    },
     /// It is a file that has so many rows, and gets more.
     AddRows {
         side: Side,
@@ -38,7 +41,9 @@ pub(crate) enum Deed<'a> {
         rows: &'a [Row],
     },
     /// It is an incoming file, and keeps so many of its rows at most.
-    CutRows { count: u32 },
+    CutRows {
+        count: u32,
+    },
     /// It is an incoming file without response, and gets one that is due.
     AddIssued {
         kind: ResponseKind,

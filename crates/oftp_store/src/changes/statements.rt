@@ -157,10 +157,7 @@ pub(crate) fn set_header<S: Alter>(
 }
 
 /// Sets an incoming file whole.
-pub(crate) fn set_whole<S: Alter>(
-    tx: &mut Transaction<'_, S>,
-    no: u64,
-) -> Result<usize, Error>
+pub(crate) fn set_whole<S: Alter>(tx: &mut Transaction<'_, S>, no: u64) -> Result<usize, Error>
     requires { no < 2 ^ 63 }
     ensures same_reference { tx.new.conn.ghost_name ≡ tx.old.conn.ghost_name }
     ensures done { HasCleanDisk (state S.Store tx.new.conn.now) → IsInside (state S.Store tx.old.conn.now) → OnOk result (Moves (Makes no SetWhole) (state S.Store tx.old.conn.now) (state S.Store tx.new.conn.now)) }
@@ -174,10 +171,7 @@ pub(crate) fn set_whole<S: Alter>(
 }
 
 /// Sets the response to an incoming file sent.
-pub(crate) fn set_sent<S: Alter>(
-    tx: &mut Transaction<'_, S>,
-    no: u64,
-) -> Result<usize, Error>
+pub(crate) fn set_sent<S: Alter>(tx: &mut Transaction<'_, S>, no: u64) -> Result<usize, Error>
     requires { no < 2 ^ 63 }
     ensures same_reference { tx.new.conn.ghost_name ≡ tx.old.conn.ghost_name }
     ensures done { HasCleanDisk (state S.Store tx.new.conn.now) → IsInside (state S.Store tx.old.conn.now) → OnOk result (Moves (Makes no SetSent) (state S.Store tx.old.conn.now) (state S.Store tx.new.conn.now)) }
@@ -407,10 +401,7 @@ fn add_row<S: Alter>(
     ensures failed { HasCleanDisk (state S.Store tx.new.conn.now) → OnErr result (KeepsCommit (state S.Store tx.old.conn.now) (state S.Store tx.new.conn.now)) }
     ensures survives { Survives (state S.Store tx.old.conn.now) (state S.Store tx.new.conn.now) (λ _. ⊥) }
 {
-    tx.execute(
-        add_row_text(side),
-        params![number(no), at, body.octets()],
-    )
+    tx.execute(add_row_text(side), params![number(no), at, body.octets()])
 }
 
 /// Adds rows to a file, behind those that it has.

@@ -115,10 +115,7 @@ fn perform_all<S: Alter>(tx: &mut Transaction<'_, S>, edits: &[Edit<'_>]) -> Res
 }
 
 /// Makes edits in turn, in one transaction.
-pub(crate) fn carry_out<S: Alter>(
-    conn: &mut Connection<S>,
-    edits: &[Edit<'_>],
-) -> Result<(), Error>
+pub(crate) fn carry_out<S: Alter>(conn: &mut Connection<S>, edits: &[Edit<'_>]) -> Result<(), Error>
     requires { conn.old.in_transaction ≡ false }
     ensures mode { conn.new.in_transaction ≡ false }
     ensures clean { doubt (state S.Store conn.old).is_clean ≤ doubt (state S.Store conn.new).is_clean }

@@ -116,10 +116,7 @@ fn outgoing_header_in(alloc: Global, row: &Row) -> Result<OutgoingHeader, Office
 }
 
 // The header of an incoming file that an answer tells.
-fn incoming_header_told(
-    alloc: Global,
-    rows: &[Row],
-) -> Result<Option<IncomingHeader>, OfficeFault>
+fn incoming_header_told(alloc: Global, rows: &[Row]) -> Result<Option<IncomingHeader>, OfficeFault>
     ensures told { IfOk result (λ found. found ≡ first_told incoming_header_in rows.now) }
     ensures within { IfOk result (λ found. IfSome found (λ header. IsLongest header.format header.longest)) }
     ensures fails { IfErr result IsFailure }
@@ -134,10 +131,7 @@ fn incoming_header_told(
 }
 
 // The header of an outgoing file that an answer tells.
-fn outgoing_header_told(
-    alloc: Global,
-    rows: &[Row],
-) -> Result<Option<OutgoingHeader>, OfficeFault>
+fn outgoing_header_told(alloc: Global, rows: &[Row]) -> Result<Option<OutgoingHeader>, OfficeFault>
     ensures told { IfOk result (λ found. found ≡ first_told outgoing_header_in rows.now) }
     ensures within { IfOk result (λ found. IfSome found (λ header. IsLongest header.format header.longest)) }
     ensures fails { IfErr result IsFailure }

@@ -52,10 +52,7 @@ fn last_told(rows: &[Row]) -> Result<u64, OfficeFault>
 }
 
 /// The last number of a table, which is how many entries it has.
-pub(crate) fn last_no<S: Alter>(
-    conn: &mut Connection<S>,
-    table: Table,
-) -> Result<u64, OfficeFault>
+pub(crate) fn last_no<S: Alter>(conn: &mut Connection<S>, table: Table) -> Result<u64, OfficeFault>
     ensures looks { Looks (state S.Store conn.old) (state S.Store conn.new) result }
     ensures answer { HasCleanDisk (state S.Store conn.new) → conn.old.schema ≡ office_schema → IfOk result (λ no. (r : Register) → Tables r (state S.Store conn.old).now.trees
         → no ≡ entries_in r table) }

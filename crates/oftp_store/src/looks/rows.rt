@@ -34,7 +34,8 @@ fn some_rows_text(side: Side) -> &'static str
     ensures { result.now ≡ some_rows_text side }
 {
     match side {
-        Side::Incoming => "SELECT body FROM in_row WHERE no = ?1 AND pos >= ?2 ORDER BY pos LIMIT ?3",
+        Side::Incoming =>
+            "SELECT body FROM in_row WHERE no = ?1 AND pos >= ?2 ORDER BY pos LIMIT ?3",
         Side::Outgoing =>
             "SELECT body FROM out_row WHERE no = ?1 AND pos >= ?2 ORDER BY pos LIMIT ?3",
     }
@@ -111,11 +112,7 @@ pub(crate) fn find_rows<S: Alter>(
     ensures looks { Looks (state S.Store conn.old) (state S.Store conn.new) result }
     ensures answer { HasCleanDisk (state S.Store conn.new) → conn.old.schema ≡ office_schema → IfOk result (λ rows. (r : Register) → Tables r (state S.Store conn.old).now.trees → rows.items ≡ take most (drop from (file_rows r side no))) }
 {
-    match ask(
-        conn,
-        some_rows_text(side),
-        params![number(no), from, most],
-    ) {
+    match ask(conn, some_rows_text(side), params![number(no), from, most]) {
         Ok(rows) => bodies_told(alloc, rows.as_slice()),
         Err(fault) => Err(fault),
     }

@@ -3,7 +3,7 @@ use Rattle.std.proofs.lemmas.Int.{ints, to_z-of_z}
 use Rattle.sqlite.specs.Held.{state}
 use Rattle.sqlite.specs.State.{ExecutesInside}
 use Rattle.sqlite.specs.declared.types.Value.TheVariants.{Text}
-use Rattle.oftp_tables.specs.Tables.{body_row, format_text, kind_text, number_value, reason_text}
+use Rattle.oftp_tables.specs.Tables.{kind_text, number_value, reason_text}
 use Rattle.oftp_schema.proofs.TxLemmas.{ran_on, keeps_on}
 use Rattle.oftp_store.specs.Texts.{add_issued_text}
 use Rattle.oftp_store.proofs.EditLemmas.{issued_added}

@@ -1,9 +1,7 @@
-use Rattle.std.proofs.Common.{◌≡◌, refl, IsTrue, arith, pos, w64, to_z, of_z, [], ◌∷◌}
+use Rattle.std.proofs.Common.{◌≡◌, refl, IsTrue, arith, pos, w64, to_z, of_z}
 use Rattle.std.proofs.lemmas.Int.{ints, to_z-of_z}
 use Rattle.sqlite.specs.Held.{state}
 use Rattle.sqlite.specs.State.{ExecutesInside}
-use Rattle.sqlite.specs.declared.types.Value.TheVariants.{Text}
-use Rattle.oftp_tables.specs.Tables.{body_row, format_text, kind_text, number_value, reason_text}
 use Rattle.oftp_schema.proofs.TxLemmas.{ran_on, keeps_on}
 use Rattle.oftp_store.specs.Texts.{add_outgoing_text}
 use Rattle.oftp_store.proofs.EditLemmas.{header_params, outgoing_added}

@@ -1,4 +1,4 @@
-use Rattle.std.proofs.Common.{◌≡◌, refl, ap, ◌∙◌, arith, [], ◌∷◌, ◌++◌, ℕ, List, ◌/◌, ◌%◌, ◌+◌, ◌<◌}
+use Rattle.std.proofs.Common.{◌≡◌, refl, ap, ◌∙◌, arith, [], ◌∷◌, ◌++◌, ℕ, ◌/◌, ◌%◌, ◌+◌, ◌<◌}
 use Rattle.oftp_wire.specs.Octets.{decimal}
 use Rattle.oftp_store.proofs.changes.statements.two_digits.Goals as goal
 

@@ -1,10 +1,6 @@
-use Rattle.std.proofs.Common.{◌∙◌, [], ◌∷◌, Some, sym}
+use Rattle.std.proofs.Common.{◌∙◌, [], ◌∷◌, sym}
 use Rattle.sqlite.specs.Held.{state}
-use Rattle.sqlite.specs.State.{HasCleanDisk}
-use Rattle.oftp_vfile.specs.declared.format.Limits.{Limits}
 use Rattle.oftp_register.specs.declared.change.Cause.TheVariants as cause
-use Rattle.oftp_tables.specs.Tables.{register_in}
-use Rattle.oftp_open.specs.Stands.{Stands}
 use Rattle.oftp_store.specs.Steps.{change_by}
 use Rattle.oftp_store.specs.declared.changes.edit.Edit.{Edit}
 use Rattle.oftp_store.specs.declared.changes.edit.Deed.TheVariants.{SetOutgoing}

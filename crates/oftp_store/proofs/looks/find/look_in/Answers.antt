@@ -1,4 +1,4 @@
-use Rattle.std.proofs.Common.{◌≡◌, ◌∙◌, refl, sym, arith}
+use Rattle.std.proofs.Common.{◌∙◌, refl, sym, arith}
 use Rattle.std.proofs.lemmas.Result.{IfOk-weaker}
 use Rattle.sqlite.specs.Held.{state}
 use Rattle.sqlite.specs.State.{HasCleanDisk, IsUnchanged}
@@ -20,5 +20,5 @@ returns-in-Ok-Some-clause-answer g c clean has =
     let one : IsUnchanged old first = c.in-Ok-Some.ensures.looks.same early has in
     IfOk-weaker c.find_incoming.result _ _ (λ found tells r kept sound.
     tells r (after_look r old first one has kept).1 sound ∙ same_by_number incoming_entry (λ (e : IncomingEntry). e.no) (λ n x. refl) (λ
-        (e : IncomingEntry). same_identity e.identity c.args.identity.now) _ 1 r.incoming (sym (rw c.in-Ok-Some.field-0-is at (c.in-Ok-Some.ensures.answer early has r kept))))
+    (e : IncomingEntry). same_identity e.identity c.args.identity.now) _ 1 r.incoming (sym (rw c.in-Ok-Some.field-0-is at (c.in-Ok-Some.ensures.answer early has r kept))))
     (c.find_incoming.ensures.answer clean (still old first one has))

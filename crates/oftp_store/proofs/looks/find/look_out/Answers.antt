@@ -1,4 +1,4 @@
-use Rattle.std.proofs.Common.{◌≡◌, ◌∙◌, refl, sym, arith}
+use Rattle.std.proofs.Common.{◌∙◌, refl, sym, arith}
 use Rattle.std.proofs.lemmas.Result.{IfOk-weaker}
 use Rattle.sqlite.specs.Held.{state}
 use Rattle.sqlite.specs.State.{HasCleanDisk, IsUnchanged}
@@ -20,5 +20,5 @@ returns-in-Ok-Some-clause-answer g c clean has =
     let one : IsUnchanged old first = c.in-Ok-Some.ensures.looks.same early has in
     IfOk-weaker c.find_outgoing.result _ _ (λ found tells r kept.
     tells r (after_look r old first one has kept).1 ∙ same_by_number outgoing_entry (λ (e : OutgoingEntry). e.no) (λ n x. refl) (λ
-        (e : OutgoingEntry). same_identity e.identity c.args.identity.now) _ 1 r.outgoing (sym (rw c.in-Ok-Some.field-0-is at (c.in-Ok-Some.ensures.answer early has r kept))))
+    (e : OutgoingEntry). same_identity e.identity c.args.identity.now) _ 1 r.outgoing (sym (rw c.in-Ok-Some.field-0-is at (c.in-Ok-Some.ensures.answer early has r kept))))
     (c.find_outgoing.ensures.answer clean (still old first one has))

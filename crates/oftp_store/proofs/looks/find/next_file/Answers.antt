@@ -1,10 +1,9 @@
-use Rattle.std.proofs.Common.{◌≡◌, ◌∙◌, refl, sym, arith}
+use Rattle.std.proofs.Common.{◌∙◌, refl, sym, arith}
 use Rattle.std.proofs.lemmas.Result.{IfOk-weaker}
 use Rattle.sqlite.specs.Held.{state}
 use Rattle.sqlite.specs.State.{HasCleanDisk, IsUnchanged}
 use Rattle.oftp_register.specs.declared.entries.OutgoingEntry.{OutgoingEntry}
 use Rattle.oftp_register.specs.LookUps.{is_next_file, outgoing_entry}
-use Rattle.oftp_register.specs.Register.{same_identity}
 use Rattle.oftp_store.proofs.FirstLemmas.{none_told, same_by_number, still}
 use Rattle.oftp_store.proofs.PlaceLemmas.{after_look}
 use Rattle.oftp_store.proofs.looks.find.next_file.Goals as goal
@@ -20,5 +19,5 @@ returns-in-Ok-Some-clause-answer g c clean has =
     let one : IsUnchanged old first = c.in-Ok-Some.ensures.looks.same early has in
     IfOk-weaker c.find_outgoing.result _ _ (λ found tells r kept.
     tells r (after_look r old first one has kept).1 ∙ same_by_number outgoing_entry (λ (e : OutgoingEntry). e.no) (λ n x. refl)
-        (is_next_file c.args.partner.now c.args.tried) _ 1 r.outgoing (sym (rw c.in-Ok-Some.field-0-is at (c.in-Ok-Some.ensures.answer early has r kept))))
+    (is_next_file c.args.partner.now c.args.tried) _ 1 r.outgoing (sym (rw c.in-Ok-Some.field-0-is at (c.in-Ok-Some.ensures.answer early has r kept))))
     (c.find_outgoing.ensures.answer clean (still old first one has))

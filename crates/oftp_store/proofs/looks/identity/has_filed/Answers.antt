@@ -21,5 +21,5 @@ returns-in-Err-clause-looks g c = looks_as _ _ _ (rw c.has_filed_text.ensures at
 pub returns-in-Ok-clause-answer : goal.returns-in-Ok-clause-answer
 returns-in-Ok-clause-answer g c clean has r kept =
     let shown = rw (c.has_filed_text.ensures, c.octets.ensures.value, c.octets-2.ensures.value, c.octets-3.ensures.value, c.octets-4.ensures.value, c.octets-5.ensures.value) at
-        (c.in-Ok.ensures.shown clean) in
+    (c.in-Ok.ensures.shown clean) in
     rw c.as_slice.ensures.value at c.is_any.ensures ∙ finds_filed c.args.kind _ _ c.args.identity.now _ has shown r kept

@@ -22,5 +22,5 @@ returns-in-Err-clause-looks g c = looks_as _ _ _ (rw c.no_of_text.ensures at c.i
 pub returns-in-Ok-clause-answer : goal.returns-in-Ok-clause-answer
 returns-in-Ok-clause-answer g c clean has =
     let shown = rw (c.no_of_text.ensures, c.octets.ensures.value, c.octets-2.ensures.value, c.octets-3.ensures.value, c.octets-4.ensures.value, c.octets-5.ensures.value) at
-        (c.in-Ok.ensures.shown clean) in
+    (c.in-Ok.ensures.shown clean) in
     IfOk-weaker c.no_told.result _ _ (λ no tells r kept. finds_no c.args.side _ _ c.args.identity.now _ no has shown (rw c.as_slice.ensures.value at tells) r kept) c.no_told.ensures.told

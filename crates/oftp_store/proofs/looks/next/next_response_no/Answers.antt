@@ -24,4 +24,4 @@ returns-in-Ok-clause-answer g c clean has =
     let back : to_z w64 (of_z w64 c.number.result) ≡ pos c.args.tried = grind (arith, ints, to_z-of_z, c.number.ensures, c.requires) in
     let shown = rw (back, c.octets.ensures.value) at (c.in-Ok.ensures.shown clean) in
     IfOk-weaker c.no_told.result _ _ (λ told tells r kept. finds_next_response _ _ c.args.partner.now c.args.tried _ told has shown
-        (rw c.as_slice.ensures.value at tells) r kept) c.no_told.ensures.told
+    (rw c.as_slice.ensures.value at tells) r kept) c.no_told.ensures.told
