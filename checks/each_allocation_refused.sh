@@ -1,8 +1,9 @@
 #!/bin/bash
-# Runs the program, and the tests of refused growths, with each of their allocations refused in turn. No answer may differ: only a
-# fault may stand in its place. What the program wrote by then is a beginning of the whole answer; where the register was refused
-# memory, ESID 08 stands behind it. It wants a C compiler. It proves and builds what isn't built yet; with the word `built` it takes the
-# program and the tests as the last `rt ci` left them.
+# Runs the program, and the tests of refused growths, with each of their allocations refused in turn; and the test of the deframer's
+# room with every allocation behind the reservation refused. No answer may differ: only a fault may stand in its place. What the
+# program wrote by then is a beginning of the whole answer; where the register was refused memory, ESID 08 stands behind it. It wants a
+# C compiler. It proves and builds what isn't built yet; with the word `built` it takes the program and the tests as the last `rt ci`
+# left them.
 set -euo pipefail
 how=${1-}
 root=$(cd "$(dirname "$0")/.." && pwd)
@@ -86,9 +87,10 @@ each_of_program() {
     if [ "$told" = 0 ]; then fail 'no refusal was told'; fi
 }
 
-each_of_test() {
+# Names a test of a crate, and proves and builds the crate's tests if need be.
+take_test() {
     name="$1 $2"
-    local tests=$root/crates/$1/out/$1_tests
+    tests=$root/crates/$1/out/$1_tests
     if [ "$how" != built ]; then
         (cd "$root/crates/$1" && rt test) > told_of_tests 2>&1 || { cat told_of_tests; exit 1; }
     fi
@@ -96,7 +98,30 @@ each_of_test() {
         echo "$name: no such test"
         exit 1
     fi
+}
+
+each_of_test() {
+    take_test "$1" "$2"
     each check_passed "$tests" "$2"
+}
+
+# Refuses every allocation from some number on, up to the number from which the test passes: what was refused before is the
+# reservation and nothing else, so that no allocation behind it is needed.
+none_behind_reservation() {
+    take_test "$1" "$2"
+    export FAIL_ALLOC_ON=1
+    number=1
+    while is_refused "$tests" "$2" && [ "$status" != 0 ]; do
+        case "$status $(head -n 1 err)" in
+            '101 error: "no memory was reserved"') ;;
+            *) fail "status $status, $(cat out err)" ;;
+        esac
+        number=$((number + 1))
+    done
+    unset FAIL_ALLOC_ON
+    if [ "$status" != 0 ]; then fail "status $status, $(cat out err)"; fi
+    if [ "$number" = 1 ]; then fail 'nothing was reserved'; fi
+    echo "$name: passes with every allocation behind the reservation refused"
 }
 
 book=$root/examples/supplier/book.toml
@@ -104,5 +129,6 @@ if [ "$how" != built ]; then "$root/oftp_station" check --book "$book" > /dev/nu
 program=$root/crates/oftp_station/out/oftp_station
 each_of_program check --book "$book"
 each_of_program feed --book "$book" "$root/examples/repeated_end_response.octets" answer
+none_behind_reservation oftp_wire deframer::tests::no_memory_within_room
 each_of_test oftp_vfile tests::refused_and_taken_again
 each_of_test oftp_register tests::memory::each_allocation_refused

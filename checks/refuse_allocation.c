@@ -1,5 +1,5 @@
-/* Refuses the allocation whose number is in FAIL_ALLOC, counting from 1, and makes the file FAIL_ALLOC_REACHED when it does.
-   It is loaded before the C library (glibc) by LD_PRELOAD. */
+/* Refuses the allocation whose number is in FAIL_ALLOC, counting from 1, and makes the file FAIL_ALLOC_REACHED when it does. Where
+   FAIL_ALLOC_ON is there, each later one is refused too. It is loaded before the C library (glibc) by LD_PRELOAD. */
 #include <errno.h>
 #include <fcntl.h>
 #include <stddef.h>
@@ -20,7 +20,7 @@ static int refuse(void) {
         wanted = number ? atol(number) : 0;
     }
     count += 1;
-    if (count != wanted) return 0;
+    if (count != wanted && !(wanted > 0 && count > wanted && getenv("FAIL_ALLOC_ON"))) return 0;
     const char *reached = getenv("FAIL_ALLOC_REACHED");
     if (reached) close(open(reached, O_WRONLY | O_CREAT, 0600));
     errno = ENOMEM;

@@ -114,6 +114,22 @@ single_again c o kind s h = again_of (single_exact c o kind) (single_parts c) (�
 pub ssid_parts : Contiguous 0 ssid_table.rows ssid_table.end
 ssid_parts = search rules
 
+-- the same command, by its fields
+abbrev ssid_fields : Ssid → Ssid
+ssid_fields s = record {
+  level = s.level;
+  code = s.code;
+  password = s.password;
+  buffer = s.buffer;
+  mode = s.mode;
+  compression = s.compression;
+  restart = s.restart;
+  special_logic = s.special_logic;
+  credit = s.credit;
+  authentication = s.authentication;
+  user = s.user;
+}
+
 ssid_same : (s t : Ssid) → EachSame ssid_table.rows s t → s ≡ t
 ssid_same s t (_, (level, (code, (password, (buffer, (mode, (compression, (restart, (special_logic, (credit, (authentication, (_, (user, (_, _)))))))))))))) =
     let mode : s.mode ≡ t.mode = mode_one s.mode t.mode mode in
@@ -121,13 +137,7 @@ ssid_same s t (_, (level, (code, (password, (buffer, (mode, (compression, (resta
     let restart : s.restart ≡ t.restart = flag_one s.restart t.restart restart in
     let special_logic : s.special_logic ≡ t.special_logic = flag_one s.special_logic t.special_logic special_logic in
     let authentication : s.authentication ≡ t.authentication = flag_one s.authentication t.authentication authentication in
-    let made : ◌≡◌ {A = Ssid} (record {
-      level = s.level; code = s.code; password = s.password; buffer = s.buffer; mode = s.mode; compression = s.compression; restart = s.restart;
-      special_logic = s.special_logic; credit = s.credit; authentication = s.authentication; user = s.user;
-    }) (record {
-      level = t.level; code = t.code; password = t.password; buffer = t.buffer; mode = t.mode; compression = t.compression; restart = t.restart;
-      special_logic = t.special_logic; credit = t.credit; authentication = t.authentication; user = t.user;
-    }) = cc in
+    let made : ssid_fields s ≡ ssid_fields t = cc in
     made
 
 pub ssid_again : (o : List ℕ) → IsKind (codes "X") o → (s : Ssid) → IsSpelled ssid_table s o → ssid_of o ≡ Ok s
@@ -138,20 +148,32 @@ ssid_again o kind s h = again_of (ssid_exact o kind) ssid_parts ssid_same s h
 pub sfid_parts : (b : Bool) (n : ℕ) → Contiguous 0 (sfid_table b n).rows (sfid_table b n).end
 sfid_parts b n = search rules
 
+-- the same command, by its fields
+abbrev sfid_fields : Sfid → Sfid
+sfid_fields s = record {
+  dataset = s.dataset;
+  date = s.date;
+  time = s.time;
+  user = s.user;
+  destination = s.destination;
+  originator = s.originator;
+  layout = s.layout;
+  size = s.size;
+  original_size = s.original_size;
+  restart = s.restart;
+  security = s.security;
+  cipher = s.cipher;
+  compression = s.compression;
+  enveloping = s.enveloping;
+  signed_response = s.signed_response;
+  description = s.description;
+}
+
 sfid_same : (b : Bool) (n : ℕ) (s t : Sfid) → EachSame (sfid_table b n).rows s t → s ≡ t
-sfid_same b n s t (_, (dataset, (_, (date, (time, (user, (destination, (originator, (letter, (longest, (size, (original_size, (restart, (security, (cipher, (compression,
-    (enveloping, (signed_response, (_, (description, _)))))))))))))))))))) =
+sfid_same recorded n s t (_, (a, (_, (b, (c, (d, (e, (f, (letter, (longest, (g, (h, (i, (j, (k, (l, (m, (response, (_, (text, _)))))))))))))))))))) =
     let layout : s.layout ≡ t.layout = layout_one s.layout t.layout letter longest in
-    let signed_response : s.signed_response ≡ t.signed_response = flag_one s.signed_response t.signed_response signed_response in
-    let made : ◌≡◌ {A = Sfid} (record {
-      dataset = s.dataset; date = s.date; time = s.time; user = s.user; destination = s.destination; originator = s.originator; layout = s.layout;
-      size = s.size; original_size = s.original_size; restart = s.restart; security = s.security; cipher = s.cipher; compression = s.compression;
-      enveloping = s.enveloping; signed_response = s.signed_response; description = s.description;
-    }) (record {
-      dataset = t.dataset; date = t.date; time = t.time; user = t.user; destination = t.destination; originator = t.originator; layout = t.layout;
-      size = t.size; original_size = t.original_size; restart = t.restart; security = t.security; cipher = t.cipher; compression = t.compression;
-      enveloping = t.enveloping; signed_response = t.signed_response; description = t.description;
-    }) = cc in
+    let signed_response : s.signed_response ≡ t.signed_response = flag_one s.signed_response t.signed_response response in
+    let made : sfid_fields s ≡ sfid_fields t = cc in
     made
 
 -- what the letter of the format and the length field say
@@ -180,9 +202,13 @@ sfid_again o kind s h =
 pub sfpa_parts : Contiguous 0 sfpa_table.rows sfpa_table.end
 sfpa_parts = search rules
 
+-- the same command, by its fields
+abbrev sfpa_fields : Sfpa → Sfpa
+sfpa_fields s = record { restart = s.restart }
+
 sfpa_same : (s t : Sfpa) → EachSame sfpa_table.rows s t → s ≡ t
 sfpa_same s t (_, (restart, _)) =
-    let made : ◌≡◌ {A = Sfpa} (record { restart = s.restart }) (record { restart = t.restart }) = cc in
+    let made : sfpa_fields s ≡ sfpa_fields t = cc in
     made
 
 pub sfpa_again : (o : List ℕ) → IsKind (codes "2") o → (s : Sfpa) → IsSpelled sfpa_table s o → sfpa_of o ≡ Ok s
@@ -193,10 +219,14 @@ sfpa_again o kind s h = again_of (sfpa_exact o kind) sfpa_parts sfpa_same s h
 pub sfna_parts : (n : ℕ) → Contiguous 0 (sfna_table n).rows (sfna_table n).end
 sfna_parts n = search rules
 
+-- the same command, by its fields
+abbrev sfna_fields : Sfna → Sfna
+sfna_fields s = record { reason = s.reason; retry = s.retry; text = s.text }
+
 sfna_same : (n : ℕ) (s t : Sfna) → EachSame (sfna_table n).rows s t → s ≡ t
 sfna_same n s t (_, (reason, (retry, (_, (text, _))))) =
     let retry : s.retry ≡ t.retry = flag_one s.retry t.retry retry in
-    let made : ◌≡◌ {A = Sfna} (record { reason = s.reason; retry = s.retry; text = s.text }) (record { reason = t.reason; retry = t.retry; text = t.text }) = cc in
+    let made : sfna_fields s ≡ sfna_fields t = cc in
     made
 
 pub sfna_again : (o : List ℕ) → IsKind (codes "3") o → (s : Sfna) → IsSpelled (sfna_table (length s.text)) s o → sfna_of o ≡ Ok s
@@ -225,9 +255,13 @@ data_again o kind s h =
 pub efid_parts : Contiguous 0 efid_table.rows efid_table.end
 efid_parts = search rules
 
+-- the same command, by its fields
+abbrev efid_fields : Efid → Efid
+efid_fields s = record { records = s.records; units = s.units }
+
 efid_same : (s t : Efid) → EachSame efid_table.rows s t → s ≡ t
 efid_same s t (_, (records, (units, _))) =
-    let made : ◌≡◌ {A = Efid} (record { records = s.records; units = s.units }) (record { records = t.records; units = t.units }) = cc in
+    let made : efid_fields s ≡ efid_fields t = cc in
     made
 
 pub efid_again : (o : List ℕ) → IsKind (codes "T") o → (s : Efid) → IsSpelled efid_table s o → efid_of o ≡ Ok s
@@ -238,10 +272,14 @@ efid_again o kind s h = again_of (efid_exact o kind) efid_parts efid_same s h
 pub efpa_parts : Contiguous 0 efpa_table.rows efpa_table.end
 efpa_parts = search rules
 
+-- the same command, by its fields
+abbrev efpa_fields : Efpa → Efpa
+efpa_fields s = record { change_direction = s.change_direction }
+
 efpa_same : (s t : Efpa) → EachSame efpa_table.rows s t → s ≡ t
 efpa_same s t (_, (change_direction, _)) =
     let change_direction : s.change_direction ≡ t.change_direction = flag_one s.change_direction t.change_direction change_direction in
-    let made : ◌≡◌ {A = Efpa} (record { change_direction = s.change_direction }) (record { change_direction = t.change_direction }) = cc in
+    let made : efpa_fields s ≡ efpa_fields t = cc in
     made
 
 pub efpa_again : (o : List ℕ) → IsKind (codes "4") o → (s : Efpa) → IsSpelled efpa_table s o → efpa_of o ≡ Ok s
@@ -252,9 +290,13 @@ efpa_again o kind s h = again_of (efpa_exact o kind) efpa_parts efpa_same s h
 pub efna_parts : (n : ℕ) → Contiguous 0 (efna_table n).rows (efna_table n).end
 efna_parts n = search rules
 
+-- the same command, by its fields
+abbrev efna_fields : Efna → Efna
+efna_fields s = record { reason = s.reason; text = s.text }
+
 efna_same : (n : ℕ) (s t : Efna) → EachSame (efna_table n).rows s t → s ≡ t
 efna_same n s t (_, (reason, (_, (text, _)))) =
-    let made : ◌≡◌ {A = Efna} (record { reason = s.reason; text = s.text }) (record { reason = t.reason; text = t.text }) = cc in
+    let made : efna_fields s ≡ efna_fields t = cc in
     made
 
 pub efna_again : (o : List ℕ) → IsKind (codes "5") o → (s : Efna) → IsSpelled (efna_table (length s.text)) s o → efna_of o ≡ Ok s
@@ -269,9 +311,13 @@ efna_again o kind s h =
 pub esid_parts : (n : ℕ) → Contiguous 0 (esid_table n).rows (esid_table n).end
 esid_parts n = search rules
 
+-- the same command, by its fields
+abbrev esid_fields : Esid → Esid
+esid_fields s = record { reason = s.reason; text = s.text }
+
 esid_same : (n : ℕ) (s t : Esid) → EachSame (esid_table n).rows s t → s ≡ t
 esid_same n s t (_, (reason, (_, (text, (_, _))))) =
-    let made : ◌≡◌ {A = Esid} (record { reason = s.reason; text = s.text }) (record { reason = t.reason; text = t.text }) = cc in
+    let made : esid_fields s ≡ esid_fields t = cc in
     made
 
 pub esid_again : (o : List ℕ) → IsKind (codes "F") o → (s : Esid) → IsSpelled (esid_table (length s.text)) s o → esid_of o ≡ Ok s
@@ -286,13 +332,13 @@ esid_again o kind s h =
 pub eerp_parts : Contiguous 0 eerp_table.rows eerp_table.end
 eerp_parts = search rules
 
+-- the same command, by its fields
+abbrev eerp_fields : Eerp → Eerp
+eerp_fields s = record { dataset = s.dataset; date = s.date; time = s.time; user = s.user; destination = s.destination; originator = s.originator }
+
 eerp_same : (s t : Eerp) → EachSame eerp_table.rows s t → s ≡ t
 eerp_same s t (_, (dataset, (_, (date, (time, (user, (destination, (originator, (_, (_, _)))))))))) =
-    let made : ◌≡◌ {A = Eerp} (record {
-      dataset = s.dataset; date = s.date; time = s.time; user = s.user; destination = s.destination; originator = s.originator;
-    }) (record {
-      dataset = t.dataset; date = t.date; time = t.time; user = t.user; destination = t.destination; originator = t.originator;
-    }) = cc in
+    let made : eerp_fields s ≡ eerp_fields t = cc in
     made
 
 pub eerp_again : (o : List ℕ) → IsKind (codes "E") o → (s : Eerp) → IsSpelled eerp_table s o → eerp_of o ≡ Ok s
@@ -303,15 +349,13 @@ eerp_again o kind s h = again_of (eerp_exact o kind) eerp_parts eerp_same s h
 pub nerp_parts : (n : ℕ) → Contiguous 0 (nerp_table n).rows (nerp_table n).end
 nerp_parts n = search rules
 
+-- the same command, by its fields
+abbrev nerp_fields : Nerp → Nerp
+nerp_fields s = record { dataset = s.dataset; date = s.date; time = s.time; destination = s.destination; originator = s.originator; creator = s.creator; reason = s.reason; text = s.text }
+
 nerp_same : (n : ℕ) (s t : Nerp) → EachSame (nerp_table n).rows s t → s ≡ t
 nerp_same n s t (_, (dataset, (_, (date, (time, (destination, (originator, (creator, (reason, (_, (text, (_, (_, _))))))))))))) =
-    let made : ◌≡◌ {A = Nerp} (record {
-      dataset = s.dataset; date = s.date; time = s.time; destination = s.destination; originator = s.originator; creator = s.creator;
-      reason = s.reason; text = s.text;
-    }) (record {
-      dataset = t.dataset; date = t.date; time = t.time; destination = t.destination; originator = t.originator; creator = t.creator;
-      reason = t.reason; text = t.text;
-    }) = cc in
+    let made : nerp_fields s ≡ nerp_fields t = cc in
     made
 
 pub nerp_again : (o : List ℕ) → IsKind (codes "N") o → (s : Nerp) → IsSpelled (nerp_table (length s.text)) s o → nerp_of o ≡ Ok s

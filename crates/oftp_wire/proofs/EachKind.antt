@@ -19,6 +19,11 @@ use Rattle.oftp_wire.proofs.Spelled.{ends_well}
 abbrev pub IsKind : List ℕ → List ℕ → Type 0
 IsKind w o = IsFine (OneOf 1 (w ∷ [])) 0 o
 
+-- the facts of fields, one behind the other
+infixr 5 ◌&◌
+abbrev ◌&◌ : {A B : Type 0} → A → B → A × B
+a & b = (a, b)
+
 -- octets that spell a table spell one that is equal to it
 table_is : {S : Type 0} {t u : Table S} {s : S} {o : List ℕ} → t ≡ u → IsSpelled u s o → IsSpelled t s o
 table_is {S} {t} {u} {s} {o} e h = subst (λ (x : Table S). IsSpelled x s o) (sym e) h
@@ -63,7 +68,7 @@ pub ssrm_exact : (o : List ℕ) → IsKind (codes "I") o → Exact (ssrm_of o) (
 unfolding ssrm_of skipped_at ends_at
 ssrm_exact o kind = rw kind.fine (
     step _ (λ ready. step _ (λ cr. finish _ _ (λ e.
-    reads (record { whole = e; fields = (word_ok kind, (word_ok ready, (return_ok cr, tt))) })))))
+    reads (record { whole = e; fields = word_ok kind & word_ok ready & return_ok cr & tt })))))
 
 pub ssid_exact : (o : List ℕ) → IsKind (codes "X") o → Exact (ssid_of o) (fault_in ssid_table o) (λ s. IsSpelled ssid_table s o)
 unfolding ssid_of name_at count_at mode_at flag_at skipped_at ends_at
@@ -72,15 +77,15 @@ ssid_exact o kind = rw kind.fine (
     step _ (λ special_logic. step _ (λ credit. step _ (λ authentication. step _ (λ spaces. step _ (λ user. step _ (λ cr. finish _ _ (λ e.
     reads (record {
       whole = e;
-      fields = (
-        word_ok kind, (count_ok level, (name_ok code, (name_ok password, (count_ok buffer, (mode_ok mode, (flag_ok compression, (flag_ok restart,
-        (flag_ok special_logic, (count_ok credit, (flag_ok authentication, ((tt, tt), (name_ok user, (return_ok cr, tt)))))))))))))
-      );
+      fields =
+          word_ok kind & count_ok level & name_ok code & name_ok password & count_ok buffer & mode_ok mode & flag_ok compression
+          & flag_ok restart & flag_ok special_logic & count_ok credit & flag_ok authentication & (tt, tt) & name_ok user & return_ok cr
+          & tt;
     }))))))))))))))))
 
 pub sfid_exact : (o : List ℕ) → IsKind (codes "H") o
     → Exact (sfid_of o) (fault_in (sfid_table (has_records (format_of (part 106 1 o))) (number (part 162 3 o))) o)
-      (λ s. IsSpelled (sfid_table_of s) s o)
+    (λ s. IsSpelled (sfid_table_of s) s o)
 unfolding sfid_of name_at digits_at count_at flag_at format_at layout_at skipped_at
 sfid_exact o kind = rw kind.fine (
     step _ (λ dataset. step _ (λ spaces. step _ (λ date. step _ (λ time. step _ (λ user. step _ (λ destination. step _ (λ originator.
@@ -91,18 +96,18 @@ sfid_exact o kind = rw kind.fine (
     let l = longest_ok format longest in
     table_is (ap (λ b. sfid_table b (length text)) (recorded_is format m) ∙ ap (sfid_table (has_records format)) last.len) (record {
       whole = last.whole;
-      fields = (
-        word_ok kind, (name_ok dataset, ((tt, tt), (digits_ok date, (digits_ok time, (name_ok user, (name_ok destination, (name_ok originator,
-        (format_ok m letter, (((l.small, l.zero_unless), l.says), (count_ok size, (count_ok original_size, (count_ok restart,
-        (count_ok security, (count_ok cipher, (count_ok compression, (count_ok enveloping, (flag_ok signed_response, (last.counted, (last.says, tt)))))))))))))))))))
-      );
+      fields =
+          word_ok kind & name_ok dataset & (tt, tt) & digits_ok date & digits_ok time & name_ok user & name_ok destination
+          & name_ok originator & format_ok m letter & ((l.small, l.zero_unless), l.says) & count_ok size & count_ok original_size
+          & count_ok restart & count_ok security & count_ok cipher & count_ok compression & count_ok enveloping & flag_ok signed_response
+          & last.counted & last.says & tt;
     }))))))))))))))))))))
 
 pub sfpa_exact : (o : List ℕ) → IsKind (codes "2") o → Exact (sfpa_of o) (fault_in sfpa_table o) (λ s. IsSpelled sfpa_table s o)
 unfolding sfpa_of count_at ends_at
 sfpa_exact o kind = rw kind.fine (
     step _ (λ restart. finish _ _ (λ e.
-    reads (record { whole = e; fields = (word_ok kind, (count_ok restart, tt)) }))))
+    reads (record { whole = e; fields = word_ok kind & count_ok restart & tt }))))
 
 pub sfna_exact : (o : List ℕ) → IsKind (codes "3") o
     → Exact (sfna_of o) (fault_in (sfna_table (number (part 4 3 o))) o) (λ s. IsSpelled (sfna_table (length s.text)) s o)
@@ -111,7 +116,7 @@ sfna_exact o kind = rw kind.fine (
     step _ (λ reason. step _ (λ retry. named _ (last_text_exact 4 o) (λ text last.
     table_is (ap sfna_table last.len) (record {
       whole = last.whole;
-      fields = (word_ok kind, (count_ok reason, (flag_ok retry, (last.counted, (last.says, tt)))));
+      fields = word_ok kind & count_ok reason & flag_ok retry & last.counted & last.says & tt;
     })))))
 
 pub data_exact : (o : List ℕ) → IsKind (codes "D") o
@@ -121,26 +126,26 @@ data_exact o kind = rw kind.fine (
     step _ (λ payload.
     let whole : length o ≡ 1 + (length o - 1) = omega (arith, (found kind).within) in
     let len : length (part 1 (length o - 1) o) ≡ length o - 1 = length-part 1 (length o - 1) o (found payload).within in
-    let is = table_is (ap data_table len) (record { whole = whole; fields = (word_ok kind, ((len, refl), tt)) }) in
+    let is = table_is (ap data_table len) (record { whole = whole; fields = word_ok kind & (len, refl) & tt }) in
     record { met = (ends_well (1 + (length o - 1)) o whole, is) }))
 
 pub cdt_exact : (o : List ℕ) → IsKind (codes "C") o → Exact (cdt_of o) (fault_in cdt_table o) (λ s. IsSpelled cdt_table s o)
 unfolding cdt_of skipped_at ends_at
 cdt_exact o kind = rw kind.fine (
     step _ (λ spaces. finish _ _ (λ e.
-    reads (record { whole = e; fields = (word_ok kind, ((tt, tt), tt)) }))))
+    reads (record { whole = e; fields = word_ok kind & (tt, tt) & tt }))))
 
 pub efid_exact : (o : List ℕ) → IsKind (codes "T") o → Exact (efid_of o) (fault_in efid_table o) (λ s. IsSpelled efid_table s o)
 unfolding efid_of count_at ends_at
 efid_exact o kind = rw kind.fine (
     step _ (λ records. step _ (λ units. finish _ _ (λ e.
-    reads (record { whole = e; fields = (word_ok kind, (count_ok records, (count_ok units, tt))) })))))
+    reads (record { whole = e; fields = word_ok kind & count_ok records & count_ok units & tt })))))
 
 pub efpa_exact : (o : List ℕ) → IsKind (codes "4") o → Exact (efpa_of o) (fault_in efpa_table o) (λ s. IsSpelled efpa_table s o)
 unfolding efpa_of flag_at ends_at
 efpa_exact o kind = rw kind.fine (
     step _ (λ change. finish _ _ (λ e.
-    reads (record { whole = e; fields = (word_ok kind, (flag_ok change, tt)) }))))
+    reads (record { whole = e; fields = word_ok kind & flag_ok change & tt }))))
 
 pub efna_exact : (o : List ℕ) → IsKind (codes "5") o
     → Exact (efna_of o) (fault_in (efna_table (number (part 3 3 o))) o) (λ s. IsSpelled (efna_table (length s.text)) s o)
@@ -149,7 +154,7 @@ efna_exact o kind = rw kind.fine (
     step _ (λ reason. named _ (last_text_exact 3 o) (λ text last.
     table_is (ap efna_table last.len) (record {
       whole = last.whole;
-      fields = (word_ok kind, (count_ok reason, (last.counted, (last.says, tt))));
+      fields = word_ok kind & count_ok reason & last.counted & last.says & tt;
     }))))
 
 pub esid_exact : (o : List ℕ) → IsKind (codes "F") o
@@ -160,14 +165,14 @@ esid_exact o kind = rw kind.fine (
     let t = text_from count text in
     reads (table_is (ap esid_table t.len) (record {
       whole = e;
-      fields = (word_ok kind, (count_ok reason, (length_ok _ count (sym t.len), (text_ok t.short text, (return_ok cr, tt)))));
+      fields = word_ok kind & count_ok reason & length_ok _ count (sym t.len) & text_ok t.short text & return_ok cr & tt;
     }))))))))
 
 -- CD and RTR
 pub single_exact : (c : ℕ) (o : List ℕ) → IsKind (c ∷ []) o
     → Exact (single_of o) (fault_in (single_table (c ∷ [])) o) (λ s. IsSpelled (single_table (c ∷ [])) s o)
 unfolding single_of ends_at
-single_exact c o kind = rw kind.fine (finish _ _ (λ e. reads (record { whole = e; fields = (word_ok kind, tt) })))
+single_exact c o kind = rw kind.fine (finish _ _ (λ e. reads (record { whole = e; fields = word_ok kind & tt })))
 
 pub eerp_exact : (o : List ℕ) → IsKind (codes "E") o → Exact (eerp_of o) (fault_in eerp_table o) (λ s. IsSpelled eerp_table s o)
 unfolding eerp_of name_at digits_at skipped_at ends_at
@@ -176,10 +181,9 @@ eerp_exact o kind = rw kind.fine (
     step _ (λ hash. step _ (λ signature. finish _ _ (λ e.
     reads (record {
       whole = e;
-      fields = (
-        word_ok kind, (name_ok dataset, ((tt, tt), (digits_ok date, (digits_ok time, (name_ok user, (name_ok destination, (name_ok originator,
-        (word_ok hash, (word_ok signature, tt)))))))))
-      );
+      fields =
+          word_ok kind & name_ok dataset & (tt, tt) & digits_ok date & digits_ok time & name_ok user & name_ok destination
+          & name_ok originator & word_ok hash & word_ok signature & tt;
     }))))))))))))
 
 pub nerp_exact : (o : List ℕ) → IsKind (codes "N") o
@@ -191,8 +195,8 @@ nerp_exact o kind = rw kind.fine (
     let t = text_from count text in
     reads (table_is (ap nerp_table t.len) (record {
       whole = e;
-      fields = (
-        word_ok kind, (name_ok dataset, ((tt, tt), (digits_ok date, (digits_ok time, (name_ok destination, (name_ok originator, (name_ok creator,
-        (count_ok reason, (length_ok _ count (sym t.len), (text_ok t.short text, (word_ok hash, (word_ok signature, tt))))))))))))
-      );
+      fields =
+          word_ok kind & name_ok dataset & (tt, tt) & digits_ok date & digits_ok time & name_ok destination & name_ok originator
+          & name_ok creator & count_ok reason & length_ok _ count (sym t.len) & text_ok t.short text & word_ok hash & word_ok signature
+          & tt;
     }))))))))))))))))

@@ -154,8 +154,8 @@ number_is (suc n) w len h =
     let e : w ≡ take n w ++ c ∷ [] = last_split n w len in
     let d = digit_at w n h (omega arith) in
     let front_digits : list_all is_digit (take n w) ≡ true =
-        (and_parts (list_all is_digit (take n w)) (list_all is_digit (c ∷ []))
-        (sym (list_all-append is_digit (take n w) (c ∷ [])) ∙ ap (list_all is_digit) (sym e) ∙ h)).0 in
+    (and_parts (list_all is_digit (take n w)) (list_all is_digit (c ∷ []))
+    (sym (list_all-append is_digit (take n w) (c ∷ [])) ∙ ap (list_all is_digit) (sym e) ∙ h)).0 in
     let m = number (take n w) in
     let ih = number_is n (take n w) (omega (arith, length-take n w)) front_digits in
     let value : number w ≡ m * 10 + (c - 48) = ap number e ∙ number_push (take n w) c in

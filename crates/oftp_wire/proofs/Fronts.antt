@@ -70,7 +70,9 @@ framed a b c rest m more e =
 -- no command has a length that is out of range
 out_of_range : (limit n : ℕ) (m : List ℕ) → n ≡ length m + 4 → IsCommand limit m → (ltb n 5 || ltb limit n) ≡ true → ⊥
 out_of_range limit n m e c out = elim (or_cases (ltb n 5) (ltb limit n) out) [
-  inl l ↦ omega (arith, ltb-true n 5 l, e, c.0) | inr r ↦ omega (arith, ltb-true limit n r, e, c.1) ]
+  | inl l ↦ omega (arith, ltb-true n 5 l, e, c.0)
+  | inr r ↦ omega (arith, ltb-true limit n r, e, c.1)
+]
 
 found : (limit x y z : ℕ) (rest : List ℕ) (b p : Bool) → y < 256 → z < 256
     → (ltb (x * 65536 + y * 256 + z) 5 || ltb limit (x * 65536 + y * 256 + z)) ≡ b → ltb (length rest + 4) (x * 65536 + y * 256 + z) ≡ p

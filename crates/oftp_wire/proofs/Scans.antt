@@ -52,9 +52,9 @@ allowed_small : (c : ℕ) → is_allowed c ≡ true → c < 128
 unfolding is_allowed
 allowed_small c h =
     or_small _ _ c (or_small _ _ c (or_small _ _ c (or_small _ _ c
-        (or_small _ _ c (or_small _ _ c (or_small _ _ c (range_small 48 57 c (omega arith)) (range_small 65 90 c (omega arith)))
-        (one_small c 47 (omega arith))) (one_small c 45 (omega arith))) (one_small c 46 (omega arith))) (one_small c 38 (omega arith)))
-        (one_small c 40 (omega arith))) (one_small c 41 (omega arith)) h
+    (or_small _ _ c (or_small _ _ c (or_small _ _ c (range_small 48 57 c (omega arith)) (range_small 65 90 c (omega arith)))
+    (one_small c 47 (omega arith))) (one_small c 45 (omega arith))) (one_small c 46 (omega arith))) (one_small c 38 (omega arith)))
+    (one_small c 40 (omega arith))) (one_small c 41 (omega arith)) h
 
 -- octets that pass a test for ASCII are ASCII
 each_small : (p : ℕ → Bool) → ((c : ℕ) → p c ≡ true → c < 128) → (v : List ℕ) → list_all p v ≡ true → IsAscii v

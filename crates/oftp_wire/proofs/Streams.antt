@@ -43,7 +43,7 @@ hands_out s octets seen begin n limit room capacity told view none same found cu
     let parts : Finds limit rest (Ok (Some n)) = subst (λ (x : List ℕ). Finds limit x (Ok (Some n))) all cut in
     let long : length m + 4 ≡ n = omega (arith, length-take-le (n - 4) (drop 4 rest) (omega (arith, parts.0, parts.1, length-drop 4 rest)), parts.0) in
     subst (λ (u : Stream). HandsOut u (record { limit = limit; rest = drop (begin + n) octets; told = told; room = room; capacity = capacity })
-        (take (begin + n - (begin + 4)) (drop (begin + 4) octets))) view
+    (take (begin + n - (begin + 4)) (drop (begin + 4) octets))) view
     (subst (HandsOut t (record { limit = limit; rest = drop (begin + n) octets; told = told; room = room; capacity = capacity })) (sym (command_at octets begin n)) (record {
       left = ap (λ (r : List ℕ). record t { rest = r }) (sym (drop-drop n begin octets)) ∙ sym (ap (left_of t) none ∙ ap (left_at t) here);
       value = sym (ap (next_of t) none ∙ ap (next_at t) here);
@@ -71,7 +71,7 @@ sized_more limit (a ∷ b ∷ []) more h = absurd h
 sized_more limit (a ∷ b ∷ c ∷ rest) more h =
     let n = a * 65536 + b * 256 + c in
     choice_more (ltb n 5 || ltb limit n) (ltb (length rest + 4) n) (ltb (length (rest ++ more) + 4) n) n h
-        (λ e. le-ltb (length (rest ++ more) + 4) n (omega (arith, ltb-false _ _ e, length-append rest more)))
+    (λ e. le-ltb (length (rest ++ more) + 4) n (omega (arith, ltb-false _ _ e, length-append rest more)))
 
 choice_at : (b : Bool) (x y z : Head) → IsTold (cond b x z) → (IsTold x → y ≡ x) → cond b y z ≡ cond b x z
 choice_at true x y z told h = h told
@@ -96,7 +96,7 @@ sized_within limit (a ∷ b ∷ []) = tt
 sized_within limit (a ∷ b ∷ c ∷ rest) =
     let n = a * 65536 + b * 256 + c in
     choice_within (ltb n 5 || ltb limit n) (ltb (length rest + 4) n) n (length (a ∷ b ∷ c ∷ rest) + 1) (λ e. ltb-false _ _ (or_parts _ _ e).0)
-        (λ e. let h = ltb-false (length rest + 4) n e in omega arith)
+    (λ e. let h = ltb-false (length rest + 4) n e in omega arith)
 
 choice_both : (b : Bool) (x y : Head) (count : ℕ) → IsWithin count x → IsWithin count y → IsWithin count (cond b x y)
 choice_both true x y count p q = p

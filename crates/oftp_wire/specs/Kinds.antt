@@ -44,8 +44,19 @@ ssid_of o = do
   user ← name_at 8 52 o
   cr ← skipped_at Return 60 o
   end ← ends_at 61 o
-  Ok (record { level = level; code = code; password = password; buffer = buffer; mode = mode; compression = compression; restart = restart;
-      special_logic = special_logic; credit = credit; authentication = authentication; user = user })
+  Ok (record {
+    level = level;
+    code = code;
+    password = password;
+    buffer = buffer;
+    mode = mode;
+    compression = compression;
+    restart = restart;
+    special_logic = special_logic;
+    credit = credit;
+    authentication = authentication;
+    user = user;
+  })
 
 -- SFID
 unfoldable pub sfid_of : List ℕ → Result Sfid WireFault
@@ -68,9 +79,24 @@ sfid_of o = do
   enveloping ← count_at 1 160 o
   signed_response ← flag_at 161 o
   description ← last_text_at 162 o
-  Ok (record { dataset = dataset; date = date; time = time; user = user; destination = destination; originator = originator; layout = layout;
-      size = size; original_size = original_size; restart = restart; security = security; cipher = cipher; compression = compression;
-      enveloping = enveloping; signed_response = signed_response; description = description })
+  Ok (record {
+    dataset = dataset;
+    date = date;
+    time = time;
+    user = user;
+    destination = destination;
+    originator = originator;
+    layout = layout;
+    size = size;
+    original_size = original_size;
+    restart = restart;
+    security = security;
+    cipher = cipher;
+    compression = compression;
+    enveloping = enveloping;
+    signed_response = signed_response;
+    description = description;
+  })
 
 -- SFPA
 unfoldable pub sfpa_of : List ℕ → Result Sfpa WireFault

@@ -5,7 +5,7 @@ use Rattle.std.specs.Global.{Vec}
 use Rattle.std.specs.List.{flat_map, AllByRecursion}
 use Rattle.oftp_wire.specs.declared.frame_fault.FrameFault.{FrameFault}
 use Rattle.oftp_wire.specs.declared.frame_fault.FrameFault.TheVariants.{BadHeader, BadLength}
-use Rattle.oftp_wire.specs.Header.{frame, IsCommand}
+use Rattle.oftp_wire.specs.Header.{frame, length_in, IsCommand}
 
 -- what stands at the front of octets: a whole frame of so many octets, less than one, or what begins none
 pub data Head : Type 0 where
@@ -19,7 +19,7 @@ sized limit [] = Waits
 sized limit (a ∷ []) = Waits
 sized limit (a ∷ b ∷ []) = Waits
 sized limit (a ∷ b ∷ c ∷ rest) =
-    let n = a * 65536 + b * 256 + c in
+    let n = length_in a b c in
     if nat_lt n 5 || nat_lt limit n then Bad BadLength else (if nat_lt (length rest + 4) n then Waits else Whole n)
 
 -- what stands at the front of octets, where no frame has more than limit octets
@@ -96,7 +96,8 @@ length_fault limit [] = None
 length_fault limit (a ∷ []) = None
 length_fault limit (a ∷ b ∷ []) = None
 length_fault limit (a ∷ b ∷ c ∷ rest) =
-    if nat_lt (a * 65536 + b * 256 + c) 5 || nat_lt limit (a * 65536 + b * 256 + c) then Some BadLength else None
+    let n = length_in a b c in
+    if nat_lt n 5 || nat_lt limit n then Some BadLength else None
 
 -- the fault that octets stand for, at whose front is no whole frame
 abbrev pub rest_fault : ℕ → List ℕ → Option FrameFault

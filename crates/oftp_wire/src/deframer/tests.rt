@@ -68,14 +68,12 @@ fn three_frames_any_cut(rt: HostRuntime) -> Result<(), Fail> {
     Ok(())
 }
 
-/// It is run by `rt try --test --fail-alloc N` too, and passes for every N: behind `with_room` no allocation is left that could be
-/// refused. With a deframer of `new` it fails, since the first growth is refused then.
+/// It is also run with every allocation refused from some number on: either the reservation is refused, or the test passes, since
+/// behind `with_room` no allocation is left that could be. With a deframer of `new` it fails, since the first growth is refused then.
 #[test]
 fn no_memory_within_room(rt: HostRuntime) -> Result<(), Fail> {
-    // One allocation alone is refused, so that a second try has its memory.
-    let mut deframer = match Deframer::with_room(rt.alloc(), LIMIT, 17) {
-        Ok(deframer) => deframer,
-        Err(_) => Deframer::with_room(rt.alloc(), LIMIT, 17)?,
+    let Ok(mut deframer) = Deframer::with_room(rt.alloc(), LIMIT, 17) else {
+        return Err("no memory was reserved")?;
     };
     assert!(rt; deframer.room() == 17);
     take_cuts(&rt, &mut deframer)?;

@@ -8,7 +8,7 @@ returns-in-Ok-Some c =
     let i = c.self.inside in
     let found = rw c.in-Ok-Some.field-0-is at c.in-Ok-Some.ensures in
     let out = hands_out c.args.self.now i.buffer.items c.deref.result.now i.begin c.in-Ok-Some.len i.limit i.room
-        (vec_capacity i.buffer) i.told c.self.view_is (none_from i.told c.in_default.not-Some) c.deref.ensures.value found.value found.found in
+    (vec_capacity i.buffer) i.told c.self.view_is (none_from i.told c.in_default.not-Some) c.deref.ensures.value found.value found.found in
     rw (c.deref-in-Ok-Some.ensures.value) (
       (refl, (λ _. tt), out.left),
       record { value = out.value; after = tt; command = (out.small, out.parts); none = tt; fault = λ _. tt },

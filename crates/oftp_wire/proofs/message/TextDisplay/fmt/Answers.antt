@@ -11,7 +11,7 @@ loop-c-preserved g c = record {
   read = taken_more c.loop-c.yielded c.in-Some.c _ _ _ c.in-Some.ensures.steps.0 c.loop-c.invariant.read;
   written = λ plain.
       has_written_of_eq _ _ _ _ _ (printed_more c.loop-c.yielded c.in-Some.c c.printable.result c.printable.ensures)
-          (has_written_append _ _ _ _ (encode_utf8 c.printable.result) _ (c.loop-c.invariant.written plain) (search rules));
+      (has_written_append _ _ _ _ (encode_utf8 c.printable.result) _ (c.loop-c.invariant.written plain) (search rules));
 }
 
 pub returns-clause-writes : goal.returns-clause-writes
