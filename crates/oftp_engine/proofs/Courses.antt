@@ -98,7 +98,10 @@ unfolding is_stopped
 stopped_before None c d g h = refl
 stopped_before (Some n) c d g h =
     let most = ltb-false n (length (octets_of d.outputs)) h in
-    let e : length (octets_of d.outputs) ≡ length (octets_of c.outputs) + length (octets_of g.later_outputs) = ap (λ (x : List Output). length (octets_of x)) g.outputs ∙ ap (λ (x : List ℕ). length x) (octets-append c.outputs g.later_outputs) ∙ length-append (octets_of c.outputs) (octets_of g.later_outputs) in
+    let before = octets_of c.outputs in
+    let later = octets_of g.later_outputs in
+    let all : octets_of d.outputs ≡ before ++ later = ap octets_of g.outputs ∙ octets-append c.outputs g.later_outputs in
+    let long : length (octets_of d.outputs) ≡ length before + length later = ap (λ (x : List ℕ). length x) all ∙ length-append before later in
     le-ltb n (length (octets_of c.outputs)) (omega arith)
 
 -- tests
@@ -126,12 +129,24 @@ else_at b x z h = ap (λ (t : Bool). cond t x z) h
 due_at_turn : (c : Course) → has_turn c.phase ≡ true → turns_due (turned_in c).phase < turns_due c.phase
 due_at_turn c h = subst (λ (p : Phase). turns_due p < turns_due c.phase) (sym (phase_step c (turned c.setting c.phase c.register))) (turn_falls c.setting c.phase c.register h)
 
+-- whether a turn is due and may be taken
+abbrev goes : Option ℕ → Course → Bool
+goes limit c = has_turn c.phase && not (is_stopped limit c)
+
+-- a course with no turn due takes none
+none_due : (limit : Option ℕ) (c d : Course) → turns_due c.phase ≤ 0 → cond (goes limit c) d c ≡ c
+none_due limit c d none =
+    same_then (goes limit c) d c c (λ t. let h = due_at_turn c (and_parts _ _ t).0 in absurd (omega arith)) ∙ cond_same (goes limit c) c
+
 turns_enough : (n m : ℕ) (limit : Option ℕ) (c : Course) → turns_due c.phase ≤ n → turns_due c.phase ≤ m → turns n limit c ≡ turns m limit c
 unfolding turns
 turns_enough zero zero limit c p q = refl
-turns_enough zero (suc m) limit c p q = sym (same_then (has_turn c.phase && not (is_stopped limit c)) (turns m limit (turned_in c)) c c (λ t. let h = due_at_turn c (and_parts _ _ t).0 in absurd (omega arith)) ∙ cond_same (has_turn c.phase && not (is_stopped limit c)) c)
-turns_enough (suc n) zero limit c p q = same_then (has_turn c.phase && not (is_stopped limit c)) (turns n limit (turned_in c)) c c (λ t. let h = due_at_turn c (and_parts _ _ t).0 in absurd (omega arith)) ∙ cond_same (has_turn c.phase && not (is_stopped limit c)) c
-turns_enough (suc n) (suc m) limit c p q = same_then (has_turn c.phase && not (is_stopped limit c)) (turns n limit (turned_in c)) (turns m limit (turned_in c)) c (λ t. let h = due_at_turn c (and_parts _ _ t).0 in turns_enough n m limit (turned_in c) (omega arith) (omega arith))
+turns_enough zero (suc m) limit c p q = sym (none_due limit c (turns m limit (turned_in c)) p)
+turns_enough (suc n) zero limit c p q = none_due limit c (turns n limit (turned_in c)) q
+turns_enough (suc n) (suc m) limit c p q =
+    let d = turned_in c in
+    same_then (goes limit c) (turns n limit d) (turns m limit d) c
+    (λ t. let h = due_at_turn c (and_parts _ _ t).0 in turns_enough n m limit d (omega arith) (omega arith))
 
 -- a due turn is taken first
 pub settle_turn : (limit : Option ℕ) (c : Course) → has_turn c.phase ≡ true → is_stopped limit c ≡ false → settled limit c ≡ settled limit (turned_in c)
@@ -158,7 +173,9 @@ settle_stopped limit c h = quiet_turns (turns_due c.phase) limit c (and_right (h
 turns_grow : (n : ℕ) (limit : Option ℕ) (c : Course) → Grows c (turns n limit c)
 unfolding turns
 turns_grow zero limit c = grows_none c
-turns_grow (suc n) limit c = grows_either c (turns n limit (turned_in c)) c (has_turn c.phase && not (is_stopped limit c)) (grows_on c (turned_in c) _ (grows_step c (turned c.setting c.phase c.register) (λ h. turned_proceeds c.setting c.phase c.register h)) (turns_grow n limit (turned_in c))) (grows_none c)
+turns_grow (suc n) limit c =
+    let step = grows_step c (turned c.setting c.phase c.register) (turned_proceeds c.setting c.phase c.register) in
+    grows_either c (turns n limit (turned_in c)) c (goes limit c) (grows_on c (turned_in c) _ step (turns_grow n limit (turned_in c))) (grows_none c)
 
 settled_grows : (limit : Option ℕ) (c : Course) → Grows c (settled limit c)
 unfolding settled
@@ -166,7 +183,9 @@ settled_grows limit c = turns_grow (turns_due c.phase) limit c
 
 -- runs
 
-front_same : (n m : ℕ) (limit : Option ℕ) (s : List ℕ) (c : Course) (f : Head) → IsWithin (length s) f → ((t : List ℕ) (d : Course) → length t < length s → run_by n limit t d ≡ run_by m limit t d) → on_front (run_by n limit) s c f ≡ on_front (run_by m limit) s c f
+front_same : (n m : ℕ) (limit : Option ℕ) (s : List ℕ) (c : Course) (f : Head)
+    → IsWithin (length s) f → ((t : List ℕ) (d : Course) → length t < length s → run_by n limit t d ≡ run_by m limit t d)
+    → on_front (run_by n limit) s c f ≡ on_front (run_by m limit) s c f
 unfolding on_front
 front_same n m limit s c (Whole k) w h = h (drop k s) (came_in c (command_in k s)) (omega (arith, w.0, w.1, length-drop k s))
 front_same n m limit s c Waits w h = refl
@@ -193,7 +212,9 @@ unfolding run run_by
 at_settled limit s c e = ap (next_in limit (run_by (length s) limit) s) e
 
 -- the next command
-pub run_frame : (limit : Option ℕ) (s : List ℕ) (c : Course) (n : ℕ) → has_turn c.phase ≡ false → is_over c.phase ≡ false → is_stopped limit c ≡ false → front 100003 s ≡ Whole n → run limit s c ≡ run limit (drop n s) (came_in c (command_in n s))
+pub run_frame : (limit : Option ℕ) (s : List ℕ) (c : Course) (n : ℕ)
+    → has_turn c.phase ≡ false → is_over c.phase ≡ false → is_stopped limit c ≡ false → front 100003 s ≡ Whole n
+    → run limit s c ≡ run limit (drop n s) (came_in c (command_in n s))
 unfolding next_in on_front run
 run_frame limit s c n turn over stopped whole =
     let within : IsWithin (length s) (Whole n) = subst (IsWithin (length s)) whole (front_within 100003 s) in
@@ -203,7 +224,9 @@ run_frame limit s c n turn over stopped whole =
     ∙ run_enough (length s) (suc (length (drop n s))) limit (drop n s) (came_in c (command_in n s)) (omega (arith, within.0, within.1, length-drop n s)) (omega arith)
 
 -- no header where one has to be
-pub run_bad : (limit : Option ℕ) (s : List ℕ) (c : Course) (fault : _) → has_turn c.phase ≡ false → is_over c.phase ≡ false → is_stopped limit c ≡ false → front 100003 s ≡ Bad fault → run limit s c ≡ advance c (fails ProtocolViolation)
+pub run_bad : (limit : Option ℕ) (s : List ℕ) (c : Course) (fault : _)
+    → has_turn c.phase ≡ false → is_over c.phase ≡ false → is_stopped limit c ≡ false → front 100003 s ≡ Bad fault
+    → run limit s c ≡ advance c (fails ProtocolViolation)
 unfolding next_in on_front
 run_bad limit s c fault turn over stopped bad =
     at_settled limit s c (settle_none limit c turn)
@@ -234,7 +257,9 @@ run_stopped limit s c stopped =
 
 front_grows : (go_on : List ℕ → Course → Course) (s : List ℕ) (d : Course) (f : Head) → ((t : List ℕ) (e : Course) → Grows e (go_on t e)) → Grows d (on_front go_on s d f)
 unfolding on_front
-front_grows go_on s d (Whole k) h = grows_on d (came_in d (command_in k s)) _ (grows_step d _ (step_proceeds d.setting d.phase d.register (command_of (command_in k s)))) (h (drop k s) (came_in d (command_in k s)))
+front_grows go_on s d (Whole k) h =
+    let step = grows_step d _ (step_proceeds d.setting d.phase d.register (command_of (command_in k s))) in
+    grows_on d (came_in d (command_in k s)) _ step (h (drop k s) (came_in d (command_in k s)))
 front_grows go_on s d Waits h = grows_none d
 front_grows go_on s d (Bad fault) h = grows_step d (fails ProtocolViolation) (fails_proceed d.phase d.register ProtocolViolation)
 
@@ -243,7 +268,8 @@ unfolding run_by next_in
 run_by_grows zero limit s c = grows_none c
 run_by_grows (suc n) limit s c =
     let d = settled limit c in
-    grows_on c d _ (settled_grows limit c) (grows_either d d _ (is_over d.phase || is_stopped limit d) (grows_none d) (front_grows (run_by n limit) s d (front 100003 s) (λ t e. run_by_grows n limit t e)))
+    let next = front_grows (run_by n limit) s d (front 100003 s) (run_by_grows n limit) in
+    grows_on c d _ (settled_grows limit c) (grows_either d d _ (is_over d.phase || is_stopped limit d) (grows_none d) next)
 
 -- what went out stays out
 pub run_grows : (limit : Option ℕ) (s : List ℕ) (c : Course) → Grows c (run limit s c)

@@ -20,7 +20,7 @@ use Rattle.oftp_engine.specs.declared.serving.RunFault.{RunFault}
 use Rattle.oftp_engine.specs.declared.serving.RunFault.TheVariants as fault
 use Rattle.oftp_engine.specs.Runs.{Course, Output, run, started, octets_of, answered, advance, is_stopped, with_change}
 use Rattle.oftp_engine.specs.Serving.{Grows, Leads, Reaches, Scene, Took, BreaksOff, OfficeFails, IsShort, Fails, Comes, IsOver, Sound, Counted, last_frame}
-use Rattle.oftp_engine.specs.Served.{whole, broken_off, LeavesPrefix, IsWhole, IsBrokenOff, IsOfficeFault, IsOutOfMemory, ServesErr}
+use Rattle.oftp_engine.specs.Served.{whole, broken_off, IsPrefix, LeavesPrefix, IsWhole, IsBrokenOff, IsOfficeFault, IsOutOfMemory, ServesErr}
 use Rattle.oftp_engine.proofs.Courses.{grows_on, grows_step, run_grows, run_over, run_waits, run_stopped}
 use Rattle.oftp_engine.proofs.Phases.{over_from}
 use Rattle.oftp_engine.proofs.Progress.{octets_step}
@@ -53,13 +53,20 @@ whole_is : (setting : Setting) (given t : List ℕ) (r : Register) (d : Course) 
 unfolding is_stopped
 whole_is setting given t r d leads e = ap (λ (x : List ℕ). run None x (started setting r)) (sym (append-nil given)) ∙ leads.same [] None refl ∙ e
 
-pub whole_over : (setting : Setting) (given t : List ℕ) (seen : Seen) (old new : Scene) (end : Ending) (h : IsOver (started setting old.office.register) given t seen old new end) → whole setting given old.office.register ≡ h.come.at
+pub whole_over : (setting : Setting) (given t : List ℕ) (seen : Seen) (old new : Scene) (end : Ending)
+    (h : IsOver (started setting old.office.register) given t seen old new end)
+    → whole setting given old.office.register ≡ h.come.at
 whole_over setting given t seen old new end h = whole_is setting given t old.office.register h.come.at h.come.went.leads (run_over None (t ++ []) h.come.at (over_from h.come.at.phase end h.ends))
 
-pub whole_waits : (setting : Setting) (given t : List ℕ) (seen : Seen) (old new : Scene) (h : Comes (started setting old.office.register) given t seen old new) → has_turn h.at.phase ≡ false → front 100003 t ≡ Waits → whole setting given old.office.register ≡ h.at
-whole_waits setting given t seen old new h turn waits = whole_is setting given t old.office.register h.at h.went.leads (ap (λ (x : List ℕ). run None x h.at) (append-nil t) ∙ run_waits None t h.at turn waits)
+pub whole_waits : (setting : Setting) (given t : List ℕ) (seen : Seen) (old new : Scene) (h : Comes (started setting old.office.register) given t seen old new)
+    → has_turn h.at.phase ≡ false → front 100003 t ≡ Waits → whole setting given old.office.register ≡ h.at
+whole_waits setting given t seen old new h turn waits =
+    let rests : run None (t ++ []) h.at ≡ h.at = ap (λ (x : List ℕ). run None x h.at) (append-nil t) ∙ run_waits None t h.at turn waits in
+    whole_is setting given t old.office.register h.at h.went.leads rests
 
-pub is_whole : (setting : Setting) (given t : List ℕ) (seen : Seen) (old new : Scene) (law : IsLawful old.office new.office) (h : Comes (started setting old.office.register) given t seen old new) → whole setting given old.office.register ≡ h.at → IsWhole setting given old new
+pub is_whole : (setting : Setting) (given t : List ℕ) (seen : Seen) (old new : Scene) (law : IsLawful old.office new.office)
+    (h : Comes (started setting old.office.register) given t seen old new)
+    → whole setting given old.office.register ≡ h.at → IsWhole setting given old new
 is_whole setting given t seen old new law h e = record {
   out = subst (λ (x : List ℕ). Took old new x) (sym h.went.outputs ∙ ap (λ (c : Course). octets_of c.outputs) (sym e)) h.went.took;
   register = h.now.register ∙ ap (λ (c : Course). c.register) (sym e);
@@ -78,23 +85,34 @@ not_stopped c n = le-ltb (length (octets_of c.outputs) + n) (length (octets_of c
 
 stopped_now : (c : Course) (s : Step) (n : ℕ) → n < length (framed s.output) → is_stopped (Some (length (octets_of c.outputs) + n)) (advance c s) ≡ true
 unfolding is_stopped
-stopped_now c s n lt = lt-ltb (length (octets_of c.outputs) + n) (length (octets_of (advance c s).outputs)) (omega (arith, ap (λ (x : List ℕ). length x) (octets_step c s), length-append (octets_of c.outputs) (framed s.output)))
+stopped_now c s n lt =
+    let before = octets_of c.outputs in
+    let after = octets_of (advance c s).outputs in
+    lt-ltb (length before + n) (length after) (omega (arith, ap (λ (x : List ℕ). length x) (octets_step c s), length-append before (framed s.output)))
 
 take_past : (xs ys : List ℕ) (n : ℕ) → take (length xs + n) (xs ++ ys) ≡ xs ++ take n ys
-take_past xs ys n = take-add (length xs) n (xs ++ ys) ∙ ap (λ (x : List ℕ). x ++ take n (drop (length xs) (xs ++ ys))) (take_at xs ys (length xs) refl) ∙ ap (λ (x : List ℕ). xs ++ take n x) (drop_at xs ys (length xs) refl)
+take_past xs ys n =
+    take-add (length xs) n (xs ++ ys)
+    ∙ ap (λ (x : List ℕ). x ++ take n (drop (length xs) (xs ++ ys))) (take_at xs ys (length xs) refl)
+    ∙ ap (λ (x : List ℕ). xs ++ take n x) (drop_at xs ys (length xs) refl)
 
-pub is_broken_off : (setting : Setting) (given : List ℕ) (old new : Scene) (law : IsLawful old.office new.office) → BreaksOff (started setting old.office.register) given old new → IsBrokenOff setting given old new
+pub is_broken_off : (setting : Setting) (given : List ℕ) (old new : Scene) (law : IsLawful old.office new.office)
+    → BreaksOff (started setting old.office.register) given old new → IsBrokenOff setting given old new
 is_broken_off setting given old new law h =
     let before : List ℕ = octets_of h.at.outputs in
     let taken : ℕ = length before + h.count in
     let end : Course = advance h.at h.step in
     let r = h.reaches.same [] (Some taken) (not_stopped h.at h.count) in
-    let e : broken_off setting taken given old.office.register ≡ end = ap (λ (x : List ℕ). run (Some taken) x (started setting old.office.register)) (sym (append-nil given)) ∙ r.1 ∙ run_stopped (Some taken) r.0 end (stopped_now h.at h.step h.count h.short) in
+    let stopped = run_stopped (Some taken) r.0 end (stopped_now h.at h.step h.count h.short) in
+    let e : broken_off setting taken given old.office.register ≡ end =
+        ap (λ (x : List ℕ). run (Some taken) x (started setting old.office.register)) (sym (append-nil given)) ∙ r.1 ∙ stopped in
     let octets : octets_of (broken_off setting taken given old.office.register).outputs ≡ before ++ framed h.step.output = ap (λ (c : Course). octets_of c.outputs) e ∙ octets_step h.at h.step in
+    let part = take h.count (framed h.step.output) in
+    let out = ap (λ (x : List ℕ). x ++ part) (sym h.outputs) ∙ sym (take_past before (framed h.step.output) h.count) ∙ ap (take taken) (sym octets) in
     record {
       taken = taken;
       short = subst (λ (x : List ℕ). taken < length x) (sym octets) (rw length-append (omega (arith, h.short)));
-      out = subst (λ (x : List ℕ). Took old new x) (ap (λ (x : List ℕ). x ++ take h.count (framed h.step.output)) (sym h.outputs) ∙ sym (take_past before (framed h.step.output) h.count) ∙ ap (λ (x : List ℕ). take taken x) (sym octets)) h.took;
+      out = subst (Took old new) out h.took;
       register = h.register ∙ ap (λ (c : Course). c.register) (sym e);
       replay = replay_all (Some taken) setting given old.office.register new.office.register law.sound (h.register ∙ ap (λ (c : Course). c.register) (sym e));
       stands = h.stands law.stood;
@@ -136,13 +154,30 @@ register_step : (d : Course) (step : Step) → (advance d step).register ≡ reg
 unfolding advance
 register_step d step = refl
 
-leaves_prefix : (r : Register) (d w : Course) (step : Step) (change : Option Change) (least : ℕ) (left : View) → step.change ≡ change → Grows d w → Grows (advance d step) w → Sound r d → Sound r (advance d step) → least ≤ length d.changes → WithOrWithout change d.register left → LeavesPrefix w r least (length d.changes) left
-leaves_prefix r d w step None least left e g h sd se le only = λ k l. record { count = length d.changes; least = le; most = few d w g; near = inl refl; register = d.register; replay = replayed r d w g sd; holds = only k l }
+-- what a stop leaves holds the register of a course within the run
+prefix_at : {C : Type 0} (r : Register) (d w : Course) (least : ℕ) (holds' : C → Register → Type 0) (content : C) → Grows d w → Sound r d
+    → least ≤ length d.changes → holds' content d.register → IsPrefix holds' w r least (length d.changes) content
+prefix_at r d w least holds' content g sd le holds = record {
+  count = length d.changes;
+  least = le;
+  most = few d w g;
+  near = inl refl;
+  register = d.register;
+  replay = replayed r d w g sd;
+  holds = holds;
+}
+
+leaves_prefix : (r : Register) (d w : Course) (step : Step) (change : Option Change) (least : ℕ) (left : View)
+    → step.change ≡ change → Grows d w → Grows (advance d step) w → Sound r d → Sound r (advance d step) → least ≤ length d.changes
+    → WithOrWithout change d.register left → LeavesPrefix w r least (length d.changes) left
+leaves_prefix r d w step None least left e g h sd se le only = λ k l. prefix_at r d w least left.holds k g sd le (only k l)
 leaves_prefix r d w step (Some change) least left e g h sd se le only = λ k l.
     elim (only k l) [
-      | inl same ↦ record { count = length d.changes; least = le; most = few d w g; near = inl refl; register = d.register; replay = replayed r d w g sd; holds = same }
+      | inl same ↦ prefix_at r d w least left.holds k g sd le same
       | inr made ↦
-          let long : length (advance d step).changes ≡ length d.changes + 1 = ap (λ (x : List Change). length x) (changes_step d step ∙ ap (with_change d.changes) e) ∙ length-append d.changes (change ∷ []) in
+          let one_more = changes_step d step ∙ ap (with_change d.changes) e in
+          let long : length (advance d step).changes ≡ length d.changes + 1 =
+              ap (λ (x : List Change). length x) one_more ∙ length-append d.changes (change ∷ []) in
           record {
             count = length (advance d step).changes;
             least = omega arith;
@@ -154,7 +189,8 @@ leaves_prefix r d w step (Some change) least left e g h sd se le only = λ k l.
           }
     ]
 
-pub is_office_fault : (setting : Setting) (given : List ℕ) (old new : Scene) → IsSound old.office.register → OfficeFails (started setting old.office.register) given old new → IsOfficeFault setting given old new
+pub is_office_fault : (setting : Setting) (given : List ℕ) (old new : Scene)
+    → IsSound old.office.register → OfficeFails (started setting old.office.register) given old new → IsOfficeFault setting given old new
 is_office_fault setting given old new sound h =
     let r : Register = old.office.register in
     let w : Course = whole setting given r in
@@ -192,12 +228,13 @@ is_office_fault setting given old new sound h =
         kept = omega arith;
         few = few (advance h.at h.step) w ge;
         register = λ s. replayed r (advance h.at h.step) w ge se ∙ ap Ok (sym (x.same s));
-        left = λ k l. record { count = length (advance h.at h.step).changes; least = omega arith; most = few (advance h.at h.step) w ge; near = inl refl; register = (advance h.at h.step).register; replay = replayed r (advance h.at h.step) w ge se; holds = x.left k l };
+        left = λ k l. prefix_at r (advance h.at h.step) w _ new.office.holds k ge se (omega arith) (x.left k l);
         faults = h.faults;
       }
     ]
 
-pub is_out_of_memory : (setting : Setting) (given : List ℕ) (old new : Scene) (law : IsLawful old.office new.office) → IsShort (started setting old.office.register) given old new → IsOutOfMemory setting given old new
+pub is_out_of_memory : (setting : Setting) (given : List ℕ) (old new : Scene) (law : IsLawful old.office new.office)
+    → IsShort (started setting old.office.register) given old new → IsOutOfMemory setting given old new
 is_out_of_memory setting given old new law h =
     let r : Register = old.office.register in
     let w : Course = whole setting given r in
@@ -240,7 +277,8 @@ is_out_of_memory setting given old new law h =
     ]
 
 -- each fault
-pub serves_from : (setting : Setting) (given : List ℕ) (old new : Scene) (law : IsLawful old.office new.office) (f : RunFault) → Fails (started setting old.office.register) given old new f → ServesErr setting given old new f
+pub serves_from : (setting : Setting) (given : List ℕ) (old new : Scene) (law : IsLawful old.office new.office) (f : RunFault)
+    → Fails (started setting old.office.register) given old new f → ServesErr setting given old new f
 serves_from setting given old new law fault.Read h = absurd h
 serves_from setting given old new law fault.Write h = is_broken_off setting given old new law h
 serves_from setting given old new law fault.Office h = is_office_fault setting given old new law.sound h

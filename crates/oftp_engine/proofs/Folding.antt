@@ -23,7 +23,9 @@ at_end go_on s d (Some fault) = refl
 frame_length : (m : List ℕ) → length (frame m) ≡ length m + 4
 frame_length m = omega (arith, length-append (header_of (length m + 4)) m)
 
-pub folds : (limit : Option ℕ) (commands : List (List ℕ)) (rest : List ℕ) (fault : Option FrameFault) (c : Course) → AllByRecursion (IsCommand 100003) commands → front 100003 rest ≡ head_of fault → run limit (flat_map frame commands ++ rest) c ≡ over_commands limit commands fault c
+pub folds : (limit : Option ℕ) (commands : List (List ℕ)) (rest : List ℕ) (fault : Option FrameFault) (c : Course)
+    → AllByRecursion (IsCommand 100003) commands → front 100003 rest ≡ head_of fault
+    → run limit (flat_map frame commands ++ rest) c ≡ over_commands limit commands fault c
 unfolding run run_by next_in on_front
 folds limit [] rest fault c each ends =
     let d = settled limit c in
@@ -44,7 +46,8 @@ folds limit (m ∷ ms) rest fault c each ends =
     ∙ folds limit ms rest fault (came_in d m) each.1 ends in
     ap (λ (x : List ℕ). run limit x c) same ∙ cond_else (is_over d.phase || is_stopped limit d) d _ _ step
 
-pub folds_all : (limit : Option ℕ) (stream : List ℕ) (commands : List (List ℕ)) (fault : Option FrameFault) (c : Course) → All (λ octet. octet < 256) stream → Reads 100003 stream commands fault → run limit stream c ≡ over_commands limit commands fault c
+pub folds_all : (limit : Option ℕ) (stream : List ℕ) (commands : List (List ℕ)) (fault : Option FrameFault) (c : Course)
+    → All (λ octet. octet < 256) stream → Reads 100003 stream commands fault → run limit stream c ≡ over_commands limit commands fault c
 folds_all limit stream commands fault c small h =
     let frames = flat_map frame commands in
     let whole : stream ≡ frames ++ h.rest = h.front.whole in

@@ -62,12 +62,17 @@ pub reaches_itself : (c : Course) (s : List ℕ) → Reaches c s c c
 reaches_itself c s = record { grows = grows_none c; same = λ more limit h. (s ++ more, refl) }
 
 -- what led to a step leads past it
-pub leads_step : (c : Course) (step : Step) (s t : List ℕ) → (Suits c.phase c.register → Proceeds c.register step) → ((more : List ℕ) (limit : Option ℕ) → is_stopped limit c ≡ false → run limit (s ++ more) c ≡ run limit (t ++ more) (advance c step)) → Leads c s (advance c step) t
+pub leads_step : (c : Course) (step : Step) (s t : List ℕ)
+    → (Suits c.phase c.register → Proceeds c.register step)
+    → ((more : List ℕ) (limit : Option ℕ) → is_stopped limit c ≡ false → run limit (s ++ more) c ≡ run limit (t ++ more) (advance c step))
+    → Leads c s (advance c step) t
 leads_step c step s t proceeds h =
     let grows = grows_step c step proceeds in
     record { grows = grows; same = λ more limit stopped. h more limit (stopped_before limit c (advance c step) grows stopped) }
 
-pub reaches_step : (c : Course) (step : Step) (s t : List ℕ) → ((more : List ℕ) (limit : Option ℕ) → is_stopped limit c ≡ false → run limit (s ++ more) c ≡ run limit (t ++ more) (advance c step)) → Reaches c s c (advance c step)
+pub reaches_step : (c : Course) (step : Step) (s t : List ℕ)
+    → ((more : List ℕ) (limit : Option ℕ) → is_stopped limit c ≡ false → run limit (s ++ more) c ≡ run limit (t ++ more) (advance c step))
+    → Reaches c s c (advance c step)
 reaches_step c step s t h = record { grows = grows_none c; same = λ more limit stopped. (t ++ more, h more limit stopped) }
 
 -- the engine's parts
@@ -157,13 +162,23 @@ took_later a b z xs ys zs p q = subst (Took a z) (sym (append_assoc xs ys zs)) (
 said_later : (a b z : Scene) (count : ℕ) → b.told ≡ a.told → IsSaid b z count → IsSaid a z count
 said_later a b z count same h = elim h [ inl all ↦ inl (all.0, all.1 ∙ same) | inr part ↦ inr (part.0, part.1 ∙ ap next_count same) ]
 
-pub fails_later : (c d : Course) (s t : List ℕ) (a b z : Scene) (f : RunFault) → Went c s d t a b → Fails d t b z f → Fails c s a z f
-fails_later c d s t a b z fault.Read w h = absurd h
-fails_later c d s t a b z fault.Write w h = record {
+-- what leads to d, so that what d reaches is reached
+record Before (c : Course) (s : List ℕ) (d : Course) (t : List ℕ) (old new : Scene) : Type 0 where
+  reaches : (at next : Course) → Reaches d t at next → Reaches c s at next
+  between : List ℕ
+  outputs : octets_of d.outputs ≡ octets_of c.outputs ++ between
+  took : Took old new between
+  stands : old.office.stands → new.office.stands
+  faults : new.office.told ≡ old.office.told
+  told : new.told ≡ old.told
+
+fails_from : (c d : Course) (s t : List ℕ) (a b z : Scene) (f : RunFault) → Before c s d t a b → Fails d t b z f → Fails c s a z f
+fails_from c d s t a b z fault.Read w h = absurd h
+fails_from c d s t a b z fault.Write w h = record {
   at = h.at;
   step = h.step;
   count = h.count;
-  reaches = reaches_later c d h.at _ s t w.leads h.reaches;
+  reaches = w.reaches h.at _ h.reaches;
   short = h.short;
   between = w.between ++ h.between;
   outputs = outputs_later c d _ w.between h.between w.outputs h.outputs;
@@ -173,11 +188,11 @@ fails_later c d s t a b z fault.Write w h = record {
   faults = h.faults ∙ w.faults;
   told = h.told ∙ ap next_count w.told;
 }
-fails_later c d s t a b z fault.Office w h = record {
+fails_from c d s t a b z fault.Office w h = record {
   at = h.at;
   step = h.step;
   count = h.count;
-  reaches = reaches_later c d h.at _ s t w.leads h.reaches;
+  reaches = w.reaches h.at _ h.reaches;
   between = w.between ++ h.between;
   outputs = outputs_later c d _ w.between h.between w.outputs h.outputs;
   took = took_later a b z w.between h.between _ w.took h.took;
@@ -186,10 +201,10 @@ fails_later c d s t a b z fault.Office w h = record {
   cases = h.cases;
   faults = h.faults ∙ ap next_count w.faults;
 }
-fails_later c d s t a b z fault.Memory w h = record {
+fails_from c d s t a b z fault.Memory w h = record {
   at = h.at;
   next = h.next;
-  reaches = reaches_later c d h.at h.next s t w.leads h.reaches;
+  reaches = w.reaches h.at h.next h.reaches;
   later = h.later;
   between = w.between ++ h.between;
   outputs = outputs_later c d _ w.between h.between w.outputs h.outputs;
@@ -199,6 +214,20 @@ fails_later c d s t a b z fault.Memory w h = record {
   faults = h.faults ∙ w.faults;
   told = h.told ∙ w.told;
 }
+
+pub fails_later : (c d : Course) (s t : List ℕ) (a b z : Scene) (f : RunFault) → Went c s d t a b → Fails d t b z f → Fails c s a z f
+fails_later c d s t a b z f w h = fails_from c d s t a b z f before h
+  where
+    before : Before c s d t a b
+    before = record {
+      reaches = λ at next r. reaches_later c d at next s t w.leads r;
+      between = w.between;
+      outputs = w.outputs;
+      took = w.took;
+      stands = w.stands;
+      faults = w.faults;
+      told = w.told;
+    }
 
 -- a due turn, whatever is there to be read
 
@@ -214,7 +243,9 @@ pub command_more : (n : ℕ) (s more : List ℕ) → 5 ≤ n → n ≤ length s 
 command_more n s more five there =
     ap (λ (x : List ℕ). take (n - 4) x) (drop-append-le 4 s more (omega arith)) ∙ take-append-le (n - 4) (drop 4 s) more (omega (arith, length-drop 4 s))
 
-pub leads_frame : (c : Course) (s : List ℕ) (n : ℕ) → has_turn c.phase ≡ false → is_over c.phase ≡ false → front 100003 s ≡ Whole n → (more : List ℕ) (limit : Option ℕ) → is_stopped limit c ≡ false → run limit (s ++ more) c ≡ run limit (drop n s ++ more) (came_in c (command_in n s))
+pub leads_frame : (c : Course) (s : List ℕ) (n : ℕ)
+    → has_turn c.phase ≡ false → is_over c.phase ≡ false → front 100003 s ≡ Whole n → (more : List ℕ) (limit : Option ℕ) → is_stopped limit c ≡ false
+    → run limit (s ++ more) c ≡ run limit (drop n s ++ more) (came_in c (command_in n s))
 leads_frame c s n turn over whole more limit stopped =
     let within : IsWithin (length s) (Whole n) = subst (IsWithin (length s)) whole (front_within 100003 s) in
     let told : IsTold (front 100003 s) = subst IsTold (sym whole) tt in
@@ -226,7 +257,9 @@ over_step : (c : Course) (step : Step) → is_over step.phase ≡ true → is_ov
 unfolding advance
 over_step c step h = h
 
-pub leads_bad : (c : Course) (s : List ℕ) (f : FrameFault) → has_turn c.phase ≡ false → is_over c.phase ≡ false → front 100003 s ≡ Bad f → (more : List ℕ) (limit : Option ℕ) → is_stopped limit c ≡ false → run limit (s ++ more) c ≡ run limit (s ++ more) (advance c (fails ProtocolViolation))
+pub leads_bad : (c : Course) (s : List ℕ) (f : FrameFault)
+    → has_turn c.phase ≡ false → is_over c.phase ≡ false → front 100003 s ≡ Bad f → (more : List ℕ) (limit : Option ℕ) → is_stopped limit c ≡ false
+    → run limit (s ++ more) c ≡ run limit (s ++ more) (advance c (fails ProtocolViolation))
 leads_bad c s f turn over bad more limit stopped =
     let told : IsTold (front 100003 s) = subst IsTold (sym bad) tt in
     run_bad limit (s ++ more) c f turn over stopped (front_more 100003 s more told ∙ bad)
@@ -249,44 +282,15 @@ reaches_with : (c d e : Course) (s : List ℕ) → Reaches c [] d e → Reaches 
 reaches_with c d e s r = record { grows = r.grows; same = λ more limit h. r.same (s ++ more) limit h }
 
 pub fails_with : (c : Course) (s : List ℕ) (a b : Scene) (f : RunFault) → Fails c [] a b f → Fails c s a b f
-fails_with c s a b fault.Read h = absurd h
-fails_with c s a b fault.Write h = record {
-  at = h.at;
-  step = h.step;
-  count = h.count;
-  reaches = reaches_with c h.at _ s h.reaches;
-  short = h.short;
-  between = h.between;
-  outputs = h.outputs;
-  took = h.took;
-  register = h.register;
-  stands = h.stands;
-  faults = h.faults;
-  told = h.told;
-}
-fails_with c s a b fault.Office h = record {
-  at = h.at;
-  step = h.step;
-  count = h.count;
-  reaches = reaches_with c h.at _ s h.reaches;
-  between = h.between;
-  outputs = h.outputs;
-  took = h.took;
-  said = h.said;
-  proceeds = h.proceeds;
-  cases = h.cases;
-  faults = h.faults;
-}
-fails_with c s a b fault.Memory h = record {
-  at = h.at;
-  next = h.next;
-  reaches = reaches_with c h.at _ s h.reaches;
-  later = h.later;
-  between = h.between;
-  outputs = h.outputs;
-  took = h.took;
-  register = h.register;
-  stands = h.stands;
-  faults = h.faults;
-  told = h.told;
-}
+fails_with c s a b f h = fails_from c c s [] a a b f before h
+  where
+    before : Before c s c [] a a
+    before = record {
+      reaches = λ at next r. reaches_with c at next s r;
+      between = [];
+      outputs = sym (append-nil (octets_of c.outputs));
+      took = took_none a;
+      stands = λ o. o;
+      faults = refl;
+      told = refl;
+    }

@@ -1,24 +1,23 @@
 -- The loop over the frames, one part after another.
 use Rattle.oftp_wire.specs.declared.reason.SessionReason.{SessionReason}
 use Rattle.oftp_wire.specs.declared.reason.SessionReason.TheVariants.{ProtocolViolation}
-use Rattle.std.proofs.Common.{◌≡◌, ◌++◌, ℕ, false, List, [], drop, Option, None, Some, Result, Ok, Err, refl, sym, ap, ◌∙◌, subst}
+use Rattle.std.proofs.Common.{◌≡◌, ◌++◌, ℕ, ◌<◌, true, false, List, [], drop, length, Option, None, Some, Result, Ok, Err, refl, sym, ap, ◌∙◌, subst}
 use Rattle.std.specs.Option.{option_copied}
 use Rattle.std.specs.Borrow.{Bor}
-use Rattle.oftp_wire.proofs.Streams.{next_some, next_none}
-use Rattle.oftp_wire.specs.Stream.{Head}
+use Rattle.oftp_wire.proofs.Streams.{next_err, next_none, next_some, past_shorter}
 use Rattle.oftp_wire.specs.Kinds.{command_of}
-use Rattle.oftp_wire.specs.Stream.{Stream, front, command_in, next_of, left_of, past}
+use Rattle.oftp_wire.specs.Stream.{Bad, Head, Stream, Waits, Whole, command_in, front, left_of, next_of, past, with_fault}
 use Rattle.oftp_wire.specs.declared.frame_fault.FrameFault.{FrameFault}
-use Rattle.oftp_wire.specs.Stream.{Whole, Waits, Bad}
+use Rattle.oftp_session.specs.declared.session.Ending.{Ending}
 use Rattle.oftp_session.specs.declared.session.Ending.TheVariants.{Own}
-use Rattle.oftp_session.specs.Phases.{is_over, ending_of, Step, fails}
-use Rattle.oftp_session.specs.Steps.{has_turn}
-use Rattle.oftp_session.specs.Calls.{Seen}
+use Rattle.oftp_session.specs.Phases.{Phase, Step, ending_of, fails, is_over}
+use Rattle.oftp_session.specs.Steps.{Suits}
+use Rattle.oftp_session.specs.Calls.{Proceeds, Seen, Stands}
 use Rattle.oftp_engine.specs.declared.serving.RunFault.{RunFault}
 use Rattle.oftp_engine.specs.Runs.{Course, advance, run, is_stopped, step_on}
-use Rattle.oftp_engine.specs.Serving.{Scene, Fails, Made, StepFails, Stepped, Settles, Comes, IsOver}
-use Rattle.oftp_engine.proofs.Phases.{step_proceeds, fails_proceed}
-use Rattle.oftp_engine.proofs.Progress.{went_on, went_with, went_step, fails_step, fails_later, fails_with, leads_step, reaches_step, leads_frame, leads_bad}
+use Rattle.oftp_engine.specs.Serving.{Comes, Fails, IsAt, IsOver, IsWaiting, Made, Pumped, Scene, Settles, StepFails, Stepped}
+use Rattle.oftp_engine.proofs.Phases.{fails_proceed, live_from, step_proceeds}
+use Rattle.oftp_engine.proofs.Progress.{fails_later, fails_step, fails_with, leads_bad, leads_frame, leads_step, reaches_step, went_on, went_step, went_with}
 
 -- while it pumps: how far it came, and that the stream told no fault
 pub record IsPumping (c : Course) (s : List ℕ) (stream : Stream) (seen : Seen) (old new : Scene) : Type 0 where
@@ -26,78 +25,160 @@ pub record IsPumping (c : Course) (s : List ℕ) (stream : Stream) (seen : Seen)
   pub limit : stream.limit ≡ 100003
   pub told : stream.told ≡ None
 
-pub record IsSettled (c : Course) (s t : List ℕ) (seen : Seen) (old new : Scene) : Type 0 where
-  pub come : Comes c s t seen old new
-  pub done : has_turn come.at.phase ≡ false
+-- a step that was made, and one that failed
+ok_at : {T : Type 0} (c : Course) (step : Step) (seen : Seen) (a b : Scene) (r : Result T RunFault) (x : T)
+    → Stepped c step seen a b r → r ≡ Ok x → Made c step seen a b
+ok_at c step seen a b r x h e = subst (Stepped c step seen a b) e h
 
--- the turns are taken
-pub settle_on : (k : Course) (s t : List ℕ) (seen0 seen1 : Seen) (a b z : Scene) (p : Comes k s t seen0 a b) → Settles p.at seen1 b z → IsSettled k s t seen1 a z
-settle_on k s t seen0 seen1 a b z p q = record {
-  come = record {
-    at = q.at;
-    went = went_on k p.at q.at s t t a b z p.went (went_with p.at q.at t b z q.went);
-    now = q.now;
-  };
-  done = q.done;
-}
+err_at : {T : Type 0} (c : Course) (step : Step) (seen : Seen) (a b : Scene) (r : Result T RunFault) (f : RunFault)
+    → Stepped c step seen a b r → r ≡ Err f → StepFails c step a b f
+err_at c step seen a b r f h e = subst (Stepped c step seen a b) e h
 
-pub settle_fails : (k : Course) (s t : List ℕ) (seen0 : Seen) (a b z : Scene) (f : RunFault) (p : Comes k s t seen0 a b) → Fails p.at [] b z f → Fails k s a z f
-settle_fails k s t seen0 a b z f p h = fails_later k p.at s t a b z f p.went (fails_with p.at t b z f h)
+-- what `next` showed: a command, of which the stream is shorter, or none
+found : (s : Stream) (f : Option (Bor (List ℕ))) (o : Option (Bor (List ℕ))) → Ok (option_copied f) ≡ next_of s s.told → f ≡ o
+    → next_of s s.told ≡ Ok (option_copied o)
+found s f o e h = sym e ∙ ap (λ (x : Option (Bor (List ℕ))). Ok (option_copied x)) h
 
-frame_run : (c : Course) (t x : List ℕ) (n : ℕ) → has_turn c.phase ≡ false → is_over c.phase ≡ false → front 100003 t ≡ Whole n → command_in n t ≡ x → (more : List ℕ) (limit : Option ℕ) → is_stopped limit c ≡ false → run limit (t ++ more) c ≡ run limit (drop n t ++ more) (advance c (step_on c.setting c.phase c.register (command_of x)))
-frame_run c t x n turn over whole same = subst (λ (y : List ℕ). (more : List ℕ) (limit : Option ℕ) → is_stopped limit c ≡ false → run limit (t ++ more) c ≡ run limit (drop n t ++ more) (advance c (step_on c.setting c.phase c.register (command_of y)))) same (leads_frame c t n turn over whole)
+pub shorter : (s after : Stream) (f : Option (Bor (List ℕ))) (o : Bor (List ℕ)) → Ok (option_copied f) ≡ next_of s s.told → f ≡ Some o
+    → after ≡ left_of s s.told → length after.rest < length s.rest
+shorter s after f o e h left =
+    let some = next_some s o.now (found s f (Some o) e h) in
+    subst (λ (x : Stream). length x.rest < length s.rest) (sym (left ∙ some.3)) (past_shorter s some.0 some.1)
 
--- a command came and was answered
-pub frame_on : (k : Course) (s t x : List ℕ) (n : ℕ) (seen0 seen1 : Seen) (a b z : Scene) (p : Comes k s t seen0 a b) → has_turn p.at.phase ≡ false → is_over p.at.phase ≡ false → front 100003 t ≡ Whole n → command_in n t ≡ x → Made p.at (step_on p.at.setting p.at.phase p.at.register (command_of x)) seen1 b z → Comes k s (drop n t) seen1 a z
-frame_on k s t x n seen0 seen1 a b z p turn over whole same made =
-    let step = step_on p.at.setting p.at.phase p.at.register (command_of x) in
-    record {
-      at = advance p.at step;
-      went = went_on k p.at (advance p.at step) s t (drop n t) a b z p.went (went_step p.at step t (drop n t) seen1 b z (leads_step p.at step t (drop n t) (step_proceeds p.at.setting p.at.phase p.at.register (command_of x)) (frame_run p.at t x n turn over whole same)) made);
-      now = made.now;
-    }
-
-pub frame_fails : (k : Course) (s t x : List ℕ) (n : ℕ) (seen0 : Seen) (a b z : Scene) (f : RunFault) (p : Comes k s t seen0 a b) → has_turn p.at.phase ≡ false → is_over p.at.phase ≡ false → front 100003 t ≡ Whole n → command_in n t ≡ x → StepFails p.at (step_on p.at.setting p.at.phase p.at.register (command_of x)) b z f → Fails k s a z f
-frame_fails k s t x n seen0 a b z f p turn over whole same h =
-    let step = step_on p.at.setting p.at.phase p.at.register (command_of x) in
-    fails_later k p.at s t a b z f p.went (fails_step p.at step t b z f (step_proceeds p.at.setting p.at.phase p.at.register (command_of x) p.now.suits) (reaches_step p.at step t (drop n t) (frame_run p.at t x n turn over whole same)) h)
+limit_front : (s : Stream) (f : Head) → s.limit ≡ 100003 → front s.limit s.rest ≡ f → front 100003 s.rest ≡ f
+limit_front s f limit e = sym (ap (λ (n : ℕ). front n s.rest) limit) ∙ e
 
 over_after : (c : Course) (reason : SessionReason) → Some (Own reason) ≡ ending_of (advance c (fails reason)).phase
 unfolding advance
 over_after c reason = refl
 
--- no header came, and the session ended
-pub bad_on : (k : Course) (s t : List ℕ) (x : FrameFault) (seen0 seen1 : Seen) (a b z : Scene) (p : Comes k s t seen0 a b) → has_turn p.at.phase ≡ false → is_over p.at.phase ≡ false → front 100003 t ≡ Bad x → Made p.at (fails ProtocolViolation) seen1 b z → IsOver k s t seen1 a z (Own ProtocolViolation)
-bad_on k s t x seen0 seen1 a b z p turn over bad made = record {
-  come = record {
-    at = advance p.at (fails ProtocolViolation);
-    went = went_on k p.at (advance p.at (fails ProtocolViolation)) s t t a b z p.went (went_step p.at (fails ProtocolViolation) t t seen1 b z (leads_step p.at (fails ProtocolViolation) t t (fails_proceed p.at.phase p.at.register ProtocolViolation) (leads_bad p.at t x turn over bad)) made);
+-- The next step of a course, which takes the octets t and leaves u.
+module _ (k : Course) (s t u : List ℕ) (seen : Seen) (a b : Scene) (p : Comes k s t seen a b) (step : Step)
+    (proceeds : Suits p.at.phase p.at.register → Proceeds p.at.register step)
+    (goes : (more : List ℕ) (limit : Option ℕ) → is_stopped limit p.at ≡ false → run limit (t ++ more) p.at ≡ run limit (u ++ more) (advance p.at step)) where
+  -- it is made
+  abbrev step_made : (next : Seen) (z : Scene) → Made p.at step next b z → Comes k s u next a z
+  step_made next z made = record {
+    at = advance p.at step;
+    went = went_on k p.at (advance p.at step) s t u a b z p.went (went_step p.at step t u next b z (leads_step p.at step t u proceeds goes) made);
     now = made.now;
-  };
-  ends = over_after p.at ProtocolViolation;
-}
+  }
 
-pub bad_fails : (k : Course) (s t : List ℕ) (x : FrameFault) (seen0 : Seen) (a b z : Scene) (f : RunFault) (p : Comes k s t seen0 a b) → has_turn p.at.phase ≡ false → is_over p.at.phase ≡ false → front 100003 t ≡ Bad x → StepFails p.at (fails ProtocolViolation) b z f → Fails k s a z f
-bad_fails k s t x seen0 a b z f p turn over bad h =
-    fails_later k p.at s t a b z f p.went (fails_step p.at (fails ProtocolViolation) t b z f (fails_proceed p.at.phase p.at.register ProtocolViolation p.now.suits) (reaches_step p.at (fails ProtocolViolation) t t (leads_bad p.at t x turn over bad)) h)
+  -- it fails
+  step_failed : (z : Scene) (f : RunFault) → StepFails p.at step b z f → Fails k s a z f
+  step_failed z f h = fails_later k p.at s t a b z f p.went (fails_step p.at step t b z f (proceeds p.now.suits) (reaches_step p.at step t u goes) h)
 
--- what `next` showed
+-- One turn of the loop: it came so far before.
+module _ (k : Course) (s : List ℕ) (stream : Stream) (seen0 : Seen) (first old : Scene) (p : IsPumping k s stream seen0 first old) (stood : first.office.stands) where
+  -- an own turn failed
+  pub turn_fails : (after : Stream) (seen : Seen) (z : Scene) (f : RunFault) (result : Result (Option Ending) RunFault)
+      → (old.office.stands → (d : Course) → IsAt d seen0 old → Fails d [] old z f) → result ≡ Err f → Pumped k s after seen first z result
+  turn_fails after seen z f result fails same =
+      let failed = fails_with p.come.at stream.rest old z f (fails (p.come.went.stands stood) p.come.at p.come.now) in
+      subst (Pumped k s after seen first z) (sym same) (fails_later k p.come.at s stream.rest first old z f p.come.went failed)
 
-pub seen_some : (s : Stream) (f : Option (Bor (List ℕ))) (o : Bor (List ℕ)) → Ok (option_copied f) ≡ next_of s s.told → f ≡ Some o → (n : ℕ) × (front s.limit s.rest ≡ Whole n) × (command_in n s.rest ≡ o.now) × (left_of s s.told ≡ past s n)
-seen_some s f o e h =
-    let there : next_of s s.told ≡ Ok (Some o.now) = sym e ∙ ap (λ (x : Option (Bor (List ℕ))). Ok (option_copied x)) h in
-    next_some s o.now there
+  -- every due turn is taken
+  module _ (seen : Seen) (mid : Scene) (turns : old.office.stands → (d : Course) → IsAt d seen0 old → Settles d seen old mid)
+      (ended : Option Ending) (shows : (q : Phase) → Stands q seen → ended ≡ ending_of q) where
+    abbrev taken : Settles p.come.at seen old mid
+    taken = turns (p.come.went.stands stood) p.come.at p.come.now
 
-pub seen_none : (s : Stream) (f : Option (Bor (List ℕ))) → Ok (option_copied f) ≡ next_of s s.told → f ≡ None → (front s.limit s.rest ≡ Waits) × (left_of s s.told ≡ s)
-seen_none s f e h =
-    let there : next_of s s.told ≡ Ok None = sym e ∙ ap (λ (x : Option (Bor (List ℕ))). Ok (option_copied x)) h in
-    next_none s there
+    abbrev settled : Comes k s stream.rest seen first mid
+    settled = record {
+      at = taken.at;
+      went = went_on k p.come.at taken.at s stream.rest stream.rest first old mid p.come.went (went_with p.come.at taken.at stream.rest old mid taken.went);
+      now = taken.now;
+    }
 
-pub limit_front : (s : Stream) (f : Head) → s.limit ≡ 100003 → front s.limit s.rest ≡ f → front 100003 s.rest ≡ f
-limit_front s f limit e = sym (ap (λ (n : ℕ). front n s.rest) limit) ∙ e
+    -- the session has ended
+    pub has_ended : (end : Ending) → ended ≡ Some end → IsOver k s stream.rest seen first mid end
+    has_ended end some = record { come = settled; ends = sym some ∙ shows settled.at.phase settled.now.stands }
 
-pub ok_at : {T : Type 0} (c : Course) (step : Step) (seen : Seen) (a b : Scene) (r : Result T RunFault) (x : T) → Stepped c step seen a b r → r ≡ Ok x → Made c step seen a b
-ok_at c step seen a b r x h e = subst (Stepped c step seen a b) e h
+    -- it goes on
+    module _ (none : ended ≡ None) (after : Stream) (left : after ≡ left_of stream stream.told) where
+      live : is_over settled.at.phase ≡ false
+      live = live_from settled.at.phase ended (shows settled.at.phase settled.now.stands) none
 
-pub err_at : {T : Type 0} (c : Course) (step : Step) (seen : Seen) (a b : Scene) (r : Result T RunFault) (f : RunFault) → Stepped c step seen a b r → r ≡ Err f → StepFails c step a b f
-err_at c step seen a b r f h e = subst (Stepped c step seen a b) e h
+      -- no frame is whole
+      pub waits : (f : Option (Bor (List ℕ))) → Ok (option_copied f) ≡ next_of stream stream.told → f ≡ None → IsWaiting k s after seen first mid
+      waits f e h =
+          let none = next_none stream (found stream f None e h) in
+          subst (λ (x : Stream). IsWaiting k s x seen first mid) (sym (left ∙ none.1)) (record {
+            come = settled;
+            turn = taken.done;
+            over = live;
+            waits = limit_front stream Waits p.limit none.0;
+            limit = p.limit;
+            told = p.told;
+          })
+
+      -- a command came
+      module _ (f : Option (Bor (List ℕ))) (o : Bor (List ℕ)) (e : Ok (option_copied f) ≡ next_of stream stream.told) (h : f ≡ Some o) where
+        abbrev read : (n : ℕ) × (front stream.limit stream.rest ≡ Whole n) × (command_in n stream.rest ≡ o.now) × (left_of stream stream.told ≡ past stream n)
+        read = next_some stream o.now (found stream f (Some o) e h)
+
+        abbrev step : Step
+        step = step_on settled.at.setting settled.at.phase settled.at.register (command_of o.now)
+
+        proceeds : Suits settled.at.phase settled.at.register → Proceeds settled.at.register step
+        proceeds = step_proceeds settled.at.setting settled.at.phase settled.at.register (command_of o.now)
+
+        goes : (more : List ℕ) (limit : Option ℕ) → is_stopped limit settled.at ≡ false
+            → run limit (stream.rest ++ more) settled.at ≡ run limit (drop read.0 stream.rest ++ more) (advance settled.at step)
+        goes = subst
+            (λ (x : List ℕ). (more : List ℕ) (limit : Option ℕ) → is_stopped limit settled.at ≡ false → run limit (stream.rest ++ more) settled.at
+            ≡ run limit (drop read.0 stream.rest ++ more) (advance settled.at (step_on settled.at.setting settled.at.phase settled.at.register (command_of x))))
+            read.2 (leads_frame settled.at stream.rest read.0 taken.done live (limit_front stream (Whole read.0) p.limit read.1))
+
+        -- it was taken
+        pub obeyed : (next : Seen) (z : Scene)
+            → (mid.office.stands → (d : Course) → is_over d.phase ≡ false → IsAt d seen mid → Made d (step_on d.setting d.phase d.register (command_of o.now)) next mid z)
+            → IsPumping k s after next first z
+        obeyed next z made =
+            subst (λ (x : Stream). IsPumping k s x next first z) (sym (left ∙ read.3)) (record {
+              come = step_made k s stream.rest (drop read.0 stream.rest) seen first mid settled step proceeds goes next z
+                  (made (settled.went.stands stood) settled.at live settled.now);
+              limit = p.limit;
+              told = p.told;
+            })
+
+        -- it was taken in part
+        pub obey_fails : (next : Seen) (z : Scene) (f : RunFault) (result : Result (Option Ending) RunFault)
+            → (mid.office.stands → (d : Course) → is_over d.phase ≡ false → IsAt d seen mid
+            → StepFails d (step_on d.setting d.phase d.register (command_of o.now)) mid z f)
+            → result ≡ Err f → Pumped k s after next first z result
+        obey_fails next z f result fails same =
+            subst (Pumped k s after next first z) (sym same)
+            (step_failed k s stream.rest (drop read.0 stream.rest) seen first mid settled step proceeds goes z f
+            (fails (settled.went.stands stood) settled.at live settled.now))
+
+      -- no header stood where one has to be
+      module _ {T : Type 0} (x : FrameFault) (e : Err x ≡ next_of stream stream.told) (next : Seen) (z : Scene) (refused : Result T RunFault)
+          (stepped : (d : Course) → is_over d.phase ≡ false → IsAt d seen mid → Stepped d (fails ProtocolViolation) next mid z refused) where
+        abbrev bad : (front stream.limit stream.rest ≡ Bad x) × (left_of stream stream.told ≡ with_fault stream x)
+        bad = next_err stream x p.told (sym e)
+
+        bad_proceeds : Suits settled.at.phase settled.at.register → Proceeds settled.at.register (fails ProtocolViolation)
+        bad_proceeds = fails_proceed settled.at.phase settled.at.register ProtocolViolation
+
+        bad_goes : (more : List ℕ) (limit : Option ℕ) → is_stopped limit settled.at ≡ false
+            → run limit (stream.rest ++ more) settled.at ≡ run limit (stream.rest ++ more) (advance settled.at (fails ProtocolViolation))
+        bad_goes = leads_bad settled.at stream.rest x taken.done live (limit_front stream (Bad x) p.limit bad.0)
+
+        abbrev step_now : Stepped settled.at (fails ProtocolViolation) next mid z refused
+        step_now = stepped settled.at live settled.now
+
+        -- the session was ended
+        pub refused_bad : (v : T) → refused ≡ Ok v → IsOver k s after.rest next first z (Own ProtocolViolation)
+        refused_bad v ok =
+            let made = ok_at settled.at (fails ProtocolViolation) next mid z refused v step_now ok in
+            let come = step_made k s stream.rest stream.rest seen first mid settled (fails ProtocolViolation) bad_proceeds bad_goes next z made in
+            subst (λ (t : Stream). IsOver k s t.rest next first z (Own ProtocolViolation)) (sym (left ∙ bad.1))
+            (record { come = come; ends = over_after settled.at ProtocolViolation })
+
+        -- the writer told a fault within the ESID
+        pub refuse_fails : (f : RunFault) (result : Result (Option Ending) RunFault) → refused ≡ Err f → result ≡ Err f → Pumped k s after next first z result
+        refuse_fails f result failed same =
+            subst (Pumped k s after next first z) (sym same)
+            (step_failed k s stream.rest stream.rest seen first mid settled (fails ProtocolViolation) bad_proceeds bad_goes z f
+            (err_at settled.at (fails ProtocolViolation) next mid z refused f step_now failed))

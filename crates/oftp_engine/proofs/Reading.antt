@@ -21,14 +21,16 @@ use Rattle.oftp_engine.proofs.Courses.{grows_none}
 use Rattle.oftp_engine.proofs.Progress.{went_on}
 
 -- while it reads: how far it came where the office is clean and stood
-pub record IsReading {R : Type 0} (remaining : R → Option (List ℕ)) (before now : Port R) (Clean Stood : Type 0) (setting : Setting) (stream : Stream) (seen : Seen) (old new : Scene) : Type 0 where
+pub record IsReading {R : Type 0} (remaining : R → Option (List ℕ)) (before now : Port R) (Clean Stood : Type 0)
+    (setting : Setting) (stream : Stream) (seen : Seen) (old new : Scene) : Type 0 where
   pub given : List ℕ
   pub gave : Gave remaining before now given
   pub faults : now.faults ≡ before.faults
   pub pumping : Clean → Stood → IsPumping (started setting old.office.register) given stream seen old new
   pub needed : Clean → Stood → IsNeeded setting old.office.register given
 
-pub wait_on : (k : Course) (s : List ℕ) (before stream : Stream) (seen0 seen1 : Seen) (a b z : Scene) (p : Comes k s before.rest seen0 a b) → IsWaiting p.at before.rest stream seen1 b z → IsWaiting k s stream seen1 a z
+pub wait_on : (k : Course) (s : List ℕ) (before stream : Stream) (seen0 seen1 : Seen) (a b z : Scene) (p : Comes k s before.rest seen0 a b)
+    → IsWaiting p.at before.rest stream seen1 b z → IsWaiting k s stream seen1 a z
 wait_on k s before stream seen0 seen1 a b z p w = record {
   come = record { at = w.come.at; went = went_on k p.at w.come.at s before.rest stream.rest a b z p.went w.come.went; now = w.come.now };
   turn = w.turn;
@@ -49,17 +51,28 @@ over_on k s t u seen0 seen1 a b z end p w = record {
 leads_more : (c d : Course) (s t x : List ℕ) → Leads c s d t → Leads c (s ++ x) d (t ++ x)
 leads_more c d s t x h = record {
   grows = h.grows;
-  same = λ more limit stopped. ap (λ (y : List ℕ). run limit y c) (append_assoc s x more) ∙ h.same (x ++ more) limit stopped ∙ ap (λ (y : List ℕ). run limit y d) (sym (append_assoc t x more));
+  same = λ more limit stopped.
+      ap (λ (y : List ℕ). run limit y c) (append_assoc s x more) ∙ h.same (x ++ more) limit stopped
+      ∙ ap (λ (y : List ℕ). run limit y d) (sym (append_assoc t x more));
 }
 
 comes_more : (k : Course) (s t x : List ℕ) (seen : Seen) (a z : Scene) → Comes k s t seen a z → Comes k (s ++ x) (t ++ x) seen a z
 comes_more k s t x seen a z h = record {
   at = h.at;
-  went = record { leads = leads_more k h.at s t x h.went.leads; between = h.went.between; outputs = h.went.outputs; took = h.went.took; stands = h.went.stands; faults = h.went.faults; told = h.went.told };
+  went = record {
+    leads = leads_more k h.at s t x h.went.leads;
+    between = h.went.between;
+    outputs = h.went.outputs;
+    took = h.went.took;
+    stands = h.went.stands;
+    faults = h.went.faults;
+    told = h.went.told;
+  };
   now = h.now;
 }
 
-pub gave_on : {R : Type 0} (remaining : R → Option (List ℕ)) (before now next : Port R) (given piece : List ℕ) (n : ℕ) → Gave remaining before now given → Gives remaining now next piece n → Gave remaining before next (given ++ take n piece)
+pub gave_on : {R : Type 0} (remaining : R → Option (List ℕ)) (before now next : Port R) (given piece : List ℕ) (n : ℕ)
+    → Gave remaining before now given → Gives remaining now next piece n → Gave remaining before next (given ++ take n piece)
 gave_on remaining before now next given piece n g h = record {
   bytes = consumes_on (remaining before.inner) (remaining now.inner) (remaining next.inner) given (take n piece) g.bytes h.bytes;
   count = omega (arith, g.count, h.moved, length-append given (take n piece), length-take-le n piece h.fits);
@@ -67,18 +80,27 @@ gave_on remaining before now next given piece n g h = record {
   most = h.most ∙ g.most;
 }
 
-pub gave_zero : {R : Type 0} (remaining : R → Option (List ℕ)) (before now next : Port R) (given piece : List ℕ) (n : ℕ) → Gave remaining before now given → Gives remaining now next piece n → n ≡ 0 → Gave remaining before next given
-gave_zero remaining before now next given piece n g h zero = subst (Gave remaining before next) (ap (λ (m : ℕ). given ++ take m piece) zero ∙ append-nil given) (gave_on remaining before now next given piece n g h)
+pub gave_zero : {R : Type 0} (remaining : R → Option (List ℕ)) (before now next : Port R) (given piece : List ℕ) (n : ℕ)
+    → Gave remaining before now given → Gives remaining now next piece n → n ≡ 0 → Gave remaining before next given
+gave_zero remaining before now next given piece n g h zero =
+    let same = ap (λ (m : ℕ). given ++ take m piece) zero ∙ append-nil given in
+    subst (Gave remaining before next) same (gave_on remaining before now next given piece n g h)
 
-pub gave_kept : {R : Type 0} (remaining : R → Option (List ℕ)) (before now next : Port R) (given : List ℕ) → Gave remaining before now given → GivesNothing remaining now next → Gave remaining before next given
-gave_kept remaining before now next given g h = record {
-  bytes = subst (λ (x : List ℕ). Consumes (remaining before.inner) (remaining next.inner) x) (append-nil given) (consumes_on (remaining before.inner) (remaining now.inner) (remaining next.inner) given [] g.bytes (keeps_consumes (remaining now.inner) (remaining next.inner) h.bytes));
-  count = omega (arith, g.count, h.moved);
-  within = g.within;
-  most = h.most ∙ g.most;
-}
+pub gave_kept : {R : Type 0} (remaining : R → Option (List ℕ)) (before now next : Port R) (given : List ℕ)
+    → Gave remaining before now given → GivesNothing remaining now next → Gave remaining before next given
+gave_kept remaining before now next given g h =
+    let first = remaining before.inner in
+    let last = remaining next.inner in
+    let kept = keeps_consumes (remaining now.inner) last h.bytes in
+    record {
+      bytes = subst (Consumes first last) (append-nil given) (consumes_on first (remaining now.inner) last given [] g.bytes kept);
+      count = omega (arith, g.count, h.moved);
+      within = g.within;
+      most = h.most ∙ g.most;
+    }
 
-pub read_on : {R : Type 0} (remaining : R → Option (List ℕ)) (before now next : Port R) (given piece : List ℕ) (n : ℕ) (Clean Stood : Type 0) (setting : Setting) (stream fed : Stream) (seen : Seen) (a z : Scene)
+pub read_on : {R : Type 0} (remaining : R → Option (List ℕ)) (before now next : Port R) (given piece : List ℕ) (n : ℕ) (Clean Stood : Type 0)
+    (setting : Setting) (stream fed : Stream) (seen : Seen) (a z : Scene)
     → Gave remaining before now given → now.faults ≡ before.faults → Gives remaining now next piece n
     → (Clean → Stood → IsWaiting (started setting a.office.register) given stream seen a z)
     → fed ≡ record stream { rest = stream.rest ++ take n piece; capacity = fed.capacity } → length (take n piece) ≤ 4096

@@ -1,5 +1,5 @@
 -- From a session's call and a write to a step.
-use Rattle.std.proofs.Common.{◌≡◌, ℕ, ◌<◌, Bool, true, false, List, [], length, take, Option, None, Some, Result, Ok, Err, refl, sym, ap, ◌∙◌, subst, arith, inl, inr, ◌⊎◌, is_ok}
+use Rattle.std.proofs.Common.{◌≡◌, ℕ, ◌<◌, Bool, false, true, List, [], length, take, Option, None, Some, Result, Ok, Err, refl, sym, ap, ◌∙◌, subst, arith, inl, inr, ◌⊎◌, is_ok}
 use Rattle.std.specs.Result.{IfErr, OnOk}
 use Rattle.std.proofs.lemmas.List.{take_all}
 use Rattle.oftp_wire.specs.declared.reason.SessionReason.{SessionReason}
@@ -14,7 +14,7 @@ use Rattle.oftp_register.specs.Offices.{View, Only, WithOrWithout}
 use Rattle.oftp_session.specs.declared.session.Out.{Out}
 use Rattle.oftp_session.specs.declared.session.SessionFault.{SessionFault}
 use Rattle.oftp_session.specs.declared.session.SessionFault.TheVariants as session
-use Rattle.oftp_session.specs.Phases.{Step, EndedHere, fails, register_after}
+use Rattle.oftp_session.specs.Phases.{EndedHere, Phase, Step, fails, is_over, register_after}
 use Rattle.oftp_session.specs.Steps.{Suits}
 use Rattle.oftp_session.specs.Settings.{Setting}
 use Rattle.oftp_session.specs.Calls.{Makes, IsMade, IsBefore, IsAfter, IsBroken, IsUndone, Does, DoesNot, Seen, Stands, said as said_of}
@@ -44,7 +44,8 @@ made_register (Some k) r new h = sym (ap (λ (x : Result Register Cause). result
 
 -- a call that did its step, and the write of what it said
 pub stepped_ok : {T W : Type 0} (contents : W → Option (List ℕ)) (a d : Port W) (x y : View) (c : Course) (step : Step) (seen : Seen) (said : List ℕ) (result : Result T RunFault) →
-    seen.setting ≡ c.setting → IsMade step.change step.output x y said → x.register ≡ c.register → Suits step.phase (register_after c.register step.change) → Stands step.phase seen → Sent contents a d said (is_ok result) → IfErr result (λ f. f ≡ fault.Write) →
+    seen.setting ≡ c.setting → IsMade step.change step.output x y said → x.register ≡ c.register → Suits step.phase (register_after c.register step.change) →
+    Stands step.phase seen → Sent contents a d said (is_ok result) → IfErr result (λ f. f ≡ fault.Write) →
     Stepped c step seen (scene contents x a) (scene contents y d) result
 unfolding advance
 stepped_ok contents a d x y c step seen said (Ok t) setting made same suits stands sent err =
@@ -71,29 +72,34 @@ stepped_ok contents a d x y c step seen said (Err f) setting made same suits sta
     })
 
 -- an ESID of the engine's own, which leaves the office alone
-pub stepped_refuse : {T W : Type 0} (contents : W → Option (List ℕ)) (a d : Port W) (x : View) (c : Course) (reason : SessionReason) (seen : Seen) (result : Result T RunFault) →
-    seen.setting ≡ c.setting → x.register ≡ c.register → IsSound c.register → OnOk result (Stands (EndedHere reason) seen) → Sent contents a d (frame_of (esid_of reason)) (is_ok result) → IfErr result (λ f. f ≡ fault.Write) →
-    Stepped c (fails reason) seen (scene contents x a) (scene contents x d) result
-unfolding advance
-stepped_refuse contents a d x c reason seen (Ok t) setting same sound stands sent err = record {
-  now = record { setting = setting; stands = stands; register = same; suits = record { sound = sound; holds = tt } };
-  took = record { contents = sent.wrote.contents; taken = sent.wrote.moved };
-  stands = λ h. h;
-  faults = refl;
-  told = sent.faults;
-}
-stepped_refuse contents a d x c reason seen (Err f) setting same sound stands sent err =
-    let old = scene contents x a in
-    let new = scene contents x d in
-    subst (StepFails c (fails reason) old new) (sym err) (record {
-      count = sent.count;
-      short = sent.short;
-      took = record { contents = sent.wrote.contents; taken = sent.wrote.moved };
-      register = same;
-      stands = λ h. h;
-      faults = refl;
-      told = sent.faults;
-    })
+module _ {T W : Type 0} (contents : W → Option (List ℕ)) (a d : Port W) (x : View) (before seen : Seen) (reason : SessionReason) (result : Result T RunFault)
+    (setting : seen.setting ≡ before.setting)
+    (over : (p : Phase) → is_over p ≡ false → Stands p before → OnOk result (Stands (EndedHere reason) seen))
+    (sent : (p : Phase) → is_over p ≡ false → Stands p before → Sent contents a d (frame_of (esid_of reason)) (is_ok result))
+    (err : (p : Phase) → is_over p ≡ false → Stands p before → IfErr result (λ f. f ≡ fault.Write))
+    (c : Course) (live : is_over c.phase ≡ false) (at : IsAt c before (scene contents x a)) where
+  refused : (told : Result T RunFault) → OnOk told (Stands (EndedHere reason) seen) → Sent contents a d (frame_of (esid_of reason)) (is_ok told)
+      → IfErr told (λ f. f ≡ fault.Write) → Stepped c (fails reason) seen (scene contents x a) (scene contents x d) told
+  unfolding advance
+  refused (Ok t) stands out wrong = record {
+    now = record { setting = setting ∙ at.setting; stands = stands; register = at.register; suits = record { sound = at.suits.sound; holds = tt } };
+    took = record { contents = out.wrote.contents; taken = out.wrote.moved };
+    stands = λ h. h;
+    faults = refl;
+    told = out.faults;
+  }
+  refused (Err f) stands out wrong = subst (StepFails c (fails reason) (scene contents x a) (scene contents x d)) (sym wrong) (record {
+    count = out.count;
+    short = out.short;
+    took = record { contents = out.wrote.contents; taken = out.wrote.moved };
+    register = at.register;
+    stands = λ h. h;
+    faults = refl;
+    told = out.faults;
+  })
+
+  pub stepped_refuse : Stepped c (fails reason) seen (scene contents x a) (scene contents x d) result
+  stepped_refuse = refused result (over c.phase live at.stands) (sent c.phase live at.stands) (err c.phase live at.stands)
 
 -- where a session stands at a course, what holds at the session's own book and register holds at the course's
 pub at_course : (P : Setting → Register → Type 0) (c : Course) (seen : Seen) (now : Scene) → IsAt c seen now → P seen.setting now.office.register → P c.setting c.register
@@ -159,7 +165,8 @@ module _ {W : Type 0} (contents : W → Option (List ℕ)) (a d : Port W) (x y :
 
   -- the step is made
   pub called_ok : {T : Type 0} (next : Seen) (out : Out) (result : Result T RunFault) →
-      next.setting ≡ seen.setting → Does (step seen.setting x.register) x y (Ok (said_of out)) → Suits (step c.setting c.register).phase (register_after c.register (step c.setting c.register).change) →
+      next.setting ≡ seen.setting → Does (step seen.setting x.register) x y (Ok (said_of out)) →
+      Suits (step c.setting c.register).phase (register_after c.register (step c.setting c.register).change) →
       Stands (step seen.setting x.register).phase next → Sent contents a d (said_of out) (is_ok result) → IfErr result (λ f. f ≡ fault.Write) →
       Stepped c (step c.setting c.register) next (scene contents x a) (scene contents y d) result
   called_ok next out result setting made suits stands sent err =

@@ -19,7 +19,8 @@ const BOOK: &str =
 
 /// The partner's SSID and an end response.
 const INPUT: &[u8] =
-    b"\x10\0\0\x41X5O0177CARMAKER            CARPW   00128BNYN002N            \r\x10\0\0\x72EINV.7                        202402010800000001        O0013SUPPLIER            O0177CARMAKER            \0\0\0\0";
+    b"\x10\0\0\x41X5O0177CARMAKER            CARPW   00128BNYN002N            \r\
+      \x10\0\0\x72EINV.7                        202402010800000001        O0013SUPPLIER            O0177CARMAKER            \0\0\0\0";
 
 /// The station's ready message, its SSID and ESID 08.
 const OUTPUT: &[u8] =

@@ -4,5 +4,5 @@ use Rattle.oftp_engine.proofs.port.send.Goals as goal
 pub loop-at-preserved : goal.loop-at-preserved
 loop-at-preserved g c = record {
   within = sent_fits c.args.octets.now c.loop-at.at c.in-Some.n c.loop-at.invariant.within c.in-Some.ensures.fits;
-  so_far = sent_on g.W.Write.contents c.args.port.now c.loop-at.port c.write.new.port c.args.octets.now c.loop-at.at c.in-Some.n c.loop-at.invariant.so_far c.in-Some.ensures c.loop-at.invariant.within;
+  so_far = sent_on _ _ _ _ _ _ _ c.loop-at.invariant.so_far c.in-Some.ensures c.loop-at.invariant.within;
 }

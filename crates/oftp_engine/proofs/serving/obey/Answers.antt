@@ -20,7 +20,8 @@ returns-in-Ok-clause-steps g c = λ clean stood k live at.
     let stands = subst (λ (x : Result Out SessionFault). OnOk x (Stands (came c.args.session.now.setting k.phase r c.args.command.now).phase c.on_command.follows.lender-at-none)) c.in-Ok.is
     (done.1 clean stood k.phase held live at.stands) in
     called_ok g.W.Write.contents c.args.writer.now c.write_out.new.port _ _ k c.args.session.now (λ setting r. came setting k.phase r c.args.command.now) at _ c.in-Ok.out c.write_out.result
-    done.0 (c.in-Ok.ensures.does clean stood k.phase held live at.stands) (came_proceeds k.setting k.phase k.register c.args.command.now at.suits).suits stands c.write_out.ensures.sent c.write_out.ensures.err
+    done.0 (c.in-Ok.ensures.does clean stood k.phase held live at.stands) (came_proceeds k.setting k.phase k.register c.args.command.now at.suits).suits
+    stands c.write_out.ensures.sent c.write_out.ensures.err
 
 pub returns-in-Err-clause-steps : goal.returns-in-Err-clause-steps
 returns-in-Err-clause-steps g c = λ clean stood k live at.
@@ -28,7 +29,8 @@ returns-in-Err-clause-steps g c = λ clean stood k live at.
     let new = scene g.W.Write.contents (g.O.Office.view c.on_command.new.office) c.break_off.new.port in
     let held = subst (Holds k.phase) (sym at.register) at.suits.holds in
     let done = c.on_command.follows.holds-at-none in
-    let broken = subst (λ (x : Result Out SessionFault). OnErr x (c.on_command.follows.lender-at-none.standing ≡ Broken)) c.in-Err.is (done.2 (stands_open k.phase c.args.session.now.standing at.stands live)) in
+    let breaks = done.2 (stands_open k.phase c.args.session.now.standing at.stands live) in
+    let broken = subst (λ (x : Result Out SessionFault). OnErr x (c.on_command.follows.lender-at-none.standing ≡ Broken)) c.in-Err.is breaks in
     subst (λ (x : RunFault). StepFails k (came k.setting k.phase k.register c.args.command.now) old new x) (sym c.break_off.ensures.fault)
     (called_err g.W.Write.contents c.args.writer.now c.break_off.new.port _ _ k c.args.session.now (λ setting r. came setting k.phase r c.args.command.now) at c.in-Err.fault
     (c.in-Err.ensures.does clean stood k.phase held live at.stands) (c.break_off.ensures.broke broken))

@@ -1,16 +1,14 @@
-use Rattle.std.proofs.Common.{rules, [], ◌++◌, take, refl, sym, ap, ◌∙◌, subst, Err, arith}
-use Rattle.std.proofs.lemmas.Result.{err_from_is_err_and}
+use Rattle.std.proofs.Common.{rules, [], ◌++◌, take, refl, sym, ◌∙◌, subst, arith}
 use Rattle.oftp_wire.specs.Stream.{Stream}
 use Rattle.oftp_session.proofs.Phases.{opening_suits}
-use Rattle.oftp_engine.specs.declared.serving.RunFault.{RunFault}
 use Rattle.oftp_engine.specs.Runs.{started}
-use Rattle.oftp_engine.specs.Served.{setting_of, Serves, WriterTold}
-use Rattle.oftp_engine.specs.Serving.{scene}
+use Rattle.oftp_engine.specs.Served.{setting_of, Serves}
+use Rattle.oftp_engine.specs.Serving.{IsAt, scene}
 use Rattle.oftp_engine.proofs.Bytes.{consumes_none}
 use Rattle.oftp_engine.proofs.Ending.{IsLawful}
 use Rattle.oftp_engine.proofs.Progress.{went_none}
 use Rattle.oftp_engine.proofs.Pumping.{IsPumping}
-use Rattle.oftp_engine.proofs.Puts.{puts_none, puts_on, told_on}
+use Rattle.oftp_engine.proofs.Puts.{handed_on, puts_none, puts_on, told_err}
 use Rattle.oftp_engine.proofs.Reading.{gave_on, gave_zero, gave_kept, read_on, fed_from}
 use Rattle.oftp_engine.proofs.Served.{cut_short, fails_over, out_of_room, served_input, served_over, waits_on}
 use Rattle.oftp_engine.proofs.serving.serve.Goals as goal
@@ -28,11 +26,16 @@ pieces-init g c =
         given = [];
         gave = record { bytes = consumes_none (g.R.Read.remaining c.args.reader.now.inner) []; count = omega arith; within = omega arith; most = refl };
         faults = refl;
-        pumping = λ clean stood. subst (λ (x : Stream). IsPumping k [] x c.opened-session.result first first) (sym c.new-stream.ensures) (record {
-          come = record { at = k; went = went_none k [] first; now = record { setting = c.opened-session.ensures.setting; stands = c.opened-session.ensures.stands; register = refl; suits = opening_suits (g.O.Office.view c.args.office.now).register setting.called (g.met.O.Office.sound c.args.office.now clean stood) } };
-          limit = refl;
-          told = refl;
-        });
+        pumping = λ clean stood.
+            let sound = g.met.O.Office.sound c.args.office.now clean stood in
+            let now : IsAt k c.opened-session.result first = record {
+              setting = c.opened-session.ensures.setting;
+              stands = c.opened-session.ensures.stands;
+              register = refl;
+              suits = opening_suits (g.O.Office.view c.args.office.now).register setting.called sound;
+            } in
+            subst (λ (x : Stream). IsPumping k [] x c.opened-session.result first first) (sym c.new-stream.ensures)
+            (record { come = record { at = k; went = went_none k [] first; now = now }; limit = refl; told = refl });
         needed = λ clean stood. record { before = []; last = []; all = refl; piece = omega arith; live = λ some. absurd (omega (arith, some)) };
       };
     }
@@ -41,8 +44,7 @@ pub returns-in_err-ending-clause-serves : goal.returns-in_err-ending-clause-serv
 returns-in_err-ending-clause-serves g c =
     let first = scene g.W.Write.contents (g.O.Office.view c.args.office.now) c.args.writer.now in
     let new = scene g.W.Write.contents (g.O.Office.view c.pump.new.office) c.pump.new.writer in
-    let h = c.pieces.invariant.reads in
-    let e = err_from_is_err_and c.from_residual.result c.from_residual.ensures.1 in (
+    let h = c.pieces.invariant.reads in (
       h.given,
       h.gave,
       λ clean stood.
@@ -52,7 +54,7 @@ returns-in_err-ending-clause-serves g c =
             alone = λ fine. g.met.O.Office.alone c.pump.new.office clean fine;
           } in
           let p = h.pumping (c.pump.ensures.clean clean) stood in
-          subst (Serves (setting_of c.args.book.now c.args.role) h.given first new) (sym (e.1 ∙ ap (λ (x : RunFault). Err x) e.2))
+          subst (Serves (setting_of c.args.book.now c.args.role) h.given first new) (sym (handed_on _ _ c.from_residual.ensures.1))
           (fails_over _ _ _ c.pump.new.stream _ c.pump.new.session _ _ _ p law _
           (c.in_err-ending.ensures.steps clean (p.come.went.stands stood) p.come.at p.limit p.told p.come.now)),
     )
@@ -128,7 +130,7 @@ pieces-preserved g c =
     let new = scene g.W.Write.contents (g.O.Office.view c.pump.new.office) c.pump.new.writer in
     let h = c.pieces.invariant.reads in
     record {
-      out = puts_on g.W.Write.contents c.args.writer.now c.pieces.writer c.pump.new.writer c.pieces.invariant.out c.pump.ensures.out;
+      out = puts_on _ _ _ _ c.pieces.invariant.out c.pump.ensures.out;
       told = c.in_ok-ending.ensures.told ∙ c.pieces.invariant.told;
       clean = λ h. c.pieces.invariant.clean (c.pump.ensures.clean h);
       reads = read_on g.R.Read.remaining c.args.reader.now c.pieces.reader c.read.new.port h.given c.read.new.piece c.in-Some-read.n
@@ -141,24 +143,24 @@ pieces-preserved g c =
     }
 
 pub returns-in_err-ending-clause-out : goal.returns-in_err-ending-clause-out
-returns-in_err-ending-clause-out g c = puts_on g.W.Write.contents c.args.writer.now c.pieces.writer c.pump.new.writer c.pieces.invariant.out c.pump.ensures.out
+returns-in_err-ending-clause-out g c = puts_on _ _ _ _ c.pieces.invariant.out c.pump.ensures.out
 
 pub returns-in-Some-clause-out : goal.returns-in-Some-clause-out
-returns-in-Some-clause-out g c = puts_on g.W.Write.contents c.args.writer.now c.pieces.writer c.pump.new.writer c.pieces.invariant.out c.pump.ensures.out
+returns-in-Some-clause-out g c = puts_on _ _ _ _ c.pieces.invariant.out c.pump.ensures.out
 
 pub returns-in-None-clause-out : goal.returns-in-None-clause-out
-returns-in-None-clause-out g c = puts_on g.W.Write.contents c.args.writer.now c.pieces.writer c.pump.new.writer c.pieces.invariant.out c.pump.ensures.out
+returns-in-None-clause-out g c = puts_on _ _ _ _ c.pieces.invariant.out c.pump.ensures.out
 
 pub returns-in-Some-eq0-clause-out : goal.returns-in-Some-eq0-clause-out
-returns-in-Some-eq0-clause-out g c = puts_on g.W.Write.contents c.args.writer.now c.pieces.writer c.pump.new.writer c.pieces.invariant.out c.pump.ensures.out
+returns-in-Some-eq0-clause-out g c = puts_on _ _ _ _ c.pieces.invariant.out c.pump.ensures.out
 
 pub returns-then-is_err-clause-out : goal.returns-then-is_err-clause-out
-returns-then-is_err-clause-out g c = puts_on g.W.Write.contents c.args.writer.now c.pieces.writer c.pump.new.writer c.pieces.invariant.out c.pump.ensures.out
+returns-then-is_err-clause-out g c = puts_on _ _ _ _ c.pieces.invariant.out c.pump.ensures.out
 
 pub returns-in_err-ending-clause-writer_told : goal.returns-in_err-ending-clause-writer_told
 returns-in_err-ending-clause-writer_told g c =
-    let e = err_from_is_err_and c.from_residual.result c.from_residual.ensures.1 in
-    subst (WriterTold c.args.writer.now c.pump.new.writer) (sym (e.1 ∙ ap (λ (x : RunFault). Err x) e.2)) (told_on c.args.writer.now c.pieces.writer c.pump.new.writer c.in_err-ending.field-0.0 (c.pieces.invariant.told) c.in_err-ending.ensures.told)
+    told_err c.args.writer.now c.pieces.writer c.pump.new.writer _ _ (handed_on _ _ c.from_residual.ensures.1)
+    c.pieces.invariant.told c.in_err-ending.ensures.told
 
 pub returns-in-Some-clause-writer_told : goal.returns-in-Some-clause-writer_told
 returns-in-Some-clause-writer_told g c = c.in_ok-ending.ensures.told ∙ c.pieces.invariant.told

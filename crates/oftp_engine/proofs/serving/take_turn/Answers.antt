@@ -30,7 +30,8 @@ returns-in-Err-clause-steps g c = λ clean stood k turn at.
     let held = subst (Holds k.phase) (sym at.register) at.suits.holds in
     let live = turn_live k.phase turn in
     let done = c.turn.follows.holds-at-none in
-    let broken = subst (λ (x : Result Out SessionFault). OnErr x (c.turn.follows.lender-at-none.standing ≡ Broken)) c.in-Err.is (done.2 (stands_open k.phase c.args.session.now.standing at.stands live)) in
+    let breaks = done.2 (stands_open k.phase c.args.session.now.standing at.stands live) in
+    let broken = subst (λ (x : Result Out SessionFault). OnErr x (c.turn.follows.lender-at-none.standing ≡ Broken)) c.in-Err.is breaks in
     subst (λ (x : RunFault). StepFails k (turned k.setting k.phase k.register) old new x) (sym c.break_off.ensures.fault)
     (called_err g.W.Write.contents c.args.writer.now c.break_off.new.port _ _ k c.args.session.now (λ setting r. turned setting k.phase r) at c.in-Err.fault
     (c.in-Err.ensures.does clean stood k.phase held live at.stands) (c.break_off.ensures.broke broken))

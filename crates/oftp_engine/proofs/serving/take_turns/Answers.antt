@@ -1,9 +1,6 @@
-use Rattle.std.proofs.Common.{[], refl, sym, ap, ◌∙◌, subst, Err}
-use Rattle.oftp_engine.proofs.Puts.{puts_none, puts_on, told_on}
-use Rattle.oftp_engine.specs.Served.{WriterTold}
-use Rattle.std.proofs.lemmas.Result.{err_from_is_err_and}
+use Rattle.std.proofs.Common.{[], refl, sym, ◌∙◌, subst}
+use Rattle.oftp_engine.proofs.Puts.{handed_on, puts_none, puts_on, told_err}
 use Rattle.oftp_session.specs.Steps.{turned}
-use Rattle.oftp_engine.specs.declared.serving.RunFault.{RunFault}
 use Rattle.oftp_engine.specs.Runs.{turned_in}
 use Rattle.oftp_engine.specs.Serving.{scene, TurnsTaken}
 use Rattle.oftp_session.proofs.Proceeding.{turned_proceeds}
@@ -31,9 +28,11 @@ turns-preserved g c = record {
       let t = c.turns.invariant.comes (c.take_turn.ensures.clean clean) stood k at in
       let due = sym (c.turns-test.ensures.phase t.at.phase t.now.stands) in
       let made = c.in_ok-take_turn.ensures.steps clean (t.went.stands stood) t.at due t.now in
+      let step = turned t.at.setting t.at.phase t.at.register in
+      let on = went_step t.at step [] [] c.take_turn.new.session old new (leads_turn t.at [] due) made in
       record {
         at = turned_in t.at;
-        went = went_on k t.at (turned_in t.at) [] [] [] first old new t.went (went_step t.at (turned t.at.setting t.at.phase t.at.register) [] [] c.take_turn.new.session old new (leads_turn t.at [] due) made);
+        went = went_on k t.at (turned_in t.at) [] [] [] first old new t.went on;
         now = made.now;
       };
 }
@@ -45,10 +44,12 @@ returns-in_err-take_turn-clause-steps g c = λ clean stood k at.
     let new = scene g.W.Write.contents (g.O.Office.view c.take_turn.new.office) c.take_turn.new.writer in
     let t = c.turns.invariant.comes (c.take_turn.ensures.clean clean) stood k at in
     let due = sym (c.turns-test.ensures.phase t.at.phase t.now.stands) in
-    let f = c.in_err-take_turn.field-0.0 in
-    let failed = fails_step t.at (turned t.at.setting t.at.phase t.at.register) [] old new f (turned_proceeds t.at.setting t.at.phase t.at.register t.now.suits) (reaches_turn t.at [] due) (c.in_err-take_turn.ensures.steps clean (t.went.stands stood) t.at due t.now) in
-    let p = err_from_is_err_and c.from_residual.result c.from_residual.ensures.1 in
-    subst (TurnsTaken k c.take_turn.new.session first new) (sym (p.1 ∙ ap (λ (x : RunFault). Err x) p.2)) (fails_later k t.at [] [] first old new f t.went failed)
+    let step = turned t.at.setting t.at.phase t.at.register in
+    let proceeds = turned_proceeds t.at.setting t.at.phase t.at.register t.now.suits in
+    let failed = fails_step t.at step [] old new c.in_err-take_turn.field-0.0 proceeds (reaches_turn t.at [] due)
+        (c.in_err-take_turn.ensures.steps clean (t.went.stands stood) t.at due t.now) in
+    subst (TurnsTaken k c.take_turn.new.session first new) (sym (handed_on _ _ c.from_residual.ensures.1))
+    (fails_later k t.at [] [] first old new c.in_err-take_turn.field-0.0 t.went failed)
 
 pub returns-in_err-take_turn-clause-out : goal.returns-in_err-take_turn-clause-out
 returns-in_err-take_turn-clause-out g c = puts_on g.W.Write.contents c.args.writer.now c.turns.writer c.take_turn.new.writer c.turns.invariant.out c.take_turn.ensures.out
@@ -58,5 +59,5 @@ returns-clause-told g c = c.turns.invariant.told
 
 pub returns-in_err-take_turn-clause-told : goal.returns-in_err-take_turn-clause-told
 returns-in_err-take_turn-clause-told g c =
-    let p = err_from_is_err_and c.from_residual.result c.from_residual.ensures.1 in
-    subst (WriterTold c.args.writer.now c.take_turn.new.writer) (sym (p.1 ∙ ap (λ (x : RunFault). Err x) p.2)) (told_on c.args.writer.now c.turns.writer c.take_turn.new.writer c.in_err-take_turn.field-0.0 c.turns.invariant.told c.in_err-take_turn.ensures.told)
+    told_err c.args.writer.now c.turns.writer c.take_turn.new.writer _ _ (handed_on _ _ c.from_residual.ensures.1)
+    c.turns.invariant.told c.in_err-take_turn.ensures.told

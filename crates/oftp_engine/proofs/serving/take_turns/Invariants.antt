@@ -7,12 +7,14 @@ use Rattle.oftp_engine.proofs.serving.take_turns.Given as goal
 
 abbrev pub invariant-turns : goal.invariant-turns
 invariant-turns g l =
+    let first = scene g.W.Write.contents (g.O.Office.view l.fn.office) l.fn.writer in
+    let now = scene g.W.Write.contents (g.O.Office.view l.office) l.writer in
     record {
       out : Puts g.W.Write.contents l.fn.writer l.writer;
       told : l.writer.faults ≡ l.fn.writer.faults;
       clean : (g.O.Office.view l.office).clean → (g.O.Office.view l.fn.office).clean;
-      comes : (g.O.Office.view l.office).clean → (g.O.Office.view l.fn.office).stands → (c : Course) → IsAt c l.fn.session (scene g.W.Write.contents (g.O.Office.view l.fn.office) l.fn.writer)
-          → Comes c [] [] l.session (scene g.W.Write.contents (g.O.Office.view l.fn.office) l.fn.writer) (scene g.W.Write.contents (g.O.Office.view l.office) l.writer);
+      comes : (g.O.Office.view l.office).clean → (g.O.Office.view l.fn.office).stands → (c : Course)
+          → IsAt c l.fn.session first → Comes c [] [] l.session first now;
     }
 
 abbrev pub decreases-turns : goal.decreases-turns
