@@ -105,7 +105,7 @@ is_broken_off setting given old new law h =
     let r = h.reaches.same [] (Some taken) (not_stopped h.at h.count) in
     let stopped = run_stopped (Some taken) r.0 end (stopped_now h.at h.step h.count h.short) in
     let e : broken_off setting taken given old.office.register ≡ end =
-        ap (λ (x : List ℕ). run (Some taken) x (started setting old.office.register)) (sym (append-nil given)) ∙ r.1 ∙ stopped in
+    ap (λ (x : List ℕ). run (Some taken) x (started setting old.office.register)) (sym (append-nil given)) ∙ r.1 ∙ stopped in
     let octets : octets_of (broken_off setting taken given old.office.register).outputs ≡ before ++ framed h.step.output = ap (λ (c : Course). octets_of c.outputs) e ∙ octets_step h.at h.step in
     let part = take h.count (framed h.step.output) in
     let out = ap (λ (x : List ℕ). x ++ part) (sym h.outputs) ∙ sym (take_past before (framed h.step.output) h.count) ∙ ap (take taken) (sym octets) in
@@ -177,7 +177,7 @@ leaves_prefix r d w step (Some change) least left e g h sd se le only = λ k l.
       | inr made ↦
           let one_more = changes_step d step ∙ ap (with_change d.changes) e in
           let long : length (advance d step).changes ≡ length d.changes + 1 =
-              ap (λ (x : List Change). length x) one_more ∙ length-append d.changes (change ∷ []) in
+          ap (λ (x : List Change). length x) one_more ∙ length-append d.changes (change ∷ []) in
           record {
             count = length (advance d step).changes;
             least = omega arith;

@@ -10,3 +10,4 @@ pub mod Sending
 pub mod Stepping
 pub mod Puts
 pub mod Served
+pub mod Deciding

@@ -13,7 +13,7 @@ pub sent_on : {X : Type 0} (contents : X → Option (List ℕ)) (a b d : Port X)
 sent_on contents a b d octets at n s t le =
     let piece : take (length octets - at) (drop at octets) ≡ drop at octets = take_rest octets at in
     let joined : take at octets ++ take n (take (length octets - at) (drop at octets)) ≡ take (at + n) octets =
-        ap (λ (z : List ℕ). take at octets ++ take n z) piece ∙ sym (take-add at n octets) in
+    ap (λ (z : List ℕ). take at octets ++ take n z) piece ∙ sym (take-add at n octets) in
     let fits : n ≤ length octets - at = omega (arith, t.fits, ap (λ (z : List ℕ). length z) piece, length-drop at octets) in
     let long : length (take (at + n) octets) ≡ length (take at octets) + n = length-take-le (at + n) octets (omega arith) ∙ ap (λ (k : ℕ). k + n) (sym (length-take-le at octets le)) in
     let both = appends_on (contents a.inner) (contents b.inner) (contents d.inner) (take at octets) _ s.wrote.contents t.bytes in

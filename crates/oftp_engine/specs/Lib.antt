@@ -3,3 +3,5 @@ pub mod Ports
 pub mod Serving
 pub mod Served
 pub mod Frames
+pub mod Operating
+pub mod Operated

@@ -2,10 +2,12 @@
 #![tactic(auto)]
 
 mod laws;
+mod operating;
 mod port;
 mod serving;
 
 pub use laws::folds_over_frames;
+pub use operating::{Operator, Refusal, Told, operate};
 pub use port::Port;
 pub use serving::{End, Role, RunFault, serve};
 

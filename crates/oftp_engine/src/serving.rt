@@ -276,13 +276,13 @@ fn pump<O: Office, W: Write>(
 }
 
 // A session before its first step.
-fn opened<'b>(book: &'b Book, role: Role<'b>) -> Session<'b>
+fn opened<'b>(alloc: Global, book: &'b Book, role: Role<'b>) -> Session<'b>
     ensures setting { result.setting ≡ setting_of book.entry.now role.entry }
     ensures stands { Stands (opening (setting_of book.entry.now role.entry).called) result }
 {
     match role {
-        Role::Responder => Session::responder(book),
-        Role::Initiator(partner) => Session::initiator(book, partner),
+        Role::Responder => Session::responder(alloc, book),
+        Role::Initiator(partner) => Session::initiator(alloc, book, partner),
     }
 }
 
@@ -316,7 +316,7 @@ pub fn serve<O: Office, R: Read, W: Write>(
     ensures ends { InputEnded R.remaining reader.new result }
     ensures out { Puts W.contents writer.old writer.new }
 {
-    let mut session = opened(book, role);
+    let mut session = opened(alloc, book, role);
     let mut stream = Deframer::new(alloc, LONGEST_FRAME);
     let mut piece = [0u8; PIECE];
     'pieces: loop {

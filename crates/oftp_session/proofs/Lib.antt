@@ -1,4 +1,15 @@
 pub mod Framing
 pub mod Filing
 pub mod Phases
+pub mod Standings
+pub mod Credit
+pub mod Views
+pub mod Answers
+pub mod Receipts
+pub mod Windows
+pub mod Ends
+pub mod Closing
+pub mod Starts
+pub mod Offers
+pub mod Coming
 pub mod Proceeding

@@ -1,27 +1,46 @@
 -- Each step from a register that suits its phase goes on, by cases of phase.
-use Rattle.std.proofs.Common.{◌≡◌, Bool, true, false, cond, Option, None, Some, Result, Ok, Err, refl, is_ok}
+use Rattle.std.proofs.Common.{◌≡◌, ℕ, ◌+◌, nat_lt, Bool, true, false, cond, List, [], ◌∷◌, length, Option, None, Some, Result, Ok, Err, refl, sym, ap, subst, is_ok}
 use Rattle.std.proofs.lemmas.Bool.{false≢true}
 use Rattle.std.specs.Result.{result_unwrap_or}
 use Rattle.oftp_wire.specs.declared.command.Command.{Command}
 use Rattle.oftp_wire.specs.declared.command.Command.TheVariants as command
+use Rattle.oftp_wire.specs.declared.command.Efid.{Efid}
 use Rattle.oftp_wire.specs.declared.command.Mode.{Mode}
+use Rattle.oftp_wire.specs.declared.command.Sfid.{Sfid}
 use Rattle.oftp_wire.specs.declared.reason.SessionReason.{SessionReason}
-use Rattle.oftp_wire.specs.declared.reason.SessionReason.TheVariants.{InvalidData}
+use Rattle.oftp_wire.specs.declared.reason.SessionReason.TheVariants.{BufferSizeError, InvalidData, ProtocolViolation}
+use Rattle.oftp_vfile.specs.declared.format.TakeFault.{TakeFault}
+use Rattle.oftp_vfile.specs.Carries.{is_open}
+use Rattle.oftp_vfile.specs.Reading.{taken}
+use Rattle.oftp_vfile.specs.Taking.{Taking, counts_of}
 use Rattle.oftp_partners.specs.declared.partner.Partner.{Partner}
 use Rattle.oftp_register.specs.declared.change.Cause.{Cause}
+use Rattle.oftp_register.specs.declared.change.Change.{Change}
+use Rattle.oftp_register.specs.declared.change.Change.TheVariants.{Keep}
+use Rattle.oftp_register.specs.declared.verdicts.EndVerdict.{EndVerdict}
+use Rattle.oftp_register.specs.declared.verdicts.EndVerdict.TheVariants as «end»
+use Rattle.oftp_register.specs.declared.verdicts.StartVerdict.{StartVerdict}
+use Rattle.oftp_register.specs.declared.verdicts.StartVerdict.TheVariants as start
 use Rattle.oftp_register.specs.Register.{Register, Received, has_received}
 use Rattle.oftp_register.specs.Changes.{apply}
-use Rattle.oftp_register.specs.Soundness.{IsSound, IsSoundReceived}
+use Rattle.oftp_register.specs.Soundness.{IsFit, IsSound, IsSoundReceived}
+use Rattle.oftp_register.specs.Verdicts.{end_verdict}
 use Rattle.oftp_register.proofs.KeepLemmas.{apply_keeps}
 use Rattle.oftp_session.specs.declared.link.WhenDone.TheVariants.{ChangeDirection, EndSession}
 use Rattle.oftp_session.specs.declared.state.Contact.{Contact}
 use Rattle.oftp_session.specs.Settings.{Setting}
-use Rattle.oftp_session.specs.Phases.{Phase, ResponderOpening, InitiatorOpening, AwaitingSsid, ListenerIdle, SpeakerIdle, EndedHere, EndedThere, answers, fails, unexpected}
+use Rattle.oftp_session.specs.Phases.{Phase, Receipt, ResponderOpening, InitiatorOpening, AwaitingSsid, ListenerIdle, Receiving, SpeakerIdle, EndedHere, EndedThere, answers, fails, quiet, register_after, unexpected}
 use Rattle.oftp_session.specs.Opening.{Agreement, came_initiator_opening, came_awaiting_ssid, offer_step, opened_step, open_step, ssid_verdict}
+use Rattle.oftp_session.specs.Receiving.{came_receiving, carried_by, data_step, end_step, is_window_full, keeping, on_end_verdict, on_start_verdict, on_taken, receipt_of, rows_to_keep, sfpa_of, start_of, verdict_on, window_step, with_payload, with_rows}
+use Rattle.oftp_session.specs.Receiving.{offer_step as sfid_step}
 use Rattle.oftp_session.specs.Listener.{came_listener_idle, end_response, negative_end_response, response_step, filing, file_of, is_between}
-use Rattle.oftp_session.specs.Steps.{came, turned, Holds, Suits}
-use Rattle.oftp_session.specs.Calls.{Proceeds}
+use Rattle.oftp_session.specs.Starting.{MayBegin}
+use Rattle.oftp_session.specs.Steps.{came, turned, Holds, IsReceived, Suits}
+use Rattle.oftp_session.specs.Calls.{IsAccepted, Proceeds}
+use Rattle.oftp_session.proofs.Ends.{close_accepted, close_fits, give_up_accepted, give_up_fits}
 use Rattle.oftp_session.proofs.Filing.{files_new, files_fit}
+use Rattle.oftp_session.proofs.Receipts.{carried_next, keep_accepted, keep_after, keep_fits, payload_holds}
+use Rattle.oftp_session.proofs.Starts.{accepted_begins}
 
 -- a step that changes nothing goes on to a phase that holds
 same_proceeds : (r : Register) (phase : Phase) (output : Option Command) → IsSound r → Holds phase r → Proceeds r (record { phase = phase; change = None; output = output })
@@ -36,13 +55,20 @@ unfolding unexpected
 unexpected_proceeds r (command.Esid esid) sound = same_proceeds r _ _ sound tt
 unexpected_proceeds r _ sound = same_proceeds r _ _ sound tt
 
+-- a change that is accepted
+accepted_proceeds : (r : Register) (phase : Phase) (change : Change) (output : Option Command) → IsSound r → IsFit r change → IsAccepted r change
+    → Holds phase (register_after r (Some change)) → Proceeds r (record { phase = phase; change = Some change; output = output })
+accepted_proceeds r phase change output sound fit accepted holds =
+    let made = allowed (apply r change) r accepted in
+    record { allowed = made; suits = record { sound = apply_keeps r change _ sound fit made; holds = holds } }
+
 -- a response is filed where it is new
 new_proceeds : (contact : Contact) (r : Register) (response : Received) → IsSound r → IsSoundReceived response
     → has_received r response.kind response.identity ≡ false → Proceeds r (answers (ListenerIdle contact) (Some (file_of response)) command.Rtr)
 new_proceeds contact r response sound fit new =
-    let made = allowed (apply r (file_of response)) r (files_new r response.kind response.identity response.reason response.creator response.text new) in
-    let fits = files_fit r response.kind response.identity response.reason response.creator response.text fit in
-    record { allowed = made; suits = record { sound = apply_keeps r _ _ sound fits made; holds = tt } }
+    accepted_proceeds r (ListenerIdle contact) (file_of response) (Some command.Rtr) sound
+    (files_fit r response.kind response.identity response.reason response.creator response.text fit)
+    (files_new r response.kind response.identity response.reason response.creator response.text new) tt
 
 filed_proceeds : (contact : Contact) (r : Register) (response : Received) → IsSound r → IsSoundReceived response → Proceeds r (answers (ListenerIdle contact) (filing r response) command.Rtr)
 filed_proceeds contact r response sound fit = at (has_received r response.kind response.identity) refl
@@ -59,8 +85,83 @@ response_proceeds setting contact r response sound fit = at (is_between setting 
     at true = filed_proceeds contact r response sound fit
     at false = same_proceeds r _ _ sound tt
 
+-- a file begins
+start_proceeds : (contact : Contact) (r : Register) (sfid : Sfid) (count : ℕ) → IsSound r → MayBegin r sfid count → Proceeds r (on_start_verdict contact r sfid (start.Accept count))
+start_proceeds contact r sfid count sound may =
+    let after : may.after ≡ register_after r (Some (start_of sfid count)) = sym (ap (λ (q : Result Register Cause). result_unwrap_or q r) may.made) in
+    accepted_proceeds r (Receiving contact (receipt_of r sfid count)) (start_of sfid count) (Some (sfpa_of count)) sound may.fit (ap is_ok may.made)
+    (subst (λ (s : Register). IsReceived s (receipt_of r sfid count)) after may.received)
+
+sfid_proceeds : (setting : Setting) (contact : Contact) (r : Register) (sfid : Sfid) → IsSound r → Proceeds r (sfid_step setting contact r sfid)
+unfolding sfid_step
+sfid_proceeds setting contact r sfid sound = by (verdict_on setting contact r sfid) refl
+  where
+    by : (verdict : StartVerdict) → verdict_on setting contact r sfid ≡ verdict → Proceeds r (on_start_verdict contact r sfid verdict)
+    by (start.Accept count) h = start_proceeds contact r sfid count sound (accepted_begins setting contact r sfid count sound h)
+    by (start.Refuse reason retry) h = same_proceeds r _ _ sound tt
+
+-- rows are kept, if there are any
+keep_proceeds : (contact : Contact) (r : Register) (g : Receipt) → IsSound r → IsReceived r g
+    → let rows = rows_to_keep g (carried_by g) in Proceeds r (answers (Receiving contact (with_rows g rows)) (keeping g.number rows) command.Cdt)
+keep_proceeds contact r g sound holds = by (rows_to_keep g (carried_by g)) refl
+  where
+    by : (rows : List (List ℕ)) → rows_to_keep g (carried_by g) ≡ rows → Proceeds r (answers (Receiving contact (with_rows g rows)) (keeping g.number rows) command.Cdt)
+    by [] e = same_proceeds r _ _ sound (subst (λ (x : List (List ℕ)). IsReceived (register_after r (keeping g.number x)) (with_rows g x)) e (keep_after r g holds))
+    by (x ∷ xs) e =
+        accepted_proceeds r (Receiving contact (with_rows g (x ∷ xs))) (Keep g.number (x ∷ xs)) (Some command.Cdt) sound
+        (subst (λ (rows : List (List ℕ)). IsFit r (Keep g.number rows)) e (keep_fits r g holds))
+        (subst (λ (rows : List (List ℕ)). IsAccepted r (Keep g.number rows)) e (keep_accepted r g holds))
+        (subst (λ (rows : List (List ℕ)). IsReceived (register_after r (keeping g.number rows)) (with_rows g rows)) e (keep_after r g holds))
+
+window_proceeds : (contact : Contact) (r : Register) (g : Receipt) → IsSound r → IsReceived r g → Proceeds r (window_step contact g (rows_to_keep g (carried_by g)))
+window_proceeds contact r g sound holds = by (is_window_full contact g)
+  where
+    by : (full : Bool) → let rows = rows_to_keep g (carried_by g) in
+        Proceeds r (cond full (answers (Receiving contact (with_rows g rows)) (keeping g.number rows) command.Cdt) (quiet (Receiving contact g)))
+    by true = keep_proceeds contact r g sound holds
+    by false = same_proceeds r _ _ sound holds
+
+-- a payload
+taken_proceeds : (contact : Contact) (r : Register) (f : Receipt) (payload : List ℕ) → IsSound r → IsReceived r f → Proceeds r (on_taken contact f payload (taken (carried_by f) payload))
+taken_proceeds contact r f payload sound holds = by (taken (carried_by f) payload) refl
+  where
+    by : (result : Result Taking TakeFault) → taken (carried_by f) payload ≡ result → Proceeds r (on_taken contact f payload result)
+    by (Ok t) h =
+        let g = with_payload f payload in
+        subst (λ (x : Taking). Proceeds r (window_step contact g (rows_to_keep g x))) (carried_next f payload t h) (window_proceeds contact r g sound (payload_holds r f t payload holds h))
+    by (Err fault) h = same_proceeds r _ _ sound tt
+
+data_proceeds : (contact : Contact) (r : Register) (f : Receipt) (payload : List ℕ) → IsSound r → IsReceived r f → Proceeds r (data_step contact f payload)
+unfolding data_step
+data_proceeds contact r f payload sound holds = by (nat_lt contact.link.buffer (length payload + 1))
+  where
+    by : (long : Bool) → Proceeds r (cond long (fails BufferSizeError) (on_taken contact f payload (taken (carried_by f) payload)))
+    by true = same_proceeds r _ _ sound tt
+    by false = taken_proceeds contact r f payload sound holds
+
+-- the end of a file
+end_proceeds : (contact : Contact) (r : Register) (f : Receipt) (efid : Efid) → IsSound r → IsReceived r f → Proceeds r (end_step contact r f efid)
+unfolding end_step
+end_proceeds contact r f efid sound holds = by (is_open (carried_by f).stage) refl
+  where
+    ends : (verdict : EndVerdict) → is_open (carried_by f).stage ≡ false → Proceeds r (on_end_verdict contact r f (carried_by f) verdict)
+    ends «end».Accept shut = accepted_proceeds r (ListenerIdle contact) _ _ sound (close_fits r f sound holds shut) (close_accepted r f _ holds) tt
+    ends («end».Refuse reason) shut = accepted_proceeds r (ListenerIdle contact) _ _ sound (give_up_fits r f.number) (give_up_accepted r f holds) tt
+
+    by : (was : Bool) → is_open (carried_by f).stage ≡ was
+        → Proceeds r (cond was (fails ProtocolViolation) (on_end_verdict contact r f (carried_by f) (end_verdict efid (counts_of (carried_by f)).0 (counts_of (carried_by f)).1)))
+    by true e = same_proceeds r _ _ sound tt
+    by false e = ends _ e
+
+receiving_proceeds : (contact : Contact) (r : Register) (f : Receipt) (c : Command) → IsSound r → IsReceived r f → Proceeds r (came_receiving contact r f c)
+unfolding came_receiving
+receiving_proceeds contact r f (command.Data payload) sound holds = data_proceeds contact r f payload sound holds
+receiving_proceeds contact r f (command.Efid efid) sound holds = end_proceeds contact r f efid sound holds
+receiving_proceeds contact r f other sound holds = unexpected_proceeds r other sound
+
 listener_proceeds : (setting : Setting) (contact : Contact) (r : Register) (c : Command) → IsSound r → Proceeds r (came_listener_idle setting contact r c)
 unfolding came_listener_idle
+listener_proceeds setting contact r (command.Sfid sfid) sound = sfid_proceeds setting contact r sfid sound
 listener_proceeds setting contact r (command.Eerp eerp) sound = response_proceeds setting contact r (end_response eerp) sound (refl, refl, refl)
 listener_proceeds setting contact r (command.Nerp nerp) sound = response_proceeds setting contact r (negative_end_response nerp) sound tt
 listener_proceeds setting contact r command.Cd sound = same_proceeds r _ _ sound tt
@@ -95,6 +196,7 @@ came_proceeds setting ResponderOpening r c suits = unexpected_proceeds r c suits
 came_proceeds setting InitiatorOpening r c suits = initiate_proceeds setting r c suits.sound
 came_proceeds setting AwaitingSsid r c suits = await_proceeds setting r c suits.sound
 came_proceeds setting (ListenerIdle contact) r c suits = listener_proceeds setting contact r c suits.sound
+came_proceeds setting (Receiving contact f) r c suits = receiving_proceeds contact r f c suits.sound suits.holds
 came_proceeds setting (SpeakerIdle contact done) r c suits = unexpected_proceeds r c suits.sound
 came_proceeds setting (EndedHere reason) r c suits = same_proceeds r _ _ suits.sound tt
 came_proceeds setting (EndedThere reason) r c suits = same_proceeds r _ _ suits.sound tt
@@ -106,6 +208,7 @@ turned_proceeds setting ResponderOpening r suits = same_proceeds r _ _ suits.sou
 turned_proceeds setting InitiatorOpening r suits = same_proceeds r _ _ suits.sound tt
 turned_proceeds setting AwaitingSsid r suits = same_proceeds r _ _ suits.sound tt
 turned_proceeds setting (ListenerIdle contact) r suits = same_proceeds r _ _ suits.sound tt
+turned_proceeds setting (Receiving contact f) r suits = same_proceeds r _ _ suits.sound suits.holds
 turned_proceeds setting (SpeakerIdle contact ChangeDirection) r suits = same_proceeds r _ _ suits.sound tt
 turned_proceeds setting (SpeakerIdle contact EndSession) r suits = same_proceeds r _ _ suits.sound tt
 turned_proceeds setting (EndedHere reason) r suits = same_proceeds r _ _ suits.sound tt

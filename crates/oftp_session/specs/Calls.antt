@@ -1,5 +1,5 @@
 -- What a call of a session does: one step.
-use Rattle.std.specs.Prelude.{◌≡◌, ℕ, ◌<◌, ◌⊎◌, ⊤, true, List, [], length, Option, None, Some, Result, Ok, Err, is_ok}
+use Rattle.std.specs.Prelude.{◌≡◌, ◌≢◌, ℕ, ◌<◌, ◌⊎◌, ⊤, true, List, [], length, Option, None, Some, Result, Ok, Err, is_ok}
 use Rattle.oftp_wire.specs.declared.command.Command.{Command}
 use Rattle.oftp_register.specs.declared.change.Change.{Change}
 use Rattle.oftp_register.specs.declared.change.Change.TheVariants as change
@@ -12,7 +12,10 @@ use Rattle.oftp_session.specs.declared.session.Out.{Out}
 use Rattle.oftp_session.specs.declared.session.Out.TheVariants.{Nothing, Send}
 use Rattle.oftp_session.specs.declared.state.State.{State}
 use Rattle.oftp_session.specs.Settings.{Setting}
-use Rattle.oftp_session.specs.Phases.{Phase, Step, framed, register_after}
+use Rattle.oftp_vfile.specs.declared.format.TakeFault.{TakeFault}
+use Rattle.oftp_vfile.specs.declared.format.TakeFault.TheVariants as take
+use Rattle.oftp_session.specs.Receiving.{reason_of}
+use Rattle.oftp_session.specs.Phases.{fails, Phase, Step, framed, register_after}
 use Rattle.oftp_session.specs.Steps.{Suits}
 use Rattle.oftp_session.specs.Standings.{Standing, StandsIn, standing_of}
 
@@ -120,6 +123,16 @@ pub record Goes (step : Step) (state : State) (frame : List ℕ) : Type 0 where
   pub said : frame ≡ framed step.output
   pub unchanged : step.change ≡ None
   pub stands : StandsIn step.phase (standing_of state)
+
+-- a payload at fault ends the session, and only a want of memory is a fault of the session
+abbrev pub Refuses : TakeFault → Result State SessionFault → List ℕ → Type 0
+Refuses cause (Ok state) frame = Goes (fails (reason_of cause)) state frame × (cause ≢ take.Memory)
+Refuses cause (Err told) frame = (cause ≡ take.Memory) × (told ≡ fault.Memory)
+
+-- a helper that looks up what it tells of the register, and changes nothing
+abbrev pub Finds : {T : Type 0} → (Register → T) → View → View → Result T SessionFault → Type 0
+Finds look old new (Ok x) = (x ≡ look old.register) × IsMade None None old new []
+Finds look old new (Err fault) = DoesNot None old new fault
 
 -- a step over an office that leaves this frame, and what the session holds after it
 abbrev pub Takes : Step → View → View → List ℕ → Result State SessionFault → Type 0

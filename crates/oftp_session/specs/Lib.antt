@@ -1,6 +1,7 @@
 pub mod Settings
 pub mod Phases
 pub mod Opening
+pub mod Receiving
 pub mod Listener
 pub mod Speaker
 pub mod Steps
@@ -8,3 +9,4 @@ pub mod Standings
 pub mod Calls
 pub mod Agreements
 pub mod Responses
+pub mod Starting

@@ -1,4 +1,4 @@
--- What comes where the station listens (RFC 5024, sections 5.3.12 to 5.3.14).
+-- What comes where the station listens and no file comes (RFC 5024, sections 5.3.3 and 5.3.12 to 5.3.14).
 use Rattle.std.specs.Prelude.{Bool, ◌&&◌, if◌then◌else◌, [], Option, None, Some}
 use Rattle.std.specs.Str.{bytes_eq}
 use Rattle.oftp_wire.specs.declared.command.Eerp.{Eerp}
@@ -14,6 +14,7 @@ use Rattle.oftp_register.specs.Register.{Register, Received, has_received}
 use Rattle.oftp_session.specs.declared.link.WhenDone.TheVariants.{EndSession}
 use Rattle.oftp_session.specs.declared.state.Contact.{Contact}
 use Rattle.oftp_session.specs.Settings.{Setting}
+use Rattle.oftp_session.specs.Receiving.{offer_step}
 use Rattle.oftp_session.specs.Phases.{ListenerIdle, SpeakerIdle, Step, quiet, answers, fails, unexpected}
 
 -- an end response as it is filed. It answers a file that went from the response's destination to its originator
@@ -55,6 +56,7 @@ response_step setting contact r response = if is_between setting contact respons
     else fails InvalidData
 
 unfoldable pub came_listener_idle : Setting → Contact → Register → Command → Step
+came_listener_idle setting contact r (command.Sfid sfid) = offer_step setting contact r sfid
 came_listener_idle setting contact r (command.Eerp eerp) = response_step setting contact r (end_response eerp)
 came_listener_idle setting contact r (command.Nerp nerp) = response_step setting contact r (negative_end_response nerp)
 came_listener_idle setting contact r command.Cd = quiet (SpeakerIdle contact EndSession)

@@ -9,12 +9,22 @@ use Rattle.oftp_wire.specs.declared.command.Command.TheVariants as command
 use Rattle.oftp_wire.specs.declared.reason.SessionReason.{SessionReason}
 use Rattle.oftp_wire.specs.declared.reason.SessionReason.TheVariants.{ProtocolViolation}
 use Rattle.oftp_register.specs.declared.change.Change.{Change}
-use Rattle.oftp_register.specs.Register.{Register}
+use Rattle.oftp_register.specs.Register.{Register, Incoming}
 use Rattle.oftp_register.specs.Changes.{apply}
 use Rattle.oftp_session.specs.declared.link.WhenDone.{WhenDone}
 use Rattle.oftp_session.specs.declared.state.Contact.{Contact}
 use Rattle.oftp_session.specs.declared.session.Ending.{Ending}
 use Rattle.oftp_session.specs.declared.session.Ending.TheVariants as ended
+
+-- a file that comes: its number, its entry with the rows that are kept, the row from which on it comes, the octets before that row,
+-- how many octets it may have, and all payloads since SFPA (RFC 5024, sections 5.3.4 and 5.3.6)
+pub record Receipt : Type 0 where
+  pub number : ℕ
+  pub file : Incoming
+  pub from : ℕ
+  pub units : ℕ
+  pub limit : ℕ
+  pub payloads : List (List ℕ)
 
 -- where a session stands (RFC 5024, section 9)
 pub data Phase : Type 0 where
@@ -22,6 +32,7 @@ pub data Phase : Type 0 where
   InitiatorOpening : Phase
   AwaitingSsid : Phase
   ListenerIdle : (contact : Contact) → Phase
+  Receiving : (contact : Contact) (receipt : Receipt) → Phase
   SpeakerIdle : (contact : Contact) (done : WhenDone) → Phase
   EndedHere : (reason : SessionReason) → Phase
   EndedThere : (reason : ℕ) → Phase
@@ -32,6 +43,7 @@ ending_of ResponderOpening = None
 ending_of InitiatorOpening = None
 ending_of AwaitingSsid = None
 ending_of (ListenerIdle contact) = None
+ending_of (Receiving contact f) = None
 ending_of (SpeakerIdle contact done) = None
 ending_of (EndedHere reason) = Some (ended.Own reason)
 ending_of (EndedThere reason) = Some (ended.Partner reason)

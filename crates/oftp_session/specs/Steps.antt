@@ -1,14 +1,19 @@
 -- The steps of a session, by cases of phase.
-use Rattle.std.specs.Prelude.{ℕ, nat_lt, ⊤, Bool, Option, None, Some}
+use Rattle.std.specs.Prelude.{◌≡◌, ℕ, ◌≤◌, ◌+◌, nat_lt, ⊤, Bool, [], length, take, Option, None, Some}
 use Rattle.oftp_wire.specs.declared.command.Command.{Command}
 use Rattle.oftp_wire.specs.declared.command.Command.TheVariants.{Ssrm}
 use Rattle.oftp_partners.specs.declared.partner.Partner.{Partner}
+use Rattle.oftp_vfile.specs.VirtualFile.{units_in}
+use Rattle.oftp_vfile.specs.Taking.{Took}
+use Rattle.oftp_register.specs.declared.entry.IncomingState.TheVariants.{Open}
+use Rattle.oftp_register.specs.LookUps.{entry_at}
 use Rattle.oftp_register.specs.Register.{Register}
 use Rattle.oftp_register.specs.Soundness.{IsSound}
 use Rattle.oftp_session.specs.Settings.{Setting}
-use Rattle.oftp_session.specs.Phases.{Phase, ResponderOpening, InitiatorOpening, AwaitingSsid, ListenerIdle, SpeakerIdle, EndedHere, EndedThere, Step, quiet, says, unexpected}
+use Rattle.oftp_session.specs.Phases.{Phase, Receipt, ResponderOpening, InitiatorOpening, AwaitingSsid, ListenerIdle, Receiving, SpeakerIdle, EndedHere, EndedThere, Step, quiet, says, unexpected}
 use Rattle.oftp_session.specs.Opening.{came_initiator_opening, came_awaiting_ssid}
 use Rattle.oftp_session.specs.Listener.{came_listener_idle}
+use Rattle.oftp_session.specs.Receiving.{came_receiving, carried_by}
 use Rattle.oftp_session.specs.Speaker.{nothing_next}
 
 -- where a session begins: a responder greets, and an initiator waits for that
@@ -22,6 +27,7 @@ turns_due ResponderOpening = 1
 turns_due InitiatorOpening = 0
 turns_due AwaitingSsid = 0
 turns_due (ListenerIdle contact) = 0
+turns_due (Receiving contact f) = 0
 turns_due (SpeakerIdle contact done) = 1
 turns_due (EndedHere reason) = 0
 turns_due (EndedThere reason) = 0
@@ -35,6 +41,7 @@ turned setting ResponderOpening r = says AwaitingSsid Ssrm
 turned setting InitiatorOpening r = quiet InitiatorOpening
 turned setting AwaitingSsid r = quiet AwaitingSsid
 turned setting (ListenerIdle contact) r = quiet (ListenerIdle contact)
+turned setting (Receiving contact f) r = quiet (Receiving contact f)
 turned setting (SpeakerIdle contact done) r = nothing_next contact done
 turned setting (EndedHere reason) r = quiet (EndedHere reason)
 turned setting (EndedThere reason) r = quiet (EndedThere reason)
@@ -45,9 +52,21 @@ came setting ResponderOpening r command = unexpected command
 came setting InitiatorOpening r command = came_initiator_opening setting command
 came setting AwaitingSsid r command = came_awaiting_ssid setting command
 came setting (ListenerIdle contact) r command = came_listener_idle setting contact r command
+came setting (Receiving contact f) r command = came_receiving contact r f command
 came setting (SpeakerIdle contact done) r command = unexpected command
 came setting (EndedHere reason) r command = quiet (EndedHere reason)
 came setting (EndedThere reason) r command = quiet (EndedThere reason)
+
+-- the entry of a file that comes is as the session left it, with rows up to where it goes on at least, and at most those that came
+-- since; and its taker took all payloads
+pub record IsReceived (r : Register) (f : Receipt) : Type 0 where
+  pub limit : f.limit ≡ r.limits.octets
+  pub entry : entry_at f.number r.incoming ≡ Some f.file
+  pub opened : f.file.state ≡ Open
+  pub kept : f.from ≤ length f.file.rows
+  pub most : length f.file.rows ≤ f.from + length (carried_by f).rows
+  pub units : f.units ≡ units_in (take f.from f.file.rows)
+  pub took : Took (carried_by f) [] f.payloads
 
 -- what a phase says of the register
 abbrev pub Holds : Phase → Register → Type 0
@@ -55,6 +74,7 @@ Holds ResponderOpening r = ⊤
 Holds InitiatorOpening r = ⊤
 Holds AwaitingSsid r = ⊤
 Holds (ListenerIdle contact) r = ⊤
+Holds (Receiving contact f) r = IsReceived r f
 Holds (SpeakerIdle contact done) r = ⊤
 Holds (EndedHere reason) r = ⊤
 Holds (EndedThere reason) r = ⊤

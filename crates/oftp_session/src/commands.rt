@@ -5,11 +5,15 @@ ghost use Rattle.oftp_wire.specs.Spelling.{is_data};
 ghost use Rattle.oftp_wire.specs.declared.command.Command.TheVariants.{Ssid as an_ssid};
 ghost use Rattle.oftp_session.specs.Phases.{frame_of, esid_of};
 ghost use Rattle.oftp_session.specs.Opening.{answering_ssid, calling_ssid, ssid_with};
+ghost use Rattle.oftp_session.specs.Receiving.{efna_of, efpa_of, sfna_of, sfpa_of};
 ghost use Rattle.oftp_session.specs.Agreements.{terms};
 
 use crate::opening::{Agreement, answered_mode};
 use oftp_partners::{Book, Partner};
-use oftp_wire::{Command, Count, Esid, Mode, SessionReason, Ssid, Text, X, encode, header};
+use oftp_wire::{
+    Command, Count, Efna, Efpa, EndReason, Esid, Mode, SessionReason, Sfna, Sfpa, Ssid,
+    StartReason, Text, X, encode, header,
+};
 
 /// The end of the session, with no text.
 pub(crate) fn esid(reason: SessionReason) -> Command<'static>
@@ -17,6 +21,47 @@ pub(crate) fn esid(reason: SessionReason) -> Command<'static>
 {
     match Text::new("") {
         Some(text) => Command::Esid(Esid {
+            reason: reason.number(),
+            text,
+        }),
+        None => unreachable!(),
+    }
+}
+
+/// A file is taken from this row on.
+pub(crate) fn sfpa(restart: Count<17>) -> Command<'static>
+    ensures { result ≡ sfpa_of restart }
+{
+    Command::Sfpa(Sfpa { restart })
+}
+
+/// A file isn't taken, with no text.
+pub(crate) fn sfna(reason: StartReason, retry: bool) -> Command<'static>
+    ensures { result ≡ sfna_of reason retry }
+{
+    match Text::new("") {
+        Some(text) => Command::Sfna(Sfna {
+            reason: reason.number(),
+            retry,
+            text,
+        }),
+        None => unreachable!(),
+    }
+}
+
+/// The station has a file, and asks to speak or not.
+pub(crate) fn efpa(change_direction: bool) -> Command<'static>
+    ensures { result ≡ efpa_of change_direction }
+{
+    Command::Efpa(Efpa { change_direction })
+}
+
+/// The station doesn't have a file, with no text.
+pub(crate) fn efna(reason: EndReason) -> Command<'static>
+    ensures { result ≡ efna_of reason }
+{
+    match Text::new("") {
+        Some(text) => Command::Efna(Efna {
             reason: reason.number(),
             text,
         }),

@@ -9,6 +9,7 @@ mod frame;
 mod link;
 mod listener;
 mod opening;
+mod receiving;
 mod responses;
 mod session;
 mod speaker;

@@ -1,20 +1,32 @@
-//! What the station does where it listens (RFC 5024, sections 5.3.12 to 5.3.15).
+//! What the station does where it listens and no file comes (RFC 5024, sections 5.3.3 and 5.3.12 to 5.3.15).
 
-ghost use Rattle.std.specs.Prelude.{◌≡◌, Some, IfErr};
+ghost use Rattle.std.specs.Prelude.{◌≡◌, ◌+◌, ◌<◌, ◌≤◌, ◌^◌, ℕ, Some, IfErr};
+ghost use Rattle.oftp_register.specs.declared.change.Change.TheVariants.{Close, GiveUp, Keep};
+ghost use Rattle.oftp_register.specs.Register.{Incoming};
 ghost use Rattle.oftp_register.specs.Soundness.{IsFit, IsSoundReceived};
+ghost use Rattle.oftp_vfile.specs.Taking.{new_taking};
 ghost use Rattle.oftp_session.specs.Settings.{setting_of};
-ghost use Rattle.oftp_session.specs.Listener.{came_listener_idle, file_of, filing, is_between, response_step};
+ghost use Rattle.oftp_session.specs.Listener.{came_listener_idle, filing, is_between, response_step};
+ghost use Rattle.oftp_session.specs.Receiving.{asks_to_speak, keeping, offer_step, offered_identity, terms_within, verdict_on};
 ghost use Rattle.oftp_session.specs.Responses.{as_received};
-ghost use Rattle.oftp_session.specs.Calls.{Files, IsAccepted, Takes};
+ghost use Rattle.oftp_session.specs.Starting.{IsFound, MayBegin, Starts, reception_of};
+ghost use Rattle.oftp_session.specs.Calls.{Files, Finds, IsAccepted, Takes};
 
+use crate::commands::{sfna, sfpa};
 use crate::frame::Frame;
-use crate::link::WhenDone;
+use crate::link::{Link, WhenDone};
 use crate::opening::Setting;
+use crate::receiving::Reception;
 use crate::responses::{Response, end_response, negative_end_response};
 use crate::session::SessionFault;
 use crate::state::{Contact, State};
-use oftp_register::{Change, Identity, Office};
-use oftp_wire::{Command, SessionReason};
+use oftp_register::{
+    Change, DigitString, Identity, IncomingEntry, Name, Office, Side, StartVerdict, Terms,
+    format_of, longest_of, start_verdict,
+};
+use oftp_vfile::{Limits, Row, Rows, Taker};
+use oftp_wire::{Command, SessionReason, Sfid};
+use std::alloc::Global;
 
 /// What a listener asks of an office. Of all the office's faults the session tells one.
 pub(crate) trait ListenerPart: Office {
@@ -24,6 +36,63 @@ pub(crate) trait ListenerPart: Office {
         ensures clean { (Self.view self.new).clean → (Self.view self.old).clean }
         ensures does { (Self.view self.new).clean → (Self.view self.old).stands
             → Files (filing (Self.view self.old).register (as_received response.entry)) (Self.view self.old) (Self.view self.new) result }
+        ensures err { IfErr result (λ fault. fault ≡ SessionFault.Office) };
+
+    /// Whether a file that is offered is taken, and from which row on.
+    fn verdict_on(
+        &mut self,
+        setting: &Setting<'_>,
+        contact: &Contact,
+        sfid: &Sfid<'_>,
+    ) -> Result<StartVerdict, SessionFault>
+        ensures clean { (Self.view self.new).clean → (Self.view self.old).clean }
+        ensures finds { (Self.view self.new).clean → (Self.view self.old).stands
+            → Finds (λ r. verdict_on (setting_of setting.now) contact.now r sfid.now) (Self.view self.old) (Self.view self.new) result }
+        ensures err { IfErr result (λ fault. fault ≡ SessionFault.Office) };
+
+    /// Begins a file, or goes on with it after so many of its rows.
+    fn begin(
+        &mut self,
+        alloc: Global,
+        link: &Link,
+        sfid: &Sfid<'_>,
+        count: u64,
+    ) -> Result<Reception, SessionFault>
+        ensures clean { (Self.view self.new).clean → (Self.view self.old).clean }
+        ensures starts { (Self.view self.new).clean → (Self.view self.old).stands
+            → MayBegin (Self.view self.old).register sfid.now count
+            → Starts link.now sfid.now count (Self.view self.old) (Self.view self.new) result }
+        ensures err { IfErr result (λ fault. fault ≡ SessionFault.Office) };
+
+    /// Keeps rows of a file that comes, if there are any.
+    fn keep(&mut self, no: u64, rows: Vec<Row>) -> Result<(), SessionFault>
+        ensures clean { (Self.view self.new).clean → (Self.view self.old).clean }
+        ensures does { (Self.view self.new).clean → (Self.view self.old).stands
+            → IsFit (Self.view self.old).register (Keep no rows.items) → IsAccepted (Self.view self.old).register (Keep no rows.items)
+            → Files (keeping no rows.items) (Self.view self.old) (Self.view self.new) result }
+        ensures err { IfErr result (λ fault. fault ≡ SessionFault.Office) };
+
+    /// Whether a response is next that wasn't tried.
+    fn asks_to_speak(&mut self, contact: &Contact) -> Result<bool, SessionFault>
+        ensures clean { (Self.view self.new).clean → (Self.view self.old).clean }
+        ensures finds { (Self.view self.new).clean → (Self.view self.old).stands
+            → Finds (asks_to_speak contact.now) (Self.view self.old) (Self.view self.new) result }
+        ensures err { IfErr result (λ fault. fault ≡ SessionFault.Office) };
+
+    /// Closes a file with its last rows.
+    fn close(&mut self, no: u64, rows: Rows) -> Result<(), SessionFault>
+        ensures clean { (Self.view self.new).clean → (Self.view self.old).clean }
+        ensures does { (Self.view self.new).clean → (Self.view self.old).stands
+            → IsFit (Self.view self.old).register (Close no rows) → IsAccepted (Self.view self.old).register (Close no rows)
+            → Files (Some (Close no rows)) (Self.view self.old) (Self.view self.new) result }
+        ensures err { IfErr result (λ fault. fault ≡ SessionFault.Office) };
+
+    /// Gives up the rows of a file.
+    fn give_up(&mut self, no: u64) -> Result<(), SessionFault>
+        ensures clean { (Self.view self.new).clean → (Self.view self.old).clean }
+        ensures does { (Self.view self.new).clean → (Self.view self.old).stands
+            → IsFit (Self.view self.old).register (GiveUp no) → IsAccepted (Self.view self.old).register (GiveUp no)
+            → Files (Some (GiveUp no)) (Self.view self.old) (Self.view self.new) result }
         ensures err { IfErr result (λ fault. fault ≡ SessionFault.Office) };
 }
 
@@ -44,6 +113,148 @@ impl<O: Office> ListenerPart for O {
             ),
             Err(_) => Err(SessionFault::Office),
         }
+    }
+
+    fn verdict_on(
+        &mut self,
+        setting: &Setting<'_>,
+        contact: &Contact,
+        sfid: &Sfid<'_>,
+    ) -> Result<StartVerdict, SessionFault> {
+        let Ok(found) = self.look_in(&identity_of(sfid)) else {
+            return Err(SessionFault::Office);
+        };
+        let Ok(is_full) = self.files_full(Side::Incoming) else {
+            return Err(SessionFault::Office);
+        };
+        let terms = terms_of(setting, contact, self.limits());
+        Ok(start_verdict(sfid, found.as_ref(), is_full, &terms))
+    }
+
+    fn begin(
+        &mut self,
+        alloc: Global,
+        link: &Link,
+        sfid: &Sfid<'_>,
+        count: u64,
+    ) -> Result<Reception, SessionFault> {
+        make(
+            self,
+            Change::Start {
+                identity: identity_of(sfid),
+                format: format_of(sfid.layout),
+                longest: longest_of(sfid.layout),
+                description: sfid.description.again(),
+                count,
+            },
+        )?;
+        begun(self, alloc, link, &identity_of(sfid))
+    }
+
+    fn keep(&mut self, no: u64, rows: Vec<Row>) -> Result<(), SessionFault> {
+        if rows.is_empty() {
+            return Ok(());
+        }
+        make(
+            self,
+            Change::Keep {
+                no,
+                rows: Rows::new(rows),
+            },
+        )
+    }
+
+    fn asks_to_speak(&mut self, contact: &Contact) -> Result<bool, SessionFault> {
+        match self.next_item(&contact.code, contact.tried, false) {
+            Ok(item) => Ok(item.is_some()),
+            Err(_) => Err(SessionFault::Office),
+        }
+    }
+
+    fn close(&mut self, no: u64, rows: Rows) -> Result<(), SessionFault> {
+        make(self, Change::Close { no, rows })
+    }
+
+    fn give_up(&mut self, no: u64) -> Result<(), SessionFault> {
+        make(self, Change::GiveUp { no })
+    }
+}
+
+/// What names the file that is offered.
+fn identity_of(sfid: &Sfid<'_>) -> Identity
+    ensures { result ≡ offered_identity sfid.now }
+{
+    Identity {
+        dataset: Name::of(&sfid.dataset),
+        date: DigitString::of(&sfid.date),
+        time: DigitString::of(&sfid.time),
+        originator: Name::of(&sfid.originator),
+        destination: Name::of(&sfid.destination),
+    }
+}
+
+/// On what terms a file is taken by an office that may hold so much.
+fn terms_of(setting: &Setting<'_>, contact: &Contact, limits: Limits) -> Terms
+    ensures { result ≡ terms_within (setting_of setting.now) contact.now limits }
+{
+    Terms {
+        station: Name::of(&setting.book.station().code.field()),
+        partner: contact.code.again(),
+        receives: contact.link.receives,
+        restart: contact.link.restart,
+        limits,
+    }
+}
+
+/// What receives a file that was begun: its number and its octets are looked up.
+fn begun<O: Office>(
+    office: &mut O,
+    alloc: Global,
+    link: &Link,
+    identity: &Identity,
+) -> Result<Reception, SessionFault>
+    ensures clean { (O.view office.new).clean → (O.view office.old).clean }
+    ensures finds { (O.view office.new).clean → (O.view office.old).stands
+        → (number : ℕ) (file : Incoming) → IsFound (O.view office.old).register identity.now number file
+        → Finds (λ r. reception_of link.now number file r.limits.octets) (O.view office.old) (O.view office.new) result }
+    ensures err { IfErr result (λ fault. fault ≡ SessionFault.Office) }
+{
+    let Ok(Some(entry)) = office.look_in(identity) else {
+        return Err(SessionFault::Office);
+    };
+    let Ok(units) = office.units_of(Side::Incoming, entry.no) else {
+        return Err(SessionFault::Office);
+    };
+    Ok(reception(alloc, link, &entry, units, office.limits()))
+}
+
+/// What receives a file with this entry, whose rows have so many octets.
+fn reception(
+    alloc: Global,
+    link: &Link,
+    entry: &IncomingEntry,
+    units: u64,
+    limits: Limits,
+) -> Reception
+    requires rows { entry.now.rows ≤ 1000000 }
+    requires fits { units + limits.octets < 2 ^ 63 }
+    ensures { result ≡ record {
+      number = entry.now.no;
+      credit = link.now.credit;
+      taker = new_taking entry.now.format entry.now.longest entry.now.rows units limits.octets;
+    } }
+{
+    Reception {
+        number: entry.no,
+        credit: link.credit.get(),
+        taker: Taker::new(
+            alloc,
+            entry.format,
+            entry.longest,
+            entry.rows,
+            units,
+            limits,
+        ),
     }
 }
 
@@ -95,6 +306,36 @@ fn take_response<O: Office>(
     Ok(State::ListenerIdle(contact))
 }
 
+/// Takes a file that is offered, or refuses it.
+#[tactic(auto, unfolding(crate::specs::Receiving::offer_step))]
+fn take_offer<O: Office>(
+    setting: Setting<'_>,
+    contact: Contact,
+    office: &mut O,
+    sfid: &Sfid<'_>,
+    frame: &mut Frame,
+) -> Result<State, SessionFault>
+    ensures clean { (O.view office.new).clean → (O.view office.old).clean }
+    ensures takes { (O.view office.new).clean → (O.view office.old).stands
+        → Takes (offer_step (setting_of setting.entry) contact (O.view office.old).register sfid.now)
+        (O.view office.old) (O.view office.new) frame.new result }
+    ensures err { IfErr result (λ fault. fault ≡ SessionFault.Office) }
+{
+    match office.verdict_on(&setting, &contact, sfid)? {
+        StartVerdict::Refuse { reason, retry } => {
+            frame.say(&sfna(reason, retry));
+            Ok(State::ListenerIdle(contact))
+        }
+        StartVerdict::Accept(count) => {
+            frame.say(&sfpa(count));
+            match office.begin(setting.alloc, &contact.link, sfid, count.get()) {
+                Ok(reception) => Ok(State::Receiving(contact, reception)),
+                Err(fault) => Err(fault),
+            }
+        }
+    }
+}
+
 /// Takes a command that comes while the partner speaks and no file comes.
 #[tactic(auto, unfolding(crate::specs::Listener::came_listener_idle))]
 pub(crate) fn in_listener_idle<O: Office>(
@@ -111,6 +352,7 @@ pub(crate) fn in_listener_idle<O: Office>(
     ensures err { IfErr result (λ fault. fault ≡ SessionFault.Office) }
 {
     match command {
+        Command::Sfid(sfid) => take_offer(setting, contact, office, sfid, frame),
         Command::Eerp(eerp) => take_response(setting, contact, office, end_response(eerp), frame),
         Command::Nerp(nerp) => {
             take_response(setting, contact, office, negative_end_response(nerp), frame)

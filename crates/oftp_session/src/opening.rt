@@ -13,10 +13,12 @@ use crate::state::{Contact, State};
 use oftp_partners::{Book, Partner};
 use oftp_register::{Cursor, Name};
 use oftp_wire::{Command, Count, Mode, SessionReason, Ssid, X};
+use std::alloc::Global;
 
-/// What doesn't change in a session: the book, and the partner that an initiator calls.
+/// What doesn't change in a session: where it takes memory, the book, and the partner that an initiator calls.
 #[derive(Clone, Copy, Drop)]
 pub(crate) struct Setting<'b> {
+    pub(crate) alloc: Global,
     pub(crate) book: &'b Book,
     pub(crate) called: Option<&'b Partner>,
 }

@@ -5,18 +5,20 @@ ghost use Rattle.oftp_register.specs.Register.{Register};
 ghost use Rattle.oftp_session.specs.Settings.{Setting as Known, setting_of};
 ghost use Rattle.oftp_session.specs.Phases.{Phase, ending_of, esid_of, frame_of, is_over};
 ghost use Rattle.oftp_session.specs.Steps.{came, has_turn, turned, Holds};
-ghost use Rattle.oftp_session.specs.Standings.{Broken, StandsIn, ended_as, is_closed, is_due, standing_of, turns_left};
+ghost use Rattle.oftp_session.specs.Standings.{Broken, StandsIn, ended_as, is_closed, is_due, is_receiving, standing_of, turns_left};
 ghost use Rattle.oftp_session.specs.Calls.{Does, Goes, IsFailure, IsFull, Seen, Stands, Takes, heard};
 
 use crate::frame::Frame;
 use crate::link::WhenDone;
 use crate::listener::in_listener_idle;
 use crate::opening::{Setting, in_awaiting_ssid, in_initiator_opening};
+use crate::receiving::in_receiving;
 use crate::speaker::nothing_next;
 use crate::state::State;
 use oftp_partners::{Book, Partner};
 use oftp_register::Office;
 use oftp_wire::{Command, Count, SessionReason};
+use std::alloc::Global;
 use std::marker::Model;
 use std::mem;
 
@@ -49,7 +51,7 @@ pub enum Out<'a> {
     Send(&'a [u8]),
 }
 
-/// One session with a partner, by a book. It takes no memory.
+/// One session with a partner, by a book.
 #[derive(Drop)]
 pub struct Session<'b> {
     setting: Setting<'b>,
@@ -86,13 +88,17 @@ fn came<O: Office>(
         → (p : Phase) → Holds p (O.view office.old).register → StandsIn p (standing_of state)
         → Takes (came (setting_of setting.entry) p (O.view office.old).register command.now)
         (O.view office.old) (O.view office.new) frame.new result }
-    ensures err { IfErr result (λ fault. fault ≡ SessionFault.Office) }
+    ensures err { IfErr result IsFailure }
+    ensures spared { is_receiving (standing_of state) ≡ false → IfErr result (λ fault. fault ≢ SessionFault.Memory) }
 {
     match state {
         State::ResponderOpening | State::SpeakerIdle(_, _) => Ok(State::unexpected(command, frame)),
         State::InitiatorOpening => Ok(in_initiator_opening(setting, command, frame)),
         State::AwaitingSsid => Ok(in_awaiting_ssid(setting, command, frame)),
         State::ListenerIdle(contact) => in_listener_idle(setting, contact, office, command, frame),
+        State::Receiving(contact, reception) => in_receiving(
+            contact, reception, office, command, frame,
+        ),
         State::EndedHere(_) | State::EndedThere(_) | State::Broken => unreachable!(),
     }
 }
@@ -127,21 +133,25 @@ impl<'b> Session<'b> {
     ghost use mir.Syntax.{named};
     ghost use Rattle.oftp_session.specs.contracts.session.Session.{the_row};
 
-    /// A session with a partner who calls.
-    pub fn responder(book: &'b Book) -> Session<'b>
+    /// A session with a partner who calls. It takes no memory.
+    pub fn responder(alloc: Global, book: &'b Book) -> Session<'b>
         ensures setting { result.setting ≡ record { book = book.entry.now; called = None } }
         ensures stands { Stands Phase.ResponderOpening result }
         ensures fresh { result.spoken ≡ [] }
     {
         Session {
-            setting: Setting { book, called: None },
+            setting: Setting {
+                alloc,
+                book,
+                called: None,
+            },
             state: State::ResponderOpening,
             frame: Frame::empty(),
         }
     }
 
-    /// A session with a partner whom the station calls.
-    pub fn initiator(book: &'b Book, partner: &'b Partner) -> Session<'b>
+    /// A session with a partner whom the station calls. It takes no memory.
+    pub fn initiator(alloc: Global, book: &'b Book, partner: &'b Partner) -> Session<'b>
         ensures setting { result.setting
             ≡ record { book = book.entry.now; called = Some partner.entry.now } }
         ensures stands { Stands Phase.InitiatorOpening result }
@@ -149,6 +159,7 @@ impl<'b> Session<'b> {
     {
         Session {
             setting: Setting {
+                alloc,
                 book,
                 called: Some(partner),
             },
@@ -192,8 +203,8 @@ impl<'b> Session<'b> {
             (O.view office.old) (O.view office.new) (heard result) }
         ensures full { IfOk result IsFull }
         ensures err { is_closed self.old.standing ≡ false → IfErr result IsFailure }
-        // No phase that stands so far takes memory.
-        ensures spared { IfErr result (λ fault. fault ≢ SessionFault.Memory) }
+        // Memory is taken only while a file is received.
+        ensures spared { is_receiving self.old.standing ≡ false → IfErr result (λ fault. fault ≢ SessionFault.Memory) }
         ensures closed { is_closed self.old.standing ≡ true
             → (heard result ≡ Err SessionFault.Ended) × (office.new ≡ office.old) }
         ensures* goes { sem 𝓛 (Rests (the_row (record { mir = named 1; lft = [] })) self.entry
@@ -227,7 +238,7 @@ impl<'b> Session<'b> {
             (O.view office.old) (O.view office.new) (heard result) }
         ensures full { IfOk result IsFull }
         ensures err { is_closed self.old.standing ≡ false → IfErr result IsFailure }
-        // No phase that stands so far takes memory.
+        // No own command takes memory so far.
         ensures spared { IfErr result (λ fault. fault ≢ SessionFault.Memory) }
         ensures idle { is_due self.old.standing ≡ false → is_closed self.old.standing ≡ false
             → (heard result ≡ Ok []) × (office.new ≡ office.old) }

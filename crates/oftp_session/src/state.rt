@@ -8,6 +8,7 @@ ghost use Rattle.oftp_session.specs.Calls.{Goes};
 use crate::commands::esid;
 use crate::frame::Frame;
 use crate::link::{Link, WhenDone};
+use crate::receiving::Reception;
 use crate::session::Ending;
 use oftp_register::{Cursor, Name};
 use oftp_wire::{Command, Count, SessionReason};
@@ -31,6 +32,8 @@ pub(crate) enum State {
     AwaitingSsid,
     /// The partner speaks, and no file is being received.
     ListenerIdle(Contact),
+    /// The partner speaks, and this file is being received.
+    Receiving(Contact, Reception),
     /// The station speaks, and waits for nothing.
     SpeakerIdle(Contact, WhenDone),
     /// The station ended the session.
@@ -80,6 +83,7 @@ impl State {
             | State::InitiatorOpening
             | State::AwaitingSsid
             | State::ListenerIdle(_)
+            | State::Receiving(_, _)
             | State::SpeakerIdle(_, _)
             | State::Broken => None,
         }
@@ -95,6 +99,7 @@ impl State {
             | State::InitiatorOpening
             | State::AwaitingSsid
             | State::ListenerIdle(_)
+            | State::Receiving(_, _)
             | State::SpeakerIdle(_, _) => false,
         }
     }
@@ -108,6 +113,7 @@ impl State {
             State::InitiatorOpening
             | State::AwaitingSsid
             | State::ListenerIdle(_)
+            | State::Receiving(_, _)
             | State::EndedHere(_)
             | State::EndedThere(_)
             | State::Broken => false,

@@ -1,5 +1,7 @@
 //! Commands that come to a responder after the partner's SSID, spelled by hand from RFC 5024.
 
+mod receiving;
+
 use super::*;
 use oftp_partners::read;
 use oftp_register::PlainOffice;
@@ -53,7 +55,7 @@ fn ends(
 ) -> Result<(), Fail> {
     let book = read(rt.alloc(), BOOK)?;
     let mut office = PlainOffice::new(rt.alloc(), LIMITS);
-    let mut session = Session::responder(&book);
+    let mut session = Session::responder(rt.alloc(), &book);
     assert!(rt;
         sends(
             session.turn(&mut office),

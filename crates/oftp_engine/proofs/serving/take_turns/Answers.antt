@@ -47,7 +47,7 @@ returns-in_err-take_turn-clause-steps g c = λ clean stood k at.
     let step = turned t.at.setting t.at.phase t.at.register in
     let proceeds = turned_proceeds t.at.setting t.at.phase t.at.register t.now.suits in
     let failed = fails_step t.at step [] old new c.in_err-take_turn.field-0.0 proceeds (reaches_turn t.at [] due)
-        (c.in_err-take_turn.ensures.steps clean (t.went.stands stood) t.at due t.now) in
+    (c.in_err-take_turn.ensures.steps clean (t.went.stands stood) t.at due t.now) in
     subst (TurnsTaken k c.take_turn.new.session first new) (sym (handed_on _ _ c.from_residual.ensures.1))
     (fails_later k t.at [] [] first old new c.in_err-take_turn.field-0.0 t.went failed)
 

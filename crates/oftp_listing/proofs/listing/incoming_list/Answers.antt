@@ -1,0 +1,21 @@
+use Rattle.std.proofs.Common.{ap, arith, refl, ◌∙◌}
+use Rattle.serde_json.proofs.Views.{view-Array}
+use Rattle.oftp_register.specs.LookUps.{list_in}
+use Rattle.oftp_listing.specs.Objects.{incoming_object}
+use Rattle.oftp_listing.specs.Texts.{list_of, shown_in}
+use Rattle.oftp_listing.proofs.Listings.{listing_ends, listing_on, take_next}
+use Rattle.oftp_listing.proofs.listing.incoming_list.Goals as goal
+
+pub loop-entry-preserved : goal.loop-entry-preserved
+loop-entry-preserved g c =
+    let e = c.entry-item.result in
+    rw (take_next _ c.loop-entry.entry-index e c.loop-entry-test.true c.entry-item.is, c.in_ok-push.ensures.items)
+    (listing_on list_in shown_in incoming_object _ _ _ _ _ _ e c.in_ok-units.units _
+    (λ r told. ap (incoming_object e) told) c.loop-entry.invariant c.in_ok-units.ensures.looks c.in_ok-incoming_object.ensures refl)
+
+pub returns-clause-finds : goal.returns-clause-finds
+returns-clause-finds g c = record {
+  asks = c.loop-entry.invariant.asks;
+  answer = λ k s. view-Array c.loop-entry.list ∙ ap list_of (listing_ends list_in shown_in _ _ _ _ c.loop-entry.entry-index c.loop-entry.invariant (omega arith) k s);
+  counts = c.loop-entry.invariant.untold;
+}

@@ -1,0 +1,24 @@
+-- What the parts of an answer and of a report do: for private clauses alone.
+use Rattle.std.specs.Prelude.{◌≡◌, ℕ, Result, Ok, Err, IfOk}
+use Rattle.oftp_register.specs.Register.{Register}
+use Rattle.oftp_register.specs.Offices.{View, next_count}
+use Rattle.oftp_listing.specs.declared.fault.ListFault.{ListFault}
+use Rattle.oftp_listing.specs.declared.fault.ListFault.TheVariants.{Incomplete, Memory, Office, Write}
+use Rattle.oftp_listing.specs.Texts.{Asks}
+
+-- how the count of faults told goes on: where the office is named it told one
+abbrev pub CountsFault : ℕ → ℕ → ListFault → Type 0
+CountsFault old new Office = new ≡ next_count old
+CountsFault old new Memory = new ≡ old
+CountsFault old new Incomplete = ⊥
+CountsFault old new Write = ⊥
+
+abbrev pub Counts : {T : Type 0} → ℕ → ℕ → Result T ListFault → Type 0
+Counts old new (Ok x) = new ≡ old
+Counts old new (Err fault) = CountsFault old new fault
+
+-- the office was asked for what is told of its register
+pub record Finds {T : Type 0} (Tells : Register → T → Type 0) (old new : View) (result : Result T ListFault) : Type 0 where
+  pub asks : Asks old new
+  pub answer : new.clean → old.stands → IfOk result (Tells old.register)
+  pub counts : Counts old.told new.told result

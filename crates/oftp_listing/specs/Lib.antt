@@ -1,0 +1,10 @@
+pub mod Finding
+pub mod Heads
+pub mod Hiding
+pub mod Names
+pub mod Objects
+pub mod Replies
+pub mod Reports
+pub mod Routes
+pub mod Rows
+pub mod Texts

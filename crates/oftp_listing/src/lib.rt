@@ -1,0 +1,21 @@
+//! The listing of a register over HTTP, and its reports as CSV.
+#![tactic(auto)]
+
+mod fault;
+mod head;
+mod laws;
+mod listing;
+mod names;
+mod object;
+mod reply;
+mod reports;
+mod route;
+
+pub use fault::ListFault;
+pub use laws::content_is_hidden;
+pub use listing::answer;
+pub use reply::Reply;
+pub use reports::{ReportKind, report};
+
+#[cfg(test)]
+mod tests;

@@ -1,0 +1,132 @@
+//! How the listing and the reports name what an entry is.
+
+ghost use Rattle.std.specs.Prelude.{◌≡◌, ◌<◌, IfOk, string_bytes};
+ghost use Rattle.oftp_listing.specs.Names.{format_name, incoming_state_name, is_sent, kind_name, outgoing_state_name, reason_name, refusal_name, response_name, two_digits};
+
+use oftp_register::{
+    DigitString, Dispatch, IncomingState, IssuedResponse, Name, OutgoingState, ResponseKind,
+};
+use oftp_vfile::Format;
+use oftp_wire::Count;
+use std::alloc::{AllocError, Global};
+
+/// A name as a text.
+pub(crate) fn name_text<const N: usize>(name: &Name<N>) -> &str
+    ensures { result.now ≡ name.now }
+{
+    str::from_utf8(name.octets()).unwrap()
+}
+
+/// Digits as a text.
+pub(crate) fn digit_text<const N: usize>(digits: &DigitString<N>) -> &str
+    ensures { result.now ≡ digits.now }
+{
+    str::from_utf8(digits.octets()).unwrap()
+}
+
+/// The letter of a format.
+pub(crate) fn format_name(format: Format) -> &'static str
+    ensures { result.now ≡ format_name format }
+{
+    match format {
+        Format::Fixed => "F",
+        Format::Variable => "V",
+        Format::Unstructured => "U",
+        Format::Text => "T",
+    }
+}
+
+/// The name of a kind of response.
+pub(crate) fn kind_name(kind: ResponseKind) -> &'static str
+    ensures { result.now ≡ kind_name kind }
+{
+    match kind {
+        ResponseKind::EndResponse => "EERP",
+        ResponseKind::NegativeEndResponse => "NERP",
+    }
+}
+
+/// The kind of the response to a file, if one was issued.
+pub(crate) fn response_name(response: &Option<IssuedResponse>) -> &'static str
+    ensures { result.now ≡ response_name response.now }
+{
+    match response {
+        None => "none",
+        Some(response) => kind_name(response.kind),
+    }
+}
+
+/// How far an incoming file has come.
+pub(crate) fn incoming_state_name(state: IncomingState) -> &'static str
+    ensures { result.now ≡ incoming_state_name state }
+{
+    match state {
+        IncomingState::Open => "open",
+        IncomingState::Whole => "whole",
+    }
+}
+
+/// How far an outgoing file has come.
+pub(crate) fn outgoing_state_name(state: OutgoingState) -> &'static str
+    ensures { result.now ≡ outgoing_state_name state }
+{
+    match state {
+        OutgoingState::Waiting => "waiting",
+        OutgoingState::Closing => "closing",
+        OutgoingState::Handed => "handed",
+        OutgoingState::Refused(_) => "refused",
+        OutgoingState::Delivered => "delivered",
+        OutgoingState::Returned => "returned",
+    }
+}
+
+// A reason in its two digits.
+fn two_digits(alloc: Global, reason: Count<2>) -> Result<String, AllocError>
+    ensures { IfOk result (λ text. string_bytes text ≡ two_digits reason) }
+{
+    let number = reason.get();
+    format!(in alloc; "{}{}", number / 10, number % 10)
+}
+
+/// Why the partner doesn't take a file, empty where it wasn't refused.
+///
+/// # Errors
+///
+/// A growth was refused.
+pub(crate) fn refusal_name(alloc: Global, state: OutgoingState) -> Result<String, AllocError>
+    ensures { IfOk result (λ text. string_bytes text ≡ refusal_name state) }
+{
+    match state {
+        OutgoingState::Refused(reason) => two_digits(alloc, reason),
+        OutgoingState::Waiting
+        | OutgoingState::Closing
+        | OutgoingState::Handed
+        | OutgoingState::Delivered
+        | OutgoingState::Returned => Ok(String::new(alloc)),
+    }
+}
+
+/// The reason of a response, empty in an end response.
+///
+/// # Errors
+///
+/// A growth was refused.
+pub(crate) fn reason_name(
+    alloc: Global,
+    kind: ResponseKind,
+    reason: Count<2>,
+) -> Result<String, AllocError>
+    ensures { IfOk result (λ text. string_bytes text ≡ reason_name kind reason) }
+{
+    match kind {
+        ResponseKind::EndResponse => Ok(String::new(alloc)),
+        ResponseKind::NegativeEndResponse => two_digits(alloc, reason),
+    }
+}
+
+/// Whether a response was sent.
+pub(crate) fn is_sent(dispatch: Dispatch) -> bool
+    ensures { result ≡ is_sent dispatch }
+{
+    dispatch == Dispatch::Sent
+}

@@ -1,0 +1,106 @@
+//! The text of a reply.
+
+ghost use Rattle.std.specs.Prelude.{◌≡◌, ◌++◌, IfOk, decimal, length};
+ghost use Rattle.oftp_listing.specs.Replies.{allow_of, error_text, head_text, phrase_of, reply_text};
+
+use http::StatusCode;
+use std::alloc::{AllocError, Global};
+use std::marker::Model;
+
+/// A whole reply.
+#[derive(Debug, Drop)]
+pub struct Reply {
+    octets: Vec<u8>,
+}
+
+impl Model for Reply {
+    ghost use Rattle.std.specs.Prelude.{ℕ, List};
+
+    ghost Value = { List ℕ };
+
+    ghost view = { λ reply. reply.octets.items };
+}
+
+impl Reply {
+    /// The octets of the reply.
+    pub fn octets(&self) -> &[u8]
+        ensures { result.now ≡ self.now }
+    {
+        self.octets.as_slice()
+    }
+
+    /// The octets of the reply, for good. It takes no memory.
+    pub fn into_octets(self) -> Vec<u8>
+        ensures { result.items ≡ self }
+    {
+        self.octets
+    }
+}
+
+// The phrase of a status.
+#[tactic(auto, unfolding(crate::specs::Replies::phrase_of))]
+fn phrase(status: StatusCode) -> &'static str
+    ensures { result.now ≡ phrase_of status }
+{
+    status.canonical_reason().unwrap_or("")
+}
+
+// The line that names the method which is allowed, where another isn't.
+#[tactic(auto, unfolding(crate::specs::Replies::allow_of))]
+fn allow(status: StatusCode) -> &'static str
+    ensures { result.now ≡ allow_of status }
+{
+    if status.as_u16() == 405 {
+        "Allow: GET\r\n"
+    } else {
+        ""
+    }
+}
+
+// The head of a reply, with the length of its body in decimal.
+#[tactic(auto, unfolding(crate::specs::Replies::head_text))]
+fn head(alloc: Global, status: StatusCode, body_length: &str) -> Result<Vec<u8>, AllocError>
+    ensures { IfOk result (λ octets. octets.items ≡ head_text status body_length.now) }
+{
+    let mut octets = Vec::new(alloc);
+    octets.extend_from_slice(b"HTTP/1.1 ")?;
+    octets.extend_from_slice(status.as_str().as_bytes())?;
+    octets.extend_from_slice(b" ")?;
+    octets.extend_from_slice(phrase(status).as_bytes())?;
+    octets.extend_from_slice(b"\r\nContent-Type: application/json")?;
+    octets.extend_from_slice(b"\r\nContent-Length: ")?;
+    octets.extend_from_slice(body_length.as_bytes())?;
+    octets.extend_from_slice(b"\r\nConnection: close\r\n")?;
+    octets.extend_from_slice(allow(status).as_bytes())?;
+    octets.extend_from_slice(b"\r\n")?;
+    Ok(octets)
+}
+
+/// The reply with a body.
+///
+/// # Errors
+///
+/// A growth was refused.
+pub(crate) fn body_reply(alloc: Global, body: &str) -> Result<Reply, AllocError>
+    ensures { IfOk result (λ reply. reply ≡ reply_text 200 body.now) }
+{
+    let body_length = body.len().to_string(alloc)?;
+    let mut octets = head(alloc, StatusCode::OK, body_length.as_str())?;
+    octets.extend_from_slice(body.as_bytes())?;
+    Ok(Reply { octets })
+}
+
+/// The reply whose body names its status. It takes memory for its own octets alone.
+///
+/// # Errors
+///
+/// A growth was refused.
+pub(crate) fn error_reply(alloc: Global, status: StatusCode) -> Result<Reply, AllocError>
+    ensures { IfOk result (λ reply. reply ≡ error_text status) }
+{
+    let mut octets = head(alloc, status, "13")?;
+    octets.extend_from_slice(b"{\"error\":")?;
+    octets.extend_from_slice(status.as_str().as_bytes())?;
+    octets.extend_from_slice(b"}")?;
+    Ok(Reply { octets })
+}

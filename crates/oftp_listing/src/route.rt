@@ -1,0 +1,105 @@
+//! The routes.
+
+ghost use Rattle.std.specs.Prelude.{◌≡◌, IfOk, MatchResult, codes, option_and_then};
+ghost use Rattle.oftp_listing.specs.declared.fault.ListFault.TheVariants.{Memory};
+ghost use Rattle.oftp_listing.specs.Routes.{number_of, route_at};
+ghost use Rattle.oftp_listing.specs.Rows.{parts_of, routes};
+ghost use Rattle.matchit.specs.Params.{AllText, named};
+
+use crate::fault::ListFault;
+use matchit::{InsertError, Params, Router};
+use std::alloc::Global;
+
+/// What a target asks for.
+#[derive(Clone, Copy, Debug, Drop, PartialEq, Eq)]
+pub(crate) enum Route {
+    /// All incoming files.
+    Incoming,
+    /// The incoming file with a number.
+    IncomingFile(u64),
+    /// All outgoing files.
+    Outgoing,
+    /// The outgoing file with a number.
+    OutgoingFile(u64),
+    /// All responses.
+    Responses,
+}
+
+// What the router keeps of a route: all but its number.
+#[derive(Clone, Copy, Drop)]
+enum Place {
+    Incoming,
+    IncomingFile,
+    Outgoing,
+    OutgoingFile,
+    Responses,
+}
+
+// The number that a text of 1 to 7 digits without a leading zero stands for.
+#[tactic(auto, unfolding(crate::specs::Routes::number_of))]
+fn number(text: &[u8]) -> Option<u64>
+    ensures { result ≡ number_of text.now }
+{
+    if text.is_empty() || text[0] == b'0' || text.len() > 7 {
+        return None;
+    }
+    let mut sum: u64 = 0;
+    for digit in text {
+        if !digit.is_ascii_digit() {
+            return None;
+        }
+        sum = sum * 10 + u64::from(*digit - b'0');
+    }
+    Some(sum)
+}
+
+// The router of the five routes. They don't conflict, so its error is want of memory.
+fn router(alloc: Global) -> Result<Router<Place>, InsertError>
+    ensures { IfOk result (λ router. router ≡ routes) }
+{
+    let mut router = Router::new(alloc);
+    router.insert("/in", Place::Incoming)?;
+    router.insert("/in/{id}", Place::IncomingFile)?;
+    router.insert("/out", Place::Outgoing)?;
+    router.insert("/out/{id}", Place::OutgoingFile)?;
+    router.insert("/responses", Place::Responses)?;
+    Ok(router)
+}
+
+// The number that a target has in its last segment.
+fn number_in(params: &Params<'_, '_>) -> Option<u64>
+    ensures { AllText (parts_of params.now) → result ≡ option_and_then number_of (named (codes "id") (parts_of params.now)) }
+{
+    number(params.get("id")?.as_bytes())
+}
+
+// What a target asks for by the router.
+fn route_in(router: &Router<Place>, target: &str) -> Option<Route>
+    requires { router.now ≡ routes }
+    ensures { result ≡ route_at target.now }
+{
+    let Ok(found) = router.at(target) else {
+        return None;
+    };
+    match *found.value {
+        Place::Incoming => Some(Route::Incoming),
+        Place::IncomingFile => Some(Route::IncomingFile(number_in(&found.params)?)),
+        Place::Outgoing => Some(Route::Outgoing),
+        Place::OutgoingFile => Some(Route::OutgoingFile(number_in(&found.params)?)),
+        Place::Responses => Some(Route::Responses),
+    }
+}
+
+/// What a target asks for, if it fits a route.
+///
+/// # Errors
+///
+/// [`ListFault::Memory`]: a growth was refused.
+pub(crate) fn find_route(alloc: Global, target: &str) -> Result<Option<Route>, ListFault>
+    ensures { MatchResult result (λ route. route ≡ route_at target.now) (λ fault. fault ≡ Memory) }
+{
+    match router(alloc) {
+        Ok(router) => Ok(route_in(&router, target)),
+        Err(_) => Err(ListFault::Memory),
+    }
+}

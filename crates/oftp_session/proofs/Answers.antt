@@ -1,0 +1,21 @@
+-- What is said of a change that was made, or of none.
+use Rattle.std.proofs.Common.{◌≡◌, ℕ, Option, None, Some, Ok, List, [], refl, sym, subst}
+use Rattle.oftp_wire.specs.declared.command.Command.{Command}
+use Rattle.oftp_register.specs.declared.change.Change.{Change}
+use Rattle.oftp_register.specs.Offices.{View}
+use Rattle.oftp_session.specs.declared.state.State.{State}
+use Rattle.oftp_session.specs.Phases.{Step, frame_of}
+use Rattle.oftp_session.specs.Calls.{Goes, IsMade, Takes}
+
+-- a change that was made is answered
+pub answered : (change : Option Change) (said : Command) (old new : View) (frame : List ℕ) → frame ≡ frame_of said → IsMade change None old new [] → IsMade change (Some said) old new frame
+answered change said old new frame is m = record { said = is; register = m.register; stands = m.stands; faults = m.faults }
+
+-- a step that changes nothing
+pub same_takes : (step : Step) (now : View) (to : State) (frame : List ℕ) → now.stands → Goes step to frame → Takes step now now frame (Ok to)
+same_takes step now to frame stands goes =
+    let made : IsMade None step.output now now frame = record { said = goes.said; register = refl; stands = stands; faults = refl } in
+    (subst (λ (x : Option Change). IsMade x step.output now now frame) (sym goes.unchanged) made, goes.stands)
+
+pub step_same : (whole step : Step) (now : View) (to : State) (frame : List ℕ) → now.stands → whole ≡ step → Goes step to frame → Takes whole now now frame (Ok to)
+step_same whole step now to frame stands is goes = subst (λ (x : Step). Takes x now now frame (Ok to)) (sym is) (same_takes step now to frame stands goes)

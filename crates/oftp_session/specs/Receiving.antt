@@ -1,0 +1,201 @@
+-- How a listener takes a file: SFID to EFPA (RFC 5024, sections 5.3.3 to 5.3.10).
+use Rattle.std.specs.Prelude.{ℕ, ◌+◌, ◌-◌, ◌%◌, ◌==◌, Bool, false, nat_lt, max, if◌then◌else◌, List, [], ◌∷◌, ◌++◌, length, take, drop, Option, None, Some, is_some, Result, Ok, Err}
+use Rattle.std.specs.List.{position_or_len}
+use Rattle.oftp_wire.specs.declared.command.Command.{Command}
+use Rattle.oftp_wire.specs.declared.command.Command.TheVariants as command
+use Rattle.oftp_wire.specs.declared.command.Sfid.{Sfid}
+use Rattle.oftp_wire.specs.declared.command.Efid.{Efid}
+use Rattle.oftp_wire.specs.declared.reason.SessionReason.{SessionReason}
+use Rattle.oftp_wire.specs.declared.reason.SessionReason.TheVariants.{ProtocolViolation, InvalidData, BufferSizeError, ResourcesNotAvailable}
+use Rattle.oftp_wire.specs.declared.reason.StartReason.{StartReason}
+use Rattle.oftp_wire.specs.declared.reason.EndReason.{EndReason}
+use Rattle.oftp_wire.specs.Reasons.{start_number, end_number}
+use Rattle.oftp_vfile.specs.declared.format.TakeFault.{TakeFault}
+use Rattle.oftp_vfile.specs.declared.format.TakeFault.TheVariants.{Cut, Compressed, RecordSize, AfterEnd, TooBig, Memory}
+use Rattle.oftp_vfile.specs.declared.format.Limits.{Limits}
+use Rattle.oftp_vfile.specs.VirtualFile.{units_in, closed}
+use Rattle.oftp_vfile.specs.Carries.{is_open}
+use Rattle.oftp_vfile.specs.Taking.{Taking, new_taking, counts_of}
+use Rattle.oftp_vfile.specs.Reading.{taken, taken_all}
+use Rattle.oftp_register.specs.declared.change.Change.{Change}
+use Rattle.oftp_register.specs.declared.change.Change.TheVariants.{Start, Keep, Close, GiveUp}
+use Rattle.oftp_register.specs.declared.entry.Identity.{Identity}
+use Rattle.oftp_register.specs.declared.entry.IncomingState.TheVariants.{Open}
+use Rattle.oftp_register.specs.declared.entries.Side.TheVariants as side
+use Rattle.oftp_register.specs.declared.verdicts.Terms.{Terms}
+use Rattle.oftp_register.specs.declared.verdicts.StartVerdict.{StartVerdict}
+use Rattle.oftp_register.specs.declared.verdicts.StartVerdict.TheVariants as start
+use Rattle.oftp_register.specs.declared.verdicts.EndVerdict.{EndVerdict}
+use Rattle.oftp_register.specs.declared.verdicts.EndVerdict.TheVariants as «end»
+use Rattle.oftp_register.specs.Register.{Register, Incoming, same_identity}
+use Rattle.oftp_register.specs.LookUps.{look_in, files_full, file_rows, next_item}
+use Rattle.oftp_register.specs.Verdicts.{start_verdict, end_verdict, format_of, longest_of}
+use Rattle.oftp_session.specs.declared.state.Contact.{Contact}
+use Rattle.oftp_session.specs.Settings.{Setting}
+use Rattle.oftp_session.specs.Phases.{Receipt, ListenerIdle, Receiving, Step, quiet, answers, says, fails, unexpected}
+
+-- SFID (RFC 5024, sections 5.3.3 to 5.3.5)
+
+-- what names the file that is offered
+abbrev pub offered_identity : Sfid → Identity
+offered_identity sfid = record { dataset = sfid.dataset; date = sfid.date; time = sfid.time; originator = sfid.originator; destination = sfid.destination }
+
+-- its entry, before a row of it is here
+abbrev pub offered_file : Sfid → Incoming
+offered_file sfid = record {
+  identity = offered_identity sfid;
+  format = format_of sfid.layout;
+  longest = longest_of sfid.layout;
+  description = sfid.description;
+  state = Open;
+  rows = [];
+  response = None;
+}
+
+-- on what terms a file is taken by an office that may hold so much
+abbrev pub terms_within : Setting → Contact → Limits → Terms
+terms_within setting contact limits = record {
+  station = setting.book.station.code;
+  partner = contact.code;
+  receives = contact.link.receives;
+  restart = contact.link.restart;
+  limits = limits;
+}
+
+-- whether the file is taken, and from which row on
+abbrev pub verdict_on : Setting → Contact → Register → Sfid → StartVerdict
+verdict_on setting contact r sfid =
+    start_verdict sfid (look_in r (offered_identity sfid)) (files_full r side.Incoming) (terms_within setting contact r.limits)
+
+-- the number of the file of an identity, or the one that it gets
+abbrev pub number_of : Register → Identity → ℕ
+number_of r identity = 1 + position_or_len (λ (f : Incoming). same_identity f.identity identity) r.incoming
+
+-- the file begins, or goes on after so many of its rows
+abbrev pub start_of : Sfid → ℕ → Change
+start_of sfid count = Start (offered_identity sfid) (format_of sfid.layout) (longest_of sfid.layout) sfid.description count
+
+-- the file as it is received from this row on
+abbrev pub receipt_of : Register → Sfid → ℕ → Receipt
+receipt_of r sfid count =
+    let number = number_of r (offered_identity sfid) in
+    let rows = take count (file_rows r side.Incoming number) in
+    record {
+      number = number;
+      file = record (offered_file sfid) { rows = rows };
+      from = count;
+      units = units_in rows;
+      limit = r.limits.octets;
+      payloads = [];
+    }
+
+-- the answers to SFID
+abbrev pub sfpa_of : ℕ → Command
+sfpa_of count = command.Sfpa (record { restart = count })
+
+abbrev pub sfna_of : StartReason → Bool → Command
+sfna_of reason retry = command.Sfna (record { reason = start_number reason; retry = retry; text = [] })
+
+abbrev pub on_start_verdict : Contact → Register → Sfid → StartVerdict → Step
+on_start_verdict contact r sfid (start.Accept count) =
+    answers (Receiving contact (receipt_of r sfid count)) (Some (start_of sfid count)) (sfpa_of count)
+on_start_verdict contact r sfid (start.Refuse reason retry) = says (ListenerIdle contact) (sfna_of reason retry)
+
+unfoldable pub offer_step : Setting → Contact → Register → Sfid → Step
+offer_step setting contact r sfid = on_start_verdict contact r sfid (verdict_on setting contact r sfid)
+
+-- DATA and CDT (RFC 5024, sections 5.3.6, 5.3.7 and 7)
+
+-- the taker of a file that comes from a row on
+abbrev pub taker_of : Receipt → Taking
+taker_of f = new_taking f.file.format f.file.longest f.from f.units f.limit
+
+-- what all payloads since SFPA carry
+abbrev pub carried_by : Receipt → Taking
+carried_by f = taken_all (taker_of f) f.payloads
+
+-- how many of the rows that came are kept
+abbrev pub kept_of : Receipt → ℕ
+kept_of f = length f.file.rows - f.from
+
+-- the rows that these payloads carry, less those that are kept
+abbrev pub rows_to_keep : Receipt → Taking → List (List ℕ)
+rows_to_keep f t = drop (kept_of f) t.rows
+
+-- the rows are kept, if there are any
+abbrev pub keeping : ℕ → List (List ℕ) → Option Change
+keeping number [] = None
+keeping number (row ∷ rows) = Some (Keep number (row ∷ rows))
+
+-- the reason of the ESID that answers a payload at fault (RFC 5024, section 5.3.11)
+abbrev pub reason_of : TakeFault → SessionReason
+reason_of Cut = InvalidData
+reason_of Compressed = ProtocolViolation
+reason_of RecordSize = InvalidData
+reason_of AfterEnd = ProtocolViolation
+reason_of TooBig = InvalidData
+reason_of Memory = ResourcesNotAvailable
+
+-- one more payload came
+abbrev pub with_payload : Receipt → List ℕ → Receipt
+with_payload f payload = record f { payloads = f.payloads ++ payload ∷ [] }
+
+-- rows of the file are kept
+abbrev pub with_rows : Receipt → List (List ℕ) → Receipt
+with_rows f rows = record f { file = record f.file { rows = f.file.rows ++ rows } }
+
+-- how many DATA the partner may send before it awaits credit: the agreed number, which is at least 1
+abbrev pub window : Contact → ℕ
+window contact = max 1 contact.link.credit
+
+-- the place of the last payload is a multiple of this number: the partner awaits credit
+abbrev pub is_window_full : Contact → Receipt → Bool
+is_window_full contact f = length f.payloads % window contact == 0
+
+-- what a payload leaves, with CDT where the credit is used up
+abbrev pub window_step : Contact → Receipt → List (List ℕ) → Step
+window_step contact f rows = if is_window_full contact f
+    then answers (Receiving contact (with_rows f rows)) (keeping f.number rows) command.Cdt
+    else quiet (Receiving contact f)
+
+abbrev pub on_taken : Contact → Receipt → List ℕ → Result Taking TakeFault → Step
+on_taken contact f payload (Ok t) = window_step contact (with_payload f payload) (rows_to_keep f t)
+on_taken contact f payload (Err fault) = fails (reason_of fault)
+
+-- the command octet counts
+unfoldable pub data_step : Contact → Receipt → List ℕ → Step
+data_step contact f payload = if nat_lt contact.link.buffer (length payload + 1)
+    then fails BufferSizeError
+    else on_taken contact f payload (taken (carried_by f) payload)
+
+-- EFID (RFC 5024, sections 5.3.8 to 5.3.10)
+
+-- a response to this partner is next, which wasn't tried: the station asks to speak
+abbrev pub asks_to_speak : Contact → Register → Bool
+asks_to_speak contact r = is_some (next_item r contact.code contact.tried false)
+
+-- the answers to EFID
+abbrev pub efpa_of : Bool → Command
+efpa_of speaks = command.Efpa (record { change_direction = speaks })
+
+abbrev pub efna_of : EndReason → Command
+efna_of reason = command.Efna (record { reason = end_number reason; text = [] })
+
+abbrev pub on_end_verdict : Contact → Register → Receipt → Taking → EndVerdict → Step
+on_end_verdict contact r f t «end».Accept =
+    answers (ListenerIdle contact) (Some (Close f.number (closed (rows_to_keep f t) t.tail))) (efpa_of (asks_to_speak contact r))
+on_end_verdict contact r f t («end».Refuse reason) = answers (ListenerIdle contact) (Some (GiveUp f.number)) (efna_of reason)
+
+abbrev pub on_end : Contact → Register → Receipt → Efid → Taking → Step
+on_end contact r f efid t = if is_open t.stage
+    then fails ProtocolViolation
+    else on_end_verdict contact r f t (end_verdict efid (counts_of t).0 (counts_of t).1)
+
+unfoldable pub end_step : Contact → Register → Receipt → Efid → Step
+end_step contact r f efid = on_end contact r f efid (carried_by f)
+
+-- what comes where a file comes
+unfoldable pub came_receiving : Contact → Register → Receipt → Command → Step
+came_receiving contact r f (command.Data payload) = data_step contact f payload
+came_receiving contact r f (command.Efid efid) = end_step contact r f efid
+came_receiving contact r f other = unexpected other

@@ -1,0 +1,208 @@
+//! A file that comes: DATA and EFID (RFC 5024, sections 5.3.6 to 5.3.10).
+
+ghost use Rattle.std.specs.Prelude.{◌≡◌, ◌+◌, ◌≤◌, false, nat_lt, length, IfErr};
+ghost use Rattle.oftp_vfile.specs.Carries.{is_open};
+ghost use Rattle.oftp_session.specs.Phases.{Receipt};
+ghost use Rattle.oftp_session.specs.Receiving.{came_receiving, carried_by, data_step, end_step, on_end_verdict, reason_of, rows_to_keep, window_step};
+ghost use Rattle.oftp_session.specs.Steps.{IsReceived};
+ghost use Rattle.oftp_session.specs.Standings.{HasTaken, Tracks};
+ghost use Rattle.oftp_session.specs.Calls.{IsFailure, Refuses, Takes};
+
+use crate::commands::{efna, efpa};
+use crate::frame::Frame;
+use crate::link::Link;
+use crate::listener::ListenerPart;
+use crate::session::SessionFault;
+use crate::state::{Contact, State};
+use oftp_register::{EndVerdict, Office, end_verdict};
+use oftp_vfile::{TakeFault, Taker};
+use oftp_wire::{Command, Efid, SessionReason};
+
+/// A file that is being received: its number, how many DATA the partner may still send before it awaits credit, and what takes
+/// its payloads.
+#[derive(Drop)]
+pub(crate) struct Reception {
+    pub(crate) number: u64,
+    pub(crate) credit: u64,
+    pub(crate) taker: Taker,
+}
+
+/// Whether a payload and its command octet pass the agreed buffer.
+fn is_too_long(link: &Link, payload: &[u8]) -> bool
+    ensures { result ≡ nat_lt link.now.buffer (length payload.now + 1) }
+{
+    link.buffer.get() < payload.len() as u64 + 1
+}
+
+/// The reason of the ESID that answers a payload at fault.
+fn reason_of(fault: TakeFault) -> SessionReason
+    ensures { result ≡ reason_of fault }
+{
+    match fault {
+        TakeFault::Cut | TakeFault::RecordSize | TakeFault::TooBig => SessionReason::InvalidData,
+        TakeFault::Compressed | TakeFault::AfterEnd => SessionReason::ProtocolViolation,
+        TakeFault::Memory => SessionReason::ResourcesNotAvailable,
+    }
+}
+
+/// Ends the session where a payload is at fault. Only a want of memory is a fault of the session.
+fn refuse(fault: TakeFault, frame: &mut Frame) -> Result<State, SessionFault>
+    ensures { Refuses fault result frame.new }
+{
+    match fault {
+        TakeFault::Memory => Err(SessionFault::Memory),
+        TakeFault::Cut
+        | TakeFault::Compressed
+        | TakeFault::RecordSize
+        | TakeFault::AfterEnd
+        | TakeFault::TooBig => Ok(State::ended_here(reason_of(fault), frame)),
+    }
+}
+
+/// Keeps the finished rows where the partner's credit is used up, and gives it credit (RFC 5024, section 5.3.7).
+fn give_credit<O: Office>(
+    contact: Contact,
+    mut reception: Reception,
+    office: &mut O,
+    frame: &mut Frame,
+) -> Result<State, SessionFault>
+    ensures clean { (O.view office.new).clean → (O.view office.old).clean }
+    ensures takes { (O.view office.new).clean → (O.view office.old).stands
+        → (f : Receipt) → IsReceived (O.view office.old).register f → HasTaken contact f reception → reception.credit ≤ 1
+        → Takes (window_step contact f (rows_to_keep f (carried_by f))) (O.view office.old) (O.view office.new) frame.new result }
+    ensures err { IfErr result (λ fault. fault ≡ SessionFault.Office) }
+{
+    let link = contact.link;
+    frame.say(&Command::Cdt);
+    let rows = reception.taker.take_rows();
+    if let Err(fault) = office.keep(reception.number, rows) {
+        return Err(fault);
+    }
+    reception.credit = link.credit.get();
+    Ok(State::Receiving(contact, reception))
+}
+
+/// What a payload that was taken leaves: CDT where the partner's credit is used up.
+fn pass_window<O: Office>(
+    contact: Contact,
+    mut reception: Reception,
+    office: &mut O,
+    frame: &mut Frame,
+) -> Result<State, SessionFault>
+    ensures clean { (O.view office.new).clean → (O.view office.old).clean }
+    ensures takes { (O.view office.new).clean → (O.view office.old).stands
+        → (f : Receipt) → IsReceived (O.view office.old).register f → HasTaken contact f reception
+        → Takes (window_step contact f (rows_to_keep f (carried_by f))) (O.view office.old) (O.view office.new) frame.new result }
+    ensures err { IfErr result (λ fault. fault ≡ SessionFault.Office) }
+{
+    if reception.credit <= 1 {
+        return give_credit(contact, reception, office, frame);
+    }
+    reception.credit -= 1;
+    frame.hush();
+    Ok(State::Receiving(contact, reception))
+}
+
+/// Takes a payload (RFC 5024, section 5.3.6).
+fn take_data<O: Office>(
+    contact: Contact,
+    mut reception: Reception,
+    office: &mut O,
+    payload: &[u8],
+    frame: &mut Frame,
+) -> Result<State, SessionFault>
+    ensures clean { (O.view office.new).clean → (O.view office.old).clean }
+    ensures takes { (O.view office.new).clean → (O.view office.old).stands
+        → (f : Receipt) → IsReceived (O.view office.old).register f → Tracks contact f reception
+        → Takes (data_step contact f payload.now) (O.view office.old) (O.view office.new) frame.new result }
+    ensures err { IfErr result IsFailure }
+{
+    if is_too_long(&contact.link, payload) {
+        return Ok(State::ended_here(SessionReason::BufferSizeError, frame));
+    }
+    match reception.taker.take(payload) {
+        Ok(()) => pass_window(contact, reception, office, frame),
+        Err(fault) => refuse(fault, frame),
+    }
+}
+
+/// Closes a file whose end has its counts (RFC 5024, section 5.3.9).
+fn close<O: Office>(
+    contact: Contact,
+    reception: Reception,
+    office: &mut O,
+    frame: &mut Frame,
+) -> Result<State, SessionFault>
+    ensures clean { (O.view office.new).clean → (O.view office.old).clean }
+    ensures takes { (O.view office.new).clean → (O.view office.old).stands
+        → (f : Receipt) → IsReceived (O.view office.old).register f → Tracks contact f reception → is_open (carried_by f).stage ≡ false
+        → Takes (on_end_verdict contact (O.view office.old).register f (carried_by f) EndVerdict.Accept)
+        (O.view office.old) (O.view office.new) frame.new result }
+    ensures err { IfErr result IsFailure }
+{
+    let Reception { number, taker, .. } = reception;
+    let Ok(rows) = taker.close() else {
+        return Err(SessionFault::Memory);
+    };
+    let speaks = office.asks_to_speak(&contact)?;
+    // The answer stands spelled before the commit, so that only the writer can fail between the two.
+    frame.say(&efpa(speaks));
+    if let Err(fault) = office.close(number, rows) {
+        return Err(fault);
+    }
+    Ok(State::ListenerIdle(contact))
+}
+
+/// Ends the file, where its counts are those of the rows that are here (RFC 5024, sections 5.3.8 to 5.3.10).
+fn take_end<O: Office>(
+    contact: Contact,
+    reception: Reception,
+    office: &mut O,
+    efid: &Efid,
+    frame: &mut Frame,
+) -> Result<State, SessionFault>
+    ensures clean { (O.view office.new).clean → (O.view office.old).clean }
+    ensures takes { (O.view office.new).clean → (O.view office.old).stands
+        → (f : Receipt) → IsReceived (O.view office.old).register f → Tracks contact f reception
+        → Takes (end_step contact (O.view office.old).register f efid.now)
+        (O.view office.old) (O.view office.new) frame.new result }
+    ensures err { IfErr result IsFailure }
+{
+    if reception.taker.is_open() {
+        return Ok(State::ended_here(SessionReason::ProtocolViolation, frame));
+    }
+    let (records, units) = reception.taker.counts();
+    match end_verdict(efid, records, units) {
+        EndVerdict::Refuse(reason) => {
+            frame.say(&efna(reason));
+            if let Err(fault) = office.give_up(reception.number) {
+                return Err(fault);
+            }
+            Ok(State::ListenerIdle(contact))
+        }
+        EndVerdict::Accept => close(contact, reception, office, frame),
+    }
+}
+
+/// Takes a command that comes while a file is received.
+#[tactic(auto, unfolding(crate::specs::Receiving::came_receiving))]
+pub(crate) fn in_receiving<O: Office>(
+    contact: Contact,
+    reception: Reception,
+    office: &mut O,
+    command: &Command<'_>,
+    frame: &mut Frame,
+) -> Result<State, SessionFault>
+    ensures clean { (O.view office.new).clean → (O.view office.old).clean }
+    ensures takes { (O.view office.new).clean → (O.view office.old).stands
+        → (f : Receipt) → IsReceived (O.view office.old).register f → Tracks contact f reception
+        → Takes (came_receiving contact (O.view office.old).register f command.now)
+        (O.view office.old) (O.view office.new) frame.new result }
+    ensures err { IfErr result IsFailure }
+{
+    match command {
+        Command::Data(payload) => take_data(contact, reception, office, payload.octets(), frame),
+        Command::Efid(efid) => take_end(contact, reception, office, efid, frame),
+        _ => Ok(State::unexpected(command, frame)),
+    }
+}
