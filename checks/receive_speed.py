@@ -1,0 +1,130 @@
+#!/usr/bin/env python3
+"""Gives `feed` one file in one session, at several sizes, buffers and credits, and prints the time and the memory that it took, beside
+a plain copy of the same octets.
+
+    checks/receive_speed.py [--assert]      with `--assert` it fails where the largest file needs more than one and a half times its
+                                            size in memory, or costs per octet three times what a file of a thousandth does
+
+It takes the program as it was last built. The last line is then `N passed, M failed`.
+"""
+
+import os
+import shutil
+import subprocess
+import sys
+import tempfile
+import time
+from pathlib import Path
+
+import oftp
+
+ROOT = Path(__file__).resolve().parent.parent
+PROGRAM = ROOT / "crates/oftp_station/out/oftp_station"
+MEBI = 1024 * 1024
+FILE = {
+    "dataset": "ASN.0001",
+    "date": "20240131",
+    "time": "1015300001",
+    "destination": "O0013SUPPLIER",
+    "originator": "O0177CARMAKER",
+    "format": "U",
+}
+BOOK = """[station]
+code = 'O0013SUPPLIER'
+buffer = {buffer}
+credit = {credit}
+restart = true
+
+[[partner]]
+code = 'O0177CARMAKER'
+expects = 'CARPW'
+sends = 'SUPPW'
+mode = 'B'
+address = '127.0.0.1:3305'
+"""
+
+
+def frame_of(kind, **fields):
+    return oftp.frame(oftp.spell(kind, fields))
+
+
+def data_frames(size, buffer):
+    """The DATA of a file of so many octets, each as full as the buffer lets it be."""
+    frames = []
+    left = size
+    while left > 0:
+        payload = []
+        room = buffer - 1
+        while room > 1 and left > 0:
+            count = min(63, left, room - 1)
+            left -= count
+            room -= count + 1
+            flag = 0x80 if left == 0 else 0
+            payload.append(bytes([flag | count]) + b"A" * count)
+        frames.append(oftp.frame(b"D" + b"".join(payload)))
+    return frames
+
+
+def session(size, buffer, credit):
+    """The octets of a session with one file."""
+    frames = data_frames(size, buffer)
+    opening = frame_of("SSID", code="O0177CARMAKER", password="CARPW", buffer=str(buffer), credit=str(credit), mode="B")
+    offer = frame_of("SFID", size=str((size + 1023) // 1024), **FILE)
+    end = frame_of("EFID", records="0", units=str(size))
+    return b"".join([opening, offer, *frames, end, frame_of("ESID", reason="00")])
+
+
+def run(words):
+    """Runs a program to its end. It answers the seconds and the KiB of memory that it took, which are at least this script's own."""
+    begin = time.monotonic()
+    with open(os.devnull, "wb") as nowhere:
+        pid = os.posix_spawn(words[0], words, os.environ, file_actions=[(os.POSIX_SPAWN_DUP2, nowhere.fileno(), 1)])
+        _, status, used = os.wait4(pid, 0)
+    if status != 0:
+        raise SystemExit(f"{words[0]} failed with status {os.waitstatus_to_exitcode(status)}")
+    return time.monotonic() - begin, used.ru_maxrss
+
+
+def measure(room, size, buffer, credit):
+    """Receives one file. It answers the seconds, the KiB, and the seconds of a plain copy."""
+    given, answer, book = room / "given", room / "answer", room / "book.toml"
+    # In a process of its own, since the memory that is told of a program is at least that of the script that starts it.
+    subprocess.run([sys.executable, __file__, "--make", str(size), str(buffer), str(credit), given], check=True)
+    book.write_text(BOOK.format(buffer=buffer, credit=credit))
+    seconds, memory = run([str(PROGRAM), "feed", "--book", str(book), str(given), str(answer)])
+    if answer.read_bytes()[-6:] != frame_of("EFPA", change="N"):
+        raise SystemExit("the file wasn't taken")
+    begin = time.monotonic()
+    shutil.copyfile(given, room / "copy")
+    return seconds, memory, time.monotonic() - begin
+
+
+def make(size, buffer, credit, path):
+    """Writes the octets of a session to a file."""
+    Path(path).write_bytes(session(int(size), int(buffer), int(credit)))
+
+
+def main():
+    if sys.argv[1:2] == ["--make"]:
+        make(*sys.argv[2:])
+        return 0
+    cases = [(64 * MEBI, 16384, 99), (64 * 1024, 16384, 99), (64 * MEBI, 128, 1), (64 * 1024, 128, 1)]
+    print("octets      buffer credit  seconds   MB/s  memory/KiB  plain copy/s")
+    taken = {}
+    with tempfile.TemporaryDirectory() as room:
+        for size, buffer, credit in cases:
+            seconds, memory, plain = min(measure(Path(room), size, buffer, credit) for _ in range(3))
+            taken[size, buffer] = (seconds, memory)
+            print(f"{size:<11} {buffer:<6} {credit:<6} {seconds:8.3f} {size / seconds / 1e6:6.0f} {memory:11} {plain:13.3f}")
+    failed = 0
+    if "--assert" in sys.argv[1:]:
+        seconds, memory = taken[64 * MEBI, 16384]
+        failed += memory > 64 * 1024 * 3 // 2
+        slower = {buffer: taken[64 * MEBI, buffer][0] / 1024 > 3 * max(taken[64 * 1024, buffer][0], 0.001) for buffer in (16384, 128)}
+        failed += sum(slower.values())
+        print(f"{3 - failed} passed, {failed} failed")
+    return 1 if failed else 0
+
+
+if __name__ == "__main__":
+    sys.exit(main())
