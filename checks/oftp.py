@@ -200,12 +200,13 @@ def read(octets):
 def frames_of(octets):
     """The frames of a stream, in order; what is left over stands last."""
     frames = []
-    while octets:
-        length = int.from_bytes(octets[1:4], "big") if len(octets) >= 4 else 0
-        if octets[0] != 0x10 or length < 5 or length > len(octets):
-            length = len(octets)
-        frames.append(octets[:length])
-        octets = octets[length:]
+    at = 0
+    while at < len(octets):
+        length = int.from_bytes(octets[at + 1 : at + 4], "big")
+        if octets[at] != 0x10 or length < 5 or length > len(octets) - at:
+            length = len(octets) - at
+        frames.append(octets[at : at + length])
+        at += length
     return frames
 
 

@@ -6,10 +6,10 @@ mod operating;
 mod port;
 mod serving;
 
-pub use laws::folds_over_frames;
+pub use laws::{changes_are_made, folds_over_frames};
 pub use operating::{Operator, Refusal, Told, operate};
 pub use port::Port;
-pub use serving::{End, Role, RunFault, serve};
+pub use serving::{End, Role, RunFault, serve, serve_in_memory};
 
 #[cfg(test)]
 mod tests;

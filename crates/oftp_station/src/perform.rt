@@ -2,7 +2,7 @@
 
 use crate::line::{Feed, Line, LineFault, Side, line_of};
 use crate::outcome::{Fault, Outcome};
-use oftp_engine::{Port, Role, RunFault, serve};
+use oftp_engine::{Port, Role, RunFault, serve_in_memory};
 use oftp_partners::{self as partners, Book, BookFault, Partner};
 use oftp_register::PlainOffice;
 use oftp_vfile::Limits;
@@ -122,7 +122,7 @@ fn feed<R: Files + AllocGlobal>(rt: &R, files: &Feed<'_>) -> Result<Outcome, Fau
     let mut office = PlainOffice::new(rt.alloc(), LIMITS);
     let mut reader = Port::new(input, LONGEST_INPUT);
     let mut writer = Port::new(output, 0);
-    let end = serve(
+    let end = serve_in_memory(
         rt.alloc(),
         &mut office,
         &book,
