@@ -94,7 +94,7 @@ start_fails sfid count change old mid told is may does =
 -- then the file is found
 begun_found : (sfid : Sfid) (count : ℕ) (identity : Identity) (old mid : View) → identity ≡ offered_identity sfid → (may : MayBegin old.register sfid count)
     → IsMade (Some (start_of sfid count)) None old mid [] → (mid.register ≡ may.after)
-        × IsFound mid.register identity (receipt_of old.register sfid count).number (receipt_of old.register sfid count).file
+    × IsFound mid.register identity (receipt_of old.register sfid count).number (receipt_of old.register sfid count).file
 begun_found sfid count identity old mid is may made =
     let done : apply old.register (start_of sfid count) ≡ Ok mid.register = made.register in
     let both : Ok mid.register ≡ Ok may.after = sym done ∙ may.made in

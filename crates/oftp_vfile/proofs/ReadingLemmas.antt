@@ -87,10 +87,10 @@ subrecord_first : (first : ℕ) (rest : List ℕ) → first < 256 → first % 12
 subrecord_first first rest octet plain within =
     let long : length (take (first % 64) rest) ≡ first % 64 = length-take-le (first % 64) rest within in
     let by : (ends : Bool) → nat_le 128 first ≡ ends → header_octet ends (first % 64) ≡ first =
-        λ ends. elim ends as (λ (b : Bool). nat_le 128 first ≡ b → header_octet b (first % 64) ≡ first) [
-          | true ↦ λ h. let over = leb-true 128 first h in omega arith
-          | false ↦ λ h. let under = leb-false 128 first h in omega arith
-        ] in
+    λ ends. elim ends as (λ (b : Bool). nat_le 128 first ≡ b → header_octet b (first % 64) ≡ first) [
+      | true ↦ λ h. let over = leb-true 128 first h in omega arith
+      | false ↦ λ h. let under = leb-false 128 first h in omega arith
+    ] in
     (omega (arith, long), ap (header_octet (nat_le 128 first)) long ∙ by (nat_le 128 first) refl)
 
 pub taken_spelled : (n : ℕ) (t : Taking) (payload : List ℕ) (after : Taking) → length payload ≤ n → take_subrecords n t payload ≡ Ok after
