@@ -1,5 +1,5 @@
 -- From a commit and a line to what an operator's call does.
-use Rattle.std.proofs.Common.{◌≡◌, ◌∙◌, ◌⊎◌, inl, inr, ap, sym, subst, refl, arith, ℕ, ◌<◌, ◌≤◌, ◌&&◌, nat_le, codes, true, false, List, [], length, take, Option, None, Some, Result, Ok, Err, is_ok}
+use Rattle.std.proofs.Common.{◌≡◌, ◌∙◌, inl, inr, ap, sym, subst, refl, arith, ℕ, ◌<◌, ◌≤◌, ◌&&◌, nat_le, codes, true, List, [], length, take, Option, Some, Result, Ok, Err, is_ok}
 use Rattle.std.proofs.lemmas.Bool.{and_from, cond-true, false≢true, le-leb}
 use Rattle.std.specs.Result.{IfErr, IfOk}
 use Rattle.oftp_partners.specs.Book.{BookData}
@@ -22,7 +22,7 @@ use Rattle.oftp_engine.specs.declared.port.Port.{Port}
 use Rattle.oftp_engine.specs.declared.serving.RunFault.{RunFault}
 use Rattle.oftp_engine.specs.declared.serving.RunFault.TheVariants as fault
 use Rattle.oftp_engine.specs.Ports.{Sent}
-use Rattle.oftp_engine.specs.Serving.{Scene, Took, scene}
+use Rattle.oftp_engine.specs.Serving.{Took, scene}
 use Rattle.oftp_engine.specs.Operating.{Deed, IsDeed, decided, makes, refused, released, verb_of}
 use Rattle.oftp_engine.specs.Operated.{Attempts, AttemptsErr, MayFail, Operates, OperatesErr, came_out, line_as, told_as}
 use Rattle.oftp_engine.proofs.Bytes.{appends_none}

@@ -12,3 +12,4 @@ pub mod Puts
 pub mod Served
 pub mod Deciding
 pub mod Offers
+pub mod Jobs

@@ -1,5 +1,5 @@
 -- From the look-ups and the commit of a submission to what it does.
-use Rattle.std.proofs.Common.{◌≡◌, ◌∙◌, ◌⊎◌, inl, inr, ap, sym, subst, refl, arith, ℕ, ◌+◌, ◌*◌, ◌<◌, ◌≤◌, ◌||◌, Bool, nat_le, nat_lt, codes, true, false, cond, List, [], ◌∷◌, ◌++◌, length, find, Option, None, Some, is_some, Result, Ok, Err, is_ok, length-append}
+use Rattle.std.proofs.Common.{◌≡◌, ◌∙◌, inl, inr, ap, sym, subst, refl, arith, ℕ, ◌+◌, ◌*◌, Bool, nat_lt, codes, true, false, cond, List, [], ◌∷◌, ◌++◌, length, find, Option, None, Some, is_some, Result, Ok, Err, length-append}
 use Rattle.std.specs.Option.{IfNone, IfSome, option_map}
 use Rattle.std.proofs.lemmas.Bool.{cases_Bool, cond-true, cond-false, ltb-false, or_parts}
 use Rattle.std.proofs.lemmas.Slice.Eq.{bytes_eq-Decides}
@@ -13,7 +13,6 @@ use Rattle.oftp_vfile.specs.LocalForm.{IsLocal, local_of, local_row}
 use Rattle.oftp_vfile.specs.VirtualFile.{octets_in, units_in}
 use Rattle.oftp_partners.specs.Book.{BookData, partner_at}
 use Rattle.oftp_partners.specs.declared.partner.Partner.{Partner}
-use Rattle.oftp_register.specs.declared.change.Cause.{Cause}
 use Rattle.oftp_register.specs.declared.change.Cause.TheVariants as cause
 use Rattle.oftp_register.specs.declared.change.Change.{Change}
 use Rattle.oftp_register.specs.declared.change.Change.TheVariants as change
@@ -22,7 +21,7 @@ use Rattle.oftp_register.specs.declared.entry.Identity.{Identity}
 use Rattle.oftp_register.specs.declared.office.OfficeFault.{OfficeFault}
 use Rattle.oftp_register.specs.declared.office.OfficeFault.TheVariants as office
 use Rattle.oftp_register.specs.Register.{Outgoing, Register, same_identity}
-use Rattle.oftp_register.specs.Changes.{apply, is_outgoing, new_outgoing, submitted as registers_file}
+use Rattle.oftp_register.specs.Changes.{apply, is_outgoing, new_outgoing}
 use Rattle.oftp_register.specs.LookUps.{look_out, numbered, outgoing_entry}
 use Rattle.oftp_register.specs.Offices.{Commits, LooksUp, Only, View, WithOrWithout, next_count}
 use Rattle.oftp_register.specs.Soundness.{IsFile, IsFit}
@@ -36,7 +35,7 @@ use Rattle.oftp_engine.specs.declared.serving.RunFault.{RunFault}
 use Rattle.oftp_engine.specs.declared.serving.RunFault.TheVariants as fault
 use Rattle.oftp_engine.specs.declared.submitting.Fields.{Fields}
 use Rattle.oftp_engine.specs.declared.submitting.Submission.{Submission}
-use Rattle.oftp_engine.specs.Operating.{Deed, IsFileOf, Submits, decided, done_line, identity_of, is_too_big, makes, refuses, registered, submitted}
+use Rattle.oftp_engine.specs.Operating.{Deed, IsFileOf, Submits, decided, done_line, identity_of, is_too_big, refuses, registered}
 use Rattle.oftp_engine.specs.Operated.{Attempts, came_out_as}
 use Rattle.oftp_engine.specs.Offers.{AreFieldsOf, came_big, came_numbered, named_by}
 use Rattle.oftp_engine.proofs.Deciding.{decides}
@@ -157,7 +156,7 @@ module _ (identity : Identity) (old new : View) where
         sym (cond-false there (refuses refusal.Duplicate) (refuses refusal.Limit) none),
         record { told = refl; line = refl; register = l.register clean stood stands; stands = stands; faults = l.counts },
       )
-  decides_big (Ok (Some file)) l clean stood =
+  decides_big (Ok (Some found)) l clean stood =
       let some : there ≡ true = sym (found_out identity 1 old.register.outgoing) ∙ ap is_some (sym (l.answer clean stood)) in
       let stands = l.stays clean stood in (
         refuses refusal.Duplicate,

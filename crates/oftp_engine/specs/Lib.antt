@@ -6,3 +6,4 @@ pub mod Frames
 pub mod Operating
 pub mod Operated
 pub mod Offers
+pub mod Jobs

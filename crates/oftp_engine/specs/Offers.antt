@@ -1,5 +1,5 @@
 -- What the steps of a submission have read of it.
-use Rattle.std.specs.Prelude.{◌≡◌, ℕ, List, length, Option, None, Some, Result, Ok, Err}
+use Rattle.std.specs.Prelude.{◌≡◌, Option, None, Some, Result, Ok, Err}
 use Rattle.oftp_partners.specs.Book.{BookData}
 use Rattle.oftp_partners.specs.declared.partner.Partner.{Partner}
 use Rattle.oftp_vfile.specs.LocalForm.{IsLocal}
@@ -14,7 +14,7 @@ use Rattle.oftp_engine.specs.declared.serving.RunFault.TheVariants as fault
 use Rattle.oftp_engine.specs.declared.submitting.Fields.{Fields}
 use Rattle.oftp_engine.specs.declared.submitting.Offer.{Offer}
 use Rattle.oftp_engine.specs.declared.submitting.Submission.{Submission}
-use Rattle.oftp_engine.specs.Operating.{AreInRange, IsFileOf}
+use Rattle.oftp_engine.specs.Operating.{AreInRange}
 
 -- the fields that were read are those of the submission, and in their ranges
 pub record AreFieldsOf (s : Submission) (fields : Fields) : Type 0 where

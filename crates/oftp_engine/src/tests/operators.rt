@@ -77,7 +77,7 @@ const REFUSE: Operator<'static> = Operator::Refuse {
     text: "broken",
 };
 
-const FILE: Submission<'static> = Submission {
+pub(crate) const FILE: Submission<'static> = Submission {
     dataset: "ABC",
     date: "20240131",
     time: "1015300001",

@@ -1,4 +1,4 @@
-use Rattle.std.proofs.Common.{◌≡◌, ◌∙◌, ap, sym, subst, refl, inl, inr, codes, cond, true, false, is_some}
+use Rattle.std.proofs.Common.{◌∙◌, ap, sym, refl, inr, codes, cond, is_some}
 use Rattle.oftp_vfile.specs.declared.format.Limits.{Limits}
 use Rattle.oftp_register.specs.declared.entry.Identity.{Identity}
 use Rattle.oftp_register.specs.Changes.{is_outgoing}
