@@ -11,3 +11,4 @@ pub mod Stepping
 pub mod Puts
 pub mod Served
 pub mod Deciding
+pub mod Offers

@@ -5,11 +5,13 @@ mod laws;
 mod operating;
 mod port;
 mod serving;
+mod submitting;
 
 pub use laws::{changes_are_made, folds_over_frames};
 pub use operating::{Operator, Refusal, Told, operate};
 pub use port::Port;
 pub use serving::{End, Role, RunFault, serve, serve_in_memory};
+pub use submitting::Submission;
 
 #[cfg(test)]
 mod tests;
