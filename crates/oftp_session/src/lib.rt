@@ -11,6 +11,7 @@ mod listener;
 mod opening;
 mod receiving;
 mod responses;
+mod sending;
 mod session;
 mod speaker;
 mod state;

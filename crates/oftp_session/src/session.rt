@@ -92,13 +92,16 @@ fn came<O: Office>(
     ensures spared { is_receiving (standing_of state) ≡ false → IfErr result (λ fault. fault ≢ SessionFault.Memory) }
 {
     match state {
-        State::ResponderOpening | State::SpeakerIdle(_, _) => Ok(State::unexpected(command, frame)),
+        State::ResponderOpening | State::SpeakerIdle(_, _) | State::GivingWay(_) => {
+            Ok(State::unexpected(command, frame))
+        }
         State::InitiatorOpening => Ok(in_initiator_opening(setting, command, frame)),
         State::AwaitingSsid => Ok(in_awaiting_ssid(setting, command, frame)),
         State::ListenerIdle(contact) => in_listener_idle(setting, contact, office, command, frame),
         State::Receiving(contact, reception) => in_receiving(
             contact, reception, office, command, frame,
         ),
+        State::AwaitingRtr(_, _) | State::AwaitingStart(_, _) | State::Sending(_, _) | State::AwaitingEnd(_, _) => unreachable!(),
         State::EndedHere(_) | State::EndedThere(_) | State::Broken => unreachable!(),
     }
 }
