@@ -149,7 +149,7 @@ impl<'b> Session<'b> {
                 called: None,
             },
             state: State::ResponderOpening,
-            frame: Frame::empty(),
+            frame: Frame::empty(alloc),
         }
     }
 
@@ -167,7 +167,7 @@ impl<'b> Session<'b> {
                 called: Some(partner),
             },
             state: State::InitiatorOpening,
-            frame: Frame::empty(),
+            frame: Frame::empty(alloc),
         }
     }
 
