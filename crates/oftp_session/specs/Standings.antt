@@ -125,6 +125,15 @@ is_receiving (Sends contact shipment) = false
 is_receiving (Awaits contact number) = false
 is_receiving Broken = false
 
+-- a file is being sent
+abbrev pub is_sending : Standing → Bool
+is_sending (At p) = false
+is_sending (Receives contact reception) = false
+is_sending (Offers contact offering) = false
+is_sending (Sends contact shipment) = true
+is_sending (Awaits contact number) = false
+is_sending Broken = false
+
 -- how many turns may follow one another, and whether one is due
 abbrev pub turns_left : Standing → ℕ
 turns_left (At p) = turns_due p
