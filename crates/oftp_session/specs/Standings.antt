@@ -1,5 +1,5 @@
 -- Where a session stands, as contracts see it.
-use Rattle.std.specs.Prelude.{◌≡◌, ℕ, ◌-◌, ◌%◌, ◌<◌, ◌≤◌, nat_lt, max, length, take, Bool, true, false, Option, None}
+use Rattle.std.specs.Prelude.{◌≡◌, ℕ, ◌-◌, ◌%◌, ◌<◌, ◌≤◌, nat_lt, max, length, take, Bool, true, false, Option, None, Some}
 use Rattle.oftp_session.specs.declared.session.Ending.{Ending}
 use Rattle.oftp_vfile.specs.Reading.{shed}
 use Rattle.oftp_vfile.specs.Filling.{Sent}
@@ -96,7 +96,11 @@ standing_of (state.Sending contact shipment) = Sends contact shipment
 standing_of (state.AwaitingEnd contact number) = Awaits contact number
 standing_of (state.EndedHere reason) = At (EndedHere reason)
 standing_of (state.EndedThere reason) = At (EndedThere reason)
-standing_of state.Broken = Broken
+
+-- a session that holds no state is broken
+abbrev pub standing_held : Option State → Standing
+standing_held (Some s) = standing_of s
+standing_held None = Broken
 
 -- how a session ended, if it did
 abbrev pub ended_as : Standing → Option Ending

@@ -1,10 +1,10 @@
 //! A file that goes out: the answer to SFID, DATA, EFID and its answer (RFC 5024, sections 5.3.4 to 5.3.10).
 
-ghost use Rattle.std.specs.Prelude.{◌≡◌, ◌≢◌, ◌<◌, IfErr, IfOk};
+ghost use Rattle.std.specs.Prelude.{◌≡◌, ◌<◌, IfErr, IfOk};
 ghost use Rattle.oftp_session.specs.Phases.{Transfer};
 ghost use Rattle.oftp_session.specs.Sending.{came_sending, turned_sending};
 ghost use Rattle.oftp_session.specs.Steps.{IsSent};
-ghost use Rattle.oftp_session.specs.Standings.{Broken, Ships, standing_of, turns_left};
+ghost use Rattle.oftp_session.specs.Standings.{Ships, standing_of, turns_left};
 ghost use Rattle.oftp_session.specs.Calls.{IsFailure, Takes};
 
 use crate::frame::Frame;
@@ -54,9 +54,8 @@ pub(crate) fn send_next<O: Office>(
         → (t : Transfer) → IsSent (O.view office.old).register t → Ships contact t shipment
         → Takes (turned_sending contact t) (O.view office.old) (O.view office.new) frame.new result }
     ensures err { IfErr result IsFailure }
-    // It holds over any store, as the next clause does.
+    // It holds over any store.
     ensures fewer { IfOk result (λ state. turns_left (standing_of state) < shipment.credit) }
-    ensures whole { IfOk result (λ state. standing_of state ≢ Broken) }
 {
     unreachable!()
 }
@@ -74,8 +73,6 @@ pub(crate) fn in_sending<O: Office>(
         → (t : Transfer) → IsSent (O.view office.old).register t → Ships contact t shipment
         → Takes (came_sending contact t command.now) (O.view office.old) (O.view office.new) frame.new result }
     ensures err { IfErr result (λ fault. fault ≡ SessionFault.Office) }
-    // It holds over any store.
-    ensures whole { IfOk result (λ state. standing_of state ≢ Broken) }
 {
     unreachable!()
 }
