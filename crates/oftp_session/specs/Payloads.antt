@@ -1,16 +1,23 @@
 -- What becomes of the buffer that DATA frames are written in.
-use Rattle.std.specs.Prelude.{◌≡◌, ◌+◌, ◌<◌, ◌≤◌, ℕ, Bool, List, [], ◌∷◌, ◌++◌, length, take, Result, Ok, Err}
+use Rattle.std.specs.Prelude.{◌≡◌, ◌+◌, ◌-◌, ◌<◌, ◌≤◌, ℕ, Bool, true, false, min, List, [], ◌∷◌, ◌++◌, length, take, slice_get, Option, None, Some, Result, Ok, Err}
 use Rattle.oftp_wire.specs.declared.command.Command.TheVariants as command
+use Rattle.oftp_vfile.specs.declared.format.TheConstants.{MOST_ROWS}
 use Rattle.oftp_vfile.specs.declared.format.Filled.{Filled}
 use Rattle.oftp_vfile.specs.declared.format.Filled.TheVariants.{Buffer, Done, More}
 use Rattle.oftp_vfile.specs.Fill.{payloads_of}
-use Rattle.oftp_vfile.specs.Filling.{Filling, AreLent, AsksForMore, Sent}
+use Rattle.oftp_vfile.specs.Filling.{Filling, AreLent, AsksForMore, IsInRows, Sent}
+use Rattle.oftp_vfile.specs.VirtualFile.{AreRows}
+use Rattle.oftp_register.specs.Offices.{View}
 use Rattle.oftp_session.specs.declared.frame.TheConstants.{DATA_HEAD}
 use Rattle.oftp_session.specs.declared.frame.Said.{Said}
 use Rattle.oftp_session.specs.declared.frame.Said.TheVariants as said
 use Rattle.oftp_session.specs.declared.session.SessionFault.{SessionFault}
 use Rattle.oftp_session.specs.declared.session.SessionFault.TheVariants.{Memory}
-use Rattle.oftp_session.specs.Phases.{frame_of}
+use Rattle.oftp_session.specs.declared.sending.Shipment.{Shipment}
+use Rattle.oftp_session.specs.declared.state.Contact.{Contact}
+use Rattle.oftp_session.specs.Phases.{Transfer, frame_of}
+use Rattle.oftp_session.specs.Sending.{payload_size, payloads_in, rows_from}
+use Rattle.oftp_session.specs.Calls.{DoesNot, IsMade}
 
 -- the frame that is said: a command in the one buffer, or a DATA in the other
 abbrev pub spoken_in : Said → List ℕ → List ℕ → List ℕ
@@ -51,3 +58,32 @@ abbrev pub FillsInto : ℕ → Filling → Filling → List (List ℕ) → Bool 
 FillsInto size old new rows last data (Buffer n) = (n ≤ size) × IsNextData size old new rows last (take (n + DATA_HEAD) data)
 FillsInto size old new rows last data Done = IsAllSent size old new rows last
 FillsInto size old new rows last data More = AsksForMore size old new rows last
+
+-- rows that may be lent: so many from where the filler is, or all that are left, as a file of its format has them
+pub record MayLend (s : Shipment) (most : ℕ) (rows : List (List ℕ)) : Type 0 where
+  pub within : s.filler.row ≤ s.rows
+  pub count : length rows ≡ min most (s.rows - s.filler.row)
+  pub few : s.filler.row + length rows ≤ MOST_ROWS
+  pub fits : AreRows s.filler.format s.longest rows
+  pub place : IsInRows s.filler rows
+
+-- a payload is left, and was said
+pub record IsDataSaid (contact : Contact) (t : Transfer) (new : Shipment) (frame : List ℕ) : Type 0 where
+  pub payload : List ℕ
+  pub left : slice_get (payloads_in contact t) t.sent ≡ Some payload
+  pub said : frame ≡ frame_of (command.Data payload)
+  pub sent : Sent new.filler (payload_size contact) t.from (rows_from t) (take (t.sent + 1) (payloads_in contact t))
+
+-- whether a payload is left, which then was said
+abbrev pub SaysPayload : Contact → Transfer → Shipment → List ℕ → Bool → Type 0
+SaysPayload contact t new frame true = IsDataSaid contact t new frame
+SaysPayload contact t new frame false = slice_get (payloads_in contact t) t.sent ≡ None
+
+-- the same over an office, in which nothing is changed
+abbrev pub SaysNext : Contact → Transfer → Shipment → View → View → List ℕ → Result Bool SessionFault → Type 0
+SaysNext contact t shipment old new frame (Ok left) = SaysPayload contact t shipment frame left × IsMade None None old new []
+SaysNext contact t shipment old new frame (Err fault) = DoesNot None old new fault
+
+-- a shipment but for what its filler did
+abbrev pub IsSameShipment : Shipment → Shipment → Type 0
+IsSameShipment old new = new ≡ record old { filler = new.filler }

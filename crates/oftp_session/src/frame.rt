@@ -152,18 +152,18 @@ fn fill_data(
     rows: &[Row],
     last: bool,
     size: usize,
-    data: &mut [u8],
+    buffer: &mut [u8],
 ) -> Filled
     requires room { 2 ≤ size }
     requires size { size ≤ 99998 }
-    requires data { size + 5 ≤ length data.old }
+    requires buffer { size + 5 ≤ length buffer.old }
     requires few { filler.old.row + length rows.now ≤ MOST_ROWS }
     requires place { IsInRows filler.old rows.now }
     requires some { is_stream filler.old.format ≡ true → All (λ r. 0 < length r) rows.now }
-    ensures fills { FillsInto size filler.old filler.new rows.now last data.new result }
-    ensures len { length data.new ≡ length data.old }
+    ensures fills { FillsInto size filler.old filler.new rows.now last buffer.new result }
+    ensures len { length buffer.new ≡ length buffer.old }
 {
-    let (head, rest) = data.split_at_mut(DATA_HEAD);
+    let (head, rest) = buffer.split_at_mut(DATA_HEAD);
     let (payload, _) = rest.split_at_mut(size);
     let filled = filler.next_buffer(rows, last, payload);
     if let Filled::Buffer(count) = filled {
