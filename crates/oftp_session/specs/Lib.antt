@@ -4,6 +4,7 @@ pub mod Opening
 pub mod Receiving
 pub mod Listener
 pub mod Speaker
+pub mod Sending
 pub mod Steps
 pub mod Standings
 pub mod Calls

@@ -37,10 +37,14 @@ refusal offer sfna = if sfna.reason == start_number DuplicateFile && is_closing 
     then Some (HandOver offer.number)
     else (if sfna.retry then None else Some (Refuse offer.number sfna.reason))
 
-unfoldable pub came_awaiting_start : Contact → Offer → Command → Step
-came_awaiting_start contact offer (command.Sfpa sfpa) = if nat_le sfpa.restart offer.from
-    then changes (Sending contact (transfer_of offer sfpa.restart)) (reopening offer)
+-- the file is sent from a row on that isn't above the offered one
+abbrev pub start_step : Contact → Offer → ℕ → Step
+start_step contact offer from = if nat_le from offer.from
+    then changes (Sending contact (transfer_of offer from)) (reopening offer)
     else fails ProtocolViolation
+
+unfoldable pub came_awaiting_start : Contact → Offer → Command → Step
+came_awaiting_start contact offer (command.Sfpa sfpa) = start_step contact offer sfpa.restart
 came_awaiting_start contact offer (command.Sfna sfna) = changes (SpeakerIdle contact ChangeDirection) (refusal offer sfna)
 came_awaiting_start contact offer other = unexpected other
 

@@ -1,5 +1,5 @@
 -- Where a session stands, as contracts see it.
-use Rattle.std.specs.Prelude.{◌≡◌, ℕ, ◌+◌, ◌-◌, ◌*◌, ◌%◌, ◌<◌, ◌≤◌, nat_lt, max, length, take, Bool, true, false, Option, None}
+use Rattle.std.specs.Prelude.{◌≡◌, ℕ, ◌+◌, ◌-◌, ◌*◌, ◌%◌, ◌<◌, ◌≤◌, nat_lt, max, length, take, Bool, true, false, Option, None, Some}
 use Rattle.oftp_session.specs.declared.session.Ending.{Ending}
 use Rattle.oftp_vfile.specs.Reading.{shed}
 use Rattle.oftp_vfile.specs.Filling.{Sent}
@@ -99,7 +99,11 @@ standing_of (state.Sending contact shipment) = Sends contact shipment
 standing_of (state.AwaitingEnd contact number) = Awaits contact number
 standing_of (state.EndedHere reason) = At (EndedHere reason)
 standing_of (state.EndedThere reason) = At (EndedThere reason)
-standing_of state.Broken = Broken
+
+-- a session that holds no state is broken
+abbrev pub standing_held : Option State → Standing
+standing_held (Some s) = standing_of s
+standing_held None = Broken
 
 -- how a session ended, if it did
 abbrev pub ended_as : Standing → Option Ending
@@ -127,6 +131,15 @@ is_receiving (Offers contact offering) = false
 is_receiving (Sends contact shipment) = false
 is_receiving (Awaits contact number) = false
 is_receiving Broken = false
+
+-- a file is being sent
+abbrev pub is_sending : Standing → Bool
+is_sending (At p) = false
+is_sending (Receives contact reception) = false
+is_sending (Offers contact offering) = false
+is_sending (Sends contact shipment) = true
+is_sending (Awaits contact number) = false
+is_sending Broken = false
 
 -- how many turns may follow one another, and whether one is due
 abbrev pub turns_left : Standing → ℕ

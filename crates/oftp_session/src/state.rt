@@ -51,8 +51,6 @@ pub(crate) enum State {
     EndedHere(SessionReason),
     /// The partner ended the session, and may give a number that no listed reason has.
     EndedThere(Count<2>),
-    /// The office or memory failed.
-    Broken,
 }
 
 impl State {
@@ -100,17 +98,16 @@ impl State {
             | State::AwaitingRtr(_, _)
             | State::AwaitingStart(_, _)
             | State::Sending(_, _)
-            | State::AwaitingEnd(_, _)
-            | State::Broken => None,
+            | State::AwaitingEnd(_, _) => None,
         }
     }
 
-    /// Whether it ended or broke.
+    /// Whether it ended.
     pub(crate) fn is_closed(&self) -> bool
         ensures { result ≡ is_closed (standing_of self.now) }
     {
         match self {
-            State::EndedHere(_) | State::EndedThere(_) | State::Broken => true,
+            State::EndedHere(_) | State::EndedThere(_) => true,
             State::ResponderOpening
             | State::InitiatorOpening
             | State::AwaitingSsid
@@ -140,8 +137,7 @@ impl State {
             | State::AwaitingStart(_, _)
             | State::AwaitingEnd(_, _)
             | State::EndedHere(_)
-            | State::EndedThere(_)
-            | State::Broken => false,
+            | State::EndedThere(_) => false,
         }
     }
 }
