@@ -14,4 +14,6 @@ pub mod Offers
 pub mod Coming
 pub mod Outgoing
 pub mod Items
+pub mod Lending
+pub mod Shipping
 pub mod Proceeding
