@@ -12,4 +12,5 @@ pub mod Closing
 pub mod Starts
 pub mod Offers
 pub mod Coming
+pub mod Outgoing
 pub mod Proceeding
