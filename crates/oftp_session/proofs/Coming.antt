@@ -13,7 +13,7 @@ use Rattle.oftp_session.specs.Receiving.{came_receiving}
 use Rattle.oftp_session.specs.Steps.{came, Holds, IsReceived}
 use Rattle.oftp_session.specs.Standings.{At, StandsIn, Tracks, standing_of}
 use Rattle.oftp_session.specs.Calls.{Goes, Takes}
-use Rattle.oftp_session.proofs.Answers.{same_takes}
+use Rattle.oftp_session.proofs.Saying.{same_takes}
 use Rattle.oftp_session.proofs.Standings.{phase_at, phase_received}
 
 -- a session that isn't receiving takes the step of its phase

@@ -4,7 +4,7 @@ pub mod Phases
 pub mod Standings
 pub mod Credit
 pub mod Views
-pub mod Answers
+pub mod Saying
 pub mod Receipts
 pub mod Windows
 pub mod Ends
@@ -13,4 +13,5 @@ pub mod Starts
 pub mod Offers
 pub mod Coming
 pub mod Outgoing
+pub mod Items
 pub mod Proceeding

@@ -1,5 +1,5 @@
 -- Where a session stands, as contracts see it.
-use Rattle.std.specs.Prelude.{◌≡◌, ℕ, ◌-◌, ◌%◌, ◌<◌, ◌≤◌, nat_lt, max, length, take, Bool, true, false, Option, None, Some}
+use Rattle.std.specs.Prelude.{◌≡◌, ℕ, ◌+◌, ◌-◌, ◌*◌, ◌%◌, ◌<◌, ◌≤◌, nat_lt, max, length, take, Bool, true, false, Option, None, Some}
 use Rattle.oftp_session.specs.declared.session.Ending.{Ending}
 use Rattle.oftp_vfile.specs.Reading.{shed}
 use Rattle.oftp_vfile.specs.Filling.{Sent}
@@ -53,7 +53,8 @@ offering_of offer = record {
   from = offer.from;
 }
 
--- a shipment stands where the phase says: so much credit is left, and its filler made the payloads that were sent
+-- a shipment stands where the phase says: so much credit is left, no payload went out without, nor without room for a subrecord,
+-- and its filler made the payloads that were sent
 pub record Ships (contact : Contact) (t : Transfer) (s : Shipment) : Type 0 where
   pub number : s.number ≡ t.number
   pub format : s.filler.format ≡ t.file.format
@@ -62,6 +63,8 @@ pub record Ships (contact : Contact) (t : Transfer) (s : Shipment) : Type 0 wher
   pub units : s.units ≡ units_in t.file.rows
   pub mark : s.mark ≡ t.file.mark
   pub credit : s.credit ≡ credit_left contact t
+  pub covered : t.sent ≤ (t.credits + 1) * window contact
+  pub room : 0 < t.sent → 2 ≤ payload_size contact
   pub most : t.sent ≤ length (payloads_in contact t)
   pub sent : Sent s.filler (payload_size contact) t.from (rows_from t) (take t.sent (payloads_in contact t))
 
