@@ -15,5 +15,5 @@ pub mod Coming
 pub mod Outgoing
 pub mod Items
 pub mod Accepting
-pub mod Speaking
+pub mod Continuing
 pub mod Proceeding

@@ -41,7 +41,7 @@ use Rattle.oftp_session.proofs.Accepting.{accepted_proceeds, same_proceeds, unex
 use Rattle.oftp_session.proofs.Ends.{close_accepted, close_fits, give_up_accepted, give_up_fits}
 use Rattle.oftp_session.proofs.Filing.{files_new, files_fit}
 use Rattle.oftp_session.proofs.Receipts.{carried_next, keep_accepted, keep_after, keep_fits, payload_holds}
-use Rattle.oftp_session.proofs.Speaking.{end_answer_proceeds, rtr_proceeds, sending_proceeds, sends_proceeds, speaks_proceeds, start_answer_proceeds}
+use Rattle.oftp_session.proofs.Continuing.{end_answer_proceeds, rtr_proceeds, sending_proceeds, sends_proceeds, speaks_proceeds, start_answer_proceeds}
 use Rattle.oftp_session.proofs.Starts.{accepted_begins}
 
 -- a response is filed where it is new
