@@ -16,4 +16,6 @@ pub mod Outgoing
 pub mod Items
 pub mod Accepting
 pub mod Continuing
+pub mod Lending
+pub mod Shipping
 pub mod Proceeding

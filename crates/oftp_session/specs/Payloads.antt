@@ -21,18 +21,19 @@ use Rattle.oftp_session.specs.Calls.{DoesNot, IsMade}
 
 -- the frame that is said: a command in the one buffer, or a DATA in the other
 abbrev pub spoken_in : Said → List ℕ → List ℕ → List ℕ
-spoken_in (said.Command n) octets data = take n octets
-spoken_in (said.Data n) octets data = take n data
+spoken_in (said.Command n) octets buffer = take n octets
+spoken_in (said.Data n) octets buffer = take n buffer
 
 -- its buffer has it
 abbrev pub IsSpokenIn : Said → List ℕ → List ℕ → Type 0
-IsSpokenIn (said.Command n) octets data = n ≤ length octets
-IsSpokenIn (said.Data n) octets data = n ≤ length data
+IsSpokenIn (said.Command n) octets buffer = n ≤ 1200
+IsSpokenIn (said.Data n) octets buffer = n ≤ length buffer
 
 -- a DATA with the next payload of the file whose rows were lent
 pub record IsNextData (size : ℕ) (old new : Filling) (rows : List (List ℕ)) (last : Bool) (frame : List ℕ) : Type 0 where
   pub payload : List ℕ
   pub said : frame ≡ frame_of (command.Data payload)
+  pub format : new.format ≡ old.format
   pub sent : (from : ℕ) (file payloads : List (List ℕ)) → Sent old size from file payloads → AreLent old from file rows last
       → Sent new size from file (payloads ++ payload ∷ [])
 
@@ -55,9 +56,9 @@ FillsOrNot size old new rows last frame (Err fault) = fault ≡ Memory
 
 -- the same in a buffer, at whose front the frame stands: so many octets before a payload
 abbrev pub FillsInto : ℕ → Filling → Filling → List (List ℕ) → Bool → List ℕ → Filled → Type 0
-FillsInto size old new rows last data (Buffer n) = (n ≤ size) × IsNextData size old new rows last (take (n + DATA_HEAD) data)
-FillsInto size old new rows last data Done = IsAllSent size old new rows last
-FillsInto size old new rows last data More = AsksForMore size old new rows last
+FillsInto size old new rows last buffer (Buffer n) = (n ≤ size) × IsNextData size old new rows last (take (n + DATA_HEAD) buffer)
+FillsInto size old new rows last buffer Done = IsAllSent size old new rows last
+FillsInto size old new rows last buffer More = AsksForMore size old new rows last
 
 -- rows that may be lent: so many from where the filler is, or all that are left, as a file of its format has them
 pub record MayLend (s : Shipment) (most : ℕ) (rows : List (List ℕ)) : Type 0 where
@@ -72,6 +73,7 @@ pub record IsDataSaid (contact : Contact) (t : Transfer) (new : Shipment) (frame
   pub payload : List ℕ
   pub left : slice_get (payloads_in contact t) t.sent ≡ Some payload
   pub said : frame ≡ frame_of (command.Data payload)
+  pub format : new.filler.format ≡ t.file.format
   pub sent : Sent new.filler (payload_size contact) t.from (rows_from t) (take (t.sent + 1) (payloads_in contact t))
 
 -- whether a payload is left, which then was said

@@ -1,6 +1,6 @@
 //! The frame that a session says.
 
-ghost use Rattle.std.specs.Prelude.{◌≡◌, ◌∷◌, ◌++◌, ◌+◌, ◌≤◌, [], ℕ, List, length, take, All, IfErr, true, false};
+ghost use Rattle.std.specs.Prelude.{◌≡◌, ◌∷◌, ◌++◌, ◌+◌, ◌<◌, ◌≤◌, [], ℕ, List, length, take, All, IfErr, true, false};
 ghost use Rattle.oftp_wire.specs.Header.{header_of};
 ghost use Rattle.oftp_wire.specs.Spelling.{is_data};
 ghost use Rattle.oftp_vfile.specs.declared.format.TheConstants.{MOST_ROWS};
@@ -33,7 +33,7 @@ pub(crate) enum Said {
 #[derive(Drop)]
 pub(crate) struct Frame {
     octets: [u8; 1200],
-    data: Vec<u8>,
+    buffer: Vec<u8>,
     said: Said,
 }
 
@@ -43,9 +43,9 @@ impl Model for Frame {
 
     ghost Value = { List ℕ };
 
-    ghost view = { λ f. spoken_in f.said f.octets f.data.items };
+    ghost view = { λ f. spoken_in f.said f.octets f.buffer.items };
 
-    ghost invariant = { λ f. IsSpokenIn f.said f.octets f.data.items };
+    ghost invariant = { λ f. IsSpokenIn f.said f.octets f.buffer.items };
 }
 
 impl Frame {
@@ -55,7 +55,7 @@ impl Frame {
     {
         Frame {
             octets: [0; 1200],
-            data: Vec::new(alloc),
+            buffer: Vec::new(alloc),
             said: Said::Command(0),
         }
     }
@@ -67,8 +67,8 @@ impl Frame {
         ensures { self.new ≡ [] }
     {
         self.hush();
-        if let Ok(data) = vec![in alloc; 0; size + DATA_HEAD] {
-            self.data = data;
+        if let Ok(buffer) = vec![in alloc; 0; size + DATA_HEAD] {
+            self.buffer = buffer;
         }
     }
 
@@ -101,10 +101,10 @@ impl Frame {
         ensures { FillsOrNot size filler.old filler.new rows.now last self.new result }
     {
         self.hush();
-        if self.data.len() < size + DATA_HEAD {
+        if self.buffer.len() < size + DATA_HEAD {
             return Err(SessionFault::Memory);
         }
-        let filled = fill_data(filler, rows, last, size, self.data.as_mut_slice());
+        let filled = fill_data(filler, rows, last, size, self.buffer.as_mut_slice());
         if let Filled::Buffer(count) = filled {
             self.said = Said::Data(count + DATA_HEAD);
         }
@@ -125,7 +125,7 @@ impl Frame {
     {
         let frame = match self.said {
             Said::Command(len) => &self.octets[..len],
-            Said::Data(len) => &self.data[..len],
+            Said::Data(len) => &self.buffer[..len],
         };
         if frame.is_empty() {
             Out::Nothing
@@ -141,7 +141,7 @@ fn data_head(count: usize) -> [u8; 5]
     ensures { result ≡ header_of (count + 5) ++ 68 ∷ [] }
 {
     match header(count + 1) {
-        Some([version, high, middle, low]) => [version, high, middle, low, b'D'],
+        Some(octets) => [octets[0], octets[1], octets[2], octets[3], b'D'],
         None => unreachable!(),
     }
 }

@@ -181,7 +181,7 @@ pub(crate) fn send_next<O: Office>(
 /// Takes credit: the rows that were wholly sent are covered by it (RFC 5024, section 5.3.7).
 fn take_credit<O: Office>(
     contact: Contact,
-    mut shipment: Shipment,
+    shipment: Shipment,
     office: &mut O,
     frame: &mut Frame,
 ) -> Result<State, SessionFault>
@@ -196,10 +196,16 @@ fn take_credit<O: Office>(
     let mark = shipment.filler.mark() as u64;
     if mark != shipment.mark {
         office.mark(shipment.number, mark)?;
-        shipment.mark = mark;
     }
-    shipment.credit = contact.link.credit.get().max(1);
-    Ok(State::Sending(contact, shipment))
+    let credit = contact.link.credit.get().max(1);
+    Ok(State::Sending(
+        contact,
+        Shipment {
+            credit,
+            mark,
+            ..shipment
+        },
+    ))
 }
 
 /// Takes a command that comes while a file is sent: CDT, where no credit is left (RFC 5024, section 5.3.7).
