@@ -14,4 +14,6 @@ pub mod Offers
 pub mod Coming
 pub mod Outgoing
 pub mod Items
+pub mod Replying
+pub mod Speaking
 pub mod Proceeding

@@ -12,7 +12,7 @@ use crate::session::SessionFault;
 use crate::state::{Contact, State};
 use oftp_register::Office;
 use oftp_vfile::{Filler, Format};
-use oftp_wire::Command;
+use oftp_wire::{Command, Count};
 
 /// A file that was offered: its number, whether its end was sent in an earlier session, its layout, how many rows it has and how
 /// many octets these have, how many of them the partner is known to have, and the row from which on it was offered.
@@ -22,8 +22,8 @@ pub(crate) struct Offering {
     pub(crate) is_closing: bool,
     pub(crate) format: Format,
     pub(crate) longest: u32,
-    pub(crate) rows: u64,
-    pub(crate) units: u64,
+    pub(crate) rows: Count<17>,
+    pub(crate) units: Count<17>,
     pub(crate) mark: u64,
     pub(crate) from: u64,
 }
@@ -35,8 +35,8 @@ pub(crate) struct Shipment {
     pub(crate) number: u64,
     pub(crate) credit: u64,
     pub(crate) longest: u32,
-    pub(crate) rows: u64,
-    pub(crate) units: u64,
+    pub(crate) rows: Count<17>,
+    pub(crate) units: Count<17>,
     pub(crate) mark: u64,
     pub(crate) filler: Filler,
 }
