@@ -18,4 +18,5 @@ pub mod Accepting
 pub mod Continuing
 pub mod Lending
 pub mod Shipping
+pub mod Crediting
 pub mod Proceeding
