@@ -185,7 +185,7 @@ impl<'b> Session<'b> {
                 called: None,
             },
             state: Some(State::ResponderOpening),
-            frame: Frame::empty(),
+            frame: Frame::empty(alloc),
         }
     }
 
@@ -203,7 +203,7 @@ impl<'b> Session<'b> {
                 called: Some(partner),
             },
             state: Some(State::InitiatorOpening),
-            frame: Frame::empty(),
+            frame: Frame::empty(alloc),
         }
     }
 
