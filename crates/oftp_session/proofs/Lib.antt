@@ -19,4 +19,6 @@ pub mod Continuing
 pub mod Lending
 pub mod Shipping
 pub mod Crediting
+pub mod Replying
+pub mod Speaking
 pub mod Proceeding

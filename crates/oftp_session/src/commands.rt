@@ -21,8 +21,8 @@ use oftp_register::{
 };
 use oftp_vfile::Format;
 use oftp_wire::{
-    Command, Count, Digits, Eerp, Efid, Efna, Efpa, EndReason, Esid, Layout, Mode, Nerp, SessionReason,
-    Sfid, Sfna, Sfpa, Ssid, StartReason, Text, X, encode, header,
+    Command, Count, Digits, Eerp, Efid, Efna, Efpa, EndReason, Esid, Layout, Mode, Nerp,
+    SessionReason, Sfid, Sfna, Sfpa, Ssid, StartReason, Text, X, encode, header,
 };
 
 /// The end of the session, with no text.
@@ -241,7 +241,8 @@ pub(crate) fn sfid<'a>(entry: &'a OutgoingEntry, units: u64, from: u64) -> Comma
     requires longest { IsLongest entry.now.format entry.now.longest }
     requires units { units ≤ MOST_UNITS }
     requires from { from ≤ MOST_ROWS }
-    ensures { (file : Outgoing) → entry.entry.now ≡ outgoing_entry entry.entry.now.no file → units ≡ units_in file.rows → result ≡ sfid_of file from }
+    ensures value { (file : Outgoing) → entry.entry.now ≡ outgoing_entry entry.entry.now.no file → units ≡ units_in file.rows → result ≡ sfid_of file from }
+    ensures command { is_data result ≡ false }
 {
     let file = &entry.identity;
     match X::new(b"") {

@@ -116,7 +116,7 @@ fn came<O: Office>(
     }
 }
 
-// Makes the own command that is due, by where the session stands.
+// Makes the own command that is due, or nothing, by where the session stands.
 #[tactic(auto, unfolding(crate::specs::Steps::turned))]
 fn turned<O: Office>(
     setting: Setting<'_>,
@@ -124,7 +124,7 @@ fn turned<O: Office>(
     office: &mut O,
     frame: &mut Frame,
 ) -> Result<State, SessionFault>
-    requires { is_due (standing_of state) ≡ true }
+    requires { is_closed (standing_of state) ≡ false }
     ensures clean { (O.view office.new).clean → (O.view office.old).clean }
     ensures takes { (O.view office.new).clean → (O.view office.old).stands
         → (p : Phase) → Holds p (O.view office.old).register → StandsIn p (standing_of state)
@@ -132,7 +132,10 @@ fn turned<O: Office>(
         (O.view office.old) (O.view office.new) frame.new result }
     ensures err { IfErr result IsFailure }
     ensures spared { is_sending (standing_of state) ≡ false → IfErr result (λ fault. fault ≢ SessionFault.Memory) }
-    ensures fewer { IfOk result (λ next. turns_left (standing_of next) < turns_left (standing_of state)) }
+    ensures fewer { is_due (standing_of state) ≡ true
+        → IfOk result (λ next. turns_left (standing_of next) < turns_left (standing_of state)) }
+    ensures idle { is_due (standing_of state) ≡ false
+        → (result ≡ Ok state) × (frame.new ≡ []) × (office.new ≡ office.old) }
 {
     match state {
         State::ResponderOpening => {
@@ -141,7 +144,13 @@ fn turned<O: Office>(
         }
         State::SpeakerIdle(contact, done) => speak(setting, contact, done, office, frame),
         State::GivingWay(contact) => Ok(give_way(contact, frame)),
-        State::Sending(contact, shipment) => send_next(contact, shipment, office, frame),
+        State::Sending(contact, shipment) => {
+            if shipment.credit > 0 {
+                return send_next(contact, shipment, office, frame);
+            }
+            frame.hush();
+            Ok(State::Sending(contact, shipment))
+        }
         State::InitiatorOpening
         | State::AwaitingSsid
         | State::ListenerIdle(_)
@@ -150,7 +159,10 @@ fn turned<O: Office>(
         | State::AwaitingStart(_, _)
         | State::AwaitingEnd(_, _)
         | State::EndedHere(_)
-        | State::EndedThere(_) => unreachable!(),
+        | State::EndedThere(_) => {
+            frame.hush();
+            Ok(state)
+        }
     }
 }
 
@@ -299,11 +311,6 @@ impl<'b> Session<'b> {
         if state.is_closed() {
             self.state = Some(state);
             return Err(SessionFault::Ended);
-        }
-        if !state.is_due() {
-            self.state = Some(state);
-            self.frame.hush();
-            return Ok(self.frame.out());
         }
         self.state = Some(turned(self.setting, state, office, &mut self.frame)?);
         Ok(self.frame.out())
