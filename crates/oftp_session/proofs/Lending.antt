@@ -1,6 +1,6 @@
 -- Rows of a register are lent to a filler, which makes the next payload of them.
-use Rattle.std.proofs.Common.{◌≡◌, ℕ, suc, zero, ◌+◌, ◌-◌, ◌<◌, ◌≤◌, Bool, true, false, eqb, min, List, [], ◌∷◌, ◌++◌, length, get_or, take, drop, slice_get, Option, None, Some, refl, sym, ap, ◌∙◌, subst, arith, All}
-use Rattle.std.proofs.lemmas.Bool.{eqb-true, eqb-false}
+use Rattle.std.proofs.Common.{◌≡◌, ℕ, suc, zero, ◌+◌, ◌-◌, ◌<◌, ◌≤◌, Bool, true, false, eqb, min, List, [], ◌∷◌, ◌++◌, length, get_or, take, drop, slice_get, Option, None, Some, refl, sym, ap, ◌∙◌, subst, arith, inl, inr, All}
+use Rattle.std.proofs.lemmas.Bool.{cases_lt, eqb-true, eqb-false}
 use Rattle.std.proofs.lemmas.List.{length-append, length-drop, length-take, length-take-le, drop-drop}
 use Rattle.oftp_wire.specs.Header.{header_of}
 use Rattle.oftp_wire.specs.declared.command.Command.TheVariants as command
@@ -81,7 +81,7 @@ lent r contact t s most rows last sound holds at some e all part =
     let within = row_within r contact t s holds at in
     let total = at.rows in
     let l = lends_rows s.filler t.file.longest (payload_size contact) t.from most (rows_from t) (take t.sent (payloads_in contact t)) last longest are at.sent some
-    (λ q. let m = all q in omega (arith, m, count, left, within, total)) (λ q. let m = part q in ?) in
+    (λ q. let m = all q in omega (arith, m, count, left, within, total)) (λ q. elim (cases_lt most (length rest)) [ inl h ↦ h | inr h ↦ absurd (part q (omega (arith, h, count, left, within, total))) ]) in
     record {
       are = subst (λ (x : List (List ℕ)). AreLent s.filler t.from (rows_from t) x last) (sym is) l.0;
       place = subst (λ (x : List (List ℕ)). IsInRows s.filler x) (sym is) l.1;
