@@ -483,7 +483,7 @@ fn rows_asked_for(rt: HostRuntime) -> Result<(), Fail> {
         Comes(HAS_IT),
     ];
     assert_eq!(rt; play(rt.alloc(), &mut office, &book, &lines)?, None);
-    assert!(rt; is_file(&mut office, OutgoingState::Handed, 300));
+    assert!(rt; is_file(&mut office, OutgoingState::Handed, 254));
     assert_eq!(rt; office.most, 127);
     Ok(())
 }
