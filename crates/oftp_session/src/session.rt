@@ -258,8 +258,8 @@ impl<'b> Session<'b> {
             → (p : Phase) → Holds p (O.view office.old).register → is_over p ≡ false → Stands p self.old
             → OnOk result (Stands (came self.old.setting p (O.view office.old).register command.now).phase new))
             × (is_closed self.old.standing ≡ false → OnErr result (new.standing ≡ Broken))
-            × OnOk result (new.standing ≢ Broken)
-            × (is_closed self.old.standing ≡ true → new ≡ self.old))) }
+            × (is_closed self.old.standing ≡ true → new ≡ self.old)
+            × OnOk result (new.standing ≢ Broken))) }
     {
         let Some(state) = self.state.take() else {
             return Err(SessionFault::Ended);
@@ -298,12 +298,12 @@ impl<'b> Session<'b> {
             → (p : Phase) → Holds p (O.view office.old).register → is_over p ≡ false → Stands p self.old
             → OnOk result (Stands (turned self.old.setting p (O.view office.old).register).phase new))
             × (is_closed self.old.standing ≡ false → OnErr result (new.standing ≡ Broken))
-            × OnOk result (new.standing ≢ Broken)
             × (is_due self.old.standing ≡ true
             → OnOk result (turns_left new.standing < turns_left self.old.standing))
             × (is_closed self.old.standing ≡ true → new ≡ self.old)
             × (is_due self.old.standing ≡ false → is_closed self.old.standing ≡ false
-            → new ≡ record self.old { spoken = [] }))) }
+            → new ≡ record self.old { spoken = [] })
+            × OnOk result (new.standing ≢ Broken))) }
     {
         let Some(state) = self.state.take() else {
             return Err(SessionFault::Ended);
