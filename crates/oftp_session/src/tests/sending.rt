@@ -382,8 +382,8 @@ fn answer_file(
     kind: ResponseKind,
 ) -> Result<(), OfficeFault> {
     let (reason, text) = match kind {
-        ResponseKind::EndResponse => (0, ""),
-        ResponseKind::NegativeEndResponse => (3, "NO PLANT"),
+        ResponseKind::EndResponse => (Count::new(0), ""),
+        ResponseKind::NegativeEndResponse => (Count::new(3), "NO PLANT"),
     };
     office.commit(Change::Start {
         identity: file(dataset, b"O0177CARMAKER", b"O0013SUPPLIER")?,
@@ -399,7 +399,7 @@ fn answer_file(
     office.commit(Change::Issue {
         no,
         kind,
-        reason: Count::new(reason),
+        reason,
         text: words(text)?,
     })
 }
