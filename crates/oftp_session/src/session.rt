@@ -272,12 +272,13 @@ impl<'b> Session<'b> {
         Ok(self.frame.out())
     }
 
-    /// Makes the own command that is due, and answers it as what is to be sent. Where none is due in a session that goes on, nothing
-    /// is sent and nothing is changed.
+    /// Makes the own command that is due, and answers it as what is to be sent. Where none is due in a session that goes on,
+    /// nothing is sent and nothing is changed. A change of the register is committed before its command is lent.
     ///
     /// # Errors
     ///
-    /// As [`Session::on_command`].
+    /// As [`Session::on_command`]; and [`SessionFault::Memory`], while a file is sent, where there is no buffer for its DATA or
+    /// the growth of one was refused.
     pub fn turn<O: Office>(&mut self, office: &mut O) -> Result<Out<'_>, SessionFault>
         ensures clean { (O.view office.new).clean → (O.view office.old).clean }
         ensures does { (O.view office.new).clean → (O.view office.old).stands

@@ -2,6 +2,7 @@
 
 mod noting;
 mod receiving;
+mod responding;
 mod sending;
 mod talk;
 
