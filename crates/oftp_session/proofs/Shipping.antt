@@ -1,11 +1,19 @@
 -- The steps of a session that sends a file.
-use Rattle.std.proofs.Common.{◌≡◌, ℕ, suc, zero, ◌+◌, ◌-◌, ◌*◌, ◌<◌, ◌≤◌, Bool, true, false, cond, nat_lt, List, [], ◌∷◌, ◌++◌, length, take, slice_get, Option, None, Some, Result, Ok, Err, inl, inr, refl, sym, ap, ◌∙◌, subst, arith}
+use Rattle.std.proofs.Common.{◌≡◌, ℕ, suc, zero, ◌+◌, ◌-◌, ◌*◌, ◌<◌, ◌≤◌, Bool, true, false, cond, eqb, nat_lt, min, All, List, [], ◌∷◌, ◌++◌, length, take, slice_get, Option, None, Some, Result, Ok, Err, inl, inr, refl, sym, ap, ◌∙◌, subst, arith}
+use Rattle.std.proofs.lemmas.Bool.{cases_lt, eqb-false}
 use Rattle.std.proofs.lemmas.Option.{slice_get_within}
 use Rattle.oftp_wire.specs.declared.command.Command.{Command}
 use Rattle.oftp_wire.specs.declared.command.Command.TheVariants as command
-use Rattle.oftp_vfile.specs.Filling.{Filling, Sent}
+use Rattle.oftp_vfile.specs.VirtualFile.{is_stream}
+use Rattle.oftp_vfile.specs.Filling.{Filling, AreLent, AsksForMore, IsInRows, Sent}
+use Rattle.oftp_vfile.proofs.LendLemmas.{stream_some}
+use Rattle.oftp_vfile.proofs.MoreLemmas.{more_few}
 use Rattle.oftp_register.specs.declared.change.Change.{Change}
 use Rattle.oftp_register.specs.declared.change.Change.TheVariants.{BeginClosing, Mark}
+use Rattle.oftp_register.specs.declared.entries.Side.TheVariants as side
+use Rattle.oftp_register.specs.LookUps.{rows_of}
+use Rattle.oftp_register.specs.Register.{Register}
+use Rattle.oftp_register.specs.Soundness.{IsSound}
 use Rattle.oftp_register.specs.Offices.{View}
 use Rattle.oftp_session.specs.declared.session.SessionFault.{SessionFault}
 use Rattle.oftp_session.specs.declared.session.SessionFault.TheVariants as fault
@@ -15,11 +23,14 @@ use Rattle.oftp_session.specs.declared.state.State.{State}
 use Rattle.oftp_session.specs.declared.state.State.TheVariants as state
 use Rattle.oftp_session.specs.Phases.{Sending, Step, Transfer, frame_of, quiet}
 use Rattle.oftp_session.specs.Receiving.{window}
-use Rattle.oftp_session.specs.Sending.{closing_transfer, credit_left, credited, credited_transfer, efid_of, marking, new_mark, payload_size, payloads_in, sends_next, turned_sending, with_sent}
+use Rattle.oftp_session.specs.Sending.{closing_transfer, credit_left, credited, credited_transfer, efid_of, marking, new_mark, payload_size, payloads_in, rows_from, sends_next, turned_sending, with_sent}
 use Rattle.oftp_session.specs.Steps.{IsSent}
 use Rattle.oftp_session.specs.Standings.{Awaits, Ships, standing_of}
 use Rattle.oftp_session.specs.Calls.{DoesNot, IsAccepted, IsMade, Takes}
-use Rattle.oftp_session.specs.Payloads.{IsDataSaid}
+use Rattle.oftp_session.specs.Payloads.{IsAllSent, IsDataSaid, IsNextData, MayLend}
+use Rattle.oftp_session.proofs.Lending.{are_lent, data_said, nothing_left}
+use Rattle.oftp_session.proofs.Views.{then_made}
+use Rattle.oftp_session.proofs.Speaking.{then_takes}
 
 -- while rows are asked for, nothing is changed, and fewer are asked for than the payload has octets
 pub record IsAsking (old new : View) (before now : Shipment) (size asked : ℕ) : Type 0 where
@@ -38,6 +49,83 @@ asks_first now s size most some h = record {
   some = some;
   few = h;
 }
+
+-- an office that keeps its register has the file still
+still_sent : (old mid : View) (t : Transfer) → IsMade None None old mid [] → IsSent old.register t → IsSent mid.register t
+still_sent old mid t m holds = subst (λ (r : Register). IsSent r t) (sym m.register) holds
+
+-- rows of a stream aren't empty
+pub some_rows : (s : Shipment) (most : ℕ) (rows lent : List (List ℕ)) → MayLend s most rows → lent ≡ rows → is_stream s.filler.format ≡ true → All (λ (r : List ℕ). 0 < length r) lent
+some_rows s most rows lent may e h =
+    subst (λ (x : List (List ℕ)). All (λ (r : List ℕ). 0 < length r) x) (sym e) (stream_some s.filler.format s.longest rows may.fits h)
+
+-- all rows that were asked for came, where they aren't the last
+all_came : (s : Shipment) (most : ℕ) (rows : List (List ℕ)) → MayLend s most rows → eqb (s.filler.row + length rows) s.rows ≡ false → length rows ≡ most
+all_came s most rows may h =
+    let within = may.within in
+    let count = may.count in
+    elim (cases_lt most (s.rows - s.filler.row)) [
+      | inl l ↦ omega (arith, l, count)
+      | inr l ↦ absurd (eqb-false (s.filler.row + length rows) s.rows h (omega (arith, l, count, within)))
+    ]
+
+-- more rows are asked for, and still fewer than the payload has octets
+pub asks_more : (old mid now : View) (before s : Shipment) (next : Filling) (size most asked : ℕ) (rows lent : List (List ℕ)) (last : Bool) → IsAsking old mid before s size most
+    → (now.clean → mid.clean) → (now.clean → mid.stands → IsMade None None mid now []) → MayLend s most rows → lent ≡ rows → last ≡ eqb (s.filler.row + length rows) s.rows
+    → AsksForMore size s.filler next lent last → asked ≡ min size (2 * most)
+    → IsAsking old now before (record s { filler = next }) size asked × (size - asked < size - most)
+asks_more old mid now before s next size most asked rows lent last i clean stays may e is more twice =
+    let came = all_came s most rows may (sym is ∙ more.coming) in
+    let place = subst (λ (x : List (List ℕ)). IsInRows s.filler x) (sym e) may.place in
+    let few = more_few s.filler size lent place (some_rows s most rows lent may e) more.reaches in
+    let count : length lent ≡ most = ap length e ∙ came in
+    let some = i.some in (
+      record {
+        clean = λ c. i.clean (clean c);
+        same = ap (λ (f : Filling). let x : Shipment = record s { filler = f } in x) more.same ∙ i.same;
+        kept = λ c stands. let was = i.kept (clean c) stands in then_made None None [] old mid now was (stays c was.stands);
+        some = omega (arith, some, twice, few);
+        few = omega (arith, twice);
+      },
+      omega (arith, some, twice, few, count),
+    )
+
+-- the lent rows are those of the file
+lent_now : (contact : Contact) (t : Transfer) (before s : Shipment) (size most : ℕ) (rows lent : List (List ℕ)) (last : Bool) (old mid now : View) → IsAsking old mid before s size most
+    → IsSound mid.register → IsMade None None old mid [] → IsSent old.register t → Ships contact t before
+    → ((u : Transfer) → IsSent mid.register u → Ships contact u s → (rows ≡ rows_of mid.register side.Outgoing s.number s.filler.row most) × IsMade None None mid now [])
+    → lent ≡ rows → last ≡ eqb (s.filler.row + length rows) s.rows
+    → Ships contact t s × AreLent s.filler t.from (rows_from t) lent last × IsMade None None old now []
+lent_now contact t before s size most rows lent last old mid now i sound was holds at finds e is =
+    let holds' = still_sent old mid t was holds in
+    let at' = subst (Ships contact t) (sym i.same) at in
+    let found = finds t holds' at' in
+    let are = are_lent mid.register contact t s most rows last sound holds' at' i.some found.0 is in (
+      at',
+      subst (λ (x : List (List ℕ)). AreLent s.filler t.from (rows_from t) x last) (sym e) are,
+      then_made None None [] old mid now was found.1,
+    )
+
+-- the next payload is said
+pub says_data : (contact : Contact) (t : Transfer) (before s : Shipment) (next : Filling) (size most : ℕ) (rows lent : List (List ℕ)) (last : Bool) (frame : List ℕ) (old mid now : View)
+    → IsAsking old mid before s size most → IsSound mid.register → IsMade None None old mid [] → IsSent old.register t → Ships contact t before → size ≡ payload_size contact
+    → ((u : Transfer) → IsSent mid.register u → Ships contact u s → (rows ≡ rows_of mid.register side.Outgoing s.number s.filler.row most) × IsMade None None mid now [])
+    → lent ≡ rows → last ≡ eqb (s.filler.row + length rows) s.rows → IsNextData size s.filler next lent last frame
+    → IsDataSaid contact t (record s { filler = next }) frame × IsMade None None old now []
+says_data contact t before s next size most rows lent last frame old mid now i sound was holds at room finds e is n =
+    let l = lent_now contact t before s size most rows lent last old mid now i sound was holds at finds e is in
+    (data_said contact t s next size lent last frame l.0 room l.1 n, l.2)
+
+-- nothing is left
+pub says_none : (contact : Contact) (t : Transfer) (before s : Shipment) (next : Filling) (size most : ℕ) (rows lent : List (List ℕ)) (last : Bool) (old mid now : View)
+    → IsAsking old mid before s size most → IsSound mid.register → IsMade None None old mid [] → IsSent old.register t → Ships contact t before → size ≡ payload_size contact
+    → ((u : Transfer) → IsSent mid.register u → Ships contact u s → (rows ≡ rows_of mid.register side.Outgoing s.number s.filler.row most) × IsMade None None mid now [])
+    → lent ≡ rows → last ≡ eqb (s.filler.row + length rows) s.rows → IsAllSent size s.filler next lent last
+    → (Ships contact t (record s { filler = next }) × (slice_get (payloads_in contact t) t.sent ≡ None)) × IsMade None None old now []
+says_none contact t before s next size most rows lent last old mid now i sound was holds at room finds e is n =
+    let l = lent_now contact t before s size most rows lent last old mid now i sound was holds at finds e is in
+    let same : s ≡ (record s { filler = next }) = ap (λ (f : Filling). let x : Shipment = record s { filler = f } in x) (sym n.same) in
+    ((subst (Ships contact t) same l.0, nothing_left contact t s next size lent last l.0 room l.1 n), l.2)
 
 -- where credit is left, the next payload or the end goes out
 pub turned_next : (contact : Contact) (t : Transfer) (s : Shipment) (next : Option (List ℕ)) → Ships contact t s → 0 < s.credit → slice_get (payloads_in contact t) t.sent ≡ next
@@ -80,3 +168,11 @@ sent_takes contact t s new old now frame at some room same d m =
     let ships = ships_next contact t s new frame at some room same d in
     subst (λ (x : Step). Takes x old now frame (Ok (state.Sending contact (record new { credit = new.credit - 1 })))) (sym (turned_next contact t s (Some d.payload) at some d.left))
     (made, (record new { credit = new.credit - 1 }, refl, ships))
+
+-- where nothing is left, the end goes out
+pub end_takes : (contact : Contact) (t : Transfer) (new : Shipment) (old mid now : View) (frame : List ℕ) (result : Result State SessionFault) → IsSent old.register t
+    → Ships contact t new → slice_get (payloads_in contact t) t.sent ≡ None → IsMade None None old mid []
+    → ((u : Transfer) → IsSent mid.register u → Ships contact u new → slice_get (payloads_in contact u) u.sent ≡ None → Takes (turned_sending contact u) mid now frame result)
+    → Takes (turned_sending contact t) old now frame result
+end_takes contact t new old mid now frame result holds at none m takes =
+    then_takes (turned_sending contact t) old mid now frame result m (takes t (subst (λ (r : Register). IsSent r t) (sym m.register) holds) at none)

@@ -1,12 +1,12 @@
 //! A file that goes out: the answer to SFID, DATA, EFID and its answer (RFC 5024, sections 5.3.4 to 5.3.10).
 
-ghost use Rattle.std.specs.Prelude.{◌≡◌, ◌↔◌, ◌-◌, ◌<◌, ◌≤◌, None, IfErr, IfOk, OnOk, IsTrue, length, slice_get};
+ghost use Rattle.std.specs.Prelude.{◌≡◌, ◌↔◌, ◌-◌, ◌<◌, ◌≤◌, [], None, IfErr, IfOk, OnOk, IsTrue, length, slice_get};
 ghost use Rattle.oftp_register.specs.LookUps.{rows_of};
 ghost use Rattle.oftp_session.specs.Phases.{Transfer};
 ghost use Rattle.oftp_session.specs.Sending.{came_sending, credited, marking, new_mark, payload_size, payloads_in, turned_sending};
 ghost use Rattle.oftp_session.specs.Steps.{IsSent};
 ghost use Rattle.oftp_session.specs.Standings.{Ships, standing_of, turns_left};
-ghost use Rattle.oftp_session.specs.Calls.{Files, Finds, IsFailure, Takes};
+ghost use Rattle.oftp_session.specs.Calls.{Files, Finds, IsFailure, IsMade, Takes};
 ghost use Rattle.oftp_session.specs.Payloads.{IsSameShipment, MayLend, SaysNext};
 
 use crate::commands::efid;
@@ -83,6 +83,8 @@ fn rows_to_lend<O: Office>(
         → (contact : Contact) (t : Transfer) → IsSent (O.view office.old).register t → Ships contact t shipment.now
         → Finds (λ r. rows_of r Side.Outgoing shipment.now.number shipment.now.filler.row most)
         (O.view office.old) (O.view office.new) result }
+    ensures stays { (O.view office.new).clean → (O.view office.old).stands
+        → OnOk result (IsMade None None (O.view office.old) (O.view office.new) []) }
     // It holds of any store.
     ensures may { IfOk result (MayLend shipment.now most) }
     ensures err { IfErr result (λ fault. fault ≡ SessionFault.Office) }
