@@ -26,7 +26,7 @@ use Rattle.oftp_session.specs.Phases.{Phase, Offer, Sending, SpeakerIdle, Step, 
 use Rattle.oftp_session.specs.Sending.{after_file, came_awaiting_end, refusal, reopening, start_step, transfer_of}
 use Rattle.oftp_session.specs.Speaker.{came_awaiting_rtr}
 use Rattle.oftp_session.specs.Steps.{IsEnded, IsOffered, IsResponding}
-use Rattle.oftp_session.specs.Standings.{Ships, StandsIn, offering_of, standing_of}
+use Rattle.oftp_session.specs.Standings.{Standing, At, Ships, StandsIn, offering_of, standing_of}
 use Rattle.oftp_session.specs.Calls.{DoesNot, Files, IsAccepted, IsMade, Takes}
 use Rattle.oftp_session.proofs.Outgoing.{handed_accepted, handed_fits, offered_handed, offered_reopened, refused_accepted, refused_fits, reopened_accepted, reopened_fits, send_accepted, send_fits}
 
@@ -59,14 +59,18 @@ handed n old t holds is = (handed_fits old.register n, subst (λ m. IsAccepted o
 reopened : (n : ℕ) (old : View) (t : Transfer) → IsEnded old.register t → t.number ≡ n → IsFit old.register (Reopen n) × IsAccepted old.register (Reopen n)
 reopened n old t holds is = (reopened_fits old.register n, subst (λ m. IsAccepted old.register (Reopen m)) is (reopened_accepted old.register t holds))
 
+stands_after : (contact : Contact) (speaks : Bool) (s : Standing) → s ≡ At (after_file contact speaks) → StandsIn (after_file contact speaks) s
+stands_after contact true s h = h
+stands_after contact false s h = h
+
 pub efpa_ok : (contact : Contact) (n : ℕ) (t : Transfer) (efpa : Efpa) (old new : View) (frame : List ℕ) (to : State) → IsEnded old.register t → t.number ≡ n → frame ≡ []
     → (IsFit old.register (HandOver n) → IsAccepted old.register (HandOver n) → IsMade (Some (HandOver n)) None old new [])
-    → StandsIn (after_file contact efpa.change_direction) (standing_of to) → Takes (came_awaiting_end contact t (command.Efpa efpa)) old new frame (Ok to)
+    → standing_of to ≡ At (after_file contact efpa.change_direction) → Takes (came_awaiting_end contact t (command.Efpa efpa)) old new frame (Ok to)
 unfolding came_awaiting_end
 efpa_ok contact n t efpa old new frame to holds is none does stands =
     let may = handed n old t holds is in
     changed (Some (HandOver t.number)) (after_file contact efpa.change_direction) old new frame to none
-    (subst (λ m. IsMade (Some (HandOver m)) None old new []) (sym is) (does may.0 may.1)) stands
+    (subst (λ m. IsMade (Some (HandOver m)) None old new []) (sym is) (does may.0 may.1)) (stands_after contact efpa.change_direction (standing_of to) stands)
 
 pub efpa_err : (contact : Contact) (n : ℕ) (t : Transfer) (efpa : Efpa) (old new : View) (told : SessionFault) → IsEnded old.register t → t.number ≡ n
     → (IsFit old.register (HandOver n) → IsAccepted old.register (HandOver n) → DoesNot (Some (HandOver n)) old new told)

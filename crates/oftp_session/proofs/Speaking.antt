@@ -1,5 +1,5 @@
 -- What the session does at its own turn where it speaks, as a step.
-use Rattle.std.proofs.Common.{◌≡◌, ℕ, ◌<◌, nat_lt, Bool, true, false, cond, List, [], slice_get, Option, None, Some, Result, Ok, Err, refl, sym, ap, ◌∙◌, subst}
+use Rattle.std.proofs.Common.{◌≡◌, ℕ, zero, suc, ◌≤◌, nat_lt, Bool, true, false, cond, List, [], slice_get, Option, None, Some, Result, Ok, Err, refl, sym, ap, ◌∙◌, subst, arith}
 use Rattle.std.proofs.lemmas.Bool.{false≢true}
 use Rattle.oftp_wire.specs.declared.command.Command.{Command}
 use Rattle.oftp_vfile.specs.VirtualFile.{units_in}
@@ -91,6 +91,10 @@ idle_step setting (Sending contact t) s r h none =
 idle_step setting (AwaitingEnd contact t) s r h none = refl
 idle_step setting (EndedHere reason) s r h none = refl
 idle_step setting (EndedThere reason) s r h none = refl
+
+pub none_left : (n : ℕ) → n ≤ 0 → nat_lt 0 n ≡ false
+none_left zero h = refl
+none_left (suc n) h = absurd (omega (arith, h))
 
 pub idle_takes : (setting : Setting) (p : Phase) (s : State) (now : View) (frame : List ℕ) → now.stands → StandsIn p (standing_of s) → is_due (standing_of s) ≡ false → frame ≡ []
     → Takes (turned setting p now.register) now now frame (Ok s)

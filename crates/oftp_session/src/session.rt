@@ -258,8 +258,8 @@ impl<'b> Session<'b> {
             → (p : Phase) → Holds p (O.view office.old).register → is_over p ≡ false → Stands p self.old
             → OnOk result (Stands (came self.old.setting p (O.view office.old).register command.now).phase new))
             × (is_closed self.old.standing ≡ false → OnErr result (new.standing ≡ Broken))
-            × OnOk result (new.standing ≢ Broken)
-            × (is_closed self.old.standing ≡ true → new ≡ self.old))) }
+            × (is_closed self.old.standing ≡ true → new ≡ self.old)
+            × OnOk result (new.standing ≢ Broken))) }
     {
         let Some(state) = self.state.take() else {
             return Err(SessionFault::Ended);
@@ -272,12 +272,13 @@ impl<'b> Session<'b> {
         Ok(self.frame.out())
     }
 
-    /// Makes the own command that is due, and answers it as what is to be sent. Where none is due in a session that goes on, nothing
-    /// is sent and nothing is changed.
+    /// Makes the own command that is due, and answers it as what is to be sent. Where none is due in a session that goes on,
+    /// nothing is sent and nothing is changed. A change of the register is committed before its command is lent.
     ///
     /// # Errors
     ///
-    /// As [`Session::on_command`].
+    /// As [`Session::on_command`]; and [`SessionFault::Memory`], while a file is sent, where there is no buffer for its DATA or
+    /// the growth of one was refused.
     pub fn turn<O: Office>(&mut self, office: &mut O) -> Result<Out<'_>, SessionFault>
         ensures clean { (O.view office.new).clean → (O.view office.old).clean }
         ensures does { (O.view office.new).clean → (O.view office.old).stands
@@ -298,12 +299,12 @@ impl<'b> Session<'b> {
             → (p : Phase) → Holds p (O.view office.old).register → is_over p ≡ false → Stands p self.old
             → OnOk result (Stands (turned self.old.setting p (O.view office.old).register).phase new))
             × (is_closed self.old.standing ≡ false → OnErr result (new.standing ≡ Broken))
-            × OnOk result (new.standing ≢ Broken)
             × (is_due self.old.standing ≡ true
             → OnOk result (turns_left new.standing < turns_left self.old.standing))
             × (is_closed self.old.standing ≡ true → new ≡ self.old)
             × (is_due self.old.standing ≡ false → is_closed self.old.standing ≡ false
-            → new ≡ record self.old { spoken = [] }))) }
+            → new ≡ record self.old { spoken = [] })
+            × OnOk result (new.standing ≢ Broken))) }
     {
         let Some(state) = self.state.take() else {
             return Err(SessionFault::Ended);

@@ -31,7 +31,8 @@ pub(crate) trait SpeakerPart: Office {
     fn next(&mut self, contact: &Contact) -> Result<Option<Item>, SessionFault>
         ensures clean { (Self.view self.new).clean → (Self.view self.old).clean }
         ensures finds { (Self.view self.new).clean → (Self.view self.old).stands
-            → Finds (λ r. next_item r contact.now.code contact.now.tried contact.now.link.sends) (Self.view self.old) (Self.view self.new) result }
+            → Finds (λ r. next_item r contact.now.code contact.now.tried contact.now.link.sends)
+            (Self.view self.old) (Self.view self.new) result }
         // It holds of any store.
         ensures within { IfOk result (λ found. IfSome found IsItemWithin) }
         ensures err { IfErr result (λ fault. fault ≡ SessionFault.Office) };

@@ -2,14 +2,16 @@
 
 mod noting;
 mod receiving;
+mod responding;
 mod sending;
 mod talk;
 
 use super::*;
-use oftp_partners::read;
+use oftp_partners::{Book, read};
 use oftp_register::{Office, PlainOffice};
 use oftp_vfile::Limits;
 use oftp_wire::{Count, SessionReason, parse};
+use std::alloc::Global;
 use std::process::Abort;
 use std::test::Fail;
 

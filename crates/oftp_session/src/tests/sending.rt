@@ -1,20 +1,16 @@
-//! Files and responses that an initiator sends. The sizes that SFID tells are in blocks of 1024 octets, rounded up.
+//! Files that an initiator sends. The sizes that SFID tells are in blocks of 1024 octets, rounded up.
 
 use super::noting::Noting;
 use super::talk::Line::{Answers, Comes, Says, Sends};
 use super::talk::{
-    CALL, CHANGE, CREDIT, END, FULL, HAS_IT, Line, READY, READY_AGAIN, calling, file,
+    CALL, CHANGE, CREDIT, END, FULL, HAS_IT, Line, OFFER, OPENING, READY, calling, file, play,
     submit_octets, submit_records, unmet, words,
 };
 use super::*;
-use oftp_register::{Change, Dispatch, Office, OfficeFault, OutgoingState, ResponseKind};
+use oftp_register::{Change, OfficeFault, OutgoingState};
 use oftp_vfile::{Format, Rows};
 
-/// SFID for a file of at most 1024 octets, from row 0 on.
-const OFFER: &[u8] =
-    b"HASN.0001                     202401311015300001        O0177CARMAKER            O0013SUPPLIER            U000000000000000001000000000000100000000000000000000000N000";
-
-/// SFID for the same file of 2,500 octets, from row 0 and from row 2 on.
+/// SFID for a file of 2,500 octets, from row 0 and from row 2 on.
 const LONG_OFFER: &[u8] =
     b"HASN.0001                     202401311015300001        O0177CARMAKER            O0013SUPPLIER            U000000000000000003000000000000300000000000000000000000N000";
 
@@ -30,16 +26,6 @@ const END_OF_250: &[u8] = b"T0000000000000000000000000000000250";
 
 const END_OF_2500: &[u8] = b"T0000000000000000000000000000002500";
 
-/// EERP and NERP to files that came from the partner.
-const EERP: &[u8] =
-    b"EASN.0001                     202401311015300001        O0177CARMAKER            O0013SUPPLIER            \0\0\0\0";
-
-const NERP: &[u8] =
-    b"NASN.0002                        202401311015300001O0177CARMAKER            O0013SUPPLIER            O0013SUPPLIER            03008NO PLANT\0\0\0\0";
-
-/// How a session opens, before the station speaks.
-const OPENING: &[Line] = &[Answers(READY, CALL), Comes(PARTNER)];
-
 /// The file `\0\1\2` is offered, sent, and not answered yet.
 const SENT: &[Line] = &[
     Says(OFFER),
@@ -54,20 +40,6 @@ fn is_file<O: Office>(office: &mut O, state: OutgoingState, mark: u64) -> bool {
         Ok(Some(entry)) => entry.state == state && entry.mark == mark,
         Ok(None) | Err(_) => false,
     }
-}
-
-/// Plays a session from its beginning. It answers the number of the first line that isn't met, behind the opening.
-fn play<O: Office>(
-    alloc: Global,
-    office: &mut O,
-    book: &Book,
-    lines: &[Line],
-) -> Result<Option<usize>, OfficeFault> {
-    let mut session = calling(alloc, book)?;
-    if unmet(alloc, &mut session, office, OPENING)?.is_some() {
-        return Ok(Some(0));
-    }
-    unmet(alloc, &mut session, office, lines)
 }
 
 #[test]
@@ -373,87 +345,6 @@ fn files_kept_where_the_partner_only_sends(rt: HostRuntime) -> Result<(), Fail> 
     Ok(())
 }
 
-/// A whole file that came from the partner, and a response to it that is due.
-fn answer_file(
-    alloc: Global,
-    office: &mut PlainOffice,
-    no: u64,
-    dataset: &'static [u8],
-    kind: ResponseKind,
-) -> Result<(), OfficeFault> {
-    let (reason, text) = match kind {
-        ResponseKind::EndResponse => (0, ""),
-        ResponseKind::NegativeEndResponse => (3, "NO PLANT"),
-    };
-    office.commit(Change::Start {
-        identity: file(dataset, b"O0177CARMAKER", b"O0013SUPPLIER")?,
-        format: Format::Unstructured,
-        longest: 0,
-        description: words("")?,
-        count: 0,
-    })?;
-    office.commit(Change::Close {
-        no,
-        rows: Rows::new(Vec::new(alloc)),
-    })?;
-    office.commit(Change::Issue {
-        no,
-        kind,
-        reason: Count::new(reason),
-        text: words(text)?,
-    })
-}
-
-/// Whether the response to the incoming file with this number was sent, or is due.
-fn is_response(office: &mut PlainOffice, no: u64, dispatch: Dispatch) -> bool {
-    match office.in_by_no(no) {
-        Ok(Some(entry)) => match &entry.response {
-            Some(response) => response.dispatch == dispatch,
-            None => false,
-        },
-        Ok(None) | Err(_) => false,
-    }
-}
-
-#[test]
-fn response_goes_out(rt: HostRuntime) -> Result<(), Fail> {
-    let book = read(rt.alloc(), BOOK)?;
-    let mut office = PlainOffice::new(rt.alloc(), LIMITS);
-    answer_file(
-        rt.alloc(),
-        &mut office,
-        1,
-        b"ASN.0001",
-        ResponseKind::EndResponse,
-    )?;
-    answer_file(
-        rt.alloc(),
-        &mut office,
-        2,
-        b"ASN.0002",
-        ResponseKind::NegativeEndResponse,
-    )?;
-    submit_octets(rt.alloc(), &mut office, 3)?;
-    // Until RTR comes the response is due, and no other goes out.
-    assert_eq!(rt; play(rt.alloc(), &mut office, &book, &[Says(EERP)])?, None);
-    assert!(rt; is_response(&mut office, 1, Dispatch::Due));
-    let lines = [Says(EERP), Comes(READY_AGAIN), Says(NERP)];
-    assert_eq!(rt; play(rt.alloc(), &mut office, &book, &lines)?, None);
-    assert!(rt; is_response(&mut office, 1, Dispatch::Sent));
-    assert!(rt; is_response(&mut office, 2, Dispatch::Due));
-    // Responses go before files, and then nothing is left of them.
-    let lines = [
-        Says(NERP),
-        Comes(READY_AGAIN),
-        Says(OFFER),
-        Comes(b"302Y000"),
-        Says(CHANGE),
-    ];
-    assert_eq!(rt; play(rt.alloc(), &mut office, &book, &lines)?, None);
-    assert!(rt; is_response(&mut office, 2, Dispatch::Sent));
-    Ok(())
-}
-
 /// DATA with 127 empty records, and one with 46.
 const EMPTY_RECORDS: &[u8] =
     b"D\x80\x80\x80\x80\x80\x80\x80\x80\x80\x80\x80\x80\x80\x80\x80\x80\x80\x80\x80\x80\x80\x80\x80\x80\x80\x80\x80\x80\x80\x80\x80\x80\x80\x80\x80\x80\x80\x80\x80\x80\x80\x80\x80\x80\x80\x80\x80\x80\x80\x80\x80\x80\x80\x80\x80\x80\x80\x80\x80\x80\x80\x80\x80\x80\x80\x80\x80\x80\x80\x80\x80\x80\x80\x80\x80\x80\x80\x80\x80\x80\x80\x80\x80\x80\x80\x80\x80\x80\x80\x80\x80\x80\x80\x80\x80\x80\x80\x80\x80\x80\x80\x80\x80\x80\x80\x80\x80\x80\x80\x80\x80\x80\x80\x80\x80\x80\x80\x80\x80\x80\x80\x80\x80\x80\x80\x80\x80";
@@ -483,7 +374,7 @@ fn rows_asked_for(rt: HostRuntime) -> Result<(), Fail> {
         Comes(HAS_IT),
     ];
     assert_eq!(rt; play(rt.alloc(), &mut office, &book, &lines)?, None);
-    assert!(rt; is_file(&mut office, OutgoingState::Handed, 300));
+    assert!(rt; is_file(&mut office, OutgoingState::Handed, 254));
     assert_eq!(rt; office.most, 127);
     Ok(())
 }

@@ -10,6 +10,10 @@ pub(super) const READY: &[u8] = b"IODETTE FTP READY \r";
 /// The station's SSID, as it calls.
 pub(super) const CALL: &[u8] = b"X5O0013SUPPLIER            SUPPW   00128BNYN002N            \r";
 
+/// SFID for a file of at most 1024 octets, from row 0 on.
+pub(super) const OFFER: &[u8] =
+    b"HASN.0001                     202401311015300001        O0177CARMAKER            O0013SUPPLIER            U000000000000000001000000000000100000000000000000000000N000";
+
 /// CD, EFPA without a wish to speak, RTR, and the partner's ESID 00.
 pub(super) const CHANGE: &[u8] = b"R";
 
@@ -36,6 +40,9 @@ pub(super) enum Line {
     /// A command comes and is answered.
     Answers(&'static [u8], &'static [u8]),
 }
+
+/// How a session opens, before the station speaks.
+pub(super) const OPENING: &[Line] = &[Line::Answers(READY, CALL), Line::Comes(PARTNER)];
 
 /// What is wrong with a fixture, unless memory ran out.
 const BAD: OfficeFault = OfficeFault::Store;
@@ -115,6 +122,20 @@ pub(super) fn unmet<O: Office>(
 pub(super) fn calling(alloc: Global, book: &Book) -> Result<Session<'_>, OfficeFault> {
     let partner = book.partner(b"O0177CARMAKER").ok_or(BAD)?;
     Ok(Session::initiator(alloc, book, partner))
+}
+
+/// Plays a session from its beginning. It answers the number of the first line that isn't met, behind the opening.
+pub(super) fn play<O: Office>(
+    alloc: Global,
+    office: &mut O,
+    book: &Book,
+    lines: &[Line],
+) -> Result<Option<usize>, OfficeFault> {
+    let mut session = calling(alloc, book)?;
+    if unmet(alloc, &mut session, office, OPENING)?.is_some() {
+        return Ok(Some(0));
+    }
+    unmet(alloc, &mut session, office, lines)
 }
 
 fn code(letters: &'static [u8]) -> Result<Name<25>, OfficeFault> {

@@ -17,10 +17,10 @@ returns-in-Err-clause-takes g c = λ clean stands holds.
     subst (λ (x : Command). Takes (came_awaiting_rtr c.args.contact c.args.number x) old new c.hush.new.self to) (sym c.in-Rtr.is)
     (rtr_err c.args.contact c.args.number old new c.in-Err.fault holds (c.in-Err.ensures.does clean stands))
 
-pub returns-in_default-clause-takes : goal.returns-in_default-clause-takes
-returns-in_default-clause-takes g c = λ clean stands holds.
+pub returns-in_default-sent-clause-takes : goal.returns-in_default-sent-clause-takes
+returns-in_default-sent-clause-takes g c = λ clean stands holds.
     let old = g.O.Office.view c.args.office.now in
     let new = g.O.Office.view c.sent.new.self in
     let to : Result State SessionFault = Ok (state.SpeakerIdle c.args.contact ChangeDirection) in
     subst (λ (x : Command). Takes (came_awaiting_rtr c.args.contact c.args.number x) old new c.hush.new.self to) (sym c.in-Rtr.is)
-    (rtr_ok c.args.contact c.args.number old new c.hush.new.self holds c.hush.ensures (c.in_default.ensures.does clean stands))
+    (rtr_ok c.args.contact c.args.number old new c.hush.new.self holds c.hush.ensures (c.in_default-sent.ensures.does clean stands))
