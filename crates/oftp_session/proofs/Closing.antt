@@ -24,7 +24,7 @@ use Rattle.oftp_session.specs.Receiving.{asks_to_speak, carried_by, efna_of, efp
 use Rattle.oftp_session.specs.Steps.{IsReceived}
 use Rattle.oftp_session.specs.Standings.{Tracks}
 use Rattle.oftp_session.specs.Calls.{DoesNot, IsAccepted, IsMade, Takes}
-use Rattle.oftp_session.proofs.Answers.{answered}
+use Rattle.oftp_session.proofs.Saying.{answered}
 use Rattle.oftp_session.proofs.Views.{then_fails, then_made}
 use Rattle.oftp_session.proofs.Ends.{close_accepted, close_fits, counts_are, end_by, end_open, give_up_accepted, give_up_fits, last_of, open_of}
 

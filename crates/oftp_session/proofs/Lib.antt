@@ -4,7 +4,7 @@ pub mod Phases
 pub mod Standings
 pub mod Credit
 pub mod Views
-pub mod Answers
+pub mod Saying
 pub mod Receipts
 pub mod Windows
 pub mod Ends
@@ -12,4 +12,13 @@ pub mod Closing
 pub mod Starts
 pub mod Offers
 pub mod Coming
+pub mod Outgoing
+pub mod Items
+pub mod Accepting
+pub mod Continuing
+pub mod Lending
+pub mod Shipping
+pub mod Crediting
+pub mod Replying
+pub mod Speaking
 pub mod Proceeding

@@ -32,7 +32,7 @@ use Rattle.oftp_session.specs.Steps.{IsReceived}
 use Rattle.oftp_session.specs.Standings.{Tracks}
 use Rattle.oftp_session.specs.Starting.{IsFound, MayBegin, Starts, reception_of}
 use Rattle.oftp_session.specs.Calls.{DoesNot, Finds, IsAccepted, IsMade, Takes}
-use Rattle.oftp_session.proofs.Answers.{answered}
+use Rattle.oftp_session.proofs.Saying.{answered}
 use Rattle.oftp_session.proofs.Starts.{accepted_begins, rows_at}
 use Rattle.oftp_session.proofs.Views.{after_fails, made_then, then_fails, then_made}
 

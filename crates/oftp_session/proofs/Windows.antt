@@ -24,7 +24,7 @@ use Rattle.oftp_session.specs.Receiving.{data_step, carried_by, is_window_full, 
 use Rattle.oftp_session.specs.Steps.{IsReceived}
 use Rattle.oftp_session.specs.Standings.{HasTaken, Tracks}
 use Rattle.oftp_session.specs.Calls.{DoesNot, IsAccepted, IsMade, Refuses, Takes}
-use Rattle.oftp_session.proofs.Answers.{same_takes}
+use Rattle.oftp_session.proofs.Saying.{same_takes}
 use Rattle.oftp_session.proofs.Credit.{place_full, place_open}
 use Rattle.oftp_session.proofs.Receipts.{carried_next, keep_accepted, keep_fits, kept_within, payload_holds}
 

@@ -4,9 +4,11 @@ pub mod Opening
 pub mod Receiving
 pub mod Listener
 pub mod Speaker
+pub mod Sending
 pub mod Steps
 pub mod Standings
 pub mod Calls
+pub mod Payloads
 pub mod Agreements
 pub mod Responses
 pub mod Starting

@@ -9,7 +9,7 @@ use Rattle.oftp_wire.specs.declared.command.Command.TheVariants as command
 use Rattle.oftp_wire.specs.declared.reason.SessionReason.{SessionReason}
 use Rattle.oftp_wire.specs.declared.reason.SessionReason.TheVariants.{ProtocolViolation}
 use Rattle.oftp_register.specs.declared.change.Change.{Change}
-use Rattle.oftp_register.specs.Register.{Register, Incoming}
+use Rattle.oftp_register.specs.Register.{Register, Incoming, Outgoing}
 use Rattle.oftp_register.specs.Changes.{apply}
 use Rattle.oftp_session.specs.declared.link.WhenDone.{WhenDone}
 use Rattle.oftp_session.specs.declared.state.Contact.{Contact}
@@ -26,6 +26,21 @@ pub record Receipt : Type 0 where
   pub limit : ℕ
   pub payloads : List (List ℕ)
 
+-- a file that is offered: its number, its entry, and the row from which on it would be sent (RFC 5024, section 5.3.3)
+pub record Offer : Type 0 where
+  pub number : ℕ
+  pub file : Outgoing
+  pub from : ℕ
+
+-- a file that is sent: its number, its entry, the row from which on it is sent, how many of its payloads were sent, and how many CDT
+-- came (RFC 5024, sections 5.3.4, 5.3.6 and 5.3.7)
+pub record Transfer : Type 0 where
+  pub number : ℕ
+  pub file : Outgoing
+  pub from : ℕ
+  pub sent : ℕ
+  pub credits : ℕ
+
 -- where a session stands (RFC 5024, section 9)
 pub data Phase : Type 0 where
   ResponderOpening : Phase
@@ -34,6 +49,11 @@ pub data Phase : Type 0 where
   ListenerIdle : (contact : Contact) → Phase
   Receiving : (contact : Contact) (receipt : Receipt) → Phase
   SpeakerIdle : (contact : Contact) (done : WhenDone) → Phase
+  GivingWay : (contact : Contact) → Phase
+  AwaitingRtr : (contact : Contact) (number : ℕ) → Phase
+  AwaitingStart : (contact : Contact) (offer : Offer) → Phase
+  Sending : (contact : Contact) (transfer : Transfer) → Phase
+  AwaitingEnd : (contact : Contact) (transfer : Transfer) → Phase
   EndedHere : (reason : SessionReason) → Phase
   EndedThere : (reason : ℕ) → Phase
 
@@ -45,6 +65,11 @@ ending_of AwaitingSsid = None
 ending_of (ListenerIdle contact) = None
 ending_of (Receiving contact f) = None
 ending_of (SpeakerIdle contact done) = None
+ending_of (GivingWay contact) = None
+ending_of (AwaitingRtr contact number) = None
+ending_of (AwaitingStart contact offer) = None
+ending_of (Sending contact t) = None
+ending_of (AwaitingEnd contact t) = None
 ending_of (EndedHere reason) = Some (ended.Own reason)
 ending_of (EndedThere reason) = Some (ended.Partner reason)
 
@@ -78,6 +103,10 @@ quiet phase = record { phase = phase; change = None; output = None }
 -- a change, if it is due, and then an answer
 abbrev pub answers : Phase → Option Change → Command → Step
 answers phase change command = record { phase = phase; change = change; output = Some command }
+
+-- a change, if it is due, and nothing is sent
+abbrev pub changes : Phase → Option Change → Step
+changes phase change = record { phase = phase; change = change; output = None }
 
 -- a command is sent, and nothing is changed
 abbrev pub says : Phase → Command → Step

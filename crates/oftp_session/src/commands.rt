@@ -1,18 +1,28 @@
 //! The commands that a station says.
 
-ghost use Rattle.std.specs.Prelude.{◌≡◌, ◌≤◌, ℕ, take, length, min, [], false};
+ghost use Rattle.std.specs.Prelude.{◌≡◌, ◌≤◌, ℕ, take, length, min, [], false, if◌then◌else◌};
+ghost use Rattle.oftp_vfile.specs.VirtualFile.{IsLongest, is_stream, units_in};
+ghost use Rattle.oftp_vfile.specs.declared.format.TheConstants.{MOST_ROWS};
+ghost use Rattle.oftp_register.specs.declared.fit.TheConstants.{MOST_UNITS};
+ghost use Rattle.oftp_register.specs.LookUps.{outgoing_entry};
+ghost use Rattle.oftp_register.specs.Register.{Outgoing};
 ghost use Rattle.oftp_wire.specs.Spelling.{is_data};
-ghost use Rattle.oftp_wire.specs.declared.command.Command.TheVariants.{Ssid as an_ssid};
+ghost use Rattle.oftp_wire.specs.declared.command.Command.TheVariants.{Efid as an_efid, Ssid as an_ssid};
 ghost use Rattle.oftp_session.specs.Phases.{frame_of, esid_of};
 ghost use Rattle.oftp_session.specs.Opening.{answering_ssid, calling_ssid, ssid_with};
 ghost use Rattle.oftp_session.specs.Receiving.{efna_of, efpa_of, sfna_of, sfpa_of};
 ghost use Rattle.oftp_session.specs.Agreements.{terms};
+ghost use Rattle.oftp_session.specs.Speaker.{blocks, eerp_of, layout_of, nerp_of, response_of, sfid_of};
 
 use crate::opening::{Agreement, answered_mode};
 use oftp_partners::{Book, Partner};
+use oftp_register::{
+    DigitString, Identity, IssuedEntry, Name, Note, OutgoingEntry, ResponseKind, SIZE_UNIT,
+};
+use oftp_vfile::Format;
 use oftp_wire::{
-    Command, Count, Efna, Efpa, EndReason, Esid, Mode, SessionReason, Sfna, Sfpa, Ssid,
-    StartReason, Text, X, encode, header,
+    Command, Count, Digits, Eerp, Efid, Efna, Efpa, EndReason, Esid, Layout, Mode, Nerp,
+    SessionReason, Sfid, Sfna, Sfpa, Ssid, StartReason, Text, X, encode, header,
 };
 
 /// The end of the session, with no text.
@@ -129,6 +139,147 @@ pub(crate) fn calling_ssid<'b>(book: &'b Book, partner: &'b Partner) -> Command<
         station.restart,
         partner.mode,
     ))
+}
+
+/// A name as a command has it.
+fn name<const N: usize>(name: &Name<N>) -> X<'_, N>
+    ensures { result ≡ name.now }
+{
+    match X::new(name.octets()) {
+        Some(field) => field,
+        None => unreachable!(),
+    }
+}
+
+/// Digits as a command has them.
+fn digits<const N: usize>(digits: &DigitString<N>) -> Digits<'_, N>
+    ensures { result ≡ digits.now }
+{
+    match Digits::new(digits.octets()) {
+        Some(field) => field,
+        None => unreachable!(),
+    }
+}
+
+/// A text as a command has it.
+fn text(note: &Note) -> Text<'_>
+    ensures { result ≡ note.now }
+{
+    match Text::new(note.as_str()) {
+        Some(field) => field,
+        None => unreachable!(),
+    }
+}
+
+/// An end response to this file.
+fn eerp(file: &Identity) -> Command<'_>
+    ensures { result ≡ eerp_of file.now }
+{
+    match X::new(b"") {
+        Some(user) => Command::Eerp(Eerp {
+            dataset: name(&file.dataset),
+            date: digits(&file.date),
+            time: digits(&file.time),
+            user,
+            destination: name(&file.originator),
+            originator: name(&file.destination),
+        }),
+        None => unreachable!(),
+    }
+}
+
+/// A negative end response of the station's own.
+fn nerp<'a>(book: &'a Book, entry: &'a IssuedEntry) -> Command<'a>
+    ensures { let e = entry.entry.now in
+        result ≡ nerp_of book.entry.now.station.code e.identity e.response.reason e.response.text }
+{
+    let file = &entry.identity;
+    Command::Nerp(Nerp {
+        dataset: name(&file.dataset),
+        date: digits(&file.date),
+        time: digits(&file.time),
+        destination: name(&file.originator),
+        originator: name(&file.destination),
+        creator: book.station().code.field(),
+        reason: entry.response.reason,
+        text: text(&entry.response.text),
+    })
+}
+
+/// The response that was issued to a file.
+pub(crate) fn response<'a>(book: &'a Book, entry: &'a IssuedEntry) -> Command<'a>
+    ensures { result ≡ response_of book.entry.now.station.code entry.entry.now entry.entry.now.response.kind }
+{
+    match entry.response.kind {
+        ResponseKind::EndResponse => eerp(&entry.identity),
+        ResponseKind::NegativeEndResponse => nerp(book, entry),
+    }
+}
+
+/// How a file is divided, as SFID tells it.
+fn layout(format: Format, longest: u32) -> Layout
+    requires { IsLongest format longest }
+    ensures { result ≡ layout_of format longest }
+{
+    match format {
+        Format::Fixed => Layout::Fixed(Count::new(longest as u64)),
+        Format::Variable => Layout::Variable(Count::new(longest as u64)),
+        Format::Unstructured => Layout::Unstructured,
+        Format::Text => Layout::Text,
+    }
+}
+
+/// So many octets as a size, rounded up.
+fn size(units: u64) -> Count<13>
+    requires { units ≤ MOST_UNITS }
+    ensures { result ≡ blocks units }
+{
+    Count::new((units + SIZE_UNIT - 1) / SIZE_UNIT)
+}
+
+/// A file with this entry, whose rows have so many octets, is offered from a row on.
+pub(crate) fn sfid<'a>(entry: &'a OutgoingEntry, units: u64, from: u64) -> Command<'a>
+    requires longest { IsLongest entry.now.format entry.now.longest }
+    requires units { units ≤ MOST_UNITS }
+    requires from { from ≤ MOST_ROWS }
+    ensures value { (file : Outgoing) → entry.entry.now ≡ outgoing_entry entry.entry.now.no file
+        → units ≡ units_in file.rows → result ≡ sfid_of file from }
+    ensures command { is_data result ≡ false }
+{
+    let file = &entry.identity;
+    match X::new(b"") {
+        Some(user) => Command::Sfid(Sfid {
+            dataset: name(&file.dataset),
+            date: digits(&file.date),
+            time: digits(&file.time),
+            user,
+            destination: name(&file.destination),
+            originator: name(&file.originator),
+            layout: layout(entry.format, entry.longest),
+            size: size(units),
+            original_size: size(units),
+            restart: Count::new(from),
+            security: Count::new(0),
+            cipher: Count::new(0),
+            compression: Count::new(0),
+            enveloping: Count::new(0),
+            signed_response: false,
+            description: text(&entry.description),
+        }),
+        None => unreachable!(),
+    }
+}
+
+/// The end of a file of so many rows, which have so many octets. Rows of a stream aren't counted (RFC 5024, section 5.3.8).
+pub(crate) fn efid(format: Format, rows: Count<17>, units: Count<17>) -> Command<'static>
+    ensures { result ≡ an_efid (record { records = if is_stream format then 0 else rows; units = units }) }
+{
+    let records = if format.is_stream() {
+        Count::new(0)
+    } else {
+        rows
+    };
+    Command::Efid(Efid { records, units })
 }
 
 /// Spells the frame of a command that isn't DATA into the octets, and answers its length.

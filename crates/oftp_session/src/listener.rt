@@ -259,7 +259,7 @@ fn reception(
 }
 
 /// Makes a change that the register accepts.
-fn make<O: Office>(office: &mut O, change: Change<'_>) -> Result<(), SessionFault>
+pub(crate) fn make<O: Office>(office: &mut O, change: Change<'_>) -> Result<(), SessionFault>
     ensures clean { (O.view office.new).clean → (O.view office.old).clean }
     ensures does { (O.view office.new).clean → (O.view office.old).stands
         → IsFit (O.view office.old).register change.entry → IsAccepted (O.view office.old).register change.entry

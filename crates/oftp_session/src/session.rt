@@ -5,22 +5,22 @@ ghost use Rattle.oftp_register.specs.Register.{Register};
 ghost use Rattle.oftp_session.specs.Settings.{Setting as Known, setting_of};
 ghost use Rattle.oftp_session.specs.Phases.{Phase, ending_of, esid_of, frame_of, is_over};
 ghost use Rattle.oftp_session.specs.Steps.{came, has_turn, turned, Holds};
-ghost use Rattle.oftp_session.specs.Standings.{Broken, StandsIn, ended_as, is_closed, is_due, is_receiving, standing_of, turns_left};
+ghost use Rattle.oftp_session.specs.Standings.{Broken, StandsIn, ended_as, is_closed, is_due, is_receiving, is_sending, standing_of, turns_left};
 ghost use Rattle.oftp_session.specs.Calls.{Does, Goes, IsFailure, IsFull, Seen, Stands, Takes, heard};
 
 use crate::frame::Frame;
-use crate::link::WhenDone;
 use crate::listener::in_listener_idle;
 use crate::opening::{Setting, in_awaiting_ssid, in_initiator_opening};
 use crate::receiving::in_receiving;
-use crate::speaker::nothing_next;
+use crate::replies::{in_awaiting_end, in_awaiting_start};
+use crate::sending::{in_sending, send_next};
+use crate::speaker::{give_way, in_awaiting_rtr, speak};
 use crate::state::State;
 use oftp_partners::{Book, Partner};
 use oftp_register::Office;
 use oftp_wire::{Command, Count, SessionReason};
 use std::alloc::Global;
 use std::marker::Model;
-use std::mem;
 
 /// Who ended a session, and the reason of its ESID.
 #[derive(Clone, Copy, Debug, Drop, PartialEq, Eq)]
@@ -55,20 +55,21 @@ pub enum Out<'a> {
 #[derive(Drop)]
 pub struct Session<'b> {
     setting: Setting<'b>,
-    state: State,
+    // After a fault nothing is held.
+    state: Option<State>,
     frame: Frame,
 }
 
 impl<'b> Model for Session<'b> {
     ghost use Rattle.oftp_session.specs.Settings.{setting_of};
-    ghost use Rattle.oftp_session.specs.Standings.{standing_of};
+    ghost use Rattle.oftp_session.specs.Standings.{standing_held};
     ghost use Rattle.oftp_session.specs.Calls.{Seen};
 
     ghost Value = { Seen };
 
     ghost view = { λ s. record {
       setting = setting_of s.setting;
-      standing = standing_of s.state;
+      standing = standing_held s.state;
       spoken = s.frame;
     } };
 }
@@ -92,37 +93,75 @@ fn came<O: Office>(
     ensures spared { is_receiving (standing_of state) ≡ false → IfErr result (λ fault. fault ≢ SessionFault.Memory) }
 {
     match state {
-        State::ResponderOpening | State::SpeakerIdle(_, _) => Ok(State::unexpected(command, frame)),
+        State::ResponderOpening | State::SpeakerIdle(_, _) | State::GivingWay(_) => {
+            Ok(State::unexpected(command, frame))
+        }
         State::InitiatorOpening => Ok(in_initiator_opening(setting, command, frame)),
         State::AwaitingSsid => Ok(in_awaiting_ssid(setting, command, frame)),
         State::ListenerIdle(contact) => in_listener_idle(setting, contact, office, command, frame),
         State::Receiving(contact, reception) => in_receiving(
             contact, reception, office, command, frame,
         ),
-        State::EndedHere(_) | State::EndedThere(_) | State::Broken => unreachable!(),
+        State::AwaitingRtr(contact, number) => in_awaiting_rtr(
+            contact, number, office, command, frame,
+        ),
+        State::AwaitingStart(contact, offering) => in_awaiting_start(
+            contact, offering, office, command, frame,
+        ),
+        State::Sending(contact, shipment) => in_sending(contact, shipment, office, command, frame),
+        State::AwaitingEnd(contact, number) => in_awaiting_end(
+            contact, number, office, command, frame,
+        ),
+        State::EndedHere(_) | State::EndedThere(_) => unreachable!(),
     }
 }
 
 // Makes the own command that is due, or nothing, by where the session stands.
 #[tactic(auto, unfolding(crate::specs::Steps::turned))]
-fn turned(state: State, frame: &mut Frame) -> State
+fn turned<O: Office>(
+    setting: Setting<'_>,
+    state: State,
+    office: &mut O,
+    frame: &mut Frame,
+) -> Result<State, SessionFault>
     requires { is_closed (standing_of state) ≡ false }
-    ensures goes { (setting : Known) (p : Phase) (r : Register) → StandsIn p (standing_of state)
-        → Goes (turned setting p r) result frame.new }
+    ensures clean { (O.view office.new).clean → (O.view office.old).clean }
+    ensures takes { (O.view office.new).clean → (O.view office.old).stands
+        → (p : Phase) → Holds p (O.view office.old).register → StandsIn p (standing_of state)
+        → Takes (turned (setting_of setting.entry) p (O.view office.old).register)
+        (O.view office.old) (O.view office.new) frame.new result }
+    ensures err { IfErr result IsFailure }
+    ensures spared { is_sending (standing_of state) ≡ false → IfErr result (λ fault. fault ≢ SessionFault.Memory) }
     ensures fewer { is_due (standing_of state) ≡ true
-        → turns_left (standing_of result) < turns_left (standing_of state) }
+        → IfOk result (λ next. turns_left (standing_of next) < turns_left (standing_of state)) }
     ensures idle { is_due (standing_of state) ≡ false
-        → (standing_of result ≡ standing_of state) × (frame.new ≡ []) }
+        → (result ≡ Ok state) × (frame.new ≡ []) × (office.new ≡ office.old) }
 {
     match state {
         State::ResponderOpening => {
             frame.say(&Command::Ssrm);
-            State::AwaitingSsid
+            Ok(State::AwaitingSsid)
         }
-        State::SpeakerIdle(contact, done) => nothing_next(contact, done, frame),
-        _ => {
+        State::SpeakerIdle(contact, done) => speak(setting, contact, done, office, frame),
+        State::GivingWay(contact) => Ok(give_way(contact, frame)),
+        State::Sending(contact, shipment) => {
+            if shipment.credit > 0 {
+                return send_next(contact, shipment, office, frame);
+            }
             frame.hush();
-            state
+            Ok(State::Sending(contact, shipment))
+        }
+        State::InitiatorOpening
+        | State::AwaitingSsid
+        | State::ListenerIdle(_)
+        | State::Receiving(_, _)
+        | State::AwaitingRtr(_, _)
+        | State::AwaitingStart(_, _)
+        | State::AwaitingEnd(_, _)
+        | State::EndedHere(_)
+        | State::EndedThere(_) => {
+            frame.hush();
+            Ok(state)
         }
     }
 }
@@ -145,8 +184,8 @@ impl<'b> Session<'b> {
                 book,
                 called: None,
             },
-            state: State::ResponderOpening,
-            frame: Frame::empty(),
+            state: Some(State::ResponderOpening),
+            frame: Frame::empty(alloc),
         }
     }
 
@@ -163,8 +202,8 @@ impl<'b> Session<'b> {
                 book,
                 called: Some(partner),
             },
-            state: State::InitiatorOpening,
-            frame: Frame::empty(),
+            state: Some(State::InitiatorOpening),
+            frame: Frame::empty(alloc),
         }
     }
 
@@ -173,7 +212,10 @@ impl<'b> Session<'b> {
         ensures phase { (p : Phase) → Stands p self.now → result ≡ has_turn p }
         ensures due { result ≡ is_due self.now.standing }
     {
-        self.state.is_due()
+        match &self.state {
+            Some(state) => state.is_due(),
+            None => false,
+        }
     }
 
     /// How the session ended, if it did. It takes no memory.
@@ -181,7 +223,10 @@ impl<'b> Session<'b> {
         ensures phase { (p : Phase) → Stands p self.now → result ≡ ending_of p }
         ensures standing { result ≡ ended_as self.now.standing }
     {
-        self.state.ended()
+        match &self.state {
+            Some(state) => state.ended(),
+            None => None,
+        }
     }
 
     /// Takes a command that came, and answers what is to be sent for it (RFC 5024, section 9). A change of the register is
@@ -213,23 +258,27 @@ impl<'b> Session<'b> {
             → (p : Phase) → Holds p (O.view office.old).register → is_over p ≡ false → Stands p self.old
             → OnOk result (Stands (came self.old.setting p (O.view office.old).register command.now).phase new))
             × (is_closed self.old.standing ≡ false → OnErr result (new.standing ≡ Broken))
-            × (is_closed self.old.standing ≡ true → new ≡ self.old))) }
+            × (is_closed self.old.standing ≡ true → new ≡ self.old)
+            × OnOk result (new.standing ≢ Broken))) }
     {
-        if self.state.is_closed() {
+        let Some(state) = self.state.take() else {
+            return Err(SessionFault::Ended);
+        };
+        if state.is_closed() {
+            self.state = Some(state);
             return Err(SessionFault::Ended);
         }
-        // After a fault the session stays broken.
-        let state = mem::replace(&mut self.state, State::Broken);
-        self.state = came(self.setting, state, office, command, &mut self.frame)?;
+        self.state = Some(came(self.setting, state, office, command, &mut self.frame)?);
         Ok(self.frame.out())
     }
 
-    /// Makes the own command that is due, and answers it as what is to be sent. Where none is due in a session that goes on, nothing
-    /// is sent and nothing is changed.
+    /// Makes the own command that is due, and answers it as what is to be sent. Where none is due in a session that goes on,
+    /// nothing is sent and nothing is changed. A change of the register is committed before its command is lent.
     ///
     /// # Errors
     ///
-    /// As [`Session::on_command`].
+    /// As [`Session::on_command`]; and [`SessionFault::Memory`], while a file is sent, where there is no buffer for its DATA or
+    /// the growth of one was refused.
     pub fn turn<O: Office>(&mut self, office: &mut O) -> Result<Out<'_>, SessionFault>
         ensures clean { (O.view office.new).clean → (O.view office.old).clean }
         ensures does { (O.view office.new).clean → (O.view office.old).stands
@@ -238,8 +287,8 @@ impl<'b> Session<'b> {
             (O.view office.old) (O.view office.new) (heard result) }
         ensures full { IfOk result IsFull }
         ensures err { is_closed self.old.standing ≡ false → IfErr result IsFailure }
-        // No own command takes memory so far.
-        ensures spared { IfErr result (λ fault. fault ≢ SessionFault.Memory) }
+        // Memory is taken only while a file is sent.
+        ensures spared { is_sending self.old.standing ≡ false → IfErr result (λ fault. fault ≢ SessionFault.Memory) }
         ensures idle { is_due self.old.standing ≡ false → is_closed self.old.standing ≡ false
             → (heard result ≡ Ok []) × (office.new ≡ office.old) }
         ensures closed { is_closed self.old.standing ≡ true
@@ -254,13 +303,17 @@ impl<'b> Session<'b> {
             → OnOk result (turns_left new.standing < turns_left self.old.standing))
             × (is_closed self.old.standing ≡ true → new ≡ self.old)
             × (is_due self.old.standing ≡ false → is_closed self.old.standing ≡ false
-            → new ≡ record self.old { spoken = [] }))) }
+            → new ≡ record self.old { spoken = [] })
+            × OnOk result (new.standing ≢ Broken))) }
     {
-        if self.state.is_closed() {
+        let Some(state) = self.state.take() else {
+            return Err(SessionFault::Ended);
+        };
+        if state.is_closed() {
+            self.state = Some(state);
             return Err(SessionFault::Ended);
         }
-        let state = mem::replace(&mut self.state, State::Broken);
-        self.state = turned(state, &mut self.frame);
+        self.state = Some(turned(self.setting, state, office, &mut self.frame)?);
         Ok(self.frame.out())
     }
 
@@ -280,10 +333,10 @@ impl<'b> Session<'b> {
             (λ new. (new.setting ≡ self.old.setting)
             × OnOk result (Stands (Phase.EndedHere reason) new) × OnErr result (new ≡ self.old))) }
     {
-        if self.state.ended().is_some() {
+        if self.ended().is_some() {
             return Err(SessionFault::Ended);
         }
-        self.state = State::ended_here(reason, &mut self.frame);
+        self.state = Some(State::ended_here(reason, &mut self.frame));
         Ok(self.frame.out())
     }
 }

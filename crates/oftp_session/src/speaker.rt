@@ -1,22 +1,290 @@
-//! What the station says where it speaks (RFC 5024, sections 5.3.11 and 5.3.12).
+//! What the station says where it speaks (RFC 5024, sections 5.3.3 and 5.3.11 to 5.3.15).
 
-ghost use Rattle.oftp_session.specs.Speaker.{nothing_next};
-ghost use Rattle.oftp_session.specs.Calls.{Goes};
+ghost use Rattle.std.specs.Prelude.{◌≡◌, ◌≤◌, ℕ, true, false, if◌then◌else◌, Some, IfErr, IfOk, IfSome};
+ghost use Rattle.oftp_vfile.specs.declared.format.TheConstants.{MOST_ROWS};
+ghost use Rattle.oftp_register.specs.declared.change.Change.TheVariants.{BeginClosing, HandOver, Mark, Refuse, Reopen, Send};
+ghost use Rattle.oftp_register.specs.declared.fit.TheConstants.{MOST_UNITS};
+ghost use Rattle.oftp_register.specs.Changes.{is_closing};
+ghost use Rattle.oftp_register.specs.LookUps.{IsItemWithin, IsOutgoingWithin, entry_at, next_item, outgoing_entry, units_of};
+ghost use Rattle.oftp_register.specs.Register.{Outgoing};
+ghost use Rattle.oftp_register.specs.Soundness.{IsFit};
+ghost use Rattle.oftp_session.specs.Settings.{setting_of};
+ghost use Rattle.oftp_session.specs.Speaker.{came_awaiting_rtr, nothing_next, offers, responds, speaks};
+ghost use Rattle.oftp_session.specs.Steps.{IsResponding};
+ghost use Rattle.oftp_session.specs.Standings.{standing_of, turns_left};
+ghost use Rattle.oftp_session.specs.Calls.{Files, Finds, Goes, IsAccepted, Takes};
 
+use crate::commands::{response, sfid};
 use crate::frame::Frame;
-use crate::link::WhenDone;
+use crate::link::{Link, WhenDone};
+use crate::listener::make;
+use crate::opening::Setting;
+use crate::sending::Offering;
+use crate::session::SessionFault;
 use crate::state::{Contact, State};
-use oftp_wire::{Command, SessionReason};
+use oftp_register::{Change, IssuedEntry, Item, Office, OutgoingEntry, OutgoingState, Side};
+use oftp_wire::{Command, Count, SessionReason};
+
+/// What a speaker asks of an office. Of all the office's faults the session tells one.
+pub(crate) trait SpeakerPart: Office {
+    /// The response or the file that is next and wasn't tried. A file is next only where the station sends files.
+    fn next(&mut self, contact: &Contact) -> Result<Option<Item>, SessionFault>
+        ensures clean { (Self.view self.new).clean → (Self.view self.old).clean }
+        ensures finds { (Self.view self.new).clean → (Self.view self.old).stands
+            → Finds (λ r. next_item r contact.now.code contact.now.tried contact.now.link.sends)
+            (Self.view self.old) (Self.view self.new) result }
+        // It holds of any store.
+        ensures within { IfOk result (λ found. IfSome found IsItemWithin) }
+        ensures err { IfErr result (λ fault. fault ≡ SessionFault.Office) };
+
+    /// How many octets a file has.
+    fn units(&mut self, no: u64) -> Result<u64, SessionFault>
+        ensures clean { (Self.view self.new).clean → (Self.view self.old).clean }
+        ensures finds { (Self.view self.new).clean → (Self.view self.old).stands
+            → Finds (λ r. units_of r Side.Outgoing no) (Self.view self.old) (Self.view self.new) result }
+        // It holds of any store.
+        ensures within { IfOk result (λ units. units ≤ MOST_UNITS) }
+        ensures err { IfErr result (λ fault. fault ≡ SessionFault.Office) };
+
+    /// So many rows of a file are covered by credit.
+    fn mark(&mut self, no: u64, rows: u64) -> Result<(), SessionFault>
+        ensures clean { (Self.view self.new).clean → (Self.view self.old).clean }
+        ensures does { (Self.view self.new).clean → (Self.view self.old).stands
+            → IsFit (Self.view self.old).register (Mark no rows) → IsAccepted (Self.view self.old).register (Mark no rows)
+            → Files (Some (Mark no rows)) (Self.view self.old) (Self.view self.new) result }
+        ensures err { IfErr result (λ fault. fault ≡ SessionFault.Office) };
+
+    /// The end of a file is about to be sent.
+    fn begin_closing(&mut self, no: u64) -> Result<(), SessionFault>
+        ensures clean { (Self.view self.new).clean → (Self.view self.old).clean }
+        ensures does { (Self.view self.new).clean → (Self.view self.old).stands
+            → IsFit (Self.view self.old).register (BeginClosing no) → IsAccepted (Self.view self.old).register (BeginClosing no)
+            → Files (Some (BeginClosing no)) (Self.view self.old) (Self.view self.new) result }
+        ensures err { IfErr result (λ fault. fault ≡ SessionFault.Office) };
+
+    /// The partner has a file.
+    fn hand_over(&mut self, no: u64) -> Result<(), SessionFault>
+        ensures clean { (Self.view self.new).clean → (Self.view self.old).clean }
+        ensures does { (Self.view self.new).clean → (Self.view self.old).stands
+            → IsFit (Self.view self.old).register (HandOver no) → IsAccepted (Self.view self.old).register (HandOver no)
+            → Files (Some (HandOver no)) (Self.view self.old) (Self.view self.new) result }
+        ensures err { IfErr result (λ fault. fault ≡ SessionFault.Office) };
+
+    /// The partner doesn't take a file, for this reason.
+    fn refuse(&mut self, no: u64, reason: Count<2>) -> Result<(), SessionFault>
+        ensures clean { (Self.view self.new).clean → (Self.view self.old).clean }
+        ensures does { (Self.view self.new).clean → (Self.view self.old).stands
+            → IsFit (Self.view self.old).register (Refuse no reason) → IsAccepted (Self.view self.old).register (Refuse no reason)
+            → Files (Some (Refuse no reason)) (Self.view self.old) (Self.view self.new) result }
+        ensures err { IfErr result (λ fault. fault ≡ SessionFault.Office) };
+
+    /// A file is to be sent again.
+    fn reopen(&mut self, no: u64) -> Result<(), SessionFault>
+        ensures clean { (Self.view self.new).clean → (Self.view self.old).clean }
+        ensures does { (Self.view self.new).clean → (Self.view self.old).stands
+            → IsFit (Self.view self.old).register (Reopen no) → IsAccepted (Self.view self.old).register (Reopen no)
+            → Files (Some (Reopen no)) (Self.view self.old) (Self.view self.new) result }
+        ensures err { IfErr result (λ fault. fault ≡ SessionFault.Office) };
+
+    /// The response to a file was sent.
+    fn sent(&mut self, no: u64) -> Result<(), SessionFault>
+        ensures clean { (Self.view self.new).clean → (Self.view self.old).clean }
+        ensures does { (Self.view self.new).clean → (Self.view self.old).stands
+            → IsFit (Self.view self.old).register (Send no) → IsAccepted (Self.view self.old).register (Send no)
+            → Files (Some (Send no)) (Self.view self.old) (Self.view self.new) result }
+        ensures err { IfErr result (λ fault. fault ≡ SessionFault.Office) };
+}
+
+impl<O: Office> SpeakerPart for O {
+    fn next(&mut self, contact: &Contact) -> Result<Option<Item>, SessionFault> {
+        match self.next_item(&contact.code, contact.tried, contact.link.sends) {
+            Ok(item) => Ok(item),
+            Err(_) => Err(SessionFault::Office),
+        }
+    }
+
+    fn units(&mut self, no: u64) -> Result<u64, SessionFault> {
+        match self.units_of(Side::Outgoing, no) {
+            Ok(units) => Ok(units),
+            Err(_) => Err(SessionFault::Office),
+        }
+    }
+
+    fn mark(&mut self, no: u64, rows: u64) -> Result<(), SessionFault> {
+        make(self, Change::Mark { no, rows })
+    }
+
+    fn begin_closing(&mut self, no: u64) -> Result<(), SessionFault> {
+        make(self, Change::BeginClosing { no })
+    }
+
+    fn hand_over(&mut self, no: u64) -> Result<(), SessionFault> {
+        make(self, Change::HandOver { no })
+    }
+
+    fn refuse(&mut self, no: u64, reason: Count<2>) -> Result<(), SessionFault> {
+        make(self, Change::Refuse { no, reason })
+    }
+
+    fn reopen(&mut self, no: u64) -> Result<(), SessionFault> {
+        make(self, Change::Reopen { no })
+    }
+
+    fn sent(&mut self, no: u64) -> Result<(), SessionFault> {
+        make(self, Change::Send { no })
+    }
+}
 
 /// Says that nothing is next: the partner may speak, or the session ends.
-pub(crate) fn nothing_next(contact: Contact, done: WhenDone, frame: &mut Frame) -> State
+fn nothing_next(contact: Contact, done: WhenDone, frame: &mut Frame) -> State
     ensures { Goes (nothing_next contact done) result frame.new }
 {
     match done {
-        WhenDone::ChangeDirection => {
-            frame.say(&Command::Cd);
-            State::ListenerIdle(contact)
-        }
+        WhenDone::ChangeDirection => give_way(contact, frame),
         WhenDone::EndSession => State::ended_here(SessionReason::Normal, frame),
+    }
+}
+
+/// Lets the partner speak (RFC 5024, section 5.3.12).
+pub(crate) fn give_way(contact: Contact, frame: &mut Frame) -> State
+    ensures { Goes (nothing_next contact WhenDone.ChangeDirection) result frame.new }
+{
+    frame.say(&Command::Cd);
+    State::ListenerIdle(contact)
+}
+
+/// Sends a response that is next, and awaits that the partner is ready again.
+fn respond(
+    setting: Setting<'_>,
+    mut contact: Contact,
+    entry: &IssuedEntry,
+    frame: &mut Frame,
+) -> State
+    ensures { Goes (responds (setting_of setting.entry) contact entry.now) result frame.new }
+{
+    frame.say(&response(setting.book, entry));
+    contact.tried.response = entry.no;
+    State::AwaitingRtr(contact, entry.no)
+}
+
+/// From where a file is offered: behind its mark, where restart is agreed.
+fn offered_from(link: &Link, mark: u64) -> u64
+    ensures { result ≡ (if link.now.restart then mark else 0) }
+{
+    if link.restart { mark } else { 0 }
+}
+
+/// Whether the end of a file was sent, and the answer is awaited.
+fn is_closing(state: OutgoingState) -> bool
+    ensures { result ≡ is_closing state }
+{
+    match state {
+        OutgoingState::Closing => true,
+        OutgoingState::Waiting
+        | OutgoingState::Handed
+        | OutgoingState::Refused(_)
+        | OutgoingState::Delivered
+        | OutgoingState::Returned => false,
+    }
+}
+
+/// What is held of a file with this entry, whose rows have so many octets, where it is offered from a row on.
+fn offering(entry: &OutgoingEntry, units: u64, from: u64) -> Offering
+    requires within { IsOutgoingWithin entry.now }
+    requires units { units ≤ MOST_UNITS }
+    ensures { result ≡ record {
+      number = entry.now.no;
+      is_closing = is_closing entry.now.state;
+      format = entry.now.format;
+      longest = entry.now.longest;
+      rows = entry.now.rows;
+      units = units;
+      mark = entry.now.mark;
+      from = from;
+    } }
+{
+    Offering {
+        number: entry.no,
+        is_closing: is_closing(entry.state),
+        format: entry.format,
+        longest: entry.longest,
+        rows: Count::new(entry.rows),
+        units: Count::new(units),
+        mark: entry.mark,
+        from,
+    }
+}
+
+/// Offers a file that is next, and awaits the answer.
+fn offer<O: Office>(
+    mut contact: Contact,
+    office: &mut O,
+    entry: &OutgoingEntry,
+    frame: &mut Frame,
+) -> Result<State, SessionFault>
+    requires { IsOutgoingWithin entry.now }
+    ensures clean { (O.view office.new).clean → (O.view office.old).clean }
+    ensures takes { (O.view office.new).clean → (O.view office.old).stands
+        → (done : WhenDone) (file : Outgoing) → entry.now ≡ outgoing_entry entry.now.no file
+        → entry_at entry.now.no (O.view office.old).register.outgoing ≡ Some file
+        → Takes (offers contact done entry.now.no (Some file)) (O.view office.old) (O.view office.new) frame.new result }
+    ensures err { IfErr result (λ fault. fault ≡ SessionFault.Office) }
+    // It holds over any store.
+    ensures still { IfOk result (λ state. turns_left (standing_of state) ≡ 0) }
+{
+    let units = office.units(entry.no)?;
+    let from = offered_from(&contact.link, entry.mark);
+    frame.say(&sfid(entry, units, from));
+    contact.tried.file = entry.no;
+    Ok(State::AwaitingStart(contact, offering(entry, units, from)))
+}
+
+/// Says what is next: a response that is due, then a file, then that nothing is.
+#[tactic(auto, unfolding(crate::specs::Speaker::speaks))]
+pub(crate) fn speak<O: Office>(
+    setting: Setting<'_>,
+    contact: Contact,
+    done: WhenDone,
+    office: &mut O,
+    frame: &mut Frame,
+) -> Result<State, SessionFault>
+    ensures clean { (O.view office.new).clean → (O.view office.old).clean }
+    ensures takes { (O.view office.new).clean → (O.view office.old).stands
+        → Takes (speaks (setting_of setting.entry) contact done (O.view office.old).register)
+        (O.view office.old) (O.view office.new) frame.new result }
+    ensures err { IfErr result (λ fault. fault ≡ SessionFault.Office) }
+    // It holds over any store.
+    ensures still { IfOk result (λ state. turns_left (standing_of state) ≡ 0) }
+{
+    match office.next(&contact)? {
+        Some(Item::Response(entry)) => Ok(respond(setting, contact, &entry, frame)),
+        Some(Item::File(entry)) => offer(contact, office, &entry, frame),
+        None => Ok(nothing_next(contact, done, frame)),
+    }
+}
+
+/// Takes a command that comes while the partner's answer to a response is awaited.
+#[tactic(auto, unfolding(crate::specs::Speaker::came_awaiting_rtr))]
+pub(crate) fn in_awaiting_rtr<O: Office>(
+    contact: Contact,
+    number: u64,
+    office: &mut O,
+    command: &Command<'_>,
+    frame: &mut Frame,
+) -> Result<State, SessionFault>
+    ensures clean { (O.view office.new).clean → (O.view office.old).clean }
+    ensures takes { (O.view office.new).clean → (O.view office.old).stands → IsResponding (O.view office.old).register number
+        → Takes (came_awaiting_rtr contact number command.now) (O.view office.old) (O.view office.new) frame.new result }
+    ensures err { IfErr result (λ fault. fault ≡ SessionFault.Office) }
+{
+    match command {
+        Command::Rtr => {
+            frame.hush();
+            if let Err(fault) = office.sent(number) {
+                return Err(fault);
+            }
+            Ok(State::SpeakerIdle(contact, WhenDone::ChangeDirection))
+        }
+        _ => Ok(State::unexpected(command, frame)),
     }
 }

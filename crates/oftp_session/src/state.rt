@@ -9,6 +9,7 @@ use crate::commands::esid;
 use crate::frame::Frame;
 use crate::link::{Link, WhenDone};
 use crate::receiving::Reception;
+use crate::sending::{Offering, Shipment};
 use crate::session::Ending;
 use oftp_register::{Cursor, Name};
 use oftp_wire::{Command, Count, SessionReason};
@@ -36,12 +37,20 @@ pub(crate) enum State {
     Receiving(Contact, Reception),
     /// The station speaks, and waits for nothing.
     SpeakerIdle(Contact, WhenDone),
+    /// The station speaks, and lets the partner speak next.
+    GivingWay(Contact),
+    /// The response to the incoming file with this number was sent, and the partner's RTR is awaited.
+    AwaitingRtr(Contact, u64),
+    /// This file was offered, and the answer is awaited.
+    AwaitingStart(Contact, Offering),
+    /// This file is being sent.
+    Sending(Contact, Shipment),
+    /// The end of the outgoing file with this number was sent, and the answer is awaited.
+    AwaitingEnd(Contact, u64),
     /// The station ended the session.
     EndedHere(SessionReason),
     /// The partner ended the session, and may give a number that no listed reason has.
     EndedThere(Count<2>),
-    /// The office or memory failed.
-    Broken,
 }
 
 impl State {
@@ -85,22 +94,31 @@ impl State {
             | State::ListenerIdle(_)
             | State::Receiving(_, _)
             | State::SpeakerIdle(_, _)
-            | State::Broken => None,
+            | State::GivingWay(_)
+            | State::AwaitingRtr(_, _)
+            | State::AwaitingStart(_, _)
+            | State::Sending(_, _)
+            | State::AwaitingEnd(_, _) => None,
         }
     }
 
-    /// Whether it ended or broke.
+    /// Whether it ended.
     pub(crate) fn is_closed(&self) -> bool
         ensures { result ≡ is_closed (standing_of self.now) }
     {
         match self {
-            State::EndedHere(_) | State::EndedThere(_) | State::Broken => true,
+            State::EndedHere(_) | State::EndedThere(_) => true,
             State::ResponderOpening
             | State::InitiatorOpening
             | State::AwaitingSsid
             | State::ListenerIdle(_)
             | State::Receiving(_, _)
-            | State::SpeakerIdle(_, _) => false,
+            | State::SpeakerIdle(_, _)
+            | State::GivingWay(_)
+            | State::AwaitingRtr(_, _)
+            | State::AwaitingStart(_, _)
+            | State::Sending(_, _)
+            | State::AwaitingEnd(_, _) => false,
         }
     }
 
@@ -109,14 +127,17 @@ impl State {
         ensures { result ≡ is_due (standing_of self.now) }
     {
         match self {
-            State::ResponderOpening | State::SpeakerIdle(_, _) => true,
+            State::ResponderOpening | State::SpeakerIdle(_, _) | State::GivingWay(_) => true,
+            State::Sending(_, shipment) => shipment.credit > 0,
             State::InitiatorOpening
             | State::AwaitingSsid
             | State::ListenerIdle(_)
             | State::Receiving(_, _)
+            | State::AwaitingRtr(_, _)
+            | State::AwaitingStart(_, _)
+            | State::AwaitingEnd(_, _)
             | State::EndedHere(_)
-            | State::EndedThere(_)
-            | State::Broken => false,
+            | State::EndedThere(_) => false,
         }
     }
 }

@@ -15,3 +15,5 @@ pub mod PartLemmas
 pub mod Examples
 pub mod LocalLemmas
 pub mod LendLemmas
+pub mod MoreLemmas
+pub mod MarkLemmas

@@ -9,7 +9,7 @@ use Rattle.oftp_vfile.specs.Carries.{Carries, CarriesWhole, is_open}
 use Rattle.oftp_vfile.specs.Taking.{Taking, Took, CarriesWithin, FirstFault, counts_of}
 use Rattle.oftp_vfile.specs.Reading.{taken, shed, shed_in}
 use Rattle.oftp_vfile.specs.Fill.{Fills, fill_from, weight, fill, payloads_of, wholly_sent}
-use Rattle.oftp_vfile.specs.Filling.{Filling, AreLent, IsInRows, Sent}
+use Rattle.oftp_vfile.specs.Filling.{Filling, AreLent, IsInRows, Reaches, Sent}
 use Rattle.oftp_vfile.specs.LocalForm.{IsLocal}
 
 -- there is one list of payloads that follows the filling rule, and it is fill
@@ -59,6 +59,11 @@ LendsRows = (f : Filling) (longest size from n : ℕ) (rows payloads : List (Lis
     → AreLent f from rows (take n (drop (f.row - from) rows)) last
     × IsInRows f (take n (drop (f.row - from) rows))
     × (is_stream f.format ≡ true → All (λ (r : List ℕ). 0 < length r) (take n (drop (f.row - from) rows)))
+
+-- more rows are asked for only where fewer were lent than the payload has octets
+abbrev pub MoreAreFew : Type 0
+MoreAreFew = (f : Filling) (size : ℕ) (rows : List (List ℕ)) → IsInRows f rows → (is_stream f.format ≡ true → All (λ (r : List ℕ). 0 < length r) rows)
+    → Reaches size f rows → length rows < size
 
 -- what a taker took carries its rows within the limits
 abbrev pub TookIsWithin : Type 0

@@ -1,5 +1,5 @@
 //! Rows in, payloads out.
-ghost use Rattle.std.specs.Prelude.{◌≡◌, ◌+◌, ◌<◌, ◌≤◌, ◌++◌, ◌∷◌, [], ℕ, List, length, take, slice_index_or, true, false, All};
+ghost use Rattle.std.specs.Prelude.{◌≡◌, ◌↔◌, ◌+◌, ◌<◌, ◌≤◌, ◌++◌, ◌∷◌, [], ℕ, List, length, take, slice_index_or, true, false, All, IsTrue};
 ghost use Rattle.oftp_vfile.specs.declared.format.TheConstants.{MOST_ROWS};
 ghost use Rattle.oftp_vfile.specs.VirtualFile.{is_stream, whole_count};
 ghost use Rattle.oftp_vfile.specs.Fill.{needs, payloads_of};
@@ -80,6 +80,13 @@ impl Filler {
         }
     }
 
+    /// The format of its file.
+    pub fn format(&self) -> Format
+        ensures { result ≡ self.now.format }
+    {
+        self.format
+    }
+
     /// The row from which on rows are to be lent.
     pub fn row(&self) -> usize
         ensures { result ≡ self.now.row }
@@ -94,6 +101,17 @@ impl Filler {
         ensures { result ≡ self.now.mark }
     {
         self.mark
+    }
+
+    /// Whether it may be lent these rows from its row on: its place is in the first of them, where
+    /// it is in the middle of a row.
+    pub fn is_in(&self, rows: &[Row]) -> bool
+        ensures { IsTrue result ↔ IsInRows self.now rows.now }
+    {
+        match rows.first() {
+            Some(row) => self.offset == 0 || self.offset < row.len(),
+            None => self.offset == 0,
+        }
     }
 
     /// Writes the next payload into `out`: what is to follow the `D` of a DATA command (RFC 5024,

@@ -1,5 +1,5 @@
 //! Laws of the definitions, as contracts of functions that do nothing.
-ghost use Rattle.oftp_vfile.specs.Laws.{CarriedBegins, ClosedIsFile, CountsAreFile, FillFits, FillIsOne, FillIsTaken, FillIsWhole, LendsRows, MarkIsSent, OneFault, OneFile, OneReading, PartBegins, PartCloses, RowsFrom, ShedTaken, TookIsWithin, WhollySent};
+ghost use Rattle.oftp_vfile.specs.Laws.{CarriedBegins, ClosedIsFile, CountsAreFile, FillFits, FillIsOne, FillIsTaken, FillIsWhole, LendsRows, MarkIsSent, MoreAreFew, OneFault, OneFile, OneReading, PartBegins, PartCloses, RowsFrom, ShedTaken, TookIsWithin, WhollySent};
 
 /// There is one list of payloads that follows the filling rule.
 pub fn fill_is_one()
@@ -44,6 +44,11 @@ pub fn rows_from()
 /// Rows from the filler's row on are lent as it asks.
 pub fn lends_rows()
     ensures { LendsRows }
+{}
+
+/// More rows are asked for only where fewer were lent than the payload has octets.
+pub fn more_are_few()
+    ensures { MoreAreFew }
 {}
 
 /// What a taker took carries its rows within the limits.

@@ -18,8 +18,8 @@ pub use format::{
 };
 pub use laws::{
     carried_begins, closed_is_file, counts_are_file, fill_fits, fill_is_one, fill_is_taken,
-    fill_is_whole, lends_rows, mark_is_sent, one_fault, one_file, one_reading, part_begins,
-    part_closes, rows_from, shed_taken, took_is_within, wholly_sent,
+    fill_is_whole, lends_rows, mark_is_sent, more_are_few, one_fault, one_file, one_reading,
+    part_begins, part_closes, rows_from, shed_taken, took_is_within, wholly_sent,
 };
 pub use local::VFile;
 pub use taking::Taker;

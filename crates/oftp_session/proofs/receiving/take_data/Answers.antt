@@ -1,5 +1,5 @@
 use Rattle.std.proofs.Common.{sym, ◌∙◌}
-use Rattle.oftp_session.proofs.Answers.{step_same}
+use Rattle.oftp_session.proofs.Saying.{step_same}
 use Rattle.oftp_session.proofs.Windows.{data_takes, refused_takes, too_long}
 use Rattle.oftp_session.proofs.receiving.take_data.Goals as goal
 

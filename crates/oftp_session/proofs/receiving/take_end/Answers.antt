@@ -3,7 +3,7 @@ use Rattle.oftp_session.specs.declared.session.SessionFault.{SessionFault}
 use Rattle.oftp_session.specs.declared.state.State.{State}
 use Rattle.oftp_session.specs.declared.state.State.TheVariants as state
 use Rattle.oftp_session.specs.Phases.{frame_of}
-use Rattle.oftp_session.proofs.Answers.{step_same}
+use Rattle.oftp_session.proofs.Saying.{step_same}
 use Rattle.oftp_session.proofs.Closing.{by_verdict, give_up_err, give_up_ok, open_step, told_verdict}
 use Rattle.oftp_session.proofs.Ends.{open_of}
 use Rattle.oftp_session.proofs.receiving.take_end.Goals as goal

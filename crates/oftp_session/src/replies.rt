@@ -1,0 +1,168 @@
+//! What the partner answers to a file: to SFID and to EFID (RFC 5024, sections 5.3.4, 5.3.5, 5.3.9 and 5.3.10).
+
+ghost use Rattle.std.specs.Prelude.{◌≡◌, ◌≤◌, IfErr};
+ghost use Rattle.oftp_session.specs.Phases.{Offer, Transfer};
+ghost use Rattle.oftp_session.specs.Sending.{came_awaiting_end, came_awaiting_start, after_file, refusal, reopening, start_step, transfer_of};
+ghost use Rattle.oftp_session.specs.Steps.{IsEnded, IsOffered};
+ghost use Rattle.oftp_session.specs.Standings.{At, Ships, offering_of, standing_of};
+ghost use Rattle.oftp_session.specs.Calls.{Files, Takes};
+
+use crate::frame::Frame;
+use crate::link::{Link, WhenDone};
+use crate::sending::{Offering, Shipment};
+use crate::session::SessionFault;
+use crate::speaker::SpeakerPart;
+use crate::state::{Contact, State};
+use oftp_register::Office;
+use oftp_vfile::Filler;
+use oftp_wire::{Command, SessionReason, Sfna, StartReason};
+
+/// What sends a file that the partner takes from this row on.
+fn shipment(link: &Link, offering: &Offering, from: u64) -> Shipment
+    ensures { (contact : Contact) (offer : Offer) → contact.link ≡ link.now → offering.now ≡ offering_of offer
+        → Ships contact (transfer_of offer from) result }
+{
+    Shipment {
+        number: offering.number,
+        credit: link.credit.get().max(1),
+        longest: offering.longest,
+        rows: offering.rows,
+        units: offering.units,
+        mark: if offering.is_closing {
+            0
+        } else {
+            offering.mark
+        },
+        filler: Filler::new(offering.format, from as usize),
+    }
+}
+
+/// Makes a file whose end was sent one that is to be sent again; another is one already.
+fn reopen<O: Office>(offering: &Offering, office: &mut O) -> Result<(), SessionFault>
+    ensures clean { (O.view office.new).clean → (O.view office.old).clean }
+    ensures does { (O.view office.new).clean → (O.view office.old).stands
+        → (offer : Offer) → IsOffered (O.view office.old).register offer → offering.now ≡ offering_of offer
+        → Files (reopening offer) (O.view office.old) (O.view office.new) result }
+    ensures err { IfErr result (λ fault. fault ≡ SessionFault.Office) }
+{
+    if offering.is_closing {
+        office.reopen(offering.number)
+    } else {
+        Ok(())
+    }
+}
+
+/// Sends a file that the partner takes from this row on, where that isn't above the offered one.
+fn start<O: Office>(
+    contact: Contact,
+    offering: Offering,
+    office: &mut O,
+    from: u64,
+    frame: &mut Frame,
+) -> Result<State, SessionFault>
+    ensures clean { (O.view office.new).clean → (O.view office.old).clean }
+    ensures takes { (O.view office.new).clean → (O.view office.old).stands
+        → (offer : Offer) → IsOffered (O.view office.old).register offer → offering ≡ offering_of offer
+        → Takes (start_step contact offer from) (O.view office.old) (O.view office.new) frame.new result }
+    ensures err { IfErr result (λ fault. fault ≡ SessionFault.Office) }
+{
+    if from > offering.from {
+        return Ok(State::ended_here(SessionReason::ProtocolViolation, frame));
+    }
+    frame.hush();
+    reopen(&offering, office)?;
+    let shipment = shipment(&contact.link, &offering, from);
+    Ok(State::Sending(contact, shipment))
+}
+
+/// Files what a partner that doesn't take a file makes of it.
+fn settle<O: Office>(
+    offering: &Offering,
+    office: &mut O,
+    sfna: &Sfna<'_>,
+) -> Result<(), SessionFault>
+    ensures clean { (O.view office.new).clean → (O.view office.old).clean }
+    ensures does { (O.view office.new).clean → (O.view office.old).stands
+        → (offer : Offer) → IsOffered (O.view office.old).register offer → offering.now ≡ offering_of offer
+        → Files (refusal offer sfna.now) (O.view office.old) (O.view office.new) result }
+    ensures err { IfErr result (λ fault. fault ≡ SessionFault.Office) }
+{
+    if sfna.reason == StartReason::DuplicateFile.number() && offering.is_closing {
+        return office.hand_over(offering.number);
+    }
+    if sfna.retry {
+        return Ok(());
+    }
+    office.refuse(offering.number, sfna.reason)
+}
+
+/// Takes a command that comes while the answer to SFID is awaited.
+#[tactic(auto, unfolding(crate::specs::Sending::came_awaiting_start))]
+pub(crate) fn in_awaiting_start<O: Office>(
+    contact: Contact,
+    offering: Offering,
+    office: &mut O,
+    command: &Command<'_>,
+    frame: &mut Frame,
+) -> Result<State, SessionFault>
+    ensures clean { (O.view office.new).clean → (O.view office.old).clean }
+    ensures takes { (O.view office.new).clean → (O.view office.old).stands
+        → (offer : Offer) → IsOffered (O.view office.old).register offer → offering ≡ offering_of offer
+        → Takes (came_awaiting_start contact offer command.now) (O.view office.old) (O.view office.new) frame.new result }
+    ensures err { IfErr result (λ fault. fault ≡ SessionFault.Office) }
+{
+    match command {
+        Command::Sfpa(sfpa) => start(contact, offering, office, sfpa.restart.get(), frame),
+        Command::Sfna(sfna) => {
+            frame.hush();
+            settle(&offering, office, sfna)?;
+            Ok(State::SpeakerIdle(contact, WhenDone::ChangeDirection))
+        }
+        _ => Ok(State::unexpected(command, frame)),
+    }
+}
+
+/// Goes on after a file: the partner asked to speak, or not.
+fn after_file(contact: Contact, asks_to_speak: bool) -> State
+    ensures { standing_of result ≡ At (after_file contact asks_to_speak) }
+{
+    if asks_to_speak {
+        State::GivingWay(contact)
+    } else {
+        State::SpeakerIdle(contact, WhenDone::ChangeDirection)
+    }
+}
+
+/// Takes a command that comes while the answer to EFID is awaited.
+#[tactic(auto, unfolding(crate::specs::Sending::came_awaiting_end))]
+pub(crate) fn in_awaiting_end<O: Office>(
+    contact: Contact,
+    number: u64,
+    office: &mut O,
+    command: &Command<'_>,
+    frame: &mut Frame,
+) -> Result<State, SessionFault>
+    ensures clean { (O.view office.new).clean → (O.view office.old).clean }
+    ensures takes { (O.view office.new).clean → (O.view office.old).stands
+        → (t : Transfer) → IsEnded (O.view office.old).register t → t.number ≡ number
+        → Takes (came_awaiting_end contact t command.now) (O.view office.old) (O.view office.new) frame.new result }
+    ensures err { IfErr result (λ fault. fault ≡ SessionFault.Office) }
+{
+    match command {
+        Command::Efpa(efpa) => {
+            frame.hush();
+            if let Err(fault) = office.hand_over(number) {
+                return Err(fault);
+            }
+            Ok(after_file(contact, efpa.change_direction))
+        }
+        Command::Efna(_) => {
+            frame.hush();
+            if let Err(fault) = office.reopen(number) {
+                return Err(fault);
+            }
+            Ok(State::SpeakerIdle(contact, WhenDone::ChangeDirection))
+        }
+        _ => Ok(State::unexpected(command, frame)),
+    }
+}
