@@ -1,10 +1,11 @@
--- A header and then a command are a frame.
-use Rattle.std.proofs.Common.{◌≡◌, ℕ, ◌+◌, ◌<◌, List, ◌++◌, length, take, drop, false, sym, ap, ◌∙◌, append_assoc, length-append, arith}
-use Rattle.std.proofs.lemmas.List.{take_at}
+-- A header and then a command are a frame, also of a DATA.
+use Rattle.std.proofs.Common.{◌≡◌, ℕ, ◌+◌, ◌<◌, List, ◌++◌, length, take, drop, [], ◌∷◌, ◌≤◌, false, refl, sym, ap, ◌∙◌, append_assoc, length-append, arith}
+use Rattle.std.proofs.lemmas.List.{length-take-le, take-append-drop, take_at}
 use Rattle.oftp_wire.specs.Header.{header_of, frame}
 use Rattle.oftp_wire.specs.Spelling.{Canon, IsFit, is_data}
 use Rattle.oftp_wire.specs.declared.command.Command.{Command}
-use Rattle.oftp_wire.proofs.Room.{canon_short}
+use Rattle.oftp_wire.specs.declared.command.Command.TheVariants as command
+use Rattle.oftp_wire.proofs.Room.{canon-data, canon_short}
 use Rattle.oftp_session.specs.Phases.{frame_of}
 
 framed_octets : (m rest head : List ℕ) (count : ℕ) → count ≡ length m → head ≡ header_of (count + 4) → take (count + 4) (head ++ (m ++ rest)) ≡ frame m
@@ -17,6 +18,21 @@ pub framed : (c : Command) (body old head : List ℕ) (count : ℕ) → count �
     → head ≡ header_of (count + 4) → take (count + 4) (head ++ body) ≡ frame_of c
 unfolding frame_of
 framed c body old head count e b h = ap (λ (x : List ℕ). take (count + 4) (head ++ x)) b ∙ framed_octets (Canon c) (drop count old) head count e h
+
+-- a payload behind a header and the letter of DATA
+pub data_framed : (head out rest : List ℕ) (count : ℕ) → head ≡ header_of (count + 5) ++ 68 ∷ [] → count ≤ length out
+    → take (count + 5) (head ++ (out ++ rest)) ≡ frame_of (command.Data (take count out))
+unfolding frame_of
+data_framed head out rest count h within =
+    let payload : List ℕ = take count out in
+    let more : List ℕ = drop count out ++ rest in
+    let split : out ++ rest ≡ payload ++ more = ap (λ (x : List ℕ). x ++ rest) (sym (take-append-drop count out)) ∙ append_assoc payload (drop count out) rest in
+    let five : count + 5 ≡ count + 1 + 4 = omega arith in
+    let whole : head ++ (out ++ rest) ≡ header_of (count + 1 + 4) ++ ((68 ∷ payload) ++ more) =
+    ap (λ (x : List ℕ). x ++ (out ++ rest)) h ∙ ap (λ (x : List ℕ). header_of (count + 5) ++ (68 ∷ x)) split ∙ ap (λ n. header_of n ++ ((68 ∷ payload) ++ more)) five in
+    ap (take (count + 5)) whole ∙ ap (λ n. take n (header_of (count + 1 + 4) ++ ((68 ∷ payload) ++ more))) five
+    ∙ framed_octets (68 ∷ payload) more (header_of (count + 1 + 4)) (count + 1) (omega (arith, length-take-le count out within)) refl
+    ∙ ap frame (sym (canon-data payload))
 
 -- there is room for each command that isn't DATA
 pub has_room : (c : Command) (n : ℕ) → n ≡ 1196 → n < length (Canon c) → IsFit c → is_data c ≡ false → ⊥

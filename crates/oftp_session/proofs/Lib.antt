@@ -14,4 +14,8 @@ pub mod Offers
 pub mod Coming
 pub mod Outgoing
 pub mod Items
+pub mod Accepting
+pub mod Continuing
+pub mod Lending
+pub mod Shipping
 pub mod Proceeding

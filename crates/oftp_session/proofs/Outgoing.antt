@@ -1,10 +1,13 @@
 -- The changes of the sending phases: each is fit, the register takes it, and the next phase says what it says of the register.
-use Rattle.std.proofs.Common.{◌≡◌, ℕ, ◌+◌, ◌≤◌, ◌==◌, ◌&&◌, ◌||◌, Bool, true, false, cond, nat_le, List, length, Option, None, Some, Result, Ok, Err, is_ok, refl, ap, sym, ◌∙◌, subst, arith}
+use Rattle.std.proofs.Common.{◌≡◌, ℕ, ◌+◌, ◌≤◌, ◌==◌, ◌&&◌, ◌||◌, Bool, true, false, cond, nat_le, List, length, drop, Option, None, Some, Result, Ok, Err, is_ok, refl, ap, sym, ◌∙◌, subst, arith}
 use Rattle.std.proofs.lemmas.Bool.{and_parts, eqb-true, le-leb}
+use Rattle.std.proofs.lemmas.List.{length-drop}
 use Rattle.std.specs.Result.{result_unwrap_or}
 use Rattle.oftp_wire.specs.declared.command.Sfna.{Sfna}
 use Rattle.oftp_wire.specs.declared.reason.StartReason.TheVariants.{DuplicateFile}
 use Rattle.oftp_wire.specs.Reasons.{start_number}
+use Rattle.oftp_vfile.proofs.LendLemmas.{rows_from}
+use Rattle.oftp_vfile.proofs.MarkLemmas.{sent_few}
 use Rattle.oftp_register.specs.declared.change.Cause.{Cause}
 use Rattle.oftp_register.specs.declared.change.Change.{Change}
 use Rattle.oftp_register.specs.declared.change.Change.TheVariants.{Send, Mark, BeginClosing, HandOver, Refuse, Reopen}
@@ -15,12 +18,13 @@ use Rattle.oftp_register.specs.declared.entry.OutgoingState.TheVariants.{Waiting
 use Rattle.oftp_register.specs.Register.{Register, Incoming, Outgoing, Issued}
 use Rattle.oftp_register.specs.Changes.{apply, closing, handed, if_allowed, is_closing, is_waiting, mapped, marked, on_outgoing, refused, reopened, sent, sent_as, sent_of}
 use Rattle.oftp_register.specs.LookUps.{entry_at, is_on_its_way}
-use Rattle.oftp_register.specs.Soundness.{IsFit}
+use Rattle.oftp_register.specs.Soundness.{IsFit, IsSound, IsSoundOutgoing}
 use Rattle.oftp_session.specs.declared.state.Contact.{Contact}
 use Rattle.oftp_session.specs.Phases.{Offer, Transfer, register_after}
-use Rattle.oftp_session.specs.Sending.{after_file, closing_transfer, credited_transfer, marking, refusal, reopened_file, reopening, transfer_of}
+use Rattle.oftp_session.specs.Sending.{after_file, closing_transfer, credited_transfer, marking, new_mark, payload_size, refusal, reopening, rows_from as rows_sent, transfer_of}
 use Rattle.oftp_session.specs.Steps.{Holds, IsEnded, IsOffered, IsResponding, IsSent}
 use Rattle.oftp_session.specs.Calls.{IsAccepted}
+use Rattle.oftp_session.proofs.Ends.{all_at}
 use Rattle.oftp_session.proofs.Receipts.{at_entry}
 
 -- an outgoing file with a number is changed
@@ -61,6 +65,14 @@ pub mark_fits : (r : Register) (n mark : ℕ) → IsFit r (Mark n mark)
 unfolding IsFit
 mark_fits r n mark = tt
 
+-- no row is covered that the file doesn't have
+pub mark_within : (r : Register) (contact : Contact) (t : Transfer) → IsSound r → IsSent r t → new_mark contact t ≤ length t.file.rows
+mark_within r contact t sound holds =
+    let file = all_at IsSoundOutgoing t.number r.outgoing t.file sound.outgoing holds.entry in
+    let rows = rows_from t.file.format t.file.longest t.from t.file.rows file.fits in
+    let few = sent_few t.file.format t.file.longest (payload_size contact) t.sent (rows_sent t) rows in
+    omega (arith, few, holds.within, length-drop t.from t.file.rows)
+
 mark_made : (r : Register) (t : Transfer) (mark : ℕ) → IsSent r t → mark ≤ length t.file.rows
     → (s : Register) × (apply r (Mark t.number mark) ≡ Ok s) × IsSent s (credited_transfer t mark)
 unfolding apply
@@ -84,6 +96,17 @@ mark_after r t mark holds within = by (mark == t.file.mark) refl
     by false h =
         let s = mark_made r t mark holds within in
         after_made (λ (z : Register). IsSent z (credited_transfer t mark)) r (Mark t.number mark) s.0 s.1 s.2
+
+-- the change, if the mark is another one
+pub marking_goes : (r : Register) (t : Transfer) (mark : ℕ) (change : Change) → IsSent r t → mark ≤ length t.file.rows → marking t mark ≡ Some change
+    → IsFit r change × IsAccepted r change
+marking_goes r t mark change holds within h = by (mark == t.file.mark) h
+  where
+    by : (b : Bool) → cond b None (Some (Mark t.number mark)) ≡ Some change → IsFit r change × IsAccepted r change
+    by true e = absurd (let no : ⊥ = cc in no)
+    by false e =
+        let is : Mark t.number mark ≡ change = cc in
+        subst (λ (x : Change). IsFit r x × IsAccepted r x) is (mark_fits r t.number mark, mark_accepted r t mark holds within)
 
 -- EFID: the end is sent
 
@@ -191,6 +214,16 @@ reopened_accepted r t holds = ap is_ok (reopened_made r t.number t.file holds.en
 
 pub offered_reopened : (r : Register) (offer : Offer) → IsOffered r offer → is_closing offer.file.state ≡ true → IsAccepted r (Reopen offer.number)
 offered_reopened r offer holds closes = ap is_ok (reopened_made r offer.number offer.file holds.entry closes).1
+
+-- the change of an answer that takes the file
+pub reopening_goes : (r : Register) (offer : Offer) (change : Change) → IsOffered r offer → reopening offer ≡ Some change → IsFit r change × IsAccepted r change
+reopening_goes r offer change holds h = by (is_closing offer.file.state) refl h
+  where
+    by : (b : Bool) → is_closing offer.file.state ≡ b → cond b (Some (Reopen offer.number)) None ≡ Some change → IsFit r change × IsAccepted r change
+    by true closes e =
+        let is : Reopen offer.number ≡ change = cc in
+        subst (λ (x : Change). IsFit r x × IsAccepted r x) is (reopened_fits r offer.number, offered_reopened r offer holds closes)
+    by false closes e = absurd (let no : ⊥ = cc in no)
 
 waits : (state : OutgoingState) → is_on_its_way state ≡ true → is_closing state ≡ false → state ≡ Waiting
 waits Waiting h k = refl

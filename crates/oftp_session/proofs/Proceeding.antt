@@ -29,7 +29,7 @@ use Rattle.oftp_register.proofs.KeepLemmas.{apply_keeps}
 use Rattle.oftp_session.specs.declared.link.WhenDone.TheVariants.{ChangeDirection, EndSession}
 use Rattle.oftp_session.specs.declared.state.Contact.{Contact}
 use Rattle.oftp_session.specs.Settings.{Setting}
-use Rattle.oftp_session.specs.Phases.{Phase, Receipt, ResponderOpening, InitiatorOpening, AwaitingSsid, ListenerIdle, Receiving, SpeakerIdle, EndedHere, EndedThere, answers, fails, quiet, register_after, unexpected}
+use Rattle.oftp_session.specs.Phases.{Phase, Receipt, ResponderOpening, InitiatorOpening, AwaitingSsid, ListenerIdle, Receiving, SpeakerIdle, GivingWay, AwaitingRtr, AwaitingStart, Sending, AwaitingEnd, EndedHere, EndedThere, answers, fails, quiet, register_after, unexpected}
 use Rattle.oftp_session.specs.Opening.{Agreement, came_initiator_opening, came_awaiting_ssid, offer_step, opened_step, open_step, ssid_verdict}
 use Rattle.oftp_session.specs.Receiving.{came_receiving, carried_by, data_step, end_step, is_window_full, keeping, on_end_verdict, on_start_verdict, on_taken, receipt_of, rows_to_keep, sfpa_of, start_of, verdict_on, window_step, with_payload, with_rows}
 use Rattle.oftp_session.specs.Receiving.{offer_step as sfid_step}
@@ -37,30 +37,12 @@ use Rattle.oftp_session.specs.Listener.{came_listener_idle, end_response, negati
 use Rattle.oftp_session.specs.Starting.{MayBegin}
 use Rattle.oftp_session.specs.Steps.{came, turned, Holds, IsReceived, Suits}
 use Rattle.oftp_session.specs.Calls.{IsAccepted, Proceeds}
+use Rattle.oftp_session.proofs.Accepting.{accepted_proceeds, same_proceeds, unexpected_proceeds}
 use Rattle.oftp_session.proofs.Ends.{close_accepted, close_fits, give_up_accepted, give_up_fits}
 use Rattle.oftp_session.proofs.Filing.{files_new, files_fit}
 use Rattle.oftp_session.proofs.Receipts.{carried_next, keep_accepted, keep_after, keep_fits, payload_holds}
+use Rattle.oftp_session.proofs.Continuing.{end_answer_proceeds, rtr_proceeds, sending_proceeds, sends_proceeds, speaks_proceeds, start_answer_proceeds}
 use Rattle.oftp_session.proofs.Starts.{accepted_begins}
-
--- a step that changes nothing goes on to a phase that holds
-same_proceeds : (r : Register) (phase : Phase) (output : Option Command) → IsSound r → Holds phase r → Proceeds r (record { phase = phase; change = None; output = output })
-same_proceeds r phase output sound holds = record { allowed = refl; suits = record { sound = sound; holds = holds } }
-
-allowed : (result : Result Register Cause) (r : Register) → is_ok result ≡ true → result ≡ Ok (result_unwrap_or result r)
-allowed (Ok after) r h = refl
-allowed (Err cause) r h = absurd (false≢true h)
-
-unexpected_proceeds : (r : Register) (c : Command) → IsSound r → Proceeds r (unexpected c)
-unfolding unexpected
-unexpected_proceeds r (command.Esid esid) sound = same_proceeds r _ _ sound tt
-unexpected_proceeds r _ sound = same_proceeds r _ _ sound tt
-
--- a change that is accepted
-accepted_proceeds : (r : Register) (phase : Phase) (change : Change) (output : Option Command) → IsSound r → IsFit r change → IsAccepted r change
-    → Holds phase (register_after r (Some change)) → Proceeds r (record { phase = phase; change = Some change; output = output })
-accepted_proceeds r phase change output sound fit accepted holds =
-    let made = allowed (apply r change) r accepted in
-    record { allowed = made; suits = record { sound = apply_keeps r change _ sound fit made; holds = holds } }
 
 -- a response is filed where it is new
 new_proceeds : (contact : Contact) (r : Register) (response : Received) → IsSound r → IsSoundReceived response
@@ -198,6 +180,11 @@ came_proceeds setting AwaitingSsid r c suits = await_proceeds setting r c suits.
 came_proceeds setting (ListenerIdle contact) r c suits = listener_proceeds setting contact r c suits.sound
 came_proceeds setting (Receiving contact f) r c suits = receiving_proceeds contact r f c suits.sound suits.holds
 came_proceeds setting (SpeakerIdle contact done) r c suits = unexpected_proceeds r c suits.sound
+came_proceeds setting (GivingWay contact) r c suits = unexpected_proceeds r c suits.sound
+came_proceeds setting (AwaitingRtr contact number) r c suits = rtr_proceeds contact number r c suits.sound suits.holds
+came_proceeds setting (AwaitingStart contact offer) r c suits = start_answer_proceeds contact offer r c suits.sound suits.holds
+came_proceeds setting (Sending contact t) r c suits = sending_proceeds contact t r c suits.sound suits.holds
+came_proceeds setting (AwaitingEnd contact t) r c suits = end_answer_proceeds contact t r c suits.sound suits.holds
 came_proceeds setting (EndedHere reason) r c suits = same_proceeds r _ _ suits.sound tt
 came_proceeds setting (EndedThere reason) r c suits = same_proceeds r _ _ suits.sound tt
 
@@ -209,7 +196,11 @@ turned_proceeds setting InitiatorOpening r suits = same_proceeds r _ _ suits.sou
 turned_proceeds setting AwaitingSsid r suits = same_proceeds r _ _ suits.sound tt
 turned_proceeds setting (ListenerIdle contact) r suits = same_proceeds r _ _ suits.sound tt
 turned_proceeds setting (Receiving contact f) r suits = same_proceeds r _ _ suits.sound suits.holds
-turned_proceeds setting (SpeakerIdle contact ChangeDirection) r suits = same_proceeds r _ _ suits.sound tt
-turned_proceeds setting (SpeakerIdle contact EndSession) r suits = same_proceeds r _ _ suits.sound tt
+turned_proceeds setting (SpeakerIdle contact done) r suits = speaks_proceeds setting contact done r suits.sound
+turned_proceeds setting (GivingWay contact) r suits = same_proceeds r _ _ suits.sound tt
+turned_proceeds setting (AwaitingRtr contact number) r suits = same_proceeds r _ _ suits.sound suits.holds
+turned_proceeds setting (AwaitingStart contact offer) r suits = same_proceeds r _ _ suits.sound suits.holds
+turned_proceeds setting (Sending contact t) r suits = sends_proceeds contact t r suits.sound suits.holds
+turned_proceeds setting (AwaitingEnd contact t) r suits = same_proceeds r _ _ suits.sound suits.holds
 turned_proceeds setting (EndedHere reason) r suits = same_proceeds r _ _ suits.sound tt
 turned_proceeds setting (EndedThere reason) r suits = same_proceeds r _ _ suits.sound tt

@@ -8,6 +8,7 @@ pub mod Sending
 pub mod Steps
 pub mod Standings
 pub mod Calls
+pub mod Payloads
 pub mod Agreements
 pub mod Responses
 pub mod Starting

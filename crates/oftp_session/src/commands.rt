@@ -1,13 +1,13 @@
 //! The commands that a station says.
 
-ghost use Rattle.std.specs.Prelude.{◌≡◌, ◌≤◌, ℕ, take, length, min, [], false};
-ghost use Rattle.oftp_vfile.specs.VirtualFile.{IsLongest, units_in};
+ghost use Rattle.std.specs.Prelude.{◌≡◌, ◌≤◌, ℕ, take, length, min, [], false, if◌then◌else◌};
+ghost use Rattle.oftp_vfile.specs.VirtualFile.{IsLongest, is_stream, units_in};
 ghost use Rattle.oftp_vfile.specs.declared.format.TheConstants.{MOST_ROWS};
 ghost use Rattle.oftp_register.specs.declared.fit.TheConstants.{MOST_UNITS};
 ghost use Rattle.oftp_register.specs.LookUps.{outgoing_entry};
 ghost use Rattle.oftp_register.specs.Register.{Outgoing};
 ghost use Rattle.oftp_wire.specs.Spelling.{is_data};
-ghost use Rattle.oftp_wire.specs.declared.command.Command.TheVariants.{Ssid as an_ssid};
+ghost use Rattle.oftp_wire.specs.declared.command.Command.TheVariants.{Efid as an_efid, Ssid as an_ssid};
 ghost use Rattle.oftp_session.specs.Phases.{frame_of, esid_of};
 ghost use Rattle.oftp_session.specs.Opening.{answering_ssid, calling_ssid, ssid_with};
 ghost use Rattle.oftp_session.specs.Receiving.{efna_of, efpa_of, sfna_of, sfpa_of};
@@ -21,7 +21,7 @@ use oftp_register::{
 };
 use oftp_vfile::Format;
 use oftp_wire::{
-    Command, Count, Digits, Eerp, Efna, Efpa, EndReason, Esid, Layout, Mode, Nerp, SessionReason,
+    Command, Count, Digits, Eerp, Efid, Efna, Efpa, EndReason, Esid, Layout, Mode, Nerp, SessionReason,
     Sfid, Sfna, Sfpa, Ssid, StartReason, Text, X, encode, header,
 };
 
@@ -265,6 +265,18 @@ pub(crate) fn sfid<'a>(entry: &'a OutgoingEntry, units: u64, from: u64) -> Comma
         }),
         None => unreachable!(),
     }
+}
+
+/// The end of a file of so many rows, which have so many octets. Rows of a stream aren't counted (RFC 5024, section 5.3.8).
+pub(crate) fn efid(format: Format, rows: Count<17>, units: Count<17>) -> Command<'static>
+    ensures { result ≡ an_efid (record { records = if is_stream format then 0 else rows; units = units }) }
+{
+    let records = if format.is_stream() {
+        Count::new(0)
+    } else {
+        rows
+    };
+    Command::Efid(Efid { records, units })
 }
 
 /// Spells the frame of a command that isn't DATA into the octets, and answers its length.

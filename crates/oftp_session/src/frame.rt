@@ -1,40 +1,74 @@
 //! The frame that a session says.
 
-ghost use Rattle.std.specs.Prelude.{◌≡◌, [], false};
+ghost use Rattle.std.specs.Prelude.{◌≡◌, ◌∷◌, ◌++◌, ◌+◌, ◌<◌, ◌≤◌, [], ℕ, List, length, take, All, IfErr, true, false};
+ghost use Rattle.oftp_wire.specs.Header.{header_of};
 ghost use Rattle.oftp_wire.specs.Spelling.{is_data};
+ghost use Rattle.oftp_vfile.specs.declared.format.TheConstants.{MOST_ROWS};
+ghost use Rattle.oftp_vfile.specs.VirtualFile.{is_stream};
+ghost use Rattle.oftp_vfile.specs.Filling.{IsInRows};
 ghost use Rattle.oftp_session.specs.Phases.{frame_of};
+ghost use Rattle.oftp_session.specs.Payloads.{FillsInto, FillsOrNot};
 ghost use Rattle.oftp_session.specs.Calls.{IsFull, said};
 
 use crate::commands::spell;
-use crate::session::Out;
-use oftp_wire::Command;
+use crate::session::{Out, SessionFault};
+use oftp_vfile::{Filled, Filler, Row};
+use oftp_wire::{Command, header};
+use std::alloc::Global;
 use std::marker::Model;
 
-/// One whole frame, or nothing. It takes no memory.
+/// How many octets stand before the payload of a DATA: the stream header, and the command's letter.
+const DATA_HEAD: usize = 5;
+
+/// Where a frame stands, and how many octets it has.
+#[derive(Clone, Copy, Drop)]
+pub(crate) enum Said {
+    /// In the array of the commands.
+    Command(usize),
+    /// In the buffer of the DATA.
+    Data(usize),
+}
+
+/// One whole frame, or nothing. Memory is taken for the buffer of the DATA alone, once in a session.
 #[derive(Drop)]
 pub(crate) struct Frame {
     octets: [u8; 1200],
-    len: usize,
+    buffer: Vec<u8>,
+    said: Said,
 }
 
 impl Model for Frame {
-    ghost use Rattle.std.specs.Prelude.{List, ℕ, take, ◌≤◌};
+    ghost use Rattle.std.specs.Prelude.{List, ℕ};
+    ghost use Rattle.oftp_session.specs.Payloads.{IsSpokenIn, spoken_in};
 
     ghost Value = { List ℕ };
 
-    ghost view = { λ f. take f.len f.octets };
+    ghost view = { λ f. spoken_in f.said f.octets f.buffer.items };
 
-    ghost invariant = { λ f. f.len ≤ 1200 };
+    ghost invariant = { λ f. IsSpokenIn f.said f.octets f.buffer.items };
 }
 
 impl Frame {
-    /// Nothing.
-    pub(crate) fn empty() -> Frame
+    /// Nothing. It takes no memory.
+    pub(crate) fn empty(alloc: Global) -> Frame
         ensures { result ≡ [] }
     {
         Frame {
             octets: [0; 1200],
-            len: 0,
+            buffer: Vec::new(alloc),
+            said: Said::Command(0),
+        }
+    }
+
+    /// Says nothing, and reserves the buffer of the DATA, whose payloads have so many octets at most. Where that is refused,
+    /// there is no buffer.
+    pub(crate) fn reserve(&mut self, alloc: Global, size: usize)
+        requires { size ≤ 99998 }
+        ensures { self.new ≡ [] }
+    {
+        self.hush();
+        if let Ok(buffer) = vec![in alloc; 0; size + DATA_HEAD] {
+            self.buffer = buffer;
         }
     }
 
@@ -43,14 +77,45 @@ impl Frame {
         requires { is_data command.now ≡ false }
         ensures { self.new ≡ frame_of command.now }
     {
-        self.len = spell(&mut self.octets, command);
+        self.said = Said::Command(spell(&mut self.octets, command));
+    }
+
+    /// Says the next payload of a file whose rows are lent from where its filler is, as [`Filler::next_buffer`] makes it. Where
+    /// nothing is left, or more rows are to be lent, nothing is said.
+    ///
+    /// # Errors
+    ///
+    /// [`SessionFault::Memory`] where there is no buffer for payloads of this size. The filler is as it was.
+    pub(crate) fn fill(
+        &mut self,
+        filler: &mut Filler,
+        rows: &[Row],
+        last: bool,
+        size: usize,
+    ) -> Result<Filled, SessionFault>
+        requires room { 2 ≤ size }
+        requires size { size ≤ 99998 }
+        requires few { filler.old.row + length rows.now ≤ MOST_ROWS }
+        requires place { IsInRows filler.old rows.now }
+        requires some { is_stream filler.old.format ≡ true → All (λ r. 0 < length r) rows.now }
+        ensures { FillsOrNot size filler.old filler.new rows.now last self.new result }
+    {
+        self.hush();
+        if self.buffer.len() < size + DATA_HEAD {
+            return Err(SessionFault::Memory);
+        }
+        let filled = fill_data(filler, rows, last, size, self.buffer.as_mut_slice());
+        if let Filled::Buffer(count) = filled {
+            self.said = Said::Data(count + DATA_HEAD);
+        }
+        Ok(filled)
     }
 
     /// Says nothing.
     pub(crate) fn hush(&mut self)
         ensures { self.new ≡ [] }
     {
-        self.len = 0;
+        self.said = Said::Command(0);
     }
 
     /// What is said.
@@ -58,10 +123,51 @@ impl Frame {
         ensures said { said result ≡ self.now }
         ensures full { IsFull result }
     {
-        if self.len == 0 {
+        let frame = match self.said {
+            Said::Command(len) => &self.octets[..len],
+            Said::Data(len) => &self.buffer[..len],
+        };
+        if frame.is_empty() {
             Out::Nothing
         } else {
-            Out::Send(&self.octets[..self.len])
+            Out::Send(frame)
         }
     }
+}
+
+/// What stands before a payload of so many octets.
+fn data_head(count: usize) -> [u8; 5]
+    requires { count ≤ 99998 }
+    ensures { result ≡ header_of (count + 5) ++ 68 ∷ [] }
+{
+    match header(count + 1) {
+        Some(octets) => [octets[0], octets[1], octets[2], octets[3], b'D'],
+        None => unreachable!(),
+    }
+}
+
+/// Writes the frame of a DATA whose payload has at most so many octets.
+fn fill_data(
+    filler: &mut Filler,
+    rows: &[Row],
+    last: bool,
+    size: usize,
+    buffer: &mut [u8],
+) -> Filled
+    requires room { 2 ≤ size }
+    requires size { size ≤ 99998 }
+    requires buffer { size + 5 ≤ length buffer.old }
+    requires few { filler.old.row + length rows.now ≤ MOST_ROWS }
+    requires place { IsInRows filler.old rows.now }
+    requires some { is_stream filler.old.format ≡ true → All (λ r. 0 < length r) rows.now }
+    ensures fills { FillsInto size filler.old filler.new rows.now last buffer.new result }
+    ensures len { length buffer.new ≡ length buffer.old }
+{
+    let (head, rest) = buffer.split_at_mut(DATA_HEAD);
+    let (payload, _) = rest.split_at_mut(size);
+    let filled = filler.next_buffer(rows, last, payload);
+    if let Filled::Buffer(count) = filled {
+        head.copy_from_slice(&data_head(count));
+    }
+    filled
 }

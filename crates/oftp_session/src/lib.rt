@@ -4,13 +4,13 @@
 //! A change of the register is committed before the frame that answers it is lent.
 #![tactic(auto)]
 
-mod answers;
 mod commands;
 mod frame;
 mod link;
 mod listener;
 mod opening;
 mod receiving;
+mod replies;
 mod responses;
 mod sending;
 mod session;

@@ -1,18 +1,23 @@
 //! A file that goes out: the answer to SFID, DATA, EFID and its answer (RFC 5024, sections 5.3.4 to 5.3.10).
 
-ghost use Rattle.std.specs.Prelude.{◌≡◌, ◌<◌, IfErr, IfOk};
+ghost use Rattle.std.specs.Prelude.{◌≡◌, ◌↔◌, ◌-◌, ◌<◌, ◌≤◌, None, IfErr, IfOk, IsTrue, slice_get};
+ghost use Rattle.oftp_register.specs.LookUps.{rows_of};
 ghost use Rattle.oftp_session.specs.Phases.{Transfer};
-ghost use Rattle.oftp_session.specs.Sending.{came_sending, turned_sending};
+ghost use Rattle.oftp_session.specs.Sending.{came_sending, credited, new_mark, payload_size, payloads_in, turned_sending};
 ghost use Rattle.oftp_session.specs.Steps.{IsSent};
 ghost use Rattle.oftp_session.specs.Standings.{Ships, standing_of, turns_left};
-ghost use Rattle.oftp_session.specs.Calls.{IsFailure, Takes};
+ghost use Rattle.oftp_session.specs.Calls.{Finds, IsFailure, Takes};
+ghost use Rattle.oftp_session.specs.Payloads.{IsSameShipment, MayLend, SaysNext};
 
+use crate::commands::efid;
 use crate::frame::Frame;
+use crate::link::Link;
 use crate::session::SessionFault;
+use crate::speaker::SpeakerPart;
 use crate::state::{Contact, State};
-use oftp_register::Office;
-use oftp_vfile::{Filler, Format};
-use oftp_wire::Command;
+use oftp_register::{Office, Side, are_rows};
+use oftp_vfile::{Filled, Filler, Format, MOST_ROWS, Row, Rows};
+use oftp_wire::{Command, Count, SessionReason};
 
 /// A file that was offered: its number, whether its end was sent in an earlier session, its layout, how many rows it has and how
 /// many octets these have, how many of them the partner is known to have, and the row from which on it was offered.
@@ -22,8 +27,8 @@ pub(crate) struct Offering {
     pub(crate) is_closing: bool,
     pub(crate) format: Format,
     pub(crate) longest: u32,
-    pub(crate) rows: u64,
-    pub(crate) units: u64,
+    pub(crate) rows: Count<17>,
+    pub(crate) units: Count<17>,
     pub(crate) mark: u64,
     pub(crate) from: u64,
 }
@@ -35,16 +40,120 @@ pub(crate) struct Shipment {
     pub(crate) number: u64,
     pub(crate) credit: u64,
     pub(crate) longest: u32,
-    pub(crate) rows: u64,
-    pub(crate) units: u64,
+    pub(crate) rows: Count<17>,
+    pub(crate) units: Count<17>,
     pub(crate) mark: u64,
     pub(crate) filler: Filler,
+}
+
+/// How many rows a filler is lent at first.
+const FIRST_ROWS: usize = 64;
+
+/// The most octets of a payload: a DATA is its command octet and a payload (RFC 5024, section 5.3.6).
+fn payload_size(link: &Link) -> usize
+    ensures value { result ≡ link.now.buffer - 1 }
+    ensures most { result ≤ 99998 }
+{
+    link.buffer.get().saturating_sub(1) as usize
+}
+
+/// Whether these rows may be lent to the filler: so many from where it is, or all that are left, as a file of its format has them.
+fn may_lend(shipment: &Shipment, most: usize, rows: &[Row]) -> bool
+    ensures { IsTrue result ↔ MayLend shipment.now most rows.now }
+{
+    let filler = &shipment.filler;
+    let row = filler.row();
+    let all = shipment.rows.get() as usize;
+    row <= all
+        && rows.len() == most.min(all - row)
+        && rows.len() <= MOST_ROWS
+        && row <= MOST_ROWS - rows.len()
+        && are_rows(filler.format(), shipment.longest, rows)
+        && filler.is_in(rows)
+}
+
+/// Looks up so many rows from where the filler is, or all that are left.
+fn rows_to_lend<O: Office>(
+    shipment: &Shipment,
+    most: usize,
+    office: &mut O,
+) -> Result<Rows, SessionFault>
+    ensures clean { (O.view office.new).clean → (O.view office.old).clean }
+    ensures finds { (O.view office.new).clean → (O.view office.old).stands → 0 < most
+        → (contact : Contact) (t : Transfer) → IsSent (O.view office.old).register t → Ships contact t shipment.now
+        → Finds (λ r. rows_of r Side.Outgoing shipment.now.number shipment.now.filler.row most)
+        (O.view office.old) (O.view office.new) result }
+    // It holds of any store.
+    ensures may { IfOk result (MayLend shipment.now most) }
+    ensures err { IfErr result (λ fault. fault ≡ SessionFault.Office) }
+{
+    let row = shipment.filler.row() as u64;
+    let Ok(rows) = office.rows_of(Side::Outgoing, shipment.number, row, most as u64) else {
+        return Err(SessionFault::Office);
+    };
+    if !may_lend(shipment, most, rows.as_slice()) {
+        return Err(SessionFault::Office);
+    }
+    Ok(rows)
+}
+
+/// Says the next payload of a file, where one is left. Rows are looked up until they fill it, or are the last.
+fn say_payload<O: Office>(
+    shipment: &mut Shipment,
+    size: usize,
+    office: &mut O,
+    frame: &mut Frame,
+) -> Result<bool, SessionFault>
+    requires room { 2 ≤ size }
+    requires size { size ≤ 99998 }
+    ensures clean { (O.view office.new).clean → (O.view office.old).clean }
+    ensures says { (O.view office.new).clean → (O.view office.old).stands
+        → (contact : Contact) (t : Transfer) → IsSent (O.view office.old).register t → Ships contact t shipment.old
+        → size ≡ payload_size contact
+        → SaysNext contact t shipment.new (O.view office.old) (O.view office.new) frame.new result }
+    // It holds of any store.
+    ensures same { IsSameShipment shipment.old shipment.new }
+    ensures err { IfErr result IsFailure }
+{
+    let mut most = FIRST_ROWS.min(size);
+    loop {
+        let rows = rows_to_lend(shipment, most, office)?;
+        let last = shipment.filler.row() + rows.len() == shipment.rows.get() as usize;
+        match frame.fill(&mut shipment.filler, rows.as_slice(), last, size)? {
+            Filled::Buffer(_) => return Ok(true),
+            Filled::Done => return Ok(false),
+            Filled::More => most = size.min(2 * most),
+        }
+    }
+}
+
+/// Sends the end of a file, with its counts (RFC 5024, section 5.3.8).
+fn send_end<O: Office>(
+    contact: Contact,
+    shipment: Shipment,
+    office: &mut O,
+    frame: &mut Frame,
+) -> Result<State, SessionFault>
+    requires { 0 < shipment.credit }
+    ensures clean { (O.view office.new).clean → (O.view office.old).clean }
+    ensures takes { (O.view office.new).clean → (O.view office.old).stands
+        → (t : Transfer) → IsSent (O.view office.old).register t → Ships contact t shipment
+        → slice_get (payloads_in contact t) t.sent ≡ None
+        → Takes (turned_sending contact t) (O.view office.old) (O.view office.new) frame.new result }
+    ensures err { IfErr result (λ fault. fault ≡ SessionFault.Office) }
+    // It holds over any store.
+    ensures fewer { IfOk result (λ state. turns_left (standing_of state) ≡ 0) }
+{
+    // The command stands spelled before the commit, so that only the writer can fail between the two.
+    frame.say(&efid(shipment.filler.format(), shipment.rows, shipment.units));
+    office.begin_closing(shipment.number)?;
+    Ok(State::AwaitingEnd(contact, shipment.number))
 }
 
 /// Sends the next payload, or the end of the file, where credit is left (RFC 5024, sections 5.3.6 and 5.3.8).
 pub(crate) fn send_next<O: Office>(
     contact: Contact,
-    shipment: Shipment,
+    mut shipment: Shipment,
     office: &mut O,
     frame: &mut Frame,
 ) -> Result<State, SessionFault>
@@ -57,10 +166,50 @@ pub(crate) fn send_next<O: Office>(
     // It holds over any store.
     ensures fewer { IfOk result (λ state. turns_left (standing_of state) < shipment.credit) }
 {
-    unreachable!()
+    let size = payload_size(&contact.link);
+    // No agreed buffer is so short.
+    if size < 2 {
+        return Err(SessionFault::Memory);
+    }
+    if say_payload(&mut shipment, size, office, frame)? {
+        shipment.credit -= 1;
+        return Ok(State::Sending(contact, shipment));
+    }
+    send_end(contact, shipment, office, frame)
+}
+
+/// Takes credit: the rows that were wholly sent are covered by it (RFC 5024, section 5.3.7).
+fn take_credit<O: Office>(
+    contact: Contact,
+    shipment: Shipment,
+    office: &mut O,
+    frame: &mut Frame,
+) -> Result<State, SessionFault>
+    requires { shipment.credit ≡ 0 }
+    ensures clean { (O.view office.new).clean → (O.view office.old).clean }
+    ensures takes { (O.view office.new).clean → (O.view office.old).stands
+        → (t : Transfer) → IsSent (O.view office.old).register t → Ships contact t shipment
+        → Takes (credited contact t (new_mark contact t)) (O.view office.old) (O.view office.new) frame.new result }
+    ensures err { IfErr result (λ fault. fault ≡ SessionFault.Office) }
+{
+    frame.hush();
+    let mark = shipment.filler.mark() as u64;
+    if mark != shipment.mark {
+        office.mark(shipment.number, mark)?;
+    }
+    let credit = contact.link.credit.get().max(1);
+    Ok(State::Sending(
+        contact,
+        Shipment {
+            credit,
+            mark,
+            ..shipment
+        },
+    ))
 }
 
 /// Takes a command that comes while a file is sent: CDT, where no credit is left (RFC 5024, section 5.3.7).
+#[tactic(auto, unfolding(crate::specs::Sending::came_sending))]
 pub(crate) fn in_sending<O: Office>(
     contact: Contact,
     shipment: Shipment,
@@ -74,5 +223,13 @@ pub(crate) fn in_sending<O: Office>(
         → Takes (came_sending contact t command.now) (O.view office.old) (O.view office.new) frame.new result }
     ensures err { IfErr result (λ fault. fault ≡ SessionFault.Office) }
 {
-    unreachable!()
+    match command {
+        Command::Cdt => {
+            if shipment.credit > 0 {
+                return Ok(State::ended_here(SessionReason::ProtocolViolation, frame));
+            }
+            take_credit(contact, shipment, office, frame)
+        }
+        _ => Ok(State::unexpected(command, frame)),
+    }
 }

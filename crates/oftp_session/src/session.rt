@@ -8,11 +8,11 @@ ghost use Rattle.oftp_session.specs.Steps.{came, has_turn, turned, Holds};
 ghost use Rattle.oftp_session.specs.Standings.{Broken, StandsIn, ended_as, is_closed, is_due, is_receiving, is_sending, standing_of, turns_left};
 ghost use Rattle.oftp_session.specs.Calls.{Does, Goes, IsFailure, IsFull, Seen, Stands, Takes, heard};
 
-use crate::answers::{in_awaiting_end, in_awaiting_start};
 use crate::frame::Frame;
 use crate::listener::in_listener_idle;
 use crate::opening::{Setting, in_awaiting_ssid, in_initiator_opening};
 use crate::receiving::in_receiving;
+use crate::replies::{in_awaiting_end, in_awaiting_start};
 use crate::sending::{in_sending, send_next};
 use crate::speaker::{give_way, in_awaiting_rtr, speak};
 use crate::state::State;
@@ -173,7 +173,7 @@ impl<'b> Session<'b> {
                 called: None,
             },
             state: Some(State::ResponderOpening),
-            frame: Frame::empty(),
+            frame: Frame::empty(alloc),
         }
     }
 
@@ -191,7 +191,7 @@ impl<'b> Session<'b> {
                 called: Some(partner),
             },
             state: Some(State::InitiatorOpening),
-            frame: Frame::empty(),
+            frame: Frame::empty(alloc),
         }
     }
 

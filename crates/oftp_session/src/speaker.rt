@@ -191,6 +191,8 @@ fn is_closing(state: OutgoingState) -> bool
 
 /// What is held of a file with this entry, whose rows have so many octets, where it is offered from a row on.
 fn offering(entry: &OutgoingEntry, units: u64, from: u64) -> Offering
+    requires within { IsOutgoingWithin entry.now }
+    requires units { units ≤ MOST_UNITS }
     ensures { result ≡ record {
       number = entry.now.no;
       is_closing = is_closing entry.now.state;
@@ -207,8 +209,8 @@ fn offering(entry: &OutgoingEntry, units: u64, from: u64) -> Offering
         is_closing: is_closing(entry.state),
         format: entry.format,
         longest: entry.longest,
-        rows: entry.rows,
-        units,
+        rows: Count::new(entry.rows),
+        units: Count::new(units),
         mark: entry.mark,
         from,
     }

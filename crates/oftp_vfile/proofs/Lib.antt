@@ -16,3 +16,4 @@ pub mod Examples
 pub mod LocalLemmas
 pub mod LendLemmas
 pub mod MoreLemmas
+pub mod MarkLemmas

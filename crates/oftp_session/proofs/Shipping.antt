@@ -1,0 +1,2 @@
+-- The steps of a session that sends a file.
+use Rattle.std.proofs.Common.{◌≡◌, refl}

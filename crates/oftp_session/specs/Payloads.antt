@@ -1,0 +1,91 @@
+-- What becomes of the buffer that DATA frames are written in.
+use Rattle.std.specs.Prelude.{◌≡◌, ◌+◌, ◌-◌, ◌<◌, ◌≤◌, ℕ, Bool, true, false, min, List, [], ◌∷◌, ◌++◌, length, take, slice_get, Option, None, Some, Result, Ok, Err}
+use Rattle.oftp_wire.specs.declared.command.Command.TheVariants as command
+use Rattle.oftp_vfile.specs.declared.format.TheConstants.{MOST_ROWS}
+use Rattle.oftp_vfile.specs.declared.format.Filled.{Filled}
+use Rattle.oftp_vfile.specs.declared.format.Filled.TheVariants.{Buffer, Done, More}
+use Rattle.oftp_vfile.specs.Fill.{payloads_of}
+use Rattle.oftp_vfile.specs.Filling.{Filling, AreLent, AsksForMore, IsInRows, Sent}
+use Rattle.oftp_vfile.specs.VirtualFile.{AreRows}
+use Rattle.oftp_register.specs.Offices.{View}
+use Rattle.oftp_session.specs.declared.frame.TheConstants.{DATA_HEAD}
+use Rattle.oftp_session.specs.declared.frame.Said.{Said}
+use Rattle.oftp_session.specs.declared.frame.Said.TheVariants as said
+use Rattle.oftp_session.specs.declared.session.SessionFault.{SessionFault}
+use Rattle.oftp_session.specs.declared.session.SessionFault.TheVariants.{Memory}
+use Rattle.oftp_session.specs.declared.sending.Shipment.{Shipment}
+use Rattle.oftp_session.specs.declared.state.Contact.{Contact}
+use Rattle.oftp_session.specs.Phases.{Transfer, frame_of}
+use Rattle.oftp_session.specs.Sending.{payload_size, payloads_in, rows_from}
+use Rattle.oftp_session.specs.Calls.{DoesNot, IsMade}
+
+-- the frame that is said: a command in the one buffer, or a DATA in the other
+abbrev pub spoken_in : Said → List ℕ → List ℕ → List ℕ
+spoken_in (said.Command n) octets buffer = take n octets
+spoken_in (said.Data n) octets buffer = take n buffer
+
+-- its buffer has it
+abbrev pub IsSpokenIn : Said → List ℕ → List ℕ → Type 0
+IsSpokenIn (said.Command n) octets buffer = n ≤ 1200
+IsSpokenIn (said.Data n) octets buffer = n ≤ length buffer
+
+-- a DATA with the next payload of the file whose rows were lent
+pub record IsNextData (size : ℕ) (old new : Filling) (rows : List (List ℕ)) (last : Bool) (frame : List ℕ) : Type 0 where
+  pub payload : List ℕ
+  pub said : frame ≡ frame_of (command.Data payload)
+  pub format : new.format ≡ old.format
+  pub sent : (from : ℕ) (file payloads : List (List ℕ)) → Sent old size from file payloads → AreLent old from file rows last
+      → Sent new size from file (payloads ++ payload ∷ [])
+
+-- nothing is left of that file
+pub record IsAllSent (size : ℕ) (old new : Filling) (rows : List (List ℕ)) (last : Bool) : Type 0 where
+  pub same : new ≡ old
+  pub all : (from : ℕ) (file payloads : List (List ℕ)) → Sent old size from file payloads → AreLent old from file rows last
+      → payloads ≡ payloads_of old.format size file
+
+-- what a filler made that answered this, with the frame that it left
+abbrev pub Fills : ℕ → Filling → Filling → List (List ℕ) → Bool → List ℕ → Filled → Type 0
+Fills size old new rows last frame (Buffer n) = IsNextData size old new rows last frame
+Fills size old new rows last frame Done = IsAllSent size old new rows last
+Fills size old new rows last frame More = AsksForMore size old new rows last
+
+-- the same, or memory was refused
+abbrev pub FillsOrNot : ℕ → Filling → Filling → List (List ℕ) → Bool → List ℕ → Result Filled SessionFault → Type 0
+FillsOrNot size old new rows last frame (Ok filled) = Fills size old new rows last frame filled
+FillsOrNot size old new rows last frame (Err fault) = fault ≡ Memory
+
+-- the same in a buffer, at whose front the frame stands: so many octets before a payload
+abbrev pub FillsInto : ℕ → Filling → Filling → List (List ℕ) → Bool → List ℕ → Filled → Type 0
+FillsInto size old new rows last buffer (Buffer n) = (n ≤ size) × IsNextData size old new rows last (take (n + DATA_HEAD) buffer)
+FillsInto size old new rows last buffer Done = IsAllSent size old new rows last
+FillsInto size old new rows last buffer More = AsksForMore size old new rows last
+
+-- rows that may be lent: so many from where the filler is, or all that are left, as a file of its format has them
+pub record MayLend (s : Shipment) (most : ℕ) (rows : List (List ℕ)) : Type 0 where
+  pub within : s.filler.row ≤ s.rows
+  pub count : length rows ≡ min most (s.rows - s.filler.row)
+  pub few : s.filler.row + length rows ≤ MOST_ROWS
+  pub fits : AreRows s.filler.format s.longest rows
+  pub place : IsInRows s.filler rows
+
+-- a payload is left, and was said
+pub record IsDataSaid (contact : Contact) (t : Transfer) (new : Shipment) (frame : List ℕ) : Type 0 where
+  pub payload : List ℕ
+  pub left : slice_get (payloads_in contact t) t.sent ≡ Some payload
+  pub said : frame ≡ frame_of (command.Data payload)
+  pub format : new.filler.format ≡ t.file.format
+  pub sent : Sent new.filler (payload_size contact) t.from (rows_from t) (take (t.sent + 1) (payloads_in contact t))
+
+-- whether a payload is left, which then was said
+abbrev pub SaysPayload : Contact → Transfer → Shipment → List ℕ → Bool → Type 0
+SaysPayload contact t new frame true = IsDataSaid contact t new frame
+SaysPayload contact t new frame false = slice_get (payloads_in contact t) t.sent ≡ None
+
+-- the same over an office, in which nothing is changed
+abbrev pub SaysNext : Contact → Transfer → Shipment → View → View → List ℕ → Result Bool SessionFault → Type 0
+SaysNext contact t shipment old new frame (Ok left) = SaysPayload contact t shipment frame left × IsMade None None old new []
+SaysNext contact t shipment old new frame (Err fault) = DoesNot None old new fault
+
+-- a shipment but for what its filler did
+abbrev pub IsSameShipment : Shipment → Shipment → Type 0
+IsSameShipment old new = new ≡ record old { filler = new.filler }
