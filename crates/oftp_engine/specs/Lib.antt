@@ -5,3 +5,4 @@ pub mod Served
 pub mod Frames
 pub mod Operating
 pub mod Operated
+pub mod Parts

@@ -6,7 +6,7 @@ mod operating;
 mod port;
 mod serving;
 
-pub use laws::{changes_are_made, folds_over_frames};
+pub use laws::{changes_are_made, folds_over_frames, jobs_make_the_file, no_count_passes, parts_make_the_file};
 pub use operating::{Operator, Refusal, Told, operate};
 pub use port::Port;
 pub use serving::{End, Role, RunFault, serve, serve_in_memory};
