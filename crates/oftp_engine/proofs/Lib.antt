@@ -13,3 +13,7 @@ pub mod Served
 pub mod Deciding
 pub mod Offers
 pub mod Jobs
+pub mod PartRows
+pub mod PartChanges
+pub mod PartSteps
+pub mod PartRuns

@@ -7,3 +7,4 @@ pub mod Operating
 pub mod Operated
 pub mod Offers
 pub mod Jobs
+pub mod Parts
