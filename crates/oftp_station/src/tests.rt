@@ -4,6 +4,7 @@ use super::*;
 use std::alloc::{AllocError, Global};
 
 mod commands;
+mod exchange;
 mod sessions;
 mod transfers;
 
