@@ -59,6 +59,10 @@ pub some_rows : (s : Shipment) (most : ℕ) (rows lent : List (List ℕ)) → Ma
 some_rows s most rows lent may e h =
     subst (λ (x : List (List ℕ)). All (λ (r : List ℕ). 0 < length r) x) (sym e) (stream_some s.filler.format s.longest rows may.fits h)
 
+-- the test whether these are the last rows
+pub told_last : (row' row count' count all' all : ℕ) → row' ≡ row → count' ≡ count → all' ≡ all → eqb (row' + count') all' ≡ eqb (row + count) all
+told_last row' row count' count all' all r c a = ap (λ n. eqb (n + count') all') r ∙ ap (λ n. eqb (row + n) all') c ∙ ap (λ n. eqb (row + count) n) a
+
 -- all rows that were asked for came, where they aren't the last
 all_came : (s : Shipment) (most : ℕ) (rows : List (List ℕ)) → MayLend s most rows → eqb (s.filler.row + length rows) s.rows ≡ false → length rows ≡ most
 all_came s most rows may h =

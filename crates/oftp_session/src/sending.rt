@@ -50,7 +50,7 @@ pub(crate) struct Shipment {
 const FIRST_ROWS: usize = 64;
 
 /// The most octets of a payload: a DATA is its command octet and a payload (RFC 5024, section 5.3.6).
-fn payload_size(link: &Link) -> usize
+pub(crate) fn payload_size(link: &Link) -> usize
     ensures value { result ≡ link.now.buffer - 1 }
     ensures most { result ≤ 99998 }
 {

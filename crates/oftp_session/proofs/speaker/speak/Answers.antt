@@ -14,5 +14,6 @@ returns-in-Some-File-clause-takes g c = λ clean stands.
     let sound = g.met.O.Office.sound c.next.new.self before found.1.stands in
     let next : next_item (view c.args.office.now).register contact.code contact.tried contact.link.sends ≡ Some (item.File c.in-Some-File.entry) =
     cc (found.0, c.in-Some-File.is, c.in-Some-File.field-0-is) in
+    let takes = rw c.in-Some-File.entry-is at (c.offer.ensures.takes clean found.1.stands) in
     speak_file (setting_of c.args.setting) contact c.args.done c.in-Some-File.entry (view c.args.office.now) (view c.next.new.self) (view c.offer.new.office)
-    c.offer.new.frame c.offer.result sound next found.1 (c.offer.ensures.takes clean found.1.stands)
+    c.offer.new.frame c.offer.result sound next found.1 takes
