@@ -5,3 +5,6 @@ pub mod Served
 pub mod Frames
 pub mod Operating
 pub mod Operated
+pub mod Offers
+pub mod Jobs
+pub mod Parts

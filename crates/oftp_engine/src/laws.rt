@@ -4,6 +4,7 @@ ghost use Rattle.std.specs.Prelude.{◌≡◌, ◌<◌, ℕ, All, List, Option, 
 ghost use Rattle.oftp_wire.specs.declared.frame_fault.FrameFault.{FrameFault};
 ghost use Rattle.oftp_wire.specs.Stream.{Reads};
 ghost use Rattle.oftp_engine.specs.Frames.{over_commands};
+ghost use Rattle.oftp_engine.specs.Parts.{JobsMakeTheFile, NoCountPasses, PartsMakeTheFile};
 ghost use Rattle.oftp_engine.specs.Runs.{Course, run, started};
 ghost use Rattle.oftp_session.specs.Settings.{Setting};
 ghost use Rattle.oftp_register.specs.Register.{Register};
@@ -21,4 +22,20 @@ pub fn folds_over_frames()
 pub fn changes_are_made()
     ensures { (limit : Option ℕ) (setting : Setting) (given : List ℕ) (r : Register) → IsSound r
         → apply_all r (run limit given (started setting r)).changes ≡ Ok (run limit given (started setting r)).register }
+{}
+
+/// A file that comes in parts, over any sessions that break anywhere, with an operator's calls between them, is at each time as it
+/// may be: nothing of it is here, or a beginning, or the file as one transfer gives it. It does nothing; its contract is the law.
+pub fn jobs_make_the_file()
+    ensures { JobsMakeTheFile }
+{}
+
+/// So it is over one session, after each of its changes. It does nothing; its contract is the law.
+pub fn parts_make_the_file()
+    ensures { PartsMakeTheFile }
+{}
+
+/// A start that is accepted finds as many rows as it names, and leaves exactly these. It does nothing; its contract is the law.
+pub fn no_count_passes()
+    ensures { NoCountPasses }
 {}

@@ -73,7 +73,7 @@ block_octets rows all =
     omega (arith, n)
 
 -- the last rows less some of them
-closed_drop : (n : ℕ) (rows : List (List ℕ)) (tail : List ℕ) → n ≤ length rows → closed (drop n rows) tail ≡ drop n (closed rows tail)
+pub closed_drop : (n : ℕ) (rows : List (List ℕ)) (tail : List ℕ) → n ≤ length rows → closed (drop n rows) tail ≡ drop n (closed rows tail)
 closed_drop n rows [] within = refl
 closed_drop n rows (x ∷ xs) within = sym (drop-append-le n rows ((x ∷ xs) ∷ []) within)
 
