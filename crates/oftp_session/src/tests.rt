@@ -4,6 +4,7 @@ mod noting;
 mod receiving;
 mod responding;
 mod sending;
+mod shipping;
 mod talk;
 
 use super::*;

@@ -1,4 +1,4 @@
-//! An office that notes how many rows it is asked for.
+//! An office that notes how many rows it is asked for, and may lose one.
 
 ghost use Rattle.std.specs.Prelude.{◌≡◌};
 
@@ -15,6 +15,8 @@ pub(super) struct Noting {
     pub(super) office: PlainOffice,
     /// How many rows it was asked for at most.
     pub(super) most: u64,
+    /// Whether it loses the last of the rows that it is asked for.
+    pub(super) loses: bool,
 }
 
 impl Office for Noting {
@@ -71,7 +73,13 @@ impl Office for Noting {
 
     fn rows_of(&mut self, side: Side, no: u64, from: u64, most: u64) -> Result<Rows, OfficeFault> {
         self.most = self.most.max(most);
-        self.office.rows_of(side, no, from, most)
+        let rows = self.office.rows_of(side, no, from, most)?;
+        if !self.loses {
+            return Ok(rows);
+        }
+        let mut rows = rows.into_vec();
+        rows.truncate(rows.len().saturating_sub(1));
+        Ok(Rows::new(rows))
     }
 
     fn units_of(&mut self, side: Side, no: u64) -> Result<u64, OfficeFault> {

@@ -359,6 +359,7 @@ fn rows_asked_for(rt: HostRuntime) -> Result<(), Fail> {
     let mut office = Noting {
         office: PlainOffice::new(rt.alloc(), LIMITS),
         most: 0,
+        loses: false,
     };
     submit_records(rt.alloc(), &mut office, 300)?;
     let lines = [

@@ -180,7 +180,8 @@ fn empty_records(alloc: Global, count: usize) -> Result<Rows, OfficeFault> {
     Ok(Rows::new(rows))
 }
 
-fn submit<O: Office>(
+/// Submits the file that goes from the station to the partner.
+pub(super) fn submit<O: Office>(
     office: &mut O,
     format: Format,
     longest: u32,
