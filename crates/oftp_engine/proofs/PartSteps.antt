@@ -302,8 +302,8 @@ module _ (file : File) (identity : Identity) (r : Register) where
             let b = ap length (octets_in-closed xs tail) in
             let c = ap length (flat_map-append (λ (x : List ℕ). x) front xs) in
             let d = ap length (flat_map-append (λ (x : List ℕ). x) front ys) in
-            let joined = (length-append (octets_in (front ++ xs)) tail, length-append (octets_in xs) tail) in
-            omega (arith, h, a, b, c, d, joined, length-append (octets_in front) (octets_in xs), length-append (octets_in front) (octets_in ys))
+            let e = length-append (octets_in (front ++ xs)) tail in
+            omega (arith, h, a, b, c, d, e, length-append (octets_in xs) tail, length-append (octets_in front) (octets_in xs), length-append (octets_in front) (octets_in ys))
 
   -- the entry with the number of a file that comes
   its_entry : (f : Receipt) (e : Incoming) → IsReceived r f → entry_at f.number r.incoming ≡ Some e → f.file ≡ e

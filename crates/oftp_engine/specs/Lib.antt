@@ -6,3 +6,8 @@ pub mod Frames
 pub mod Operating
 pub mod Operated
 pub mod Parts
+pub mod World
+pub mod TwoStations
+pub mod Standing
+pub mod Grounds
+pub mod Promise
