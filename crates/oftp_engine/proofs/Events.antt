@@ -75,7 +75,7 @@ stands_after_stop w c n e h = by (nat_le (latest c.outputs) n && nat_le n (lengt
     by true g =
         let parts = and_parts (nat_le (latest c.outputs) n) (nat_le n (length c.changes)) g in
         stands_stopped w (left_after w.one.start c n) (at_session w.one c (left_after w.one.start c n) e
-            (record { changes = n; least = leb-true (latest c.outputs) n parts.0; most = leb-true n (length c.changes) parts.1; is = refl })) h
+        (record { changes = n; least = leb-true (latest c.outputs) n parts.0; most = leb-true n (length c.changes) parts.1; is = refl })) h
 
 -- an operator's call where there is no session
 
@@ -124,7 +124,7 @@ stands_changed w k s none fit grounds made h = record {
     coming None m = m
     coming (Some d) m = λ there e. subst (λ x. MayCome x d.phase w.other.coming) (sym (is there e))
         (may_come_later w.one.start s d.phase w.other.coming (apply_later w.one.start k s
-            (h.one.registers w.one.start (subst (λ o. LeftBy w.one.start o w.one.start) (sym none) refl)) made) (m w.one.start (subst (λ o. LeftBy w.one.start o w.one.start) (sym none) refl)))
+        (h.one.registers w.one.start (subst (λ o. LeftBy w.one.start o w.one.start) (sym none) refl)) made) (m w.one.start (subst (λ o. LeftBy w.one.start o w.one.start) (sym none) refl)))
 
 pub stands_operated : (w : World) (call : Call) → w.one.session ≡ None → Stands w
     → Stands (record w { one = record w.one { start = result_unwrap_or (apply w.one.start (called_for w.one call)) w.one.start } })
@@ -150,7 +150,7 @@ step_fits w c step after e h made grounds r there leaves there_leaves =
     elim (leaves_next w.one.start c step after r few s.replay made leaves) [
       | inl is ↦ subst (λ x. BothFit x there) (sym is)
           (step_made c.register after there step.change (h.one.registers c.register now) (h.other.registers there there_leaves) (grounds there there_leaves) made
-              (h.to_other c.register there now there_leaves, h.to_one c.register there now there_leaves))
+          (h.to_other c.register there now there_leaves, h.to_one c.register there now there_leaves))
       | inr k ↦ (let b : Leaves w.one r = at_session w.one c r e k.1 in (h.to_other r there b there_leaves, h.to_one r there b there_leaves))
     ]
 
@@ -190,7 +190,7 @@ stands_within w c step after n e h sound made grounds = by (nat_le (latest c.out
         let parts = and_parts (nat_le (latest c.outputs) n) (nat_le n (length (advance c step).changes)) g in
         let r : Register = left_after w.one.start (advance c step) n in
         let leaves : MayLeave w.one.start (advance c (silent step)) r =
-            record { changes = n; least = leb-true (latest c.outputs) n parts.0; most = leb-true n (length (advance c step).changes) parts.1; is = refl } in
+        record { changes = n; least = leb-true (latest c.outputs) n parts.0; most = leb-true n (length (advance c step).changes) parts.1; is = refl } in
         let s : IsInSession w.one.start c = subst (λ o. IfAny o (IsInSession w.one.start)) e h.one.session in
         let now : Leaves w.one c.register = at_session w.one c c.register e s.now in
         let few : latest c.outputs ≤ length c.changes = omega (arith, s.now.least, s.now.most) in
@@ -293,9 +293,9 @@ stands_called w none none' h =
     let first : Leaves w.one w.one.start = subst (λ o. LeftBy w.one.start o w.one.start) (sym none) refl in
     let first' : Leaves w.other w.other.start = subst (λ o. LeftBy w.other.start o w.other.start) (sym none') refl in
     let one : (r : Register) → MayLeave w.one.start (started (record { book = w.one.book; called = Some w.one.partner }) w.one.start) r → r ≡ w.one.start =
-        λ r m. begun_leaves w.one.start (record { book = w.one.book; called = Some w.one.partner }) r m in
+    λ r m. begun_leaves w.one.start (record { book = w.one.book; called = Some w.one.partner }) r m in
     let other : (r : Register) → MayLeave w.other.start (started (record { book = w.other.book; called = None }) w.other.start) r → r ≡ w.other.start =
-        λ r m. begun_leaves w.other.start (record { book = w.other.book; called = None }) r m in
+    λ r m. begun_leaves w.other.start (record { book = w.other.book; called = None }) r m in
     record {
       one = begun_sound w.one w.other (begins w.other None) (Some w.one.partner) none h.one;
       other = begun_sound w.other w.one (begins w.one (Some w.one.partner)) None none' h.other;

@@ -22,8 +22,11 @@ use Rattle.oftp_register.specs.ByIdentity.{WasStarted}
 
 -- states that are told apart
 pub not_handed : (state : OutgoingState) → is_handed state ≡ false → (state ≡ Delivered → ⊥) × (state ≡ Returned → ⊥)
-not_handed state h = (λ e. absurd (let q : is_handed Delivered ≡ false = subst (λ s. is_handed s ≡ false) e h in let b : true ≡ false = q in cc), λ e. absurd
-    (let q : is_handed Returned ≡ false = subst (λ s. is_handed s ≡ false) e h in let b : true ≡ false = q in cc))
+not_handed state h = (
+  λ e. absurd (let q : is_handed Delivered ≡ false = subst (λ s. is_handed s ≡ false) e h in let b : true ≡ false = q in cc),
+  λ e. absurd
+      (let q : is_handed Returned ≡ false = subst (λ s. is_handed s ≡ false) e h in let b : true ≡ false = q in cc),
+)
 
 open_or_whole : (state : IncomingState) → state ≡ Open → state ≡ Whole → ⊥
 open_or_whole state h k = cc
@@ -106,7 +109,7 @@ marked_fits rows x y e h fit =
     let made = allowed_ok (is_waiting x.state && nat_le rows (length x.rows)) (record x { mark = rows }) y h in
     let now : Outgoing = record x { mark = rows } in
     subst (λ (z : Outgoing). Fits (Some z) e) made.1 (refit x now e (record { format = refl; longest = refl; rows = refl })
-        (waits x.state (and_parts (is_waiting x.state) (nat_le rows (length x.rows)) made.0).0) fit)
+    (waits x.state (and_parts (is_waiting x.state) (nat_le rows (length x.rows)) made.0).0) fit)
 
 pub closing_fits : (x y : Outgoing) (e : Option Incoming) → closing x ≡ Ok y → Fits (Some x) e → Fits (Some y) e
 closing_fits x y e h fit =

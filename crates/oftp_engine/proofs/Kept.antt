@@ -114,9 +114,11 @@ started_both : (r s there : Register) (header : Incoming) (count : ℕ) → head
     → started r header count ≡ Ok s → BothFit r there → BothFit s there
 started_both r s there header count o none g h fit =
     let part = mapped_ok (λ files. record r { incoming = files }) (started_in r header count r.incoming) s h in
-    subst (λ (z : Register). BothFit z there) part.2
-    (fit.0, started_named (λ i e. Fits (out_at there i) e) r header count r.incoming part.0 part.1
-        (λ old new is was before. started_fits (out_at there header.identity) header count old new o none g was before) fit.1)
+    subst (λ (z : Register). BothFit z there) part.2 (
+      fit.0,
+      started_named (λ i e. Fits (out_at there i) e) r header count r.incoming part.0 part.1
+          (λ old new is was before. started_fits (out_at there header.identity) header count old new o none g was before) fit.1,
+    )
 
 -- each change
 pub apply_fits : (r : Register) (k : Change) (s there : Register) → IsSound r → IsSound there → Grounds r there k → apply r k ≡ Ok s → BothFit r there → BothFit s there
@@ -128,15 +130,15 @@ apply_fits r (change.Start identity format longest description count) s there so
 apply_fits r (change.Keep n rows) s there sound sound' g h fit =
     on_incoming_fits (kept rows) (kept_same rows) n r s there sound h
     (λ x y e d was. let made = if_open_ok x (x.rows ++ rows) Open x.state y d in
-        subst (λ (z : Incoming). Fits (out_at there x.identity) (Some z)) made.1 (opened_fits (out_at there x.identity) x (x.rows ++ rows) made.0 (g x e) was)) fit
+    subst (λ (z : Incoming). Fits (out_at there x.identity) (Some z)) made.1 (opened_fits (out_at there x.identity) x (x.rows ++ rows) made.0 (g x e) was)) fit
 apply_fits r (change.Close n rows) s there sound sound' g h fit =
     on_incoming_fits (closed rows) (closed_same rows) n r s there sound h
     (λ x y e d was. let made = if_open_ok x (x.rows ++ rows) Whole x.state y d in
-        subst (λ (z : Incoming). Fits (out_at there x.identity) (Some z)) made.1 (closed_fits (out_at there x.identity) x (x.rows ++ rows) made.0 (g x e) was)) fit
+    subst (λ (z : Incoming). Fits (out_at there x.identity) (Some z)) made.1 (closed_fits (out_at there x.identity) x (x.rows ++ rows) made.0 (g x e) was)) fit
 apply_fits r (change.GiveUp n) s there sound sound' g h fit =
     on_incoming_fits given_up given_up_same n r s there sound h
     (λ x y e d was. let made = if_open_ok x [] Open x.state y d in
-        subst (λ (z : Incoming). Fits (out_at there x.identity) (Some z)) made.1 (opened_fits (out_at there x.identity) x [] made.0 (given_up_begins (out_at there x.identity) x was) was)) fit
+    subst (λ (z : Incoming). Fits (out_at there x.identity) (Some z)) made.1 (opened_fits (out_at there x.identity) x [] made.0 (given_up_begins (out_at there x.identity) x was) was)) fit
   where
     given_up_begins : (out : Option Outgoing) (x : Incoming) → Fits out (Some x) → Has out (λ f. BeginsWith f.rows [])
     given_up_begins None x was = was

@@ -93,8 +93,14 @@ pub efid_may_come : (r : Register) (contact : Contact) (t : Transfer) (efid : Ef
 efid_may_come r contact t efid other sound entry room none k =
     let all : take t.sent (payloads_in contact t) ≡ payloads_in contact t = none_left t.sent (payloads_in contact t) none in
     let whole : ComesFrom r t.file.identity t.from (take t.sent (payloads_in contact t)) [] =
-    record { file = t.file; found = out_entry r t.number t.file sound entry; size = contact.link.buffer - 1; room = omega (arith, room); split =
-        append-nil (take t.sent (payloads_in contact t)) ∙ all } in
+    record {
+      file = t.file;
+      found = out_entry r t.number t.file sound entry;
+      size = contact.link.buffer - 1;
+      room = omega (arith, room);
+      split =
+          append-nil (take t.sent (payloads_in contact t)) ∙ all;
+    } in
     let h = taken_so r t.file.identity t.from (take t.sent (payloads_in contact t)) [] other k (command.Efid efid ∷ []) (whole, tt) in
     subst (λ (p : Phase). MayCome r p (other.coming ++ command.Efid efid ∷ [])) (sym k.takes)
     (subst (λ x. MayTake r k.receipt.file.identity k.receipt.from k.receipt.payloads (x ++ command.Efid efid ∷ [])) (sym (k.told ∙ append-nil (map command.Data k.on_the_way))) h)

@@ -190,14 +190,27 @@ offer_links setting contact r after sfid calls coming other made h = by (verdict
           said = subst (λ p. MayCome after p (other.coming ++ answer ∷ [])) (sym h.awaits) (subst (λ x. MayAnswerStart after h.offer.file (x ++ answer ∷ [])) (sym h.none) tt);
           meet = λ _. inr (subst (λ p. Speaks (now_with other (other.coming ++ answer ∷ [])) p
               (record { calls = calls; phase = Receiving contact (receipt_of r sfid count); coming = coming })) (sym h.awaits)
-              (inr (inl (count, ap (λ x. x ++ answer ∷ []) h.none, record { contact = contact; receipt = receipt_of r sfid count; takes = refl; same = named; from_row =
-                  refl; on_the_way = []; told = h.alone; all = refl }))));
+              (inr (inl (
+                count,
+                ap (λ x. x ++ answer ∷ []) h.none,
+                record {
+                  contact = contact;
+                  receipt = receipt_of r sfid count;
+                  takes = refl;
+                  same = named;
+                  from_row =
+                      refl;
+                  on_the_way = [];
+                  told = h.alone;
+                  all = refl;
+                },
+              ))));
         }
     by (start.Refuse reason retry) v m =
         let answer : Command = command.Sfna (record { reason = start_number reason; retry = retry; text = [] }) in
         let is_true : start_number reason ≡ 13 → IsWholeAt after h.offer.file.identity =
-            λ e. subst (IsWholeAt after) named (subst (λ x. IsWholeAt x (offered_identity sfid)) (sym m)
-                (refusal_is_true r sfid (files_full r side.Incoming) (terms_of setting contact r) reason retry v e)) in record {
+        λ e. subst (IsWholeAt after) named (subst (λ x. IsWholeAt x (offered_identity sfid)) (sym m)
+        (refusal_is_true r sfid (files_full r side.Incoming) (terms_of setting contact r) reason retry v e)) in record {
           said = subst (λ p. MayCome after p (other.coming ++ answer ∷ [])) (sym h.awaits) (subst (λ x. MayAnswerStart after h.offer.file (x ++ answer ∷ [])) (sym h.none) (is_true, tt));
           meet = λ _. inr (subst (λ p. Speaks (now_with other (other.coming ++ answer ∷ [])) p (record { calls = calls; phase = ListenerIdle contact; coming = coming })) (sym h.awaits)
               (inr (inr (_, ap (λ x. x ++ answer ∷ []) h.none, record { contact = contact; listens = refl; told = h.alone }))));
@@ -326,7 +339,7 @@ took_next : (contact : Contact) (f g : Receipt) (payload : List ℕ) (calls : Bo
     → IsTaking identity from payloads behind (record { calls = calls; phase = Receiving contact g; coming = coming })
 took_next contact f g payload calls coming identity from payloads behind n name goes more =
     subst (λ x. IsTaking identity from payloads behind (record { calls = calls; phase = Receiving contact g; coming = x })) (sym n.rest)
-        (payload_link contact f g payload calls identity from payloads n.more behind n.same n.place n.all name goes more)
+    (payload_link contact f g payload calls identity from payloads n.more behind n.same n.place n.all name goes more)
 
 data_links : (contact : Contact) (f : Receipt) (payload : List ℕ) (r after : Register) (calls : Bool) (coming : List Command) (other : Talk) (identity : Identity) (from : ℕ)
     (payloads : List (List ℕ)) (behind : List Command)
@@ -337,12 +350,12 @@ data_links contact f payload r after calls coming other identity from payloads b
   where
     by_window : (t : Taking) (full : Bool) → Makes (let s : Step =
         cond full (answers (Receiving contact (with_rows (with_payload f payload) (rows_to_keep (with_payload f payload) t)))
-            (keeping f.number (rows_to_keep (with_payload f payload) t)) command.Cdt) (quiet (Receiving contact (with_payload f payload))) in s).change r after
+        (keeping f.number (rows_to_keep (with_payload f payload) t)) command.Cdt) (quiet (Receiving contact (with_payload f payload))) in s).change r after
         → Links calls coming other (let s : Step = cond full (answers (Receiving contact (with_rows (with_payload f payload) (rows_to_keep (with_payload f payload) t)))
         (keeping f.number (rows_to_keep (with_payload f payload) t)) command.Cdt) (quiet (Receiving contact (with_payload f payload))) in s) after
     by_window t true m =
         let credits : All IsCredit (other.coming ++ command.Cdt ∷ []) =
-            All-append IsCredit other.coming (command.Cdt ∷ []) feeds.credits (All-cons IsCredit command.Cdt [] tt (All-nil IsCredit)) in record {
+        All-append IsCredit other.coming (command.Cdt ∷ []) feeds.credits (All-cons IsCredit command.Cdt [] tt (All-nil IsCredit)) in record {
           said = feeds.may after (other.coming ++ command.Cdt ∷ []) credits;
           meet = λ _. inr (feeds.goes (other.coming ++ command.Cdt ∷ []) _ credits
               (took_next contact f (with_rows (with_payload f payload) (rows_to_keep (with_payload f payload) t)) payload calls coming identity from payloads behind n refl refl refl));
@@ -438,11 +451,11 @@ receive_links contact f r after (command.Data payload) calls coming other sound 
   | inl h ↦ data_links contact f payload r after calls coming other h.transfer.file.identity h.transfer.from (take h.transfer.sent (payloads_in h.there h.transfer)) [] made come
       (data_feeds (to calls (Receiving contact f) (command.Data payload) coming) other h)
       (next_of contact f payload calls coming h.transfer.file.identity h.transfer.from (take h.transfer.sent (payloads_in h.there h.transfer)) []
-          (λ e. let q : command.Data payload ∷ coming ≡ [] = e in cc) h.takes)
+      (λ e. let q : command.Data payload ∷ coming ≡ [] = e in cc) h.takes)
   | inr h ↦ data_links contact f payload r after calls coming other h.transfer.file.identity h.transfer.from (payloads_in h.there h.transfer) (command.Efid h.efid ∷ []) made come
       (end_feeds (to calls (Receiving contact f) (command.Data payload) coming) other h)
       (next_of contact f payload calls coming h.transfer.file.identity h.transfer.from (payloads_in h.there h.transfer) (command.Efid h.efid ∷ [])
-          (λ e. let q : command.Data payload ∷ coming ≡ command.Efid h.efid ∷ [] = e in cc) h.takes)
+      (λ e. let q : command.Data payload ∷ coming ≡ command.Efid h.efid ∷ [] = e in cc) h.takes)
 ]
 receive_links contact f r after (command.Efid efid) calls coming other sound holds made come s = elim (heard_file contact f (command.Efid efid) calls coming other s) [
   | inl h ↦ absurd (not_ended contact f efid calls coming h.transfer.file.identity h.transfer.from (take h.transfer.sent (payloads_in h.there h.transfer)) h.takes)

@@ -117,7 +117,7 @@ data_next contact r there f payload coming h = by_size (nat_lt contact.link.buff
   where
     by_window : (t : Taking) (full : Bool) → MayCome there (let s : Step =
         cond full (answers (Receiving contact (with_rows (with_payload f payload) (rows_to_keep f t))) (keeping f.number (rows_to_keep f t)) command.Cdt)
-            (quiet (Receiving contact (with_payload f payload))) in s).phase coming
+        (quiet (Receiving contact (with_payload f payload))) in s).phase coming
     by_window t true = h
     by_window t false = h
 

@@ -105,7 +105,7 @@ pub refusal_is_true : (r : Register) (sfid : Sfid) (full : Bool) (terms : Terms)
 refusal_is_true r sfid full terms reason retry h is =
     let same : reason ≡ DuplicateFile = duplicate reason is in
     received_found (offered_identity sfid) 1 r.incoming (duplicate_received sfid (look_in r (offered_identity sfid)) full terms retry
-        (h ∙ ap (λ x. let v : StartVerdict = start.Refuse x retry in v) same))
+    (h ∙ ap (λ x. let v : StartVerdict = start.Refuse x retry in v) same))
 
 -- EFPA is said of a whole file alone: the file that was closed.
 
@@ -122,9 +122,9 @@ closed_is_whole r s f rows sound holds h = by f.number holds.entry h
         let whole : c.new.state ≡ Whole = ap (λ (x : Incoming). x.state) (sym made.1) in
         let name : c.new.identity ≡ f.file.identity = closed_same rows c.old c.new c.done ∙ ap (λ (x : Incoming). x.identity) same in
         let once' : AreNamedOnce (map incoming_name part.0) = subst AreNamedOnce
-            (sym (at_number_same incoming_name (closed rows) (closed_same rows) (suc n) r.incoming part.0 part.1)) sound.incoming_once in
+        (sym (at_number_same incoming_name (closed rows) (closed_same rows) (suc n) r.incoming part.0 part.1)) sound.incoming_once in
         let found : named incoming_name f.file.identity part.0 ≡ Some c.new =
-            found_named incoming_name n part.0 c.new f.file.identity once' c.entry_now (ap (λ z. same_identity z f.file.identity) name ∙ same_self f.file.identity) in
+        found_named incoming_name n part.0 c.new f.file.identity once' c.entry_now (ap (λ z. same_identity z f.file.identity) name ∙ same_self f.file.identity) in
         subst (λ (z : Register). IsWholeAt z f.file.identity) part.2 (subst (λ o. Has o (λ (x : Incoming). x.state ≡ Whole)) (sym found) whole)
 
 -- SFID is said of a file of the station, with its header.

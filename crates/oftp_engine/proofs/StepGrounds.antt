@@ -148,8 +148,8 @@ close_grounds r there f sound sound' holds fit b x e =
     let format : t.format ≡ file.format = all.0 ∙ part.format in
     let longest : t.longest ≡ file.longest = all.1 ∙ part.longest in
     let rows' : AreRows t.format t.longest (drop f.from file.rows) =
-        subst (λ a. AreRows a t.longest (drop f.from file.rows)) (sym format)
-            (subst (λ l. AreRows file.format l (drop f.from file.rows)) (sym longest) (rows_from file.format file.longest f.from file.rows rows)) in
+    subst (λ a. AreRows a t.longest (drop f.from file.rows)) (sym format)
+    (subst (λ l. AreRows file.format l (drop f.from file.rows)) (sym longest) (rows_from file.format file.longest f.from file.rows rows)) in
     let every : f.payloads ≡ payloads_of t.format b.size (drop f.from file.rows) = sym (append-nil f.payloads) ∙ b.split ∙ ap (λ a. payloads_of a b.size (drop f.from file.rows)) (sym format) in
     let back = taken_back t [] b.size (drop f.from file.rows) b.room rows' (subst (Took t []) every holds.took) in
     let whole : f.file.rows ++ closed (rows_to_keep f t) t.tail ≡ file.rows = close_whole file.rows f.file.rows part.begins t.rows t.tail f.from holds.kept holds.most back.0 in

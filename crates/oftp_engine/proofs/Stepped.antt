@@ -112,14 +112,17 @@ stands_stepped w c step rest after e h s = by_over (is_over step.phase) refl
     one_on = record w.one { coming = rest; session = Some (advance c step) }
 
     over_case : (session : Option Course) → w.other.session ≡ session
-        → let v : World = record { one = stopped_with (record w.one { coming = rest }) (advance c step).register; other =
-        record w.other { coming = cond (is_some session) (with_said w.other.coming step.output) w.other.coming } } in Stands v
+        → let v : World = record {
+          one = stopped_with (record w.one { coming = rest }) (advance c step).register;
+          other =
+              record w.other { coming = cond (is_some session) (with_said w.other.coming step.output) w.other.coming };
+        } in Stands v
     over_case session is =
         built w (stopped_with (record w.one { coming = rest }) (advance c step).register) (cond (is_some session) (with_said w.other.coming step.output) w.other.coming) h
         (λ r q. subst IsSound (sym q) (sound (advance c step).register now)) h.one.room tt refl
         (λ r there q d. subst (λ x. BothFit x there) (sym q) (fits (advance c step).register there now d))
         (subst (λ o. MayComeTo o (cond (is_some session) (with_said w.other.coming step.output) w.other.coming)
-            (stopped_with (record w.one { coming = rest }) (advance c step).register)) (sym is) (come session is))
+        (stopped_with (record w.one { coming = rest }) (advance c step).register)) (sym is) (come session is))
         tt
       where
         come : (session : Option Course) → w.other.session ≡ session
@@ -128,8 +131,11 @@ stands_stepped w c step rest after e h s = by_over (is_over step.phase) refl
         come (Some d) k = λ there q. subst (λ x. MayCome x d.phase (with_said w.other.coming step.output)) (sym q) (comes d k (advance c step).register now)
 
     on_case : is_over step.phase ≡ false → (session : Option Course) → w.other.session ≡ session
-        → let v : World = record { one = record w.one { coming = rest; session = Some (advance c step) }; other =
-        record w.other { coming = cond (is_some session) (with_said w.other.coming step.output) w.other.coming } } in Stands v
+        → let v : World = record {
+          one = record w.one { coming = rest; session = Some (advance c step) };
+          other =
+              record w.other { coming = cond (is_some session) (with_said w.other.coming step.output) w.other.coming };
+        } in Stands v
     on_case on session is =
         built w (record w.one { coming = rest; session = Some (advance c step) }) (cond (is_some session) (with_said w.other.coming step.output) w.other.coming) h
         sound h.one.room
@@ -143,7 +149,7 @@ stands_stepped w c step rest after e h s = by_over (is_over step.phase) refl
         })
         (λ there d. s.next there d) fits
         (subst (λ o. MayComeTo o (cond (is_some session) (with_said w.other.coming step.output) w.other.coming) (record w.one { coming = rest; session = Some (advance c step) }))
-            (sym is) (come session is))
+        (sym is) (come session is))
         (subst (λ o. Meet (Some (advance c step)) rest o (cond (is_some session) (with_said w.other.coming step.output) w.other.coming)) (sym is) (meets session is))
       where
         come : (session : Option Course) → w.other.session ≡ session
@@ -156,7 +162,10 @@ stands_stepped w c step rest after e h s = by_over (is_over step.phase) refl
         meets (Some d) k = s.meet d k on
 
     by_over : (b : Bool) → is_over step.phase ≡ b → let v : World =
-        record { one = cond b (stopped_with (record w.one { coming = rest }) (advance c step).register) (record w.one { coming = rest; session = Some (advance c step) }); other =
-            told w.other step.output } in Stands v
+        record {
+          one = cond b (stopped_with (record w.one { coming = rest }) (advance c step).register) (record w.one { coming = rest; session = Some (advance c step) });
+          other =
+              told w.other step.output;
+        } in Stands v
     by_over true q = told_as w.other step.output (λ x. let v : World = record { one = stopped_with (record w.one { coming = rest }) (advance c step).register; other = x } in Stands v) over_case
     by_over false q = told_as w.other step.output (λ x. let v : World = record { one = record w.one { coming = rest; session = Some (advance c step) }; other = x } in Stands v) (on_case q)

@@ -103,11 +103,17 @@ response_links : (after : Register) (station : List ℕ) (contact : Contact) (e 
     → IsTold [] other → IsTrueOf after (response_of station e kind)
     → Links calls coming other (says (AwaitingRtr contact e.no) (response_of station e kind)) after
 response_links after station contact e EndResponse calls coming other none k true_of =
-    record { said = hears after other (response_of station e EndResponse) k (true_of, tt); meet =
-        λ _. inl (inl (none, response_of station e EndResponse, tt, told_now other (response_of station e EndResponse) k)) }
+    record {
+      said = hears after other (response_of station e EndResponse) k (true_of, tt);
+      meet =
+          λ _. inl (inl (none, response_of station e EndResponse, tt, told_now other (response_of station e EndResponse) k));
+    }
 response_links after station contact e NegativeEndResponse calls coming other none k true_of =
-    record { said = hears after other (response_of station e NegativeEndResponse) k (true_of, tt); meet =
-        λ _. inl (inl (none, response_of station e NegativeEndResponse, tt, told_now other (response_of station e NegativeEndResponse) k)) }
+    record {
+      said = hears after other (response_of station e NegativeEndResponse) k (true_of, tt);
+      meet =
+          λ _. inl (inl (none, response_of station e NegativeEndResponse, tt, told_now other (response_of station e NegativeEndResponse) k));
+    }
 
 item_links : (setting : Setting) (contact : Contact) (done : WhenDone) (after : Register) (i : Option Item) (calls : Bool) (coming : List Command) (other : Talk) → coming ≡ []
     → IsTold [] other → MayCome after other.phase other.coming
@@ -154,7 +160,7 @@ unfolding speaks
 speaks_links setting contact done r after calls coming other sound made none k come =
     let i = next_item r contact.code contact.tried contact.link.sends in
     subst (Links calls coming other (on_item setting contact done r i)) (sym (item_same setting contact done r after i made))
-        (item_links setting contact done r i calls coming other none k come (speaks_truly setting contact done r sound))
+    (item_links setting contact done r i calls coming other none k come (speaks_truly setting contact done r sound))
 
 pub turned_links : (setting : Setting) (p : Phase) (r after : Register) (calls : Bool) (coming : List Command) (other : Talk) → IsSound r → Holds p r → HasRoom p
     → Makes (turned setting p r).change r after

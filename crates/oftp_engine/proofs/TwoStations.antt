@@ -35,16 +35,16 @@ takes_link setting (SpeakerIdle contact done) r after c coming other sound holds
 takes_link setting (GivingWay contact) r after c coming other sound holds room made s come = idle_links r after c (is_some setting.called) coming other made come
 takes_link setting (AwaitingRtr contact number) r after c coming other sound holds room made s come =
     rtr_links contact number r after c (is_some setting.called) coming other sound made come
-        (mine (record { calls = is_some setting.called; phase = AwaitingRtr contact number; coming = c ∷ coming }) other (λ x. x) s)
+    (mine (record { calls = is_some setting.called; phase = AwaitingRtr contact number; coming = c ∷ coming }) other (λ x. x) s)
 takes_link setting (AwaitingStart contact offer) r after c coming other sound holds room made s come =
     start_answer_links contact offer r after c (is_some setting.called) coming other sound made come
-        (mine (record { calls = is_some setting.called; phase = AwaitingStart contact offer; coming = c ∷ coming }) other (λ x. x) s)
+    (mine (record { calls = is_some setting.called; phase = AwaitingStart contact offer; coming = c ∷ coming }) other (λ x. x) s)
 takes_link setting (Sending contact t) r after c coming other sound holds room made s come =
     sending_takes contact t r after c (is_some setting.called) coming other sound made come
-        (mine (record { calls = is_some setting.called; phase = Sending contact t; coming = c ∷ coming }) other (λ x. x) s)
+    (mine (record { calls = is_some setting.called; phase = Sending contact t; coming = c ∷ coming }) other (λ x. x) s)
 takes_link setting (AwaitingEnd contact t) r after c coming other sound holds room made s come =
     end_answer_links contact t r after c (is_some setting.called) coming other sound made come
-        (mine (record { calls = is_some setting.called; phase = AwaitingEnd contact t; coming = c ∷ coming }) other (λ x. x) s)
+    (mine (record { calls = is_some setting.called; phase = AwaitingEnd contact t; coming = c ∷ coming }) other (λ x. x) s)
 takes_link setting (EndedHere reason) r after c coming other sound holds room made s come =
     record { said = subst (λ x. MayCome x other.phase other.coming) (sym made) come; meet = λ o. absurd (true≢false o) }
 takes_link setting (EndedThere reason) r after c coming other sound holds room made s come =

@@ -42,9 +42,9 @@ pub fn no_count_passes()
 {}
 
 /// Two stations that only the connection joins keep their promise after every list of events: sessions, commands that come or are
-/// lost, breaks, stops and faults of an office at any change, and operators' calls. What the one holds as handed over is whole at the
-/// other, what is whole there is a file of the one, and what the one holds as delivered or returned was answered so there. It does
-/// nothing; its contract is the law.
+/// lost, breaks, stops and faults of an office at any change, and operators' calls. What the one holds as handed over is whole at
+/// the other, what is whole there is a file of the one, and what the one holds as delivered or returned was answered so there. It
+/// does nothing; its contract is the law.
 pub fn two_stations()
     ensures { TwoStations }
 {}

@@ -7,7 +7,8 @@ mod port;
 mod serving;
 
 pub use laws::{
-    changes_are_made, folds_over_frames, jobs_make_the_file, no_count_passes, parts_make_the_file, two_stations,
+    changes_are_made, folds_over_frames, jobs_make_the_file, no_count_passes, parts_make_the_file,
+    two_stations,
 };
 pub use operating::{Operator, Refusal, Told, operate};
 pub use port::Port;
