@@ -1,5 +1,5 @@
 -- Each change that rests on its grounds keeps the files of two stations fitting.
-use Rattle.std.proofs.Common.{◌≡◌, ℕ, Bool, true, false, ◌||◌, ◌&&◌, nat_le, List, [], ◌++◌, length, Option, None, Some, Ok, refl, ap, sym, ◌∙◌, subst, inl, inr}
+use Rattle.std.proofs.Common.{◌≡◌, ℕ, true, false, ◌||◌, ◌&&◌, nat_le, List, [], ◌++◌, length, Option, None, Some, Ok, refl, ap, sym, ◌∙◌, subst, inl, inr}
 use Rattle.std.proofs.lemmas.Bool.{cases_Bool, and_parts, false≢true}
 use Rattle.std.proofs.lemmas.List.{append-nil}
 use Rattle.oftp_register.specs.declared.entry.IncomingState.{IncomingState}
@@ -11,7 +11,7 @@ use Rattle.oftp_register.specs.declared.entry.ResponseKind.TheVariants.{EndRespo
 use Rattle.oftp_register.specs.declared.entry.Dispatch.{Dispatch}
 use Rattle.oftp_register.specs.declared.entry.Dispatch.TheVariants.{Due, Sent}
 use Rattle.oftp_register.specs.Register.{Incoming, Outgoing, Issued}
-use Rattle.oftp_register.specs.Changes.{if_open, answered, answered_as, issued, issued_on, if_unanswered, sent, sent_of, sent_as, is_waiting, is_closing, if_allowed, marked, closing, handed, refused, reopened}
+use Rattle.oftp_register.specs.Changes.{answered, answered_as, issued, issued_on, if_unanswered, sent, sent_as, is_waiting, is_closing, marked, closing, handed, refused, reopened}
 use Rattle.oftp_register.proofs.IncomingLemmas.{issued_on_ok, sent_of_ok}
 use Rattle.oftp_register.proofs.OutgoingLemmas.{allowed_ok}
 use Rattle.oftp_engine.proofs.PartRows.{cut_begins}

@@ -1,10 +1,8 @@
 -- Each change that rests on its grounds keeps the files of two stations fitting: whole registers.
-use Rattle.std.proofs.Common.{◌≡◌, ℕ, Bool, true, false, cond, nat_le, List, [], ◌∷◌, ◌++◌, length, map, All, Option, None, Some, is_some, Result, Ok, Err, refl, ap, sym, ◌∙◌, subst, inl, inr}
-use Rattle.std.proofs.lemmas.Bool.{cases_Bool, cond-true, cond-false, false≢true}
-use Rattle.std.proofs.lemmas.List.Elements.{All-head, All-tail}
+use Rattle.std.proofs.Common.{◌≡◌, ℕ, Bool, true, false, cond, [], ◌++◌, Option, None, Some, is_some, Result, Ok, refl, ap, sym, ◌∙◌, subst}
+use Rattle.std.proofs.lemmas.Bool.{false≢true}
 use Rattle.std.specs.Option.{option_map}
 use Rattle.oftp_register.specs.declared.change.Cause.{Cause}
-use Rattle.oftp_register.specs.declared.change.Cause.TheVariants.{Full, Duplicate}
 use Rattle.oftp_register.specs.declared.change.Change.{Change}
 use Rattle.oftp_register.specs.declared.change.Change.TheVariants as change
 use Rattle.oftp_register.specs.declared.entry.Identity.{Identity}
@@ -13,15 +11,15 @@ use Rattle.oftp_register.specs.declared.entry.IncomingState.TheVariants.{Open, W
 use Rattle.oftp_register.specs.declared.entry.OutgoingState.TheVariants.{Waiting}
 use Rattle.oftp_register.specs.declared.entry.ResponseKind.{ResponseKind}
 use Rattle.oftp_register.specs.declared.entry.Dispatch.TheVariants.{Due}
-use Rattle.oftp_register.specs.Register.{Register, Incoming, Outgoing, Issued, Received, same_identity, has_received}
-use Rattle.oftp_register.specs.Changes.{apply, at_number, on_incoming, on_outgoing, is_outgoing, submitted, started, started_in, kept, closed, given_up, answered, settled, filed, issued, sent, marked, closing, handed, refused, reopened}
+use Rattle.oftp_register.specs.Register.{Register, Incoming, Outgoing, Issued, Received, same_identity}
+use Rattle.oftp_register.specs.Changes.{apply, at_number, on_incoming, on_outgoing, submitted, started, started_in, kept, closed, given_up, answered, settled, filed, issued, sent, marked, closing, handed, refused, reopened}
 use Rattle.oftp_register.specs.Soundness.{IsSound, IsSoundIncoming, IsAnsweredWhole}
 use Rattle.oftp_register.specs.LookUps.{entry_at}
 use Rattle.oftp_register.proofs.NameLemmas.{same_identity-true}
-use Rattle.oftp_register.proofs.NumberLemmas.{mapped_ok, one_result, not_both}
+use Rattle.oftp_register.proofs.NumberLemmas.{mapped_ok}
 use Rattle.oftp_register.proofs.IncomingLemmas.{kept_same, closed_same, given_up_same, issued_same, sent_same, if_open_ok}
 use Rattle.oftp_register.proofs.OutgoingLemmas.{marked_same, closing_same, handed_same, refused_same, reopened_same}
-use Rattle.oftp_register.specs.ByIdentity.{or_else, out_at, in_at, named, incoming_name, outgoing_name}
+use Rattle.oftp_register.specs.ByIdentity.{or_else, out_at, in_at, incoming_name, outgoing_name}
 use Rattle.oftp_engine.specs.TwoStations.{Has, is_handed, IsAnsweredBy}
 use Rattle.oftp_vfile.specs.VirtualFile.{BeginsWith}
 use Rattle.oftp_engine.specs.Standing.{Fits, AllFit}

@@ -9,7 +9,7 @@ use Rattle.oftp_register.specs.declared.entry.IncomingState.{IncomingState}
 use Rattle.oftp_register.specs.declared.entry.IncomingState.TheVariants.{Open, Whole}
 use Rattle.oftp_register.specs.declared.entry.OutgoingState.TheVariants.{Waiting, Closing, Handed, Refused}
 use Rattle.oftp_register.specs.declared.entry.ResponseKind.{ResponseKind}
-use Rattle.oftp_register.specs.declared.entry.Dispatch.TheVariants.{Due, Sent}
+use Rattle.oftp_register.specs.declared.entry.Dispatch.TheVariants.{Due}
 use Rattle.oftp_register.specs.Register.{Register, Incoming, Outgoing, Issued, Received, same_identity}
 use Rattle.oftp_register.specs.Changes.{apply, at_number, on_incoming, on_outgoing, started, started_in, if_open, kept, closed, given_up, answered, settled, issued, sent, is_waiting, is_closing, if_allowed, marked, closing, handed, refused, reopened}
 use Rattle.oftp_register.specs.Soundness.{IsSound}

@@ -1,19 +1,16 @@
 -- What is left to show of the steps: of one session by itself, and of the link between two.
-use Rattle.std.proofs.Common.{◌≡◌, ◌≤◌, false, List, ◌∷◌, Option, None, Some, refl, sym, subst}
+use Rattle.std.proofs.Common.{◌≡◌, false, List, ◌∷◌, Some, subst}
 use Rattle.oftp_wire.specs.declared.command.Command.{Command}
 use Rattle.oftp_register.specs.Register.{Register}
-use Rattle.oftp_register.specs.Soundness.{IsSound}
-use Rattle.oftp_session.specs.Settings.{Setting}
 use Rattle.oftp_session.specs.Calls.{Proceeds}
 use Rattle.oftp_session.specs.Phases.{Step, is_over, register_after}
 use Rattle.oftp_session.proofs.Proceeding.{came_proceeds, turned_proceeds}
-use Rattle.oftp_session.specs.Steps.{came, turned, Holds}
+use Rattle.oftp_session.specs.Steps.{came, turned}
 use Rattle.oftp_engine.specs.Runs.{Course, advance}
 use Rattle.oftp_engine.specs.World.{World}
 use Rattle.oftp_engine.specs.TwoStations.{IfAny}
-use Rattle.oftp_engine.specs.Standing.{HasRoom, Stands, IsInSession, LeftBy, Leaves, MayCome, MayComeTo, Meet}
+use Rattle.oftp_engine.specs.Standing.{HasRoom, Stands, IsInSession, Leaves, MayCome, MayComeTo, Meet}
 use Rattle.oftp_engine.specs.Promise.{TwoStations}
-use Rattle.oftp_session.specs.Calls.{Makes}
 use Rattle.oftp_engine.proofs.Events.{at_session}
 use Rattle.oftp_engine.proofs.Stepped.{with_said}
 use Rattle.oftp_engine.proofs.Room.{came_room, turned_room}

@@ -1,7 +1,7 @@
 -- Over a run, and over jobs in turn, a file that comes in parts is what its parts carry.
-use Rattle.std.proofs.Common.{◌≡◌, ◌⊎◌, ℕ, zero, suc, ◌+◌, ◌<◌, ◌≤◌, ◌&&◌, ◌||◌, not, Bool, true, false, cond, List, [], ◌∷◌, ◌++◌, length, take, Option, None, Some, Result, Ok, Err, refl, ap, sym, ◌∙◌, subst, inl, inr, arith, length-append}
-use Rattle.std.specs.Prelude.{⊤, codes, nat_le}
-use Rattle.std.proofs.lemmas.Bool.{cases_Bool, cases_lt}
+use Rattle.std.proofs.Common.{◌≡◌, ℕ, zero, suc, ◌+◌, ◌≤◌, ◌&&◌, ◌||◌, not, Bool, true, false, cond, List, [], ◌∷◌, ◌++◌, length, take, Option, None, Some, Result, Ok, Err, refl, ap, sym, ◌∙◌, subst, inl, inr, arith, length-append}
+use Rattle.std.specs.Prelude.{codes, nat_le}
+use Rattle.std.proofs.lemmas.Bool.{cases_lt}
 use Rattle.std.proofs.lemmas.List.{take-append-le, take_all}
 use Rattle.oftp_wire.specs.Kinds.{command_of}
 use Rattle.oftp_wire.specs.Reasons.{reason_of}
@@ -27,7 +27,7 @@ use Rattle.oftp_register.proofs.KeepLemmas.{apply_keeps}
 use Rattle.oftp_register.proofs.NumberLemmas.{mapped_ok, one_result}
 use Rattle.oftp_session.specs.Settings.{Setting}
 use Rattle.oftp_session.specs.Phases.{Step, fails, is_over, register_after}
-use Rattle.oftp_session.specs.Steps.{Suits, came, has_turn, opening, turned, turns_due}
+use Rattle.oftp_session.specs.Steps.{Suits, has_turn, opening, turned, turns_due}
 use Rattle.oftp_session.specs.Calls.{Allows, Makes, Proceeds}
 use Rattle.oftp_session.proofs.Phases.{opening_suits}
 use Rattle.oftp_session.proofs.Proceeding.{turned_proceeds}
@@ -35,13 +35,13 @@ use Rattle.oftp_engine.specs.declared.operating.Operator.{Operator}
 use Rattle.oftp_engine.specs.declared.operating.Operator.TheVariants as operator
 use Rattle.oftp_engine.specs.declared.operating.Refusal.TheVariants.{Field}
 use Rattle.oftp_engine.specs.Frames.{at_rest, over_commands}
-use Rattle.oftp_engine.specs.Operating.{Deed, IsDeed, decided, makes, refuses, refused, released}
+use Rattle.oftp_engine.specs.Operating.{Deed, IsDeed, decided, makes, refuses}
 use Rattle.oftp_engine.specs.Parts.{AreParts, BringsParts, File, IsLeft, IsOpenWith, IsPart, IsSoFar, Job, JobsMakeTheFile, LeaveAll, Leaves, MayDo, NoCountPasses, Operates, PartsMakeTheFile, Serves, Session, course_of, rows_of}
 use Rattle.oftp_engine.specs.Runs.{Course, advance, came_in, is_stopped, refusal, settled, started, step_on, turned_in, turns, with_change}
 use Rattle.oftp_engine.specs.Serving.{Sound}
 use Rattle.oftp_engine.proofs.Courses.{grows_step}
 use Rattle.oftp_engine.proofs.Folding.{folds_all}
-use Rattle.oftp_engine.proofs.PartChanges.{PartGrounds, part_change}
+use Rattle.oftp_engine.proofs.PartChanges.{part_change}
 use Rattle.oftp_engine.proofs.PartSteps.{IsPartPhase, IsPartStep, StepGrounds, came_part, turned_part}
 use Rattle.oftp_engine.proofs.Phases.{fails_proceed, step_proceeds}
 

@@ -1,18 +1,18 @@
 -- The promise follows from the invariant, and the invariant holds at first.
-use Rattle.std.proofs.Common.{◌≡◌, ℕ, ◌≤◌, List, [], ◌∷◌, length, take, Option, None, Some, refl, ap, sym, ◌∙◌, subst, arith}
+use Rattle.std.proofs.Common.{◌≡◌, ◌≤◌, List, [], ◌∷◌, Option, None, Some, refl, sym, ◌∙◌, subst}
 use Rattle.std.proofs.lemmas.Bool.{false≢true}
 use Rattle.std.proofs.lemmas.List.Elements.{All-nil}
 use Rattle.oftp_partners.specs.Book.{BookData}
 use Rattle.oftp_partners.specs.declared.partner.Partner.{Partner}
 use Rattle.oftp_vfile.specs.declared.format.Limits.{Limits}
-use Rattle.oftp_register.specs.declared.entry.IncomingState.TheVariants.{Open, Whole}
+use Rattle.oftp_register.specs.declared.entry.IncomingState.TheVariants.{Whole}
 use Rattle.oftp_register.specs.Register.{Register, Incoming, Outgoing, empty}
 use Rattle.oftp_register.specs.declared.fit.TheConstants.{MOST_FILES, MOST_OCTETS}
 use Rattle.oftp_register.specs.Soundness.{IsSound, IsSoundIncoming, IsSoundOutgoing, IsSoundReceived}
 use Rattle.oftp_engine.specs.Runs.{Course}
 use Rattle.oftp_engine.specs.World.{Station, World, Event, register_in, register_of, after_event, after_events}
 use Rattle.oftp_register.specs.ByIdentity.{out_at, in_at}
-use Rattle.oftp_engine.specs.TwoStations.{Has, IfAny, IsContent, IsAnswered, IsWholeOf, ContentArrives, ResponsesAreIssued}
+use Rattle.oftp_engine.specs.TwoStations.{IfAny, IsContent, IsAnswered, IsWholeOf, ContentArrives, ResponsesAreIssued}
 use Rattle.oftp_engine.specs.Standing.{Fits, AllFit, IsPartOf, Stands, IsInSession, IsSoundStation, Leaves, LeftBy}
 use Rattle.oftp_engine.specs.Promise.{ContentIsKept, ResponsesAreKept, IsLawful, world_of, new_station, TwoStations, KeepsStanding}
 use Rattle.oftp_engine.proofs.Fitting.{not_handed}

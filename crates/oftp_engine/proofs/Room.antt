@@ -4,7 +4,6 @@ use Rattle.std.proofs.lemmas.Bool.{ltb-false, or_parts}
 use Rattle.std.specs.Str.{bytes_eq}
 use Rattle.oftp_wire.specs.declared.command.Command.{Command}
 use Rattle.oftp_wire.specs.declared.command.Command.TheVariants as command
-use Rattle.oftp_wire.specs.declared.command.Efid.{Efid}
 use Rattle.oftp_wire.specs.declared.command.Mode.{Mode}
 use Rattle.oftp_wire.specs.declared.command.Sfid.{Sfid}
 use Rattle.oftp_wire.specs.declared.command.Ssid.{Ssid}

@@ -7,7 +7,7 @@ use Rattle.oftp_wire.specs.declared.command.Command.{Command}
 use Rattle.oftp_register.specs.declared.change.Change.{Change}
 use Rattle.oftp_register.specs.declared.change.Cause.{Cause}
 use Rattle.oftp_register.specs.Register.{Register}
-use Rattle.oftp_register.specs.Changes.{apply, apply_all, go_on_by}
+use Rattle.oftp_register.specs.Changes.{apply_all, go_on_by}
 use Rattle.oftp_register.proofs.PrefixLemmas.{apply_all-push}
 use Rattle.oftp_session.specs.Calls.{Makes}
 use Rattle.oftp_session.specs.Phases.{Step, register_after, frame_of}

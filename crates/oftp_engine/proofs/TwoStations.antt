@@ -1,5 +1,5 @@
 -- The promise of two stations: of commands that come, each of the two goes on, and they meet again.
-use Rattle.std.proofs.Common.{◌≡◌, ◌≤◌, List, ◌∷◌, Some, is_some, refl, sym, subst}
+use Rattle.std.proofs.Common.{◌≡◌, List, ◌∷◌, Some, is_some, sym, subst}
 use Rattle.std.proofs.lemmas.Bool.{true≢false}
 use Rattle.oftp_wire.specs.declared.command.Command.{Command}
 use Rattle.oftp_register.specs.Register.{Register}
