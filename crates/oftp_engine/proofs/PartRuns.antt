@@ -29,7 +29,6 @@ use Rattle.oftp_session.specs.Settings.{Setting}
 use Rattle.oftp_session.specs.Phases.{Step, fails, is_over, register_after}
 use Rattle.oftp_session.specs.Steps.{Suits, has_turn, opening, turned, turns_due}
 use Rattle.oftp_session.specs.Calls.{Allows, Makes, Proceeds}
-use Rattle.oftp_session.proofs.Phases.{opening_suits}
 use Rattle.oftp_session.proofs.Proceeding.{turned_proceeds}
 use Rattle.oftp_engine.specs.declared.operating.Operator.{Operator}
 use Rattle.oftp_engine.specs.declared.operating.Operator.TheVariants as operator
@@ -39,7 +38,7 @@ use Rattle.oftp_engine.specs.Operating.{Deed, IsDeed, decided, makes, refuses}
 use Rattle.oftp_engine.specs.Parts.{AreParts, BringsParts, File, IsLeft, IsOpenWith, IsPart, IsSoFar, Job, JobsMakeTheFile, LeaveAll, Leaves, MayDo, NoCountPasses, Operates, PartsMakeTheFile, Serves, Session, course_of, rows_of}
 use Rattle.oftp_engine.specs.Runs.{Course, advance, came_in, is_stopped, refusal, settled, started, step_on, turned_in, turns, with_change}
 use Rattle.oftp_engine.specs.Serving.{Sound}
-use Rattle.oftp_engine.proofs.Courses.{grows_step}
+use Rattle.oftp_engine.proofs.Courses.{grows_step, sound_start}
 use Rattle.oftp_engine.proofs.Folding.{folds_all}
 use Rattle.oftp_engine.proofs.PartChanges.{part_change}
 use Rattle.oftp_engine.proofs.PartSteps.{IsPartPhase, IsPartStep, StepGrounds, came_part, turned_part}
@@ -162,7 +161,7 @@ module _ (file : File) (identity : Identity) (start : Register) where
 -- a session before its first step
 first_course : (file : File) (identity : Identity) (setting : Setting) (r : Register) → IsSoIn file identity r → IsPartCourse file identity r (started setting r)
 first_course file identity setting r so = record {
-  sound = record { replay = refl; counted = tt; suits = opening_suits r setting.called so.sound };
+  sound = sound_start setting r so.sound;
   phase = first_phase setting.called;
   before = none;
 }

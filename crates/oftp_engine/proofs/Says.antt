@@ -20,7 +20,6 @@ use Rattle.oftp_register.specs.declared.entry.ResponseKind.{ResponseKind}
 use Rattle.oftp_register.specs.declared.entry.ResponseKind.TheVariants.{EndResponse, NegativeEndResponse}
 use Rattle.oftp_register.specs.declared.entries.IncomingEntry.{IncomingEntry}
 use Rattle.oftp_register.specs.declared.entries.IssuedEntry.{IssuedEntry}
-use Rattle.oftp_register.specs.declared.entries.OutgoingEntry.{OutgoingEntry}
 use Rattle.oftp_register.specs.declared.entries.Item.{Item}
 use Rattle.oftp_register.specs.declared.entries.Item.TheVariants as item
 use Rattle.oftp_register.specs.declared.verdicts.Terms.{Terms}
@@ -29,7 +28,7 @@ use Rattle.oftp_register.specs.declared.verdicts.StartVerdict.TheVariants as sta
 use Rattle.oftp_register.specs.Register.{Register, Incoming, Outgoing, Issued, same_identity}
 use Rattle.oftp_register.specs.Changes.{at_number, closed, on_incoming}
 use Rattle.oftp_register.specs.Verdicts.{start_verdict, format_of, longest_of, has_length, is_plain, is_empty, is_received, is_whole, restart_position}
-use Rattle.oftp_register.specs.LookUps.{entry_at, incoming_entry, issued_entry, issued_response, numbered, look_in, next_item, next_response, item_of}
+use Rattle.oftp_register.specs.LookUps.{entry_at, incoming_entry, issued_entry, issued_response, numbered, look_in, next_item, next_response}
 use Rattle.oftp_register.specs.Soundness.{IsSound, IsSoundOutgoing, AreNamedOnce}
 use Rattle.oftp_register.proofs.NumberLemmas.{at_number_same, mapped_ok}
 use Rattle.oftp_register.proofs.IncomingLemmas.{closed_same, if_open_ok}
@@ -42,6 +41,7 @@ use Rattle.oftp_session.specs.Listener.{end_response, negative_end_response}
 use Rattle.oftp_session.specs.Receiving.{offered_identity}
 use Rattle.oftp_session.specs.Speaker.{nothing_next, layout_of, sfid_of, response_of, on_item, offers, speaks, offered_from}
 use Rattle.oftp_session.specs.Steps.{IsReceived}
+use Rattle.oftp_session.proofs.Items.{a_response}
 use Rattle.oftp_register.specs.ByIdentity.{out_at, in_at, named, incoming_name, outgoing_name}
 use Rattle.oftp_engine.specs.TwoStations.{Has, IfAny, IsAnsweredBy}
 use Rattle.oftp_engine.specs.Standing.{IsOfferOf, IsIssuedBy, IsWholeAt}
@@ -205,12 +205,6 @@ nothing_is_true : (contact : Contact) (done : WhenDone) (r : Register) → IfAny
 nothing_is_true contact ChangeDirection r = tt
 nothing_is_true contact EndSession r = tt
 
-next_is_issued : (found : Option IssuedEntry) (file : Option OutgoingEntry) (e : IssuedEntry) → item_of found file ≡ Some (item.Response e) → found ≡ Some e
-next_is_issued (Some x) file e h = (let q : (let i : Item = item.Response x in Some i) ≡ Some (item.Response e) = h in let d : (let i : Item = item.Response x in i) ≡ item.Response e =
-    cc in let same : x ≡ e = cc in ap (λ y. let o : Option IssuedEntry = Some y in o) same)
-next_is_issued None (Some f) e h = absurd (let q : (let i : Item = item.File f in Some i) ≡ Some (item.Response e) = h in cc)
-next_is_issued None None e h = absurd (cc)
-
 item_is_true : (setting : Setting) (contact : Contact) (done : WhenDone) (r : Register) (i : Option Item) → IsSound r
     → ((e : IssuedEntry) → i ≡ Some (item.Response e) → IsIssuedEntry r.incoming e) → IfAny (on_item setting contact done r i).output (IsTrueOf r)
 item_is_true setting contact done r (Some (item.Response e)) sound h = response_is_true setting.book.station.code r e e.response.kind refl (issued_at r e sound (h e refl))
@@ -225,4 +219,4 @@ pub speaks_truly : (setting : Setting) (contact : Contact) (done : WhenDone) (r 
 unfolding speaks
 speaks_truly setting contact done r sound =
     item_is_true setting contact done r (next_item r contact.code contact.tried contact.link.sends) sound
-    (λ e h. issued_found _ 1 r.incoming e (next_is_issued (next_response r contact.code contact.tried.response) _ e h))
+    (λ e h. issued_found _ 1 r.incoming e (a_response (next_response r contact.code contact.tried.response) _ e h))

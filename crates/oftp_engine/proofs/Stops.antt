@@ -1,5 +1,5 @@
 -- Which registers a stop may leave after a step: the one after it, and, where nothing was said, those before.
-use Rattle.std.proofs.Common.{◌≡◌, ◌⊎◌, ℕ, zero, suc, ◌<◌, ◌≤◌, List, [], ◌∷◌, ◌++◌, length, take, fold, Option, None, Some, Result, Ok, Err, refl, ap, sym, ◌∙◌, inl, inr, arith}
+use Rattle.std.proofs.Common.{◌≡◌, ◌⊎◌, ℕ, zero, suc, ◌<◌, ◌≤◌, List, [], ◌∷◌, ◌++◌, length, take, fold, Option, None, Some, Result, Ok, Err, refl, ap, sym, ◌∙◌, subst, inl, inr, arith}
 use Rattle.std.proofs.lemmas.List.{length-append, take_all, take-append-le}
 use Rattle.std.proofs.lemmas.Bool.{cases_lt}
 use Rattle.std.specs.Result.{result_unwrap_or}
@@ -8,12 +8,12 @@ use Rattle.oftp_register.specs.declared.change.Change.{Change}
 use Rattle.oftp_register.specs.declared.change.Cause.{Cause}
 use Rattle.oftp_register.specs.Register.{Register}
 use Rattle.oftp_register.specs.Changes.{apply_all, go_on_by}
-use Rattle.oftp_register.proofs.PrefixLemmas.{apply_all-push}
 use Rattle.oftp_session.specs.Calls.{Makes}
 use Rattle.oftp_session.specs.Phases.{Step, register_after, frame_of}
 use Rattle.oftp_engine.specs.Runs.{Course, Output, advance, with_change, with_output}
 use Rattle.oftp_engine.specs.World.{latest}
 use Rattle.oftp_engine.specs.Standing.{MayLeave}
+use Rattle.oftp_engine.proofs.Courses.{more_changes, replay_step}
 
 -- a fold over one element more
 fold_push : {A B : Type 0} (f : B → A → B) (b : B) (xs : List A) (x : A) → fold f b (xs ++ x ∷ []) ≡ f (fold f b xs) x
@@ -50,11 +50,8 @@ made_after r (Some k) after h = ap (λ (x : Result Register Cause). result_unwra
 pub replay_next : (start : Register) (c : Course) (step : Step) (after : Register) → apply_all start c.changes ≡ Ok c.register → Makes step.change c.register after
     → apply_all start (advance c step).changes ≡ Ok (advance c step).register
 unfolding advance
-replay_next start c step after h made = by step.change made
-  where
-    by : (change : Option Change) → Makes change c.register after → apply_all start (with_change c.changes change) ≡ Ok (register_after c.register change)
-    by None m = h
-    by (Some k) m = apply_all-push start c.register c.changes k h ∙ m ∙ ap (λ (x : Register). let y : Result Register Cause = Ok x in y) (sym (made_after c.register (Some k) after m))
+replay_next start c step after h made =
+    replay_step start c.register c.changes step.change h (subst (Makes step.change c.register) (sym (made_after c.register step.change after made)) made)
 
 -- after a step a stop leaves the register after it, or, where nothing was said, one that it might have left before
 pub leaves_next : (start : Register) (c : Course) (step : Step) (after r : Register) → latest c.outputs ≤ length c.changes → apply_all start c.changes ≡ Ok c.register
@@ -116,12 +113,8 @@ latest_next start c step after few h made = record {
       ∙ ap (λ (x : Result Register Cause). result_unwrap_or x (register_after c.register step.change)) (replay_next start c step after h made));
 }
   where
-    grown : (change : Option Change) → length c.changes ≤ length (with_change c.changes change)
-    grown None = omega arith
-    grown (Some k) = omega (arith, length-append c.changes (k ∷ []))
-
     by_output : (output : Option Command) → latest (with_output c.outputs output (length (with_change c.changes step.change))) ≤ length (with_change c.changes step.change)
-    by_output None = let g = grown step.change in omega (arith, few, g)
+    by_output None = let g = more_changes c.changes step.change in omega (arith, few, g)
     by_output (Some command) =
         let n = length (with_change c.changes step.change) in
         let o : Output = record { octets = frame_of command; after = n } in
