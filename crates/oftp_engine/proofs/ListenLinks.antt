@@ -35,7 +35,7 @@ use Rattle.oftp_session.specs.Opening.{offer_step as offers_session}
 use Rattle.oftp_session.specs.Opening.{Agreement, came_initiator_opening, came_awaiting_ssid, opened_step, open_step, ssid_verdict, contact_of, answering_ssid, calling_ssid}
 use Rattle.oftp_session.specs.Listener.{came_listener_idle, response_step, filing, is_between, end_response, negative_end_response}
 use Rattle.oftp_vfile.specs.Reading.{taken}
-use Rattle.oftp_session.specs.Receiving.{offer_step, on_start_verdict, offered_identity, receipt_of, verdict_on, carried_by, rows_to_keep, keeping, with_payload, with_rows, on_taken, data_step, on_end_verdict, end_step, came_receiving, is_window_full, asks_to_speak}
+use Rattle.oftp_session.specs.Receiving.{terms_within, offer_step, on_start_verdict, offered_identity, receipt_of, verdict_on, carried_by, rows_to_keep, keeping, with_payload, with_rows, on_taken, data_step, on_end_verdict, end_step, came_receiving, is_window_full, asks_to_speak}
 use Rattle.oftp_session.specs.Sending.{payloads_in}
 use Rattle.oftp_session.specs.Steps.{IsReceived}
 use Rattle.oftp_engine.specs.Standing.{MayCome, MayCredit, MayAnswerStart, MayAnswerEnd, IsWholeAt, IsOpening, IsTold, IsTaking, IsCredit, IsResponseCommand, IsEndAnswer, OpensWith, Speaks, Talk}
@@ -198,8 +198,7 @@ offer_links setting contact r after sfid calls coming other made h = by (verdict
                   receipt = receipt_of r sfid count;
                   takes = refl;
                   same = named;
-                  from_row =
-                      refl;
+                  from_row = refl;
                   on_the_way = [];
                   told = h.alone;
                   all = refl;
@@ -210,7 +209,7 @@ offer_links setting contact r after sfid calls coming other made h = by (verdict
         let answer : Command = command.Sfna (record { reason = start_number reason; retry = retry; text = [] }) in
         let is_true : start_number reason ≡ 13 → IsWholeAt after h.offer.file.identity =
         λ e. subst (IsWholeAt after) named (subst (λ x. IsWholeAt x (offered_identity sfid)) (sym m)
-        (refusal_is_true r sfid (files_full r side.Incoming) (terms_of setting contact r) reason retry v e)) in record {
+        (refusal_is_true r sfid (files_full r side.Incoming) (terms_within setting contact r.limits) reason retry v e)) in record {
           said = subst (λ p. MayCome after p (other.coming ++ answer ∷ [])) (sym h.awaits) (subst (λ x. MayAnswerStart after h.offer.file (x ++ answer ∷ [])) (sym h.none) (is_true, tt));
           meet = λ _. inr (subst (λ p. Speaks (now_with other (other.coming ++ answer ∷ [])) p (record { calls = calls; phase = ListenerIdle contact; coming = coming })) (sym h.awaits)
               (inr (inr (_, ap (λ x. x ++ answer ∷ []) h.none, record { contact = contact; listens = refl; told = h.alone }))));
