@@ -1,7 +1,8 @@
 -- From a commit and a line to what an operator's call does.
-use Rattle.std.proofs.Common.{◌≡◌, ◌∙◌, ◌⊎◌, inl, inr, ap, sym, subst, refl, arith, ℕ, ◌<◌, ◌≤◌, ◌&&◌, nat_le, codes, true, false, List, [], length, take, Option, None, Some, Result, Ok, Err, is_ok}
+use Rattle.std.proofs.Common.{◌≡◌, ◌∙◌, inl, inr, ap, sym, subst, refl, arith, ℕ, ◌<◌, ◌≤◌, ◌&&◌, nat_le, codes, true, List, [], length, take, Option, Some, Result, Ok, Err, is_ok}
 use Rattle.std.proofs.lemmas.Bool.{and_from, cond-true, false≢true, le-leb}
 use Rattle.std.specs.Result.{IfErr, IfOk}
+use Rattle.oftp_partners.specs.Book.{BookData}
 use Rattle.oftp_register.specs.declared.change.Cause.{Cause}
 use Rattle.oftp_register.specs.declared.change.Change.{Change}
 use Rattle.oftp_register.specs.declared.change.Change.TheVariants as change
@@ -21,9 +22,9 @@ use Rattle.oftp_engine.specs.declared.port.Port.{Port}
 use Rattle.oftp_engine.specs.declared.serving.RunFault.{RunFault}
 use Rattle.oftp_engine.specs.declared.serving.RunFault.TheVariants as fault
 use Rattle.oftp_engine.specs.Ports.{Sent}
-use Rattle.oftp_engine.specs.Serving.{Scene, Took, scene}
+use Rattle.oftp_engine.specs.Serving.{Took, scene}
 use Rattle.oftp_engine.specs.Operating.{Deed, IsDeed, decided, makes, refused, released, verb_of}
-use Rattle.oftp_engine.specs.Operated.{Attempts, AttemptsErr, Operates, OperatesErr, came_out, line_as, told_as}
+use Rattle.oftp_engine.specs.Operated.{Attempts, AttemptsErr, MayFail, Operates, OperatesErr, came_out, line_as, told_as}
 use Rattle.oftp_engine.proofs.Bytes.{appends_none}
 
 -- a change that is refused leaves the register alone
@@ -115,11 +116,11 @@ module _ (old new : View) (n reason : ℕ) (text : List ℕ) (result : Result Ou
       (sym (cond-true (nat_le given 99 && nat_le (length words) 999) _ _ within)) as_given
 
 -- the line of what the office decided
-module _ {W : Type 0} (contents : W → Option (List ℕ)) (a d : Port W) (x y : View) (call : Operator) where
+module _ {W : Type 0} (contents : W → Option (List ℕ)) (a d : Port W) (x y : View) (book : BookData) (call : Operator) where
   pub operated : (outcome : Outcome) (result : Result Told RunFault) → (y.stands → Only y.register y)
-      → Attempts (verb_of call) (IsDeed x.register call) x y (let r : Result Outcome RunFault = Ok outcome in r)
+      → Attempts (verb_of call) (IsDeed book x.register call) x y (let r : Result Outcome RunFault = Ok outcome in r)
       → Sent contents a d (line_as (verb_of call) outcome) (is_ok result) → IfOk result (λ t. t ≡ told_as outcome) → IfErr result (λ f. f ≡ fault.Write)
-      → Operates call (scene contents x a) (scene contents y d) result
+      → Operates book call (scene contents x a) (scene contents y d) result
   operated outcome (Ok told) alone decided sent is err = (
     decided.0,
     decided.1,
@@ -133,7 +134,7 @@ module _ {W : Type 0} (contents : W → Option (List ℕ)) (a d : Port W) (x y :
       unfailed = sent.faults;
     },
   )
-  operated outcome (Err f) alone decided sent is err = subst (OperatesErr call (scene contents x a) (scene contents y d)) (sym err) (
+  operated outcome (Err f) alone decided sent is err = subst (OperatesErr book call (scene contents x a) (scene contents y d)) (sym err) (
     decided.0,
     decided.1,
     record {
@@ -149,16 +150,27 @@ module _ {W : Type 0} (contents : W → Option (List ℕ)) (a d : Port W) (x y :
     },
   )
 
--- a fault of the office, before any line
-pub undecided : {W : Type 0} (contents : W → Option (List ℕ)) (a : Port W) (x y : View) (call : Operator) (result : Result Told RunFault) (f : RunFault)
-    → AttemptsErr (IsDeed x.register call) x y f → result ≡ Err f → Operates call (scene contents x a) (scene contents y a) result
-undecided contents a x y call result f failed same = subst (Operates call (scene contents x a) (scene contents y a)) (sym same) (at f failed)
+-- a fault before any line
+pub undecided : {W : Type 0} (contents : W → Option (List ℕ)) (a : Port W) (x y : View) (book : BookData) (call : Operator) (result : Result Told RunFault) (f : RunFault)
+    → (y.stands → Only y.register y) → MayFail call f → AttemptsErr (IsDeed book x.register call) x y f → result ≡ Err f
+    → Operates book call (scene contents x a) (scene contents y a) result
+undecided contents a x y book call result f alone may failed same = subst (Operates book call (scene contents x a) (scene contents y a)) (sym same) (at f may failed)
   where
-    at : (f : RunFault) → AttemptsErr (IsDeed x.register call) x y f → OperatesErr call (scene contents x a) (scene contents y a) f
-    at fault.Read h = absurd h
-    at fault.Write h = absurd h
-    at fault.Memory h = absurd h
-    at fault.Office h = (
+    at : (f : RunFault) → MayFail call f → AttemptsErr (IsDeed book x.register call) x y f → OperatesErr book call (scene contents x a) (scene contents y a) f
+    at fault.Read may h = absurd h
+    at fault.Write may h = absurd h
+    at fault.Memory may h = (
+      may,
+      record {
+        out = record { contents = appends_none (contents a.inner); taken = omega arith };
+        register = h.register;
+        stands = h.stands;
+        left = alone h.stands;
+        faults = h.faults;
+        unfailed = refl;
+      },
+    )
+    at fault.Office may h = (
       h.0,
       h.1,
       record {

@@ -86,11 +86,11 @@ stopped_now c s n lt =
     let after = octets_of (advance c s).outputs in
     lt-ltb (length before + n) (length after) (omega (arith, ap (λ (x : List ℕ). length x) (octets_step c s), length-append before (framed s.output)))
 
-take_past : (xs ys : List ℕ) (n : ℕ) → take (length xs + n) (xs ++ ys) ≡ xs ++ take n ys
-take_past xs ys n =
+pub take_past : {A : Type 0} (xs ys : List A) (n : ℕ) → take (length xs + n) (xs ++ ys) ≡ xs ++ take n ys
+take_past {A = A} xs ys n =
     take-add (length xs) n (xs ++ ys)
-    ∙ ap (λ (x : List ℕ). x ++ take n (drop (length xs) (xs ++ ys))) (take_at xs ys (length xs) refl)
-    ∙ ap (λ (x : List ℕ). xs ++ take n x) (drop_at xs ys (length xs) refl)
+    ∙ ap (λ (x : List A). x ++ take n (drop (length xs) (xs ++ ys))) (take_at xs ys (length xs) refl)
+    ∙ ap (λ (x : List A). xs ++ take n x) (drop_at xs ys (length xs) refl)
 
 pub is_broken_off : (setting : Setting) (given : List ℕ) (old new : Scene) (law : IsLawful old.office new.office)
     → BreaksOff (started setting old.office.register) given old new → IsBrokenOff setting given old new
@@ -152,7 +152,7 @@ register_step d step = refl
 
 -- what a stop leaves holds the register of a course within the run
 prefix_at : {C : Type 0} (r : Register) (d w : Course) (least : ℕ) (holds' : C → Register → Type 0) (content : C) → Grows d w → Sound r d
-    → least ≤ length d.changes → holds' content d.register → IsPrefix holds' w r least (length d.changes) content
+    → least ≤ length d.changes → holds' content d.register → IsPrefix holds' w.changes r least (length d.changes) content
 prefix_at r d w least holds' content g sd le holds = record {
   count = length d.changes;
   least = le;

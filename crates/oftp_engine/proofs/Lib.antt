@@ -11,6 +11,8 @@ pub mod Stepping
 pub mod Puts
 pub mod Served
 pub mod Deciding
+pub mod Offers
+pub mod Jobs
 pub mod PartRows
 pub mod PartChanges
 pub mod PartSteps

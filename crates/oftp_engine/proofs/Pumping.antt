@@ -1,7 +1,7 @@
 -- The loop over the frames, one part after another.
 use Rattle.oftp_wire.specs.declared.reason.SessionReason.{SessionReason}
 use Rattle.oftp_wire.specs.declared.reason.SessionReason.TheVariants.{ProtocolViolation}
-use Rattle.std.proofs.Common.{◌≡◌, ◌++◌, ℕ, ◌<◌, true, false, List, [], drop, length, Option, None, Some, Result, Ok, Err, refl, sym, ap, ◌∙◌, subst}
+use Rattle.std.proofs.Common.{◌≡◌, ◌++◌, ℕ, ◌<◌, false, List, [], drop, length, Option, None, Some, Result, Ok, Err, refl, sym, ap, ◌∙◌, subst}
 use Rattle.std.specs.Option.{option_copied}
 use Rattle.std.specs.Borrow.{Bor}
 use Rattle.oftp_wire.proofs.Streams.{next_err, next_none, next_some, past_shorter}

@@ -8,7 +8,6 @@ use Rattle.oftp_session.specs.Phases.{frame_of}
 use Rattle.oftp_session.specs.Phases.{esid_of}
 use Rattle.oftp_register.specs.declared.change.Change.{Change}
 use Rattle.oftp_register.specs.Register.{Register}
-use Rattle.oftp_register.specs.Soundness.{IsSound}
 use Rattle.std.specs.Result.{result_unwrap_or}
 use Rattle.oftp_register.specs.Offices.{View, Only, WithOrWithout}
 use Rattle.oftp_session.specs.declared.session.Out.{Out}

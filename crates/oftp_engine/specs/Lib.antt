@@ -5,6 +5,8 @@ pub mod Served
 pub mod Frames
 pub mod Operating
 pub mod Operated
+pub mod Offers
+pub mod Jobs
 pub mod Parts
 pub mod World
 pub mod TwoStations

@@ -1,5 +1,6 @@
 -- What an operator's call leaves, and what it has out.
-use Rattle.std.specs.Prelude.{◌≡◌, ℕ, ◌<◌, ◌⊎◌, List, [], length, take, Option, Result, Ok, Err}
+use Rattle.std.specs.Prelude.{◌≡◌, ℕ, ◌<◌, ◌⊎◌, ⊤, List, [], length, take, Option, Result, Ok, Err}
+use Rattle.oftp_partners.specs.Book.{BookData}
 use Rattle.oftp_register.specs.declared.change.Change.{Change}
 use Rattle.oftp_register.specs.Register.{Register}
 use Rattle.oftp_register.specs.declared.office.OfficeFault.{OfficeFault}
@@ -13,7 +14,7 @@ use Rattle.oftp_engine.specs.declared.operating.Outcome.TheVariants as outcome
 use Rattle.oftp_engine.specs.declared.operating.Told.TheVariants as told
 use Rattle.oftp_engine.specs.declared.serving.RunFault.{RunFault}
 use Rattle.oftp_engine.specs.declared.serving.RunFault.TheVariants as fault
-use Rattle.oftp_engine.specs.Operating.{Deed, IsDeed, done_line, refusal_line, refusal_of}
+use Rattle.oftp_engine.specs.Operating.{Deed, IsDeed, NeedsMemory, done_line, refusal_line, refusal_of}
 use Rattle.oftp_engine.specs.Serving.{Scene, Took}
 
 -- the office told a fault after the change was made: in a look-up of the file's number
@@ -51,16 +52,25 @@ pub record IsUndecided (deed : Deed) (old new : Scene) : Type 0 where
   pub faults : new.office.told ≡ next_count old.office.told
   pub unfailed : new.told ≡ old.told
 
-abbrev pub OperatesErr : Operator → Scene → Scene → RunFault → Type 0
-OperatesErr call old new fault.Read = ⊥
-OperatesErr call old new fault.Write = (deed : Deed) × IsDeed old.office.register call deed × IsHalfTold deed old new
-OperatesErr call old new fault.Office = (deed : Deed) × IsDeed old.office.register call deed × IsUndecided deed old new
-OperatesErr call old new fault.Memory = ⊥
+-- memory ran out: nothing is out, and nothing is changed
+pub record IsNotDone (old new : Scene) : Type 0 where
+  pub out : Took old new []
+  pub register : new.office.register ≡ old.office.register
+  pub stands : new.office.stands
+  pub left : Only new.office.register new.office
+  pub faults : new.office.told ≡ old.office.told
+  pub unfailed : new.told ≡ old.told
+
+abbrev pub OperatesErr : BookData → Operator → Scene → Scene → RunFault → Type 0
+OperatesErr book call old new fault.Read = ⊥
+OperatesErr book call old new fault.Write = (deed : Deed) × IsDeed book old.office.register call deed × IsHalfTold deed old new
+OperatesErr book call old new fault.Office = (deed : Deed) × IsDeed book old.office.register call deed × IsUndecided deed old new
+OperatesErr book call old new fault.Memory = NeedsMemory call × IsNotDone old new
 
 -- what a call that answers this has done
-abbrev pub Operates : Operator → Scene → Scene → Result Told RunFault → Type 0
-Operates call old new (Ok told) = (deed : Deed) × IsDeed old.office.register call deed × IsOperated deed old new told
-Operates call old new (Err fault) = OperatesErr call old new fault
+abbrev pub Operates : BookData → Operator → Scene → Scene → Result Told RunFault → Type 0
+Operates book call old new (Ok told) = (deed : Deed) × IsDeed book old.office.register call deed × IsOperated deed old new told
+Operates book call old new (Err fault) = OperatesErr book call old new fault
 
 -- the same before the line is written
 
@@ -86,11 +96,24 @@ pub record IsOpen (deed : Deed) (old new : View) : Type 0 where
   pub cases : IsBefore deed.change old new ⊎ IsMadeBefore deed.change old new
   pub faults : new.told ≡ next_count old.told
 
+-- memory ran out before the office was asked
+pub record IsUntouched (old new : View) : Type 0 where
+  pub register : new.register ≡ old.register
+  pub stands : new.stands
+  pub faults : new.told ≡ old.told
+
 abbrev pub AttemptsErr : (Deed → Type 0) → View → View → RunFault → Type 0
 AttemptsErr IsIt old new fault.Read = ⊥
 AttemptsErr IsIt old new fault.Write = ⊥
 AttemptsErr IsIt old new fault.Office = (deed : Deed) × IsIt deed × IsOpen deed old new
-AttemptsErr IsIt old new fault.Memory = ⊥
+AttemptsErr IsIt old new fault.Memory = IsUntouched old new
+
+-- a fault of a call before its line is written
+abbrev pub MayFail : Operator → RunFault → Type 0
+MayFail call fault.Read = ⊥
+MayFail call fault.Write = ⊥
+MayFail call fault.Office = ⊤
+MayFail call fault.Memory = NeedsMemory call
 
 -- what a commit comes to that answers this, for the file with a number
 abbrev pub came_out_as : ℕ → OfficeFault → Result Outcome RunFault

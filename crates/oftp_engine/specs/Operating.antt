@@ -1,17 +1,25 @@
 -- What an operator's call makes of a register, and what it says.
-use Rattle.std.specs.Prelude.{◌≡◌, ℕ, ◌&&◌, nat_le, if◌then◌else◌, List, [], ◌++◌, length, codes, Option, None, Some, Result, Ok, Err}
+use Rattle.std.specs.Prelude.{◌≡◌, ℕ, ◌+◌, ◌<◌, ◌≤◌, ◌⊎◌, Bool, ◌&&◌, ◌||◌, nat_le, nat_lt, is_some, if◌then◌else◌, List, [], ◌++◌, length, codes, Option, None, Some, Result, Ok, Err}
 use Rattle.std.specs.Fmt.{decimal}
+use Rattle.oftp_wire.specs.Octets.{IsDigits, IsName}
+use Rattle.oftp_vfile.specs.LocalForm.{IsLocal}
+use Rattle.oftp_vfile.specs.VirtualFile.{IsLongest, units_in}
+use Rattle.oftp_vfile.specs.declared.format.Limits.{Limits}
+use Rattle.oftp_vfile.specs.declared.format.TheConstants.{MOST_ROWS}
+use Rattle.oftp_partners.specs.Book.{BookData, partner_at}
 use Rattle.oftp_register.specs.declared.change.Cause.{Cause}
 use Rattle.oftp_register.specs.declared.change.Cause.TheVariants as cause
 use Rattle.oftp_register.specs.declared.change.Change.{Change}
 use Rattle.oftp_register.specs.declared.change.Change.TheVariants as change
+use Rattle.oftp_register.specs.declared.entry.Identity.{Identity}
 use Rattle.oftp_register.specs.declared.entry.ResponseKind.TheVariants.{EndResponse, NegativeEndResponse}
 use Rattle.oftp_register.specs.Register.{Register}
-use Rattle.oftp_register.specs.Changes.{apply}
+use Rattle.oftp_register.specs.Changes.{apply, is_outgoing}
 use Rattle.oftp_engine.specs.declared.operating.Operator.{Operator}
 use Rattle.oftp_engine.specs.declared.operating.Operator.TheVariants as operator
 use Rattle.oftp_engine.specs.declared.operating.Refusal.{Refusal}
 use Rattle.oftp_engine.specs.declared.operating.Refusal.TheVariants as refusal
+use Rattle.oftp_engine.specs.declared.submitting.Submission.{Submission}
 use Rattle.oftp_engine.specs.declared.operating.Told.{Told}
 use Rattle.oftp_engine.specs.declared.operating.Told.TheVariants as told
 
@@ -53,8 +61,54 @@ makes verb n change r = decided verb n change (apply r change)
 
 -- how the line of a call that is done begins
 abbrev pub verb_of : Operator → List ℕ
+verb_of (operator.Submit submission) = codes "done: submit "
 verb_of (operator.Release n) = codes "done: release "
 verb_of (operator.Refuse n reason text) = codes "done: refuse "
+
+-- files that go
+
+-- the fields of a submission are in their ranges, its content aside (RFC 5024, section 5.3.3)
+pub record AreInRange (s : Submission) : Type 0 where
+  pub named : 0 < length s.dataset.now
+  pub dataset : IsName 26 s.dataset.now
+  pub date : IsDigits 8 s.date.now
+  pub time : IsDigits 10 s.time.now
+  pub longest : IsLongest s.format s.longest
+  pub description : length s.description.now ≤ 999
+
+-- what is handed in is the virtual file of these rows: the content is their local form
+pub record IsFileOf (s : Submission) (rows : List (List ℕ)) : Type 0 where
+  pub fields : AreInRange s
+  pub content : IsLocal s.format s.longest s.content.now rows
+
+-- it is no virtual file
+abbrev pub IsNoFile : Submission → Type 0
+IsNoFile s = (rows : List (List ℕ)) → IsFileOf s rows → ⊥
+
+-- what names a file that the station sends
+abbrev pub identity_of : BookData → Submission → Identity
+identity_of book s = record { dataset = s.dataset.now; date = s.date.now; time = s.time.now; originator = book.station.code; destination = s.to.now }
+
+-- the file has more octets or more rows than a station keeps
+abbrev pub is_too_big : Limits → List (List ℕ) → Bool
+is_too_big limits rows = nat_lt limits.octets (units_in rows) || nat_lt MOST_ROWS (length rows)
+
+-- a file of these rows is registered, to be sent. Its number is one more than there are files that go
+abbrev pub registered : Identity → Submission → List (List ℕ) → Register → Deed
+registered identity s rows r = makes (codes "done: submit ") (1 + length r.outgoing) (change.Submit identity s.format s.longest s.description.now rows) r
+
+-- it goes to a partner in the book, under an identity that no other has, and is within the limits
+abbrev pub submitted : BookData → Register → Submission → List (List ℕ) → Deed
+submitted book r s rows =
+    if is_some (partner_at s.to.now book.partners)
+    then (if is_outgoing r (identity_of book s) then refuses refusal.Duplicate
+    else (if is_too_big r.limits rows then refuses refusal.Limit
+    else registered (identity_of book s) s rows r))
+    else refuses refusal.Unknown
+
+-- what is handed in is a file and is submitted, or it is none and is refused
+abbrev pub Submits : BookData → Register → Submission → Deed → Type 0
+Submits book r s deed = ((rows : List (List ℕ)) × IsFileOf s rows × (deed ≡ submitted book r s rows)) ⊎ (IsNoFile s × (deed ≡ refuses refusal.Field))
 
 -- responses to a file that came
 
@@ -66,7 +120,14 @@ refused r n reason text = if nat_le reason 99 && nat_le (length text) 999
     then makes (codes "done: refuse ") n (change.Issue n NegativeEndResponse reason text) r
     else refuses refusal.Field
 
--- what a call makes of a register
-abbrev pub IsDeed : Register → Operator → Deed → Type 0
-IsDeed r (operator.Release n) deed = deed ≡ released r n
-IsDeed r (operator.Refuse n reason text) deed = deed ≡ refused r n reason text.now
+-- what a call makes of a register, by a book
+abbrev pub IsDeed : BookData → Register → Operator → Deed → Type 0
+IsDeed book r (operator.Submit submission) deed = Submits book r submission deed
+IsDeed book r (operator.Release n) deed = deed ≡ released r n
+IsDeed book r (operator.Refuse n reason text) deed = deed ≡ refused r n reason text.now
+
+-- Memory may run out in a call that reads a content. A content that is no file is refused without it
+abbrev pub NeedsMemory : Operator → Type 0
+NeedsMemory (operator.Submit submission) = IsNoFile submission → ⊥
+NeedsMemory (operator.Release n) = ⊥
+NeedsMemory (operator.Refuse n reason text) = ⊥

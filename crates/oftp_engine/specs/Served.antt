@@ -2,6 +2,7 @@
 use Rattle.std.specs.Prelude.{◌≡◌, false, ℕ, ◌+◌, ◌-◌, ◌<◌, ◌≤◌, ◌⊎◌, ⊤, List, ◌++◌, length, take, Option, None, Some, Result, Ok, Err}
 use Rattle.std.specs.Io.KnownBytes.{Consumes}
 use Rattle.oftp_session.specs.Phases.{is_over}
+use Rattle.oftp_register.specs.declared.change.Change.{Change}
 use Rattle.oftp_register.specs.Register.{Register}
 use Rattle.oftp_register.specs.Changes.{apply_all}
 use Rattle.oftp_register.specs.Offices.{View, Only, next_count}
@@ -35,19 +36,19 @@ whole setting given r = run None given (started setting r)
 abbrev pub broken_off : Setting → ℕ → List ℕ → Register → Course
 broken_off setting taken given r = run (Some taken) given (started setting r)
 
--- what a stop leaves holds the register after n of the run's changes, all made, from so many on, where the office's register is
--- the one after n or n - 1 of them
-pub record IsPrefix {C : Type 0} (holds' : C → Register → Type 0) (c : Course) (r : Register) (low made : ℕ) (content : C) : Type 0 where
+-- what a stop leaves holds the register after n of these changes, all made, from so many on, where the office's register is the one
+-- after n or n - 1 of them
+pub record IsPrefix {C : Type 0} (holds' : C → Register → Type 0) (changes : List Change) (r : Register) (low made : ℕ) (content : C) : Type 0 where
   pub count : ℕ
   pub least : low ≤ count
-  pub most : count ≤ length c.changes
+  pub most : count ≤ length changes
   pub near : (made ≡ count) ⊎ (made + 1 ≡ count)
   pub register : Register
-  pub replay : apply_all r (take count c.changes) ≡ Ok register
+  pub replay : apply_all r (take count changes) ≡ Ok register
   pub holds : holds' content register
 
 abbrev pub LeavesPrefix : Course → Register → ℕ → ℕ → View → Type 0
-LeavesPrefix c r least made now = (content : now.Content) → now.may_leave content → IsPrefix now.holds c r least made content
+LeavesPrefix c r least made now = (content : now.Content) → now.may_leave content → IsPrefix now.holds c.changes r least made content
 
 -- the last octets that were read are ones that the session still needed: it went on before them
 pub record IsNeeded (setting : Setting) (r : Register) (given : List ℕ) : Type 0 where

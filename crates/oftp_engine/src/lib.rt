@@ -4,7 +4,9 @@
 mod laws;
 mod operating;
 mod port;
+mod running;
 mod serving;
+mod submitting;
 
 pub use laws::{
     changes_are_made, folds_over_frames, jobs_make_the_file, no_count_passes, parts_make_the_file,
@@ -12,7 +14,9 @@ pub use laws::{
 };
 pub use operating::{Operator, Refusal, Told, operate};
 pub use port::Port;
+pub use running::{CallJob, Job, SessionJob, run};
 pub use serving::{End, Role, RunFault, serve, serve_in_memory};
+pub use submitting::Submission;
 
 #[cfg(test)]
 mod tests;

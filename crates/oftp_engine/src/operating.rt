@@ -6,19 +6,24 @@ ghost use Rattle.oftp_engine.specs.Ports.{Puts, Sent};
 ghost use Rattle.oftp_engine.specs.Served.{WriterTold};
 ghost use Rattle.oftp_engine.specs.Serving.{scene};
 ghost use Rattle.oftp_engine.specs.Operating.{IsDeed, done_line, makes, refusal_line, refusal_of, refused, released, verb_of};
-ghost use Rattle.oftp_engine.specs.Operated.{Attempts, Operates, came_out, line_as, told_as};
+ghost use Rattle.oftp_engine.specs.Operated.{Attempts, MayFail, Operates, came_out, line_as, told_as};
 
 use crate::port::{Port, send};
 use crate::serving::RunFault;
+use crate::submitting::{Submission, submit};
 use arrayvec::ArrayVec;
 use itoa::Buffer;
+use oftp_partners::Book;
 use oftp_register::{Cause, Change, Office, OfficeFault, ResponseKind};
 use oftp_wire::{Count, Text};
+use std::alloc::Global;
 use std::io::Write;
 
 /// What an operator wants done.
 #[derive(Clone, Copy, Drop)]
 pub enum Operator<'a> {
+    /// A file is to be sent to a partner.
+    Submit(Submission<'a>),
     /// An incoming file was delivered: its end response is to be sent.
     Release {
         /// The file's number.
@@ -35,7 +40,7 @@ pub enum Operator<'a> {
     },
 }
 
-/// Why a call is refused. Where two reasons fit, the first of Field, Unknown and State is told.
+/// Why a call is refused. Where two reasons fit, the first of Field, Unknown, Duplicate, State and Limit is told.
 #[derive(Clone, Copy, Debug, Drop, PartialEq, Eq)]
 pub enum Refusal {
     /// A file of this identity was submitted already.
@@ -61,7 +66,7 @@ pub enum Told {
 
 // What a call came to, before its line is out. A call that is done has the number of its file.
 #[derive(Clone, Copy, Drop)]
-enum Outcome {
+pub(crate) enum Outcome {
     Done(u64),
     Refused(Refusal),
 }
@@ -101,6 +106,7 @@ impl<'a> Operator<'a> {
         ensures short { length result.now ≤ 20 }
     {
         match self {
+            Operator::Submit(_) => b"done: submit ",
             Operator::Release { .. } => b"done: release ",
             Operator::Refuse { .. } => b"done: refuse ",
         }
@@ -153,7 +159,7 @@ fn tell<W: Write>(writer: &mut Port<W>, verb: &[u8], outcome: Outcome) -> Result
 }
 
 // What a commit comes to.
-fn outcome_of(made: Result<(), OfficeFault>, no: u64) -> Result<Outcome, RunFault>
+pub(crate) fn outcome_of(made: Result<(), OfficeFault>, no: u64) -> Result<Outcome, RunFault>
     ensures { result ≡ came_out no made }
 {
     match made {
@@ -216,20 +222,27 @@ fn refuse<O: Office>(office: &mut O, no: u64, reason: u64, text: &str) -> Result
 }
 
 // Does what is wanted, but for the line.
-fn attempt<O: Office>(office: &mut O, call: &Operator<'_>) -> Result<Outcome, RunFault>
+fn attempt<O: Office>(
+    alloc: Global,
+    office: &mut O,
+    book: &Book,
+    call: &Operator<'_>,
+) -> Result<Outcome, RunFault>
     ensures clean { (O.view office.new).clean → (O.view office.old).clean }
     ensures does { (O.view office.new).clean → (O.view office.old).stands
-        → Attempts (verb_of call.now) (IsDeed (O.view office.old).register call.now) (O.view office.old) (O.view office.new) result }
-    ensures err { IfErr result (λ f. f ≡ RunFault.Office) }
+        → Attempts (verb_of call.now) (IsDeed book.now (O.view office.old).register call.now) (O.view office.old) (O.view office.new) result }
+    ensures err { IfErr result (MayFail call.now) }
 {
     match *call {
+        Operator::Submit(submission) => submit(alloc, office, book, &submission),
         Operator::Release { no } => release(office, no),
         Operator::Refuse { no, reason, text } => refuse(office, no, reason, text),
     }
 }
 
-/// Does what an operator wants, and writes the line that tells it: `done: release NO` or `done: refuse NO` with the file's number, or
-/// `refused: 2 unknown`, `refused: 3 state` or `refused: 5 field`, each ended by LF.
+/// Does what an operator wants, and writes the line that tells it, ended by LF: `done: submit NO`, `done: release NO` or
+/// `done: refuse NO` with the file's number, or `refused: 1 duplicate`, `refused: 2 unknown`, `refused: 3 state`, `refused: 4 limit`
+/// or `refused: 5 field`.
 ///
 /// Where it is done, a stop leaves the change from before the first octet of the line on.
 ///
@@ -237,17 +250,20 @@ fn attempt<O: Office>(office: &mut O, call: &Operator<'_>) -> Result<Outcome, Ru
 ///
 /// [`RunFault::Write`] only where the writer told a fault: a beginning of the line is out, and what it tells is done.
 /// [`RunFault::Office`] where the office told a fault: nothing is out, and a stop leaves the register with the change or without.
+/// [`RunFault::Memory`] where a growth was refused in reading the content of a file: nothing is out, and nothing is changed.
 pub fn operate<O: Office, W: Write>(
+    alloc: Global,
     office: &mut O,
+    book: &Book,
     call: &Operator<'_>,
     writer: &mut Port<W>,
 ) -> Result<Told, RunFault>
-    ensures operates { (O.view office.new).clean → (O.view office.old).stands → Operates call.now
+    ensures operates { (O.view office.new).clean → (O.view office.old).stands → Operates book.now call.now
         (scene W.contents (O.view office.old) writer.old) (scene W.contents (O.view office.new) writer.new) result }
     ensures clean { (O.view office.new).clean → (O.view office.old).clean }
     ensures out { Puts W.contents writer.old writer.new }
     ensures writer_told { WriterTold writer.old writer.new result }
 {
-    let outcome = attempt(office, call)?;
+    let outcome = attempt(alloc, office, book, call)?;
     tell(writer, call.verb(), outcome)
 }

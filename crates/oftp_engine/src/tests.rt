@@ -7,14 +7,14 @@ ghost use Rattle.oftp_register.specs.Offices.{next_count};
 use super::*;
 use oftp_partners::read;
 use oftp_register::{
-    Change, Cursor, DigitString, Identity, IncomingEntry, IssuedEntry, Item, Name, Office,
-    OfficeFault, OutgoingEntry, PlainOffice, ReceivedEntry, ResponseKind, Side,
+    Change, Cursor, Identity, IncomingEntry, IssuedEntry, Item, Name, Office, OfficeFault,
+    OutgoingEntry, ReceivedEntry, ResponseKind, Side,
 };
-use oftp_vfile::{Format, Limits, Rows};
-use oftp_wire::{Digits, Text, X};
-use std::alloc::Global;
-use std::process::Abort;
+use oftp_vfile::{Limits, Rows};
 use std::test::Fail;
+
+mod lists;
+mod operators;
 
 const BOOK: &str =
     "[station]\ncode = 'O0013SUPPLIER'\nbuffer = 128\ncredit = 2\nrestart = true\n[[partner]]\ncode = 'O0177CARMAKER'\nexpects = 'CARPW'\nsends = 'SUPPW'\nmode = 'B'\naddress = '127.0.0.1:3305'\n";
@@ -194,164 +194,5 @@ fn limit_ends_the_input(rt: HostRuntime) -> Result<(), Fail> {
         assert_eq!(rt; writer.moved(), sent, "at most {most}");
         assert!(rt; OUTPUT.starts_with(writer.inner().as_slice()));
     }
-    Ok(())
-}
-
-// The first file that came, with no row yet.
-fn start_file(office: &mut PlainOffice) -> Result<(), OfficeFault> {
-    const BAD: OfficeFault = OfficeFault::Store;
-    let identity = Identity {
-        dataset: Name::of(&X::new(b"A").ok_or(BAD)?),
-        date: DigitString::of(&Digits::new(b"20240131").ok_or(BAD)?),
-        time: DigitString::of(&Digits::new(b"1015300001").ok_or(BAD)?),
-        originator: Name::of(&X::new(b"O1").ok_or(BAD)?),
-        destination: Name::of(&X::new(b"O2").ok_or(BAD)?),
-    };
-    office.commit(Change::Start {
-        identity,
-        format: Format::Unstructured,
-        longest: 0,
-        description: Text::new("").ok_or(BAD)?,
-        count: 0,
-    })
-}
-
-// An operator's call writes this line, and answers so.
-fn tells(
-    alloc: Global,
-    rt: &impl Abort,
-    office: &mut PlainOffice,
-    call: Operator<'_>,
-    line: &[u8],
-    told: Told,
-) -> Result<(), Fail> {
-    let mut writer = Port::new(Vec::new(alloc), 0);
-    assert_eq!(rt; operate(office, &call, &mut writer), Ok(told));
-    assert!(rt; writer.inner().as_slice() == line);
-    Ok(())
-}
-
-const RELEASE: Operator<'static> = Operator::Release { no: 1 };
-
-const REFUSE: Operator<'static> = Operator::Refuse {
-    no: 1,
-    reason: 99,
-    text: "broken",
-};
-
-/// A file is unknown, open, whole and answered. A field that is out of its range is told before all else.
-#[test]
-fn operator_refusals(rt: HostRuntime) -> Result<(), Fail> {
-    let alloc = rt.alloc();
-    let mut office = PlainOffice::new(
-        alloc,
-        Limits {
-            files: 9,
-            octets: 9_999,
-        },
-    );
-    let long = String::from_str(alloc, "0123456789")?.repeat(alloc, 100)?;
-    let reason = Operator::Refuse {
-        no: 1,
-        reason: 100,
-        text: "",
-    };
-    let text = Operator::Refuse {
-        no: 1,
-        reason: 1,
-        text: long.as_str(),
-    };
-    let unknown = Told::Refused(Refusal::Unknown);
-    let state = Told::Refused(Refusal::State);
-    let field = Told::Refused(Refusal::Field);
-    tells(
-        alloc,
-        &rt,
-        &mut office,
-        RELEASE,
-        b"refused: 2 unknown\n",
-        unknown,
-    )?;
-    tells(
-        alloc,
-        &rt,
-        &mut office,
-        reason,
-        b"refused: 5 field\n",
-        field,
-    )?;
-    tells(alloc, &rt, &mut office, text, b"refused: 5 field\n", field)?;
-    start_file(&mut office)?;
-    tells(
-        alloc,
-        &rt,
-        &mut office,
-        REFUSE,
-        b"refused: 3 state\n",
-        state,
-    )?;
-    office.commit(Change::Close {
-        no: 1,
-        rows: Rows::new(Vec::new(alloc)),
-    })?;
-    tells(
-        alloc,
-        &rt,
-        &mut office,
-        REFUSE,
-        b"done: refuse 1\n",
-        Told::Done,
-    )?;
-    tells(
-        alloc,
-        &rt,
-        &mut office,
-        RELEASE,
-        b"refused: 3 state\n",
-        state,
-    )?;
-    Ok(())
-}
-
-/// A whole file is released.
-#[test]
-fn released(rt: HostRuntime) -> Result<(), Fail> {
-    let alloc = rt.alloc();
-    let mut office = PlainOffice::new(
-        alloc,
-        Limits {
-            files: 9,
-            octets: 9_999,
-        },
-    );
-    start_file(&mut office)?;
-    office.commit(Change::Close {
-        no: 1,
-        rows: Rows::new(Vec::new(alloc)),
-    })?;
-    tells(
-        alloc,
-        &rt,
-        &mut office,
-        RELEASE,
-        b"done: release 1\n",
-        Told::Done,
-    )
-}
-
-/// The store fails in the commit of a response: nothing is told.
-#[test]
-fn operator_at_a_failing_office(rt: HostRuntime) -> Result<(), Fail> {
-    let mut office = Failing {
-        looks: true,
-        faults: 0,
-    };
-    let mut writer = Port::new(Vec::new(rt.alloc()), 0);
-    assert_eq!(rt;
-        operate(&mut office, &RELEASE, &mut writer),
-        Err(RunFault::Office)
-    );
-    assert_eq!(rt; office.faults, 1);
-    assert_eq!(rt; writer.moved(), 0);
     Ok(())
 }

@@ -1,6 +1,6 @@
 -- Rows of a register are lent to a filler, which makes the next payload of them.
-use Rattle.std.proofs.Common.{◌≡◌, ℕ, suc, zero, ◌+◌, ◌-◌, ◌<◌, ◌≤◌, Bool, true, false, eqb, min, List, [], ◌∷◌, ◌++◌, length, get_or, take, drop, slice_get, Option, None, Some, refl, sym, ap, ◌∙◌, subst, arith, All}
-use Rattle.std.proofs.lemmas.Bool.{eqb-true, eqb-false}
+use Rattle.std.proofs.Common.{◌≡◌, ℕ, suc, zero, ◌+◌, ◌-◌, ◌<◌, ◌≤◌, Bool, true, false, eqb, min, List, [], ◌∷◌, ◌++◌, length, get_or, take, drop, slice_get, Option, None, Some, refl, sym, ap, ◌∙◌, subst, arith, inl, inr, All}
+use Rattle.std.proofs.lemmas.Bool.{cases_lt, eqb-true, eqb-false}
 use Rattle.std.proofs.lemmas.List.{length-append, length-drop, length-take, length-take-le, drop-drop}
 use Rattle.oftp_wire.specs.Header.{header_of}
 use Rattle.oftp_wire.specs.declared.command.Command.TheVariants as command
@@ -32,12 +32,15 @@ pub next_data : (size room count : ℕ) (old new : Filling) (rows : List (List �
     → head ≡ header_of (count + 5) ++ 68 ∷ [] → new.format ≡ old.format
     → ((from : ℕ) (file payloads : List (List ℕ)) → Sent old room from file payloads → AreLent old from file rows last → Sent new room from file (payloads ++ take count out ∷ []))
     → (count ≤ size) × IsNextData size old new rows last (take (count + DATA_HEAD) (head ++ (out ++ rest)))
-next_data size room count old new rows last head out rest e l within h same sent = (omega arith, record {
-  payload = take count out;
-  said = data_framed head out rest count h (omega arith);
-  format = same;
-  sent = subst (λ n. (from : ℕ) (file payloads : List (List ℕ)) → Sent old n from file payloads → AreLent old from file rows last → Sent new n from file (payloads ++ take count out ∷ [])) e sent;
-})
+next_data size room count old new rows last head out rest e l within h same sent = (
+  omega arith,
+  record {
+    payload = take count out;
+    said = data_framed head out rest count h (omega arith);
+    format = same;
+    sent = subst (λ n. (from : ℕ) (file payloads : List (List ℕ)) → Sent old n from file payloads → AreLent old from file rows last → Sent new n from file (payloads ++ take count out ∷ [])) e sent;
+  },
+)
 
 -- the file that is sent is as a register may have it
 pub sound_file : (r : Register) (t : Transfer) → IsSound r → IsSent r t → IsSoundOutgoing t.file
@@ -78,7 +81,7 @@ lent r contact t s most rows last sound holds at some e all part =
     let within = row_within r contact t s holds at in
     let total = at.rows in
     let l = lends_rows s.filler t.file.longest (payload_size contact) t.from most (rows_from t) (take t.sent (payloads_in contact t)) last longest are at.sent some
-    (λ q. let m = all q in omega (arith, m, count, left, within, total)) (λ q. let m = part q in ?) in
+    (λ q. let m = all q in omega (arith, m, count, left, within, total)) (λ q. elim (cases_lt most (length rest)) [ inl h ↦ h | inr h ↦ absurd (part q (omega (arith, h, count, left, within, total))) ]) in
     record {
       are = subst (λ (x : List (List ℕ)). AreLent s.filler t.from (rows_from t) x last) (sym is) l.0;
       place = subst (λ (x : List (List ℕ)). IsInRows s.filler x) (sym is) l.1;
@@ -113,11 +116,11 @@ may_lend r contact t s most rows sound holds at some e =
       count = count ∙ ap (λ n. min most (n - s.filler.row)) (sym total);
       few = omega (arith, count, few, within);
       fits =
-        subst (λ (f : Format). AreRows f s.longest rows) (sym at.format)
-        (subst (λ n. AreRows t.file.format n rows) (sym at.longest)
-        (subst (λ (x : List (List ℕ)). AreRows t.file.format t.file.longest x) (sym is) (rows-part t.file.format t.file.longest s.filler.row most t.file.rows file.fits)));
+          subst (λ (f : Format). AreRows f s.longest rows) (sym at.format)
+          (subst (λ n. AreRows t.file.format n rows) (sym at.longest)
+          (subst (λ (x : List (List ℕ)). AreRows t.file.format t.file.longest x) (sym is) (rows-part t.file.format t.file.longest s.filler.row most t.file.rows file.fits)));
       place =
-        (lent r contact t s most rows last sound holds at some e (are_all s.filler.row (length rows) s.rows last refl) (are_part s.filler.row (length rows) s.rows last refl)).place;
+          (lent r contact t s most rows last sound holds at some e (are_all s.filler.row (length rows) s.rows last refl) (are_part s.filler.row (length rows) s.rows last refl)).place;
     }
 
 -- the payload behind the first ones

@@ -18,4 +18,7 @@ pub mod Accepting
 pub mod Continuing
 pub mod Lending
 pub mod Shipping
+pub mod Crediting
+pub mod Replying
+pub mod Speaking
 pub mod Proceeding

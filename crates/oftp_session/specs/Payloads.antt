@@ -17,6 +17,7 @@ use Rattle.oftp_session.specs.declared.sending.Shipment.{Shipment}
 use Rattle.oftp_session.specs.declared.state.Contact.{Contact}
 use Rattle.oftp_session.specs.Phases.{Transfer, frame_of}
 use Rattle.oftp_session.specs.Sending.{payload_size, payloads_in, rows_from}
+use Rattle.oftp_session.specs.Standings.{Ships}
 use Rattle.oftp_session.specs.Calls.{DoesNot, IsMade}
 
 -- the frame that is said: a command in the one buffer, or a DATA in the other
@@ -79,7 +80,7 @@ pub record IsDataSaid (contact : Contact) (t : Transfer) (new : Shipment) (frame
 -- whether a payload is left, which then was said
 abbrev pub SaysPayload : Contact → Transfer → Shipment → List ℕ → Bool → Type 0
 SaysPayload contact t new frame true = IsDataSaid contact t new frame
-SaysPayload contact t new frame false = slice_get (payloads_in contact t) t.sent ≡ None
+SaysPayload contact t new frame false = Ships contact t new × (slice_get (payloads_in contact t) t.sent ≡ None)
 
 -- the same over an office, in which nothing is changed
 abbrev pub SaysNext : Contact → Transfer → Shipment → View → View → List ℕ → Result Bool SessionFault → Type 0

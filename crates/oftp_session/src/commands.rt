@@ -21,8 +21,8 @@ use oftp_register::{
 };
 use oftp_vfile::Format;
 use oftp_wire::{
-    Command, Count, Digits, Eerp, Efid, Efna, Efpa, EndReason, Esid, Layout, Mode, Nerp, SessionReason,
-    Sfid, Sfna, Sfpa, Ssid, StartReason, Text, X, encode, header,
+    Command, Count, Digits, Eerp, Efid, Efna, Efpa, EndReason, Esid, Layout, Mode, Nerp,
+    SessionReason, Sfid, Sfna, Sfpa, Ssid, StartReason, Text, X, encode, header,
 };
 
 /// The end of the session, with no text.
@@ -190,7 +190,8 @@ fn eerp(file: &Identity) -> Command<'_>
 
 /// A negative end response of the station's own.
 fn nerp<'a>(book: &'a Book, entry: &'a IssuedEntry) -> Command<'a>
-    ensures { result ≡ nerp_of book.entry.now.station.code entry.entry.now.identity entry.entry.now.response.reason entry.entry.now.response.text }
+    ensures { let e = entry.entry.now in
+        result ≡ nerp_of book.entry.now.station.code e.identity e.response.reason e.response.text }
 {
     let file = &entry.identity;
     Command::Nerp(Nerp {
@@ -241,7 +242,9 @@ pub(crate) fn sfid<'a>(entry: &'a OutgoingEntry, units: u64, from: u64) -> Comma
     requires longest { IsLongest entry.now.format entry.now.longest }
     requires units { units ≤ MOST_UNITS }
     requires from { from ≤ MOST_ROWS }
-    ensures { (file : Outgoing) → entry.entry.now ≡ outgoing_entry entry.entry.now.no file → units ≡ units_in file.rows → result ≡ sfid_of file from }
+    ensures value { (file : Outgoing) → entry.entry.now ≡ outgoing_entry entry.entry.now.no file
+        → units ≡ units_in file.rows → result ≡ sfid_of file from }
+    ensures command { is_data result ≡ false }
 {
     let file = &entry.identity;
     match X::new(b"") {

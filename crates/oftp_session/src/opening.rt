@@ -9,6 +9,7 @@ ghost use Rattle.oftp_session.specs.Calls.{Goes};
 use crate::commands::{answering_ssid, calling_ssid};
 use crate::frame::Frame;
 use crate::link::{Link, WhenDone};
+use crate::sending::payload_size;
 use crate::state::{Contact, State};
 use oftp_partners::{Book, Partner};
 use oftp_register::{Cursor, Name};
@@ -159,6 +160,9 @@ fn agree(setting: Setting<'_>, letter: Mode, agreement: &Agreement<'_>, frame: &
     ensures { let known = setting_of setting.entry in
         Goes (open_step known letter (terms agreement.now) known.called) result frame.new }
 {
+    if agreement.link.sends {
+        frame.reserve(setting.alloc, payload_size(&agreement.link));
+    }
     if setting.called.is_some() {
         frame.hush();
         return State::SpeakerIdle(agreement.contact(), WhenDone::ChangeDirection);

@@ -151,12 +151,16 @@ pub(crate) fn in_awaiting_end<O: Office>(
     match command {
         Command::Efpa(efpa) => {
             frame.hush();
-            office.hand_over(number)?;
+            if let Err(fault) = office.hand_over(number) {
+                return Err(fault);
+            }
             Ok(after_file(contact, efpa.change_direction))
         }
         Command::Efna(_) => {
             frame.hush();
-            office.reopen(number)?;
+            if let Err(fault) = office.reopen(number) {
+                return Err(fault);
+            }
             Ok(State::SpeakerIdle(contact, WhenDone::ChangeDirection))
         }
         _ => Ok(State::unexpected(command, frame)),

@@ -1,12 +1,12 @@
 //! A file that goes out: the answer to SFID, DATA, EFID and its answer (RFC 5024, sections 5.3.4 to 5.3.10).
 
-ghost use Rattle.std.specs.Prelude.{◌≡◌, ◌↔◌, ◌-◌, ◌<◌, ◌≤◌, None, IfErr, IfOk, IsTrue, slice_get};
+ghost use Rattle.std.specs.Prelude.{◌≡◌, ◌↔◌, ◌-◌, ◌<◌, ◌≤◌, [], None, IfErr, IfOk, OnOk, IsTrue, length, slice_get};
 ghost use Rattle.oftp_register.specs.LookUps.{rows_of};
 ghost use Rattle.oftp_session.specs.Phases.{Transfer};
-ghost use Rattle.oftp_session.specs.Sending.{came_sending, credited, new_mark, payload_size, payloads_in, turned_sending};
+ghost use Rattle.oftp_session.specs.Sending.{came_sending, credited, marking, new_mark, payload_size, payloads_in, turned_sending};
 ghost use Rattle.oftp_session.specs.Steps.{IsSent};
 ghost use Rattle.oftp_session.specs.Standings.{Ships, standing_of, turns_left};
-ghost use Rattle.oftp_session.specs.Calls.{Finds, IsFailure, Takes};
+ghost use Rattle.oftp_session.specs.Calls.{Files, Finds, IsFailure, IsMade, Takes};
 ghost use Rattle.oftp_session.specs.Payloads.{IsSameShipment, MayLend, SaysNext};
 
 use crate::commands::efid;
@@ -50,7 +50,7 @@ pub(crate) struct Shipment {
 const FIRST_ROWS: usize = 64;
 
 /// The most octets of a payload: a DATA is its command octet and a payload (RFC 5024, section 5.3.6).
-fn payload_size(link: &Link) -> usize
+pub(crate) fn payload_size(link: &Link) -> usize
     ensures value { result ≡ link.now.buffer - 1 }
     ensures most { result ≤ 99998 }
 {
@@ -83,6 +83,8 @@ fn rows_to_lend<O: Office>(
         → (contact : Contact) (t : Transfer) → IsSent (O.view office.old).register t → Ships contact t shipment.now
         → Finds (λ r. rows_of r Side.Outgoing shipment.now.number shipment.now.filler.row most)
         (O.view office.old) (O.view office.new) result }
+    ensures stays { (O.view office.new).clean → (O.view office.old).stands
+        → OnOk result (IsMade None None (O.view office.old) (O.view office.new) []) }
     // It holds of any store.
     ensures may { IfOk result (MayLend shipment.now most) }
     ensures err { IfErr result (λ fault. fault ≡ SessionFault.Office) }
@@ -146,7 +148,9 @@ fn send_end<O: Office>(
 {
     // The command stands spelled before the commit, so that only the writer can fail between the two.
     frame.say(&efid(shipment.filler.format(), shipment.rows, shipment.units));
-    office.begin_closing(shipment.number)?;
+    if let Err(fault) = office.begin_closing(shipment.number) {
+        return Err(fault);
+    }
     Ok(State::AwaitingEnd(contact, shipment.number))
 }
 
@@ -178,10 +182,30 @@ pub(crate) fn send_next<O: Office>(
     send_end(contact, shipment, office, frame)
 }
 
+/// Marks the rows that were wholly sent, where the register has another mark.
+fn cover<O: Office>(shipment: &mut Shipment, office: &mut O) -> Result<(), SessionFault>
+    ensures clean { (O.view office.new).clean → (O.view office.old).clean }
+    ensures does { (O.view office.new).clean → (O.view office.old).stands
+        → (t : Transfer) → IsSent (O.view office.old).register t → t.number ≡ shipment.old.number → t.file.mark ≡ shipment.old.mark
+        → shipment.old.filler.mark ≤ length t.file.rows
+        → Files (marking t shipment.old.filler.mark) (O.view office.old) (O.view office.new) result }
+    ensures covered { OnOk result (shipment.new ≡ record shipment.old { mark = shipment.old.filler.mark }) }
+    ensures err { IfErr result (λ fault. fault ≡ SessionFault.Office) }
+{
+    let mark = shipment.filler.mark() as u64;
+    if mark != shipment.mark {
+        if let Err(fault) = office.mark(shipment.number, mark) {
+            return Err(fault);
+        }
+        shipment.mark = mark;
+    }
+    Ok(())
+}
+
 /// Takes credit: the rows that were wholly sent are covered by it (RFC 5024, section 5.3.7).
 fn take_credit<O: Office>(
     contact: Contact,
-    shipment: Shipment,
+    mut shipment: Shipment,
     office: &mut O,
     frame: &mut Frame,
 ) -> Result<State, SessionFault>
@@ -192,20 +216,13 @@ fn take_credit<O: Office>(
         → Takes (credited contact t (new_mark contact t)) (O.view office.old) (O.view office.new) frame.new result }
     ensures err { IfErr result (λ fault. fault ≡ SessionFault.Office) }
 {
+    let link = contact.link;
     frame.hush();
-    let mark = shipment.filler.mark() as u64;
-    if mark != shipment.mark {
-        office.mark(shipment.number, mark)?;
+    if let Err(fault) = cover(&mut shipment, office) {
+        return Err(fault);
     }
-    let credit = contact.link.credit.get().max(1);
-    Ok(State::Sending(
-        contact,
-        Shipment {
-            credit,
-            mark,
-            ..shipment
-        },
-    ))
+    shipment.credit = link.credit.get().max(1);
+    Ok(State::Sending(contact, shipment))
 }
 
 /// Takes a command that comes while a file is sent: CDT, where no credit is left (RFC 5024, section 5.3.7).

@@ -116,7 +116,7 @@ fn came<O: Office>(
     }
 }
 
-// Makes the own command that is due, by where the session stands.
+// Makes the own command that is due, or nothing, by where the session stands.
 #[tactic(auto, unfolding(crate::specs::Steps::turned))]
 fn turned<O: Office>(
     setting: Setting<'_>,
@@ -124,7 +124,7 @@ fn turned<O: Office>(
     office: &mut O,
     frame: &mut Frame,
 ) -> Result<State, SessionFault>
-    requires { is_due (standing_of state) ≡ true }
+    requires { is_closed (standing_of state) ≡ false }
     ensures clean { (O.view office.new).clean → (O.view office.old).clean }
     ensures takes { (O.view office.new).clean → (O.view office.old).stands
         → (p : Phase) → Holds p (O.view office.old).register → StandsIn p (standing_of state)
@@ -132,7 +132,10 @@ fn turned<O: Office>(
         (O.view office.old) (O.view office.new) frame.new result }
     ensures err { IfErr result IsFailure }
     ensures spared { is_sending (standing_of state) ≡ false → IfErr result (λ fault. fault ≢ SessionFault.Memory) }
-    ensures fewer { IfOk result (λ next. turns_left (standing_of next) < turns_left (standing_of state)) }
+    ensures fewer { is_due (standing_of state) ≡ true
+        → IfOk result (λ next. turns_left (standing_of next) < turns_left (standing_of state)) }
+    ensures idle { is_due (standing_of state) ≡ false
+        → (result ≡ Ok state) × (frame.new ≡ []) × (office.new ≡ office.old) }
 {
     match state {
         State::ResponderOpening => {
@@ -141,7 +144,13 @@ fn turned<O: Office>(
         }
         State::SpeakerIdle(contact, done) => speak(setting, contact, done, office, frame),
         State::GivingWay(contact) => Ok(give_way(contact, frame)),
-        State::Sending(contact, shipment) => send_next(contact, shipment, office, frame),
+        State::Sending(contact, shipment) => {
+            if shipment.credit > 0 {
+                return send_next(contact, shipment, office, frame);
+            }
+            frame.hush();
+            Ok(State::Sending(contact, shipment))
+        }
         State::InitiatorOpening
         | State::AwaitingSsid
         | State::ListenerIdle(_)
@@ -150,7 +159,10 @@ fn turned<O: Office>(
         | State::AwaitingStart(_, _)
         | State::AwaitingEnd(_, _)
         | State::EndedHere(_)
-        | State::EndedThere(_) => unreachable!(),
+        | State::EndedThere(_) => {
+            frame.hush();
+            Ok(state)
+        }
     }
 }
 
@@ -246,8 +258,8 @@ impl<'b> Session<'b> {
             → (p : Phase) → Holds p (O.view office.old).register → is_over p ≡ false → Stands p self.old
             → OnOk result (Stands (came self.old.setting p (O.view office.old).register command.now).phase new))
             × (is_closed self.old.standing ≡ false → OnErr result (new.standing ≡ Broken))
-            × OnOk result (new.standing ≢ Broken)
-            × (is_closed self.old.standing ≡ true → new ≡ self.old))) }
+            × (is_closed self.old.standing ≡ true → new ≡ self.old)
+            × OnOk result (new.standing ≢ Broken))) }
     {
         let Some(state) = self.state.take() else {
             return Err(SessionFault::Ended);
@@ -260,12 +272,13 @@ impl<'b> Session<'b> {
         Ok(self.frame.out())
     }
 
-    /// Makes the own command that is due, and answers it as what is to be sent. Where none is due in a session that goes on, nothing
-    /// is sent and nothing is changed.
+    /// Makes the own command that is due, and answers it as what is to be sent. Where none is due in a session that goes on,
+    /// nothing is sent and nothing is changed. A change of the register is committed before its command is lent.
     ///
     /// # Errors
     ///
-    /// As [`Session::on_command`].
+    /// As [`Session::on_command`]; and [`SessionFault::Memory`], while a file is sent, where there is no buffer for its DATA or
+    /// the growth of one was refused.
     pub fn turn<O: Office>(&mut self, office: &mut O) -> Result<Out<'_>, SessionFault>
         ensures clean { (O.view office.new).clean → (O.view office.old).clean }
         ensures does { (O.view office.new).clean → (O.view office.old).stands
@@ -286,12 +299,12 @@ impl<'b> Session<'b> {
             → (p : Phase) → Holds p (O.view office.old).register → is_over p ≡ false → Stands p self.old
             → OnOk result (Stands (turned self.old.setting p (O.view office.old).register).phase new))
             × (is_closed self.old.standing ≡ false → OnErr result (new.standing ≡ Broken))
-            × OnOk result (new.standing ≢ Broken)
             × (is_due self.old.standing ≡ true
             → OnOk result (turns_left new.standing < turns_left self.old.standing))
             × (is_closed self.old.standing ≡ true → new ≡ self.old)
             × (is_due self.old.standing ≡ false → is_closed self.old.standing ≡ false
-            → new ≡ record self.old { spoken = [] }))) }
+            → new ≡ record self.old { spoken = [] })
+            × OnOk result (new.standing ≢ Broken))) }
     {
         let Some(state) = self.state.take() else {
             return Err(SessionFault::Ended);
@@ -299,11 +312,6 @@ impl<'b> Session<'b> {
         if state.is_closed() {
             self.state = Some(state);
             return Err(SessionFault::Ended);
-        }
-        if !state.is_due() {
-            self.state = Some(state);
-            self.frame.hush();
-            return Ok(self.frame.out());
         }
         self.state = Some(turned(self.setting, state, office, &mut self.frame)?);
         Ok(self.frame.out())

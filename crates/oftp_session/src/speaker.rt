@@ -1,17 +1,15 @@
 //! What the station says where it speaks (RFC 5024, sections 5.3.3 and 5.3.11 to 5.3.15).
 
 ghost use Rattle.std.specs.Prelude.{◌≡◌, ◌≤◌, ℕ, true, false, if◌then◌else◌, Some, IfErr, IfOk, IfSome};
-ghost use Rattle.oftp_vfile.specs.VirtualFile.{units_in};
+ghost use Rattle.oftp_vfile.specs.declared.format.TheConstants.{MOST_ROWS};
 ghost use Rattle.oftp_register.specs.declared.change.Change.TheVariants.{BeginClosing, HandOver, Mark, Refuse, Reopen, Send};
-ghost use Rattle.oftp_register.specs.declared.entry.OutgoingState.{OutgoingState};
 ghost use Rattle.oftp_register.specs.declared.fit.TheConstants.{MOST_UNITS};
 ghost use Rattle.oftp_register.specs.Changes.{is_closing};
 ghost use Rattle.oftp_register.specs.LookUps.{IsItemWithin, IsOutgoingWithin, entry_at, next_item, outgoing_entry, units_of};
 ghost use Rattle.oftp_register.specs.Register.{Outgoing};
 ghost use Rattle.oftp_register.specs.Soundness.{IsFit};
 ghost use Rattle.oftp_session.specs.Settings.{setting_of};
-ghost use Rattle.oftp_session.specs.Phases.{Offer};
-ghost use Rattle.oftp_session.specs.Speaker.{came_awaiting_rtr, nothing_next, offered_from, offers, responds, speaks};
+ghost use Rattle.oftp_session.specs.Speaker.{came_awaiting_rtr, nothing_next, offers, responds, speaks};
 ghost use Rattle.oftp_session.specs.Steps.{IsResponding};
 ghost use Rattle.oftp_session.specs.Standings.{standing_of, turns_left};
 ghost use Rattle.oftp_session.specs.Calls.{Files, Finds, Goes, IsAccepted, Takes};
@@ -33,7 +31,8 @@ pub(crate) trait SpeakerPart: Office {
     fn next(&mut self, contact: &Contact) -> Result<Option<Item>, SessionFault>
         ensures clean { (Self.view self.new).clean → (Self.view self.old).clean }
         ensures finds { (Self.view self.new).clean → (Self.view self.old).stands
-            → Finds (λ r. next_item r contact.now.code contact.now.tried contact.now.link.sends) (Self.view self.old) (Self.view self.new) result }
+            → Finds (λ r. next_item r contact.now.code contact.now.tried contact.now.link.sends)
+            (Self.view self.old) (Self.view self.new) result }
         // It holds of any store.
         ensures within { IfOk result (λ found. IfSome found IsItemWithin) }
         ensures err { IfErr result (λ fault. fault ≡ SessionFault.Office) };
@@ -281,7 +280,9 @@ pub(crate) fn in_awaiting_rtr<O: Office>(
     match command {
         Command::Rtr => {
             frame.hush();
-            office.sent(number)?;
+            if let Err(fault) = office.sent(number) {
+                return Err(fault);
+            }
             Ok(State::SpeakerIdle(contact, WhenDone::ChangeDirection))
         }
         _ => Ok(State::unexpected(command, frame)),

@@ -1,12 +1,17 @@
 //! Commands that come to a responder after the partner's SSID, spelled by hand from RFC 5024.
 
+mod noting;
 mod receiving;
+mod responding;
+mod sending;
+mod talk;
 
 use super::*;
-use oftp_partners::read;
-use oftp_register::PlainOffice;
+use oftp_partners::{Book, read};
+use oftp_register::{Office, PlainOffice};
 use oftp_vfile::Limits;
-use oftp_wire::{SessionReason, parse};
+use oftp_wire::{Count, SessionReason, parse};
+use std::alloc::Global;
 use std::process::Abort;
 use std::test::Fail;
 
@@ -24,9 +29,9 @@ const LIMITS: Limits = Limits {
 };
 
 /// Takes the octets of a command; those that spell none end the session.
-fn take<'s>(
+fn take<'s, O: Office>(
     session: &'s mut Session<'_>,
-    office: &mut PlainOffice,
+    office: &mut O,
     octets: &[u8],
 ) -> Result<Out<'s>, SessionFault> {
     match parse(octets) {

@@ -5,6 +5,7 @@ use std::alloc::{AllocError, Global};
 
 mod commands;
 mod sessions;
+mod transfers;
 
 /// A book of one partner.
 const BOOK: &str =
@@ -25,19 +26,24 @@ const CHANGE: &str = "R";
 
 const NORMAL_END: &str = "F00000\r";
 
+/// Adds a frame with this command.
+fn add_frame(octets: &mut Vec<u8>, command: &[u8]) -> Result<(), AllocError> {
+    let len = command.len() as u64 + 4;
+    let header = [
+        0x10,
+        (len / 65_536 % 256) as u8,
+        (len / 256 % 256) as u8,
+        (len % 256) as u8,
+    ];
+    octets.extend_from_slice(&header)?;
+    octets.extend_from_slice(command)
+}
+
 /// The octets of commands on the stream.
 fn frames(alloc: Global, commands: &[&str]) -> Result<Vec<u8>, AllocError> {
     let mut octets = Vec::new(alloc);
     for command in commands {
-        let len = command.len() as u64 + 4;
-        let header = [
-            0x10,
-            (len / 65_536 % 256) as u8,
-            (len / 256 % 256) as u8,
-            (len % 256) as u8,
-        ];
-        octets.extend_from_slice(&header)?;
-        octets.extend_from_slice(command.as_bytes())?;
+        add_frame(&mut octets, command.as_bytes())?;
     }
     Ok(octets)
 }

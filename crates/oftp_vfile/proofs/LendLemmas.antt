@@ -28,7 +28,7 @@ blocks_some size [] h a = All-nil (λ (r : List ℕ). 0 < length r)
 blocks_some size (r ∷ []) h a = All-cons (λ (x : List ℕ). 0 < length x) r [] a.0 (All-nil (λ (x : List ℕ). 0 < length x))
 blocks_some size (r ∷ q ∷ rs) h a = All-cons (λ (x : List ℕ). 0 < length x) r (q ∷ rs) (omega (arith, a.0)) (blocks_some size (q ∷ rs) h a.1)
 
-stream_some : (format : Format) (longest : ℕ) (rows : List (List ℕ)) → AreRows format longest rows → is_stream format ≡ true → All (λ (r : List ℕ). 0 < length r) rows
+pub stream_some : (format : Format) (longest : ℕ) (rows : List (List ℕ)) → AreRows format longest rows → is_stream format ≡ true → All (λ (r : List ℕ). 0 < length r) rows
 stream_some Fixed longest rows a e = absurd (false≢true e)
 stream_some Variable longest rows a e = absurd (false≢true e)
 stream_some Unstructured longest rows a e = blocks_some BLOCK rows (omega arith) a

@@ -1,0 +1,302 @@
+-- A list of jobs, one after another: sessions and operator's calls.
+use Rattle.std.specs.Prelude.{◌≡◌, ℕ, ◌+◌, ◌<◌, ◌≤◌, ◌⊎◌, ⊤, true, false, List, [], ◌∷◌, ◌++◌, length, take, drop, Option, None, Some, is_some, Result, Ok, Err}
+use Rattle.oftp_partners.specs.Book.{BookData}
+use Rattle.oftp_register.specs.declared.change.Change.{Change}
+use Rattle.oftp_register.specs.Register.{Register}
+use Rattle.oftp_register.specs.Changes.{apply_all}
+use Rattle.oftp_register.specs.Offices.{Only, View, next_count}
+use Rattle.oftp_session.specs.Calls.{Makes}
+use Rattle.oftp_session.specs.Phases.{is_over, register_after}
+use Rattle.oftp_session.specs.Settings.{Setting}
+use Rattle.oftp_engine.specs.declared.port.Port.{Port}
+use Rattle.oftp_engine.specs.declared.operating.Told.{Told}
+use Rattle.oftp_engine.specs.declared.running.CallJob.{CallJob}
+use Rattle.oftp_engine.specs.declared.running.Job.{Job}
+use Rattle.oftp_engine.specs.declared.running.Job.TheVariants as job
+use Rattle.oftp_engine.specs.declared.running.SessionJob.{SessionJob}
+use Rattle.oftp_engine.specs.declared.serving.End.{End}
+use Rattle.oftp_engine.specs.declared.serving.RunFault.{RunFault}
+use Rattle.oftp_engine.specs.declared.serving.RunFault.TheVariants as fault
+use Rattle.oftp_engine.specs.Ports.{Wrote}
+use Rattle.oftp_engine.specs.Runs.{Course, Output, answered, ending, octets_of, run, started, with_change}
+use Rattle.oftp_engine.specs.Serving.{last_frame}
+use Rattle.oftp_engine.specs.Served.{Gave, InputEnded, IsNeeded, IsPrefix, ReaderTold, setting_of, whole}
+use Rattle.oftp_engine.specs.Operating.{Deed, IsDeed, NeedsMemory}
+
+-- A job as its ports tell. Of a session: the octets that its reader gave, and how many its writer had taken if it told a fault. Of an
+-- operator's call: what it does, and the same of its writer.
+pub data Entry : Type 0 where
+  Session : (setting : Setting) (given : List ℕ) (stop : Option ℕ) → Entry
+  Call : (deed : Deed) (stop : Option ℕ) → Entry
+
+-- what a job makes: its changes, its outputs, and the register after it
+pub record Share : Type 0 where
+  pub changes : List Change
+  pub outputs : List Output
+  pub register : Register
+
+abbrev pub session_share : Course → Share
+session_share c = record { changes = c.changes; outputs = c.outputs; register = c.register }
+
+abbrev pub call_share : Register → Deed → Share
+call_share r deed = record {
+  changes = with_change [] deed.change;
+  outputs = record { octets = deed.line; after = length (with_change [] deed.change) } ∷ [];
+  register = register_after r deed.change;
+}
+
+abbrev pub share_of : Register → Entry → Share
+share_of r (Session setting given stop) = session_share (run stop given (started setting r))
+share_of r (Call deed stop) = call_share r deed
+
+-- the register after jobs, and all changes that they make
+abbrev pub after_jobs : Register → List Entry → Register
+after_jobs r [] = r
+after_jobs r (e ∷ es) = after_jobs (share_of r e).register es
+
+abbrev pub changes_of : Register → List Entry → List Change
+changes_of r [] = []
+changes_of r (e ∷ es) = (share_of r e).changes ++ changes_of (share_of r e).register es
+
+-- octets are out, or a beginning of them where the writer told a fault
+abbrev pub IsOut : {W : Type 0} → (W → Option (List ℕ)) → Port W → Port W → List ℕ → Option ℕ → Type 0
+IsOut contents old new octets None = Wrote contents old new octets × (new.faults ≡ old.faults)
+IsOut contents old new octets (Some n) = Wrote contents old new (take n octets) × (n < length octets) × (new.faults ≡ next_count old.faults)
+
+-- how a session ended that its list went on after
+abbrev pub SessionEnds : Setting → Register → List ℕ → Option ℕ → Result End RunFault → Type 0
+SessionEnds setting r given stop (Ok end) = (stop ≡ None) × (end ≡ ending (whole setting given r).phase) × IsNeeded setting r given
+SessionEnds setting r given stop (Err fault.Read) = (stop ≡ None) × (is_over (whole setting given r).phase ≡ false)
+SessionEnds setting r given stop (Err fault.Write) = is_some stop ≡ true
+SessionEnds setting r given stop (Err fault.Office) = ⊥
+SessionEnds setting r given stop (Err fault.Memory) = ⊥
+
+-- a session was served from this register, and its list goes on
+pub record SessionDone {R W : Type 0} (remaining : R → Option (List ℕ)) (contents : W → Option (List ℕ)) (book : BookData) (r : Register)
+    (setting : Setting) (given : List ℕ) (stop : Option ℕ) (old new : SessionJob R W) : Type 0 where
+  pub is : setting ≡ setting_of book old.role
+  pub role : new.role ≡ old.role
+  pub gave : Gave remaining old.reader new.reader given
+  pub out : IsOut contents old.writer new.writer (octets_of (run stop given (started setting r)).outputs) stop
+  pub answer : Result End RunFault
+  pub result : new.result ≡ Some answer
+  pub ends : SessionEnds setting r given stop answer
+  pub reader_told : ReaderTold old.reader new.reader answer
+  pub input_ended : InputEnded remaining new.reader answer
+
+-- what a call told that its list went on after
+abbrev pub CallEnds : Deed → Option ℕ → Result Told RunFault → Type 0
+CallEnds deed stop (Ok told) = (stop ≡ None) × (told ≡ deed.told)
+CallEnds deed stop (Err fault.Read) = ⊥
+CallEnds deed stop (Err fault.Write) = is_some stop ≡ true
+CallEnds deed stop (Err fault.Office) = ⊥
+CallEnds deed stop (Err fault.Memory) = ⊥
+
+-- a call was carried out at this register, and its list goes on
+pub record CallDone {W : Type 0} (contents : W → Option (List ℕ)) (book : BookData) (r : Register) (deed : Deed) (stop : Option ℕ) (old new : CallJob W) : Type 0 where
+  pub is : IsDeed book r old.call deed
+  pub call : new.call ≡ old.call
+  pub out : IsOut contents old.writer new.writer deed.line stop
+  pub made : Makes deed.change r (register_after r deed.change)
+  pub answer : Result Told RunFault
+  pub result : new.result ≡ Some answer
+  pub ends : CallEnds deed stop answer
+
+-- What a job that was broken off leaves: all the changes that it makes where it isn't, how many of these stand with an output of which
+-- an octet is out, and how many are made.
+pub record Stop : Type 0 where
+  pub changes : List Change
+  pub answered : ℕ
+  pub made : ℕ
+
+-- the office told a fault within a session: whole outputs are out, and after them ESID 08 or as much of it as the writer took before it
+-- told a fault
+pub record SessionRefused {R W : Type 0} (remaining : R → Option (List ℕ)) (contents : W → Option (List ℕ)) (book : BookData) (r : Register)
+    (old new : SessionJob R W) (stop : Stop) : Type 0 where
+  pub role : new.role ≡ old.role
+  pub given : List ℕ
+  pub gave : Gave remaining old.reader new.reader given
+  pub outs : List Output
+  pub later : List Output
+  pub outputs : (whole (setting_of book old.role) given r).outputs ≡ outs ++ later
+  pub count : ℕ
+  pub out : Wrote contents old.writer new.writer (octets_of outs ++ take count last_frame)
+  pub said : ((count ≡ length last_frame) × (new.writer.faults ≡ old.writer.faults)) ⊎ ((count < length last_frame) × (new.writer.faults ≡ next_count old.writer.faults))
+  pub changes : stop.changes ≡ (whole (setting_of book old.role) given r).changes
+  pub least : stop.answered ≡ answered outs (length (octets_of outs))
+  pub reader : new.reader.faults ≡ old.reader.faults
+  pub result : new.result ≡ Some (Err fault.Office)
+
+-- memory ran out within a session: whole outputs are out
+pub record SessionShort {R W : Type 0} (remaining : R → Option (List ℕ)) (contents : W → Option (List ℕ)) (book : BookData) (r : Register)
+    (old new : SessionJob R W) (stop : Stop) : Type 0 where
+  pub role : new.role ≡ old.role
+  pub given : List ℕ
+  pub gave : Gave remaining old.reader new.reader given
+  pub outs : List Output
+  pub later : List Output
+  pub outputs : (whole (setting_of book old.role) given r).outputs ≡ outs ++ later
+  pub out : Wrote contents old.writer new.writer (octets_of outs)
+  pub unfailed : new.writer.faults ≡ old.writer.faults
+  pub changes : stop.changes ≡ (whole (setting_of book old.role) given r).changes
+  pub least : stop.answered ≡ answered outs (length (octets_of outs))
+  pub reader : new.reader.faults ≡ old.reader.faults
+  pub result : new.result ≡ Some (Err fault.Memory)
+
+-- the office told a fault within a call: nothing is out
+pub record CallRefused {W : Type 0} (contents : W → Option (List ℕ)) (book : BookData) (r : Register) (old new : CallJob W) (stop : Stop) : Type 0 where
+  pub deed : Deed
+  pub is : IsDeed book r old.call deed
+  pub call : new.call ≡ old.call
+  pub out : Wrote contents old.writer new.writer []
+  pub unfailed : new.writer.faults ≡ old.writer.faults
+  pub changes : stop.changes ≡ with_change [] deed.change
+  pub least : stop.answered ≡ 0
+  pub result : new.result ≡ Some (Err fault.Office)
+
+-- memory ran out within a call: nothing is out, and nothing is changed
+pub record CallShort {W : Type 0} (contents : W → Option (List ℕ)) (old new : CallJob W) (stop : Stop) : Type 0 where
+  pub needs : NeedsMemory old.call
+  pub call : new.call ≡ old.call
+  pub out : Wrote contents old.writer new.writer []
+  pub unfailed : new.writer.faults ≡ old.writer.faults
+  pub changes : stop.changes ≡ []
+  pub least : stop.answered ≡ 0
+  pub result : new.result ≡ Some (Err fault.Memory)
+
+-- a fault of a job's ports doesn't end its list
+abbrev pub IsGoneOn : {T U : Type 0} → Result T RunFault → Result U RunFault → Type 0
+IsGoneOn (Ok x) (Ok y) = ⊤
+IsGoneOn (Ok x) (Err told) = ⊥
+IsGoneOn (Err fault.Read) (Ok y) = ⊤
+IsGoneOn (Err fault.Read) (Err told) = ⊥
+IsGoneOn (Err fault.Write) (Ok y) = ⊤
+IsGoneOn (Err fault.Write) (Err told) = ⊥
+IsGoneOn (Err fault.Office) (Ok y) = ⊥
+IsGoneOn (Err fault.Office) (Err told) = told ≡ fault.Office
+IsGoneOn (Err fault.Memory) (Ok y) = ⊥
+IsGoneOn (Err fault.Memory) (Err told) = told ≡ fault.Memory
+
+-- the office told a fault in this call, or it stands, a stop leaves its register and memory ran out
+pub record OfficeTold (old new : View) : Type 0 where
+  pub faults : new.told ≡ next_count old.told
+
+pub record OfficeStands (old new : View) : Type 0 where
+  pub faults : new.told ≡ old.told
+  pub stands : new.stands
+  pub left : Only new.register new
+
+abbrev pub EndsWith : View → View → RunFault → Type 0
+EndsWith old new fault.Read = ⊥
+EndsWith old new fault.Write = ⊥
+EndsWith old new fault.Office = OfficeTold old new
+EndsWith old new fault.Memory = OfficeStands old new
+
+-- a stop leaves the register after some of these changes, from so many on, and so many or one fewer are made in the office
+pub record LeavesSome (changes : List Change) (least made : ℕ) (old new : View) : Type 0 where
+  pub kept : least ≤ made
+  pub few : made ≤ length changes
+  pub register : new.stands → apply_all old.register (take made changes) ≡ Ok new.register
+  pub left : (content : new.Content) → new.may_leave content → IsPrefix new.holds changes old.register least made content
+
+module _ {R W : Type 0} (remaining : R → Option (List ℕ)) (contents : W → Option (List ℕ)) (book : BookData) where
+  -- a job is done, as its entry says
+  abbrev pub JobDone : Register → Entry → Job R W → Job R W → Type 0
+  JobDone r (Session setting given stop) (job.Session old) (job.Session new) = SessionDone remaining contents book r setting given stop old new
+  JobDone r (Session setting given stop) (job.Session old) (job.Call new) = ⊥
+  JobDone r (Session setting given stop) (job.Call old) new = ⊥
+  JobDone r (Call deed stop) (job.Session old) new = ⊥
+  JobDone r (Call deed stop) (job.Call old) (job.Session new) = ⊥
+  JobDone r (Call deed stop) (job.Call old) (job.Call new) = CallDone contents book r deed stop old new
+
+  -- jobs are done one after another
+  abbrev pub JobsDone : Register → List Entry → List (Job R W) → List (Job R W) → Type 0
+  JobsDone r [] [] [] = ⊤
+  JobsDone r [] [] (new ∷ news) = ⊥
+  JobsDone r [] (old ∷ olds) news = ⊥
+  JobsDone r (e ∷ es) [] news = ⊥
+  JobsDone r (e ∷ es) (old ∷ olds) [] = ⊥
+  JobsDone r (e ∷ es) (old ∷ olds) (new ∷ news) = JobDone r e old new × JobsDone (share_of r e).register es olds news
+
+  -- a job is broken off by a fault
+  abbrev pub SessionStops : Register → SessionJob R W → SessionJob R W → Stop → RunFault → Type 0
+  SessionStops r old new stop fault.Read = ⊥
+  SessionStops r old new stop fault.Write = ⊥
+  SessionStops r old new stop fault.Office = SessionRefused remaining contents book r old new stop
+  SessionStops r old new stop fault.Memory = SessionShort remaining contents book r old new stop
+
+  abbrev pub CallStops : Register → CallJob W → CallJob W → Stop → RunFault → Type 0
+  CallStops r old new stop fault.Read = ⊥
+  CallStops r old new stop fault.Write = ⊥
+  CallStops r old new stop fault.Office = CallRefused contents book r old new stop
+  CallStops r old new stop fault.Memory = CallShort contents old new stop
+
+  abbrev pub JobStops : Register → Job R W → Job R W → Stop → RunFault → Type 0
+  JobStops r (job.Session old) (job.Session new) stop fault = SessionStops r old new stop fault
+  JobStops r (job.Session old) (job.Call new) stop fault = ⊥
+  JobStops r (job.Call old) (job.Session new) stop fault = ⊥
+  JobStops r (job.Call old) (job.Call new) stop fault = CallStops r old new stop fault
+
+  -- one job is done
+  pub record IsJobDone (old new : View) (before after : Job R W) : Type 0 where
+    pub entry : Entry
+    pub done : JobDone old.register entry before after
+    pub register : new.register ≡ (share_of old.register entry).register
+    pub replay : apply_all old.register (share_of old.register entry).changes ≡ Ok new.register
+    pub stands : new.stands
+    pub faults : new.told ≡ old.told
+
+  -- one job is broken off
+  pub record IsJobStopped (old new : View) (before after : Job R W) (fault : RunFault) : Type 0 where
+    pub stop : Stop
+    pub stops : JobStops old.register before after stop fault
+    pub leaves : LeavesSome stop.changes stop.answered stop.made old new
+    pub ends : EndsWith old new fault
+
+  abbrev pub DoesJob : {T : Type 0} → View → View → Job R W → Job R W → Result T RunFault → Type 0
+  DoesJob old new before after (Ok x) = IsJobDone old new before after
+  DoesJob old new before after (Err fault) = IsJobStopped old new before after fault
+
+  -- all jobs are done, and the register is the one after all of them
+  pub record IsRun (old new : View) (olds news : List (Job R W)) : Type 0 where
+    pub entries : List Entry
+    pub done : JobsDone old.register entries olds news
+    pub register : new.register ≡ after_jobs old.register entries
+    pub replay : apply_all old.register (changes_of old.register entries) ≡ Ok new.register
+    pub stands : new.stands
+    pub left : Only new.register new
+    pub faults : new.told ≡ old.told
+
+  -- The list ended within a job: those before it are done, and those behind it as they were. Of all the changes, those of the jobs before
+  -- it and its own, those are made that were answered, at least.
+  pub record IsStopped (old new : View) (olds news : List (Job R W)) (fault : RunFault) : Type 0 where
+    pub entries : List Entry
+    pub before : List (Job R W)
+    pub after : List (Job R W)
+    pub was : Job R W
+    pub now : Job R W
+    pub behind : List (Job R W)
+    pub olds_are : olds ≡ before ++ was ∷ behind
+    pub news_are : news ≡ after ++ now ∷ behind
+    pub done : JobsDone old.register entries before after
+    pub stop : Stop
+    pub stops : JobStops (after_jobs old.register entries) was now stop fault
+    pub leaves : LeavesSome (changes_of old.register entries ++ stop.changes) (length (changes_of old.register entries) + stop.answered)
+        (length (changes_of old.register entries) + stop.made) old new
+    pub ends : EndsWith old new fault
+
+  -- what a list of jobs that answers this has done
+  abbrev pub Runs : {T : Type 0} → View → View → List (Job R W) → List (Job R W) → Result T RunFault → Type 0
+  Runs old new olds news (Ok x) = IsRun old new olds news
+  Runs old new olds news (Err fault) = IsStopped old new olds news fault
+
+  -- the first so many jobs are done, and the others as they were
+  pub record IsRunning (old new : View) (olds news : List (Job R W)) (count : ℕ) : Type 0 where
+    pub entries : List Entry
+    pub done : JobsDone old.register entries (take count olds) (take count news)
+    pub behind : drop count news ≡ drop count olds
+    pub long : length news ≡ length olds
+    pub register : new.register ≡ after_jobs old.register entries
+    pub replay : apply_all old.register (changes_of old.register entries) ≡ Ok new.register
+    pub stands : new.stands
+    pub faults : new.told ≡ old.told

@@ -1,0 +1,249 @@
+//! A file is submitted: registered, to be sent to a partner.
+
+ghost use Rattle.std.specs.Prelude.{◌≡◌, ◌≤◌, ◌↔◌, ℕ, List, true, length, codes, if◌then◌else◌, IsTrue, IfOk, IfErr, IfSome, IfNone};
+ghost use Rattle.oftp_vfile.specs.LocalForm.{IsLocal};
+ghost use Rattle.oftp_vfile.specs.VirtualFile.{IsLongest, units_in};
+ghost use Rattle.oftp_register.specs.Changes.{is_outgoing};
+ghost use Rattle.oftp_register.specs.Soundness.{IsFile};
+ghost use Rattle.oftp_engine.specs.declared.operating.Operator.TheVariants.{Submit};
+ghost use Rattle.oftp_engine.specs.Operating.{AreInRange, IsNoFile, Submits, is_too_big, refuses, registered};
+ghost use Rattle.oftp_engine.specs.Operated.{Attempts, MayFail};
+ghost use Rattle.oftp_engine.specs.Offers.{AreFieldsOf, IsOffer, came_big, came_numbered, named_by};
+
+use crate::operating::{Outcome, Refusal, outcome_of};
+use crate::serving::RunFault;
+use oftp_partners::{Book, Partner};
+use oftp_register::{Change, DigitString, Identity, Name, Office, OfficeFault, OutgoingEntry};
+use oftp_vfile::{Format, Limits, LocalFault, MOST_ROWS, Rows, VFile};
+use oftp_wire::{Digits, Text, X};
+use std::alloc::Global;
+
+/// How many digits tell the length of a record of V in the local form.
+const LENGTH_DIGITS: u64 = 5;
+
+/// A file that is to be sent to a partner.
+#[derive(Clone, Copy, Drop)]
+pub struct Submission<'a> {
+    /// The virtual file's dataset name, 1 to 26 allowed characters (RFC 5024, section 5.3.3).
+    pub dataset: &'a str,
+    /// Its date stamp, CCYYMMDD.
+    pub date: &'a str,
+    /// Its time stamp, HHMMSScccc.
+    pub time: &'a str,
+    /// The code of the partner that it goes to.
+    pub to: &'a str,
+    /// The format of its records.
+    pub format: Format,
+    /// Its longest record in octets, 1 to 16,384 in F and V and 0 in U and T.
+    pub longest: u32,
+    /// What it is, in words, at most 999 octets.
+    pub description: &'a str,
+    /// The file in its local form.
+    pub content: &'a [u8],
+}
+
+// The fields of a submission that is in its ranges.
+#[derive(Drop)]
+struct Fields<'a> {
+    dataset: X<'a, 26>,
+    date: Digits<'a, 8>,
+    time: Digits<'a, 10>,
+    description: Text<'a>,
+}
+
+// A submission that is a file: its fields, and the rows of its content.
+#[derive(Drop)]
+struct Offer<'a> {
+    fields: Fields<'a>,
+    rows: Rows,
+}
+
+// The fields of a submission, or `None` where one is out of its range.
+fn fields_of<'a>(submission: &Submission<'a>) -> Option<Fields<'a>>
+    ensures some { IfSome result (AreFieldsOf submission.now) }
+    ensures none { IfNone result (AreInRange submission.now → ⊥) }
+{
+    if submission.dataset.is_empty() || !submission.format.allows_longest(submission.longest) {
+        return None;
+    }
+    Some(Fields {
+        dataset: X::new(submission.dataset.as_bytes())?,
+        date: Digits::new(submission.date.as_bytes())?,
+        time: Digits::new(submission.time.as_bytes())?,
+        description: Text::new(submission.description)?,
+    })
+}
+
+// The rows of a content, or `None` where it is no local form of the format.
+fn rows_of(
+    alloc: Global,
+    format: Format,
+    longest: u32,
+    content: &[u8],
+) -> Result<Option<Rows>, RunFault>
+    requires { IsLongest format longest }
+    ensures some { IfOk result (λ found. IfSome found (IsLocal format longest content.now)) }
+    ensures none { IfOk result (λ found. IfNone found ((rows : List (List ℕ)) → IsLocal format longest content.now rows → ⊥)) }
+    ensures err { IfErr result (λ f. (f ≡ RunFault.Memory) × (((rows : List (List ℕ)) → IsLocal format longest content.now rows → ⊥) → ⊥)) }
+{
+    match VFile::from_local(alloc, format, longest, content) {
+        Ok(file) => Ok(Some(file.rows)),
+        Err(LocalFault::NotLocal) => Ok(None),
+        Err(LocalFault::Memory) => Err(RunFault::Memory),
+    }
+}
+
+// The file that is handed in, or `None` where it is none.
+fn offer_of<'a>(alloc: Global, submission: &Submission<'a>) -> Result<Option<Offer<'a>>, RunFault>
+    ensures some { IfOk result (λ found. IfSome found (IsOffer submission.now)) }
+    ensures none { IfOk result (λ found. IfNone found (IsNoFile submission.now)) }
+    ensures err { IfErr result (λ f. (f ≡ RunFault.Memory) × (IsNoFile submission.now → ⊥)) }
+{
+    let Some(fields) = fields_of(submission) else {
+        return Ok(None);
+    };
+    let found = rows_of(
+        alloc,
+        submission.format,
+        submission.longest,
+        submission.content,
+    )?;
+    match found {
+        Some(rows) => Ok(Some(Offer { fields, rows })),
+        None => Ok(None),
+    }
+}
+
+// What names a file of these fields to a partner.
+fn name_of(book: &Book, partner: &Partner, fields: &Fields<'_>) -> Identity
+    ensures { result ≡ named_by book.now partner.now fields.now }
+{
+    Identity {
+        dataset: Name::of(&fields.dataset),
+        date: DigitString::of(&fields.date),
+        time: DigitString::of(&fields.time),
+        originator: Name::of(&book.station().code.field()),
+        destination: Name::of(&partner.code.field()),
+    }
+}
+
+// How many octets the rows of a content have: in V without the digits of their lengths.
+fn units_of(format: Format, longest: u32, content: &[u8], rows: &Rows) -> u64
+    requires { IsLocal format longest content.now rows.now }
+    ensures { result ≡ units_in rows.now }
+{
+    let octets = content.len() as u64;
+    match format {
+        Format::Variable => octets - LENGTH_DIGITS * rows.len() as u64,
+        Format::Fixed | Format::Unstructured | Format::Text => octets,
+    }
+}
+
+// Whether rows are more than a station keeps of a file.
+fn are_too_many(limits: Limits, units: u64, rows: &Rows) -> bool
+    requires { units ≡ units_in rows.now }
+    ensures { result ≡ is_too_big limits rows.now }
+{
+    units > limits.octets || rows.len() > MOST_ROWS
+}
+
+// What a file that is too big comes to, once its identity was looked up.
+fn outcome_of_big(found: Result<Option<OutgoingEntry>, OfficeFault>) -> Result<Outcome, RunFault>
+    ensures { result ≡ came_big found }
+{
+    match found {
+        Ok(Some(_)) => Ok(Outcome::Refused(Refusal::Duplicate)),
+        Ok(None) => Ok(Outcome::Refused(Refusal::Limit)),
+        Err(_) => Err(RunFault::Office),
+    }
+}
+
+// Refuses a file that is too big: as a duplicate where its identity is there.
+fn refuse_big<O: Office>(office: &mut O, identity: &Identity) -> Result<Outcome, RunFault>
+    ensures clean { (O.view office.new).clean → (O.view office.old).clean }
+    ensures does { (O.view office.new).clean → (O.view office.old).stands → Attempts (codes "done: submit ")
+        (λ deed. deed ≡ (if is_outgoing (O.view office.old).register identity.now then refuses Refusal.Duplicate else refuses Refusal.Limit))
+        (O.view office.old) (O.view office.new) result }
+    ensures err { IfErr result (λ f. f ≡ RunFault.Office) }
+{
+    let found = office.look_out(identity);
+    outcome_of_big(found)
+}
+
+// What a file that was registered comes to, once its identity was looked up.
+fn outcome_of_number(found: Result<Option<OutgoingEntry>, OfficeFault>) -> Result<Outcome, RunFault>
+    ensures { result ≡ came_numbered found }
+{
+    match found {
+        Ok(Some(file)) => Ok(Outcome::Done(file.no)),
+        // A file that was registered is there, where what was read is what was written.
+        Ok(None) | Err(_) => Err(RunFault::Office),
+    }
+}
+
+// Registers a file, and looks up its number.
+fn register<O: Office>(
+    office: &mut O,
+    identity: &Identity,
+    submission: &Submission<'_>,
+    description: Text<'_>,
+    rows: Rows,
+) -> Result<Outcome, RunFault>
+    ensures clean { (O.view office.new).clean → (O.view office.old).clean }
+    ensures does { (O.view office.new).clean → (O.view office.old).stands → description.entry ≡ submission.now.description.now
+        → IsFile submission.now.format submission.now.longest rows → Attempts (codes "done: submit ")
+        (λ deed. deed ≡ registered identity.now submission.now rows (O.view office.old).register) (O.view office.old) (O.view office.new) result }
+    ensures err { IfErr result (λ f. f ≡ RunFault.Office) }
+{
+    let change = Change::Submit {
+        identity: identity.again(),
+        format: submission.format,
+        longest: submission.longest,
+        description,
+        rows,
+    };
+    match office.commit(change) {
+        Ok(()) => {
+            let found = office.look_out(identity);
+            outcome_of_number(found)
+        }
+        Err(fault) => outcome_of(Err(fault), 0),
+    }
+}
+
+// Submits a file.
+pub(crate) fn submit<O: Office>(
+    alloc: Global,
+    office: &mut O,
+    book: &Book,
+    submission: &Submission<'_>,
+) -> Result<Outcome, RunFault>
+    ensures clean { (O.view office.new).clean → (O.view office.old).clean }
+    ensures does { (O.view office.new).clean → (O.view office.old).stands → Attempts (codes "done: submit ")
+        (Submits book.now (O.view office.old).register submission.now) (O.view office.old) (O.view office.new) result }
+    ensures err { IfErr result (MayFail (Submit submission.now)) }
+{
+    let Some(offer) = offer_of(alloc, submission)? else {
+        return Ok(Outcome::Refused(Refusal::Field));
+    };
+    let Some(partner) = book.partner(submission.to.as_bytes()) else {
+        return Ok(Outcome::Refused(Refusal::Unknown));
+    };
+    let identity = name_of(book, partner, &offer.fields);
+    let units = units_of(
+        submission.format,
+        submission.longest,
+        submission.content,
+        &offer.rows,
+    );
+    if are_too_many(office.limits(), units, &offer.rows) {
+        return refuse_big(office, &identity);
+    }
+    register(
+        office,
+        &identity,
+        submission,
+        offer.fields.description,
+        offer.rows,
+    )
+}

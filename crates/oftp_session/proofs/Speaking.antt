@@ -1,0 +1,103 @@
+-- What the session does at its own turn where it speaks, as a step.
+use Rattle.std.proofs.Common.{◌≡◌, ℕ, zero, suc, ◌≤◌, nat_lt, Bool, true, false, cond, List, [], slice_get, Option, None, Some, Result, Ok, Err, refl, sym, ap, ◌∙◌, subst, arith}
+use Rattle.std.proofs.lemmas.Bool.{false≢true}
+use Rattle.oftp_wire.specs.declared.command.Command.{Command}
+use Rattle.oftp_vfile.specs.VirtualFile.{units_in}
+use Rattle.oftp_register.specs.declared.entries.Item.{Item}
+use Rattle.oftp_register.specs.declared.entries.Item.TheVariants as item
+use Rattle.oftp_register.specs.declared.entries.OutgoingEntry.{OutgoingEntry}
+use Rattle.oftp_register.specs.declared.entries.Side.TheVariants as side
+use Rattle.oftp_register.specs.Register.{Register, Outgoing}
+use Rattle.oftp_register.specs.Changes.{is_closing}
+use Rattle.oftp_register.specs.LookUps.{entry_at, next_item, outgoing_entry, units_of}
+use Rattle.oftp_register.specs.Soundness.{IsSound}
+use Rattle.oftp_register.specs.Offices.{View}
+use Rattle.oftp_session.specs.declared.link.WhenDone.{WhenDone}
+use Rattle.oftp_session.specs.declared.sending.Offering.{Offering}
+use Rattle.oftp_session.specs.declared.session.SessionFault.{SessionFault}
+use Rattle.oftp_session.specs.declared.state.Contact.{Contact}
+use Rattle.oftp_session.specs.declared.state.State.{State}
+use Rattle.oftp_session.specs.declared.state.State.TheVariants as state
+use Rattle.oftp_session.specs.Settings.{Setting}
+use Rattle.oftp_session.specs.Phases.{Phase, Step, ResponderOpening, InitiatorOpening, AwaitingSsid, ListenerIdle, Receiving, SpeakerIdle, GivingWay, AwaitingRtr, AwaitingStart, Sending, AwaitingEnd, EndedHere, EndedThere, frame_of, quiet}
+use Rattle.oftp_session.specs.Speaker.{having_tried_file, offer_of, offered_from, offers, on_item, sfid_of, speaks}
+use Rattle.oftp_session.specs.Sending.{credit_left, sends_next, turned_sending, payloads_in}
+use Rattle.oftp_session.specs.Steps.{turned}
+use Rattle.oftp_session.specs.Standings.{Standing, StandsIn, is_due, offering_of, standing_of}
+use Rattle.oftp_session.specs.Calls.{DoesNot, Goes, IsMade, Takes}
+use Rattle.oftp_session.proofs.Items.{item_goes, units_are}
+use Rattle.oftp_session.proofs.Saying.{step_same}
+use Rattle.oftp_session.proofs.Views.{then_fails, then_made}
+
+-- what is held of a file with this entry
+abbrev held_of : OutgoingEntry → ℕ → ℕ → Offering
+held_of e units from =
+    record { number = e.no; is_closing = is_closing e.state; format = e.format; longest = e.longest; rows = e.rows; units = units; mark = e.mark; from = from }
+
+-- a file is offered
+pub offer_ok : (contact : Contact) (done : WhenDone) (e : OutgoingEntry) (file : Outgoing) (units from : ℕ) (said : Command) (s : Offering) (old new : View) (frame : List ℕ)
+    → e ≡ outgoing_entry e.no file → entry_at e.no old.register.outgoing ≡ Some file → units ≡ units_of old.register side.Outgoing e.no → IsMade None None old new []
+    → from ≡ cond contact.link.restart e.mark 0 → (e ≡ outgoing_entry e.no file → units ≡ units_in file.rows → said ≡ sfid_of file from) → frame ≡ frame_of said
+    → s ≡ (let k : Offering = record { number = e.no; is_closing = is_closing e.state; format = e.format; longest = e.longest; rows = e.rows; units = units; mark = e.mark; from = from } in k)
+    → Takes (offers contact done e.no (Some file)) old new frame (Ok (state.AwaitingStart (having_tried_file contact e.no) s))
+offer_ok contact done e file units from said s old new frame is entry counted was place spelled spoken holds =
+    let octets : units ≡ units_in file.rows = counted ∙ units_are old.register e.no file entry in
+    let row : from ≡ offered_from contact file = place ∙ ap (λ (x : OutgoingEntry). cond contact.link.restart x.mark 0) is in
+    let command : frame ≡ frame_of (sfid_of file (offered_from contact file)) =
+    spoken ∙ ap frame_of (spelled is octets) ∙ ap (λ n. frame_of (sfid_of file n)) row in
+    let whole : s ≡ offering_of (offer_of contact e.no file) =
+    holds ∙ ap (λ n. held_of e n from) octets ∙ ap (λ n. held_of e (units_in file.rows) n) row
+    ∙ ap (λ (x : OutgoingEntry). held_of x (units_in file.rows) (offered_from contact file)) is in (
+      record { said = command; register = was.register; stands = was.stands; faults = was.faults },
+      ap (λ (x : Offering). standing_of (state.AwaitingStart (having_tried_file contact e.no) x)) whole,
+    )
+
+-- a step after a look-up
+pub then_takes : (step : Step) (old mid new : View) (frame : List ℕ) (result : Result State SessionFault) → IsMade None None old mid [] → Takes step mid new frame result
+    → Takes step old new frame result
+then_takes step old mid new frame (Ok to) was h = (then_made step.change step.output frame old mid new was h.0, h.1)
+then_takes step old mid new frame (Err told) was h = then_fails step.change told old mid new was h
+
+-- the file that is next is offered
+pub speak_file : (setting : Setting) (contact : Contact) (done : WhenDone) (e : OutgoingEntry) (old mid new : View) (frame : List ℕ) (result : Result State SessionFault)
+    → IsSound mid.register → next_item old.register contact.code contact.tried contact.link.sends ≡ Some (item.File e) → IsMade None None old mid []
+    → ((d : WhenDone) (file : Outgoing) → e ≡ outgoing_entry e.no file → entry_at e.no mid.register.outgoing ≡ Some file
+    → Takes (offers contact d e.no (Some file)) mid new frame result) → Takes (speaks setting contact done old.register) old new frame result
+unfolding speaks
+speak_file setting contact done e old mid new frame result sound next was does =
+    let again = subst (λ (r : Register). next_item r contact.code contact.tried contact.link.sends ≡ Some (item.File e)) (sym was.register) next in
+    let found = item_goes mid.register contact contact.code contact.tried contact.link.sends e sound again in
+    let there : entry_at e.no old.register.outgoing ≡ Some found.0 =
+    ap (λ (r : Register). entry_at e.no r.outgoing) (sym was.register) ∙ found.2.entry in
+    let step : on_item setting contact done old.register (next_item old.register contact.code contact.tried contact.link.sends) ≡ offers contact done e.no (Some found.0) =
+    ap (on_item setting contact done old.register) next ∙ ap (offers contact done e.no) there in
+    subst (λ (x : Step). Takes x old new frame result) (sym step) (then_takes (offers contact done e.no (Some found.0)) old mid new frame result was (does done found.0 found.1 found.2.entry))
+
+-- no command is due: nothing is said
+idle_step : (setting : Setting) (p : Phase) (s : Standing) (r : Register) → StandsIn p s → is_due s ≡ false → turned setting p r ≡ quiet p
+unfolding turned turned_sending
+idle_step setting ResponderOpening s r h none = absurd (false≢true (sym none ∙ ap is_due h))
+idle_step setting InitiatorOpening s r h none = refl
+idle_step setting AwaitingSsid s r h none = refl
+idle_step setting (ListenerIdle contact) s r h none = refl
+idle_step setting (Receiving contact f) s r h none = refl
+idle_step setting (SpeakerIdle contact done) s r h none = absurd (false≢true (sym none ∙ ap is_due h))
+idle_step setting (GivingWay contact) s r h none = absurd (false≢true (sym none ∙ ap is_due h))
+idle_step setting (AwaitingRtr contact number) s r h none = refl
+idle_step setting (AwaitingStart contact offer) s r h none = refl
+idle_step setting (Sending contact t) s r h none =
+    let spent : nat_lt 0 (credit_left contact t) ≡ false = ap (nat_lt 0) (sym h.2.credit) ∙ sym (ap is_due h.1) ∙ none in
+    ap (λ b. cond b (sends_next contact t (slice_get (payloads_in contact t) t.sent)) (quiet (Sending contact t))) spent
+idle_step setting (AwaitingEnd contact t) s r h none = refl
+idle_step setting (EndedHere reason) s r h none = refl
+idle_step setting (EndedThere reason) s r h none = refl
+
+pub none_left : (n : ℕ) → n ≤ 0 → nat_lt 0 n ≡ false
+none_left zero h = refl
+none_left (suc n) h = absurd (omega (arith, h))
+
+pub idle_takes : (setting : Setting) (p : Phase) (s : State) (now : View) (frame : List ℕ) → now.stands → StandsIn p (standing_of s) → is_due (standing_of s) ≡ false → frame ≡ []
+    → Takes (turned setting p now.register) now now frame (Ok s)
+idle_takes setting p s now frame stands h none silent =
+    let goes : Goes (quiet p) s frame = record { said = silent; unchanged = refl; stands = h } in
+    step_same _ (quiet p) now s frame stands (idle_step setting p (standing_of s) now.register h none) goes
