@@ -12,12 +12,14 @@ use Rattle.oftp_wire.specs.declared.command.Command.{Command}
 use Rattle.oftp_wire.specs.Stream.{front, command_in, IsWithin}
 use Rattle.oftp_wire.specs.Stream.{Head, Whole, Waits, Bad}
 use Rattle.oftp_wire.proofs.Streams.{front_within}
+use Rattle.oftp_register.specs.Soundness.{IsSound}
+use Rattle.oftp_session.specs.Settings.{Setting}
 use Rattle.oftp_session.specs.Phases.{is_over, Phase, Step, frame_of, register_after, fails}
 use Rattle.oftp_session.specs.Steps.{has_turn, turned, turns_due, Suits}
 use Rattle.oftp_session.specs.Calls.{Allows, Proceeds}
 use Rattle.oftp_session.proofs.Proceeding.{turned_proceeds}
-use Rattle.oftp_session.proofs.Phases.{turn_falls, over_no_turn}
-use Rattle.oftp_engine.specs.Runs.{Course, Output, octets_of, with_change, with_output, advance, came_in, turned_in, is_stopped, turns, settled, on_front, next_in, run_by, run}
+use Rattle.oftp_session.proofs.Phases.{opening_suits, over_no_turn, turn_falls}
+use Rattle.oftp_engine.specs.Runs.{Course, Output, started, octets_of, with_change, with_output, advance, came_in, turned_in, is_stopped, turns, settled, on_front, next_in, run_by, run}
 use Rattle.oftp_engine.specs.Serving.{Grows, Sound, Counted}
 use Rattle.oftp_engine.proofs.Phases.{step_proceeds, fails_proceed}
 
@@ -47,7 +49,7 @@ change_later : (changes : List Change) (k : Option Change) → (later : List Cha
 change_later changes None = ([], sym (append-nil changes))
 change_later changes (Some k) = (k ∷ [], refl)
 
-replay_step : (r x : Register) (ks : List Change) (k : Option Change) → apply_all r ks ≡ Ok x → Allows x k → apply_all r (with_change ks k) ≡ Ok (register_after x k)
+pub replay_step : (r x : Register) (ks : List Change) (k : Option Change) → apply_all r ks ≡ Ok x → Allows x k → apply_all r (with_change ks k) ≡ Ok (register_after x k)
 replay_step r x ks None h allows = h
 replay_step r x ks (Some k) h allows = apply_all-push r x ks k h ∙ allows
 
@@ -63,9 +65,13 @@ counted_output : (n : ℕ) (outputs : List Output) (o : Option Command) → Coun
 counted_output n outputs None h = h
 counted_output n outputs (Some command) h = counted_push n outputs (record { octets = frame_of command; after = n }) (omega arith) h
 
-more_changes : (ks : List Change) (k : Option Change) → length ks ≤ length (with_change ks k)
+pub more_changes : (ks : List Change) (k : Option Change) → length ks ≤ length (with_change ks k)
 more_changes ks None = omega arith
 more_changes ks (Some k) = omega (arith, length-append ks (k ∷ []))
+
+-- a session before its first step
+pub sound_start : (setting : Setting) (r : Register) → IsSound r → Sound r (started setting r)
+sound_start setting r sound = record { replay = refl; counted = tt; suits = opening_suits r setting.called sound }
 
 sound_step : (r : Register) (c : Course) (s : Step) → (Suits c.phase c.register → Proceeds c.register s) → Sound r c → Sound r (advance c s)
 unfolding advance

@@ -10,7 +10,6 @@ use Rattle.oftp_register.specs.Register.{Register}
 use Rattle.oftp_register.specs.Changes.{apply_all}
 use Rattle.oftp_register.specs.Offices.{View, Only, WithOrWithout}
 use Rattle.oftp_register.specs.Soundness.{IsSound}
-use Rattle.oftp_session.proofs.Phases.{opening_suits}
 use Rattle.oftp_session.specs.Phases.{framed, Step, register_after}
 use Rattle.oftp_session.specs.Steps.{has_turn}
 use Rattle.oftp_session.specs.Settings.{Setting}
@@ -21,7 +20,7 @@ use Rattle.oftp_engine.specs.declared.serving.RunFault.TheVariants as fault
 use Rattle.oftp_engine.specs.Runs.{Course, Output, run, started, octets_of, answered, advance, is_stopped, with_change}
 use Rattle.oftp_engine.specs.Serving.{Grows, Leads, Reaches, Scene, Took, BreaksOff, OfficeFails, IsShort, Fails, Comes, IsOver, Sound, Counted, last_frame}
 use Rattle.oftp_engine.specs.Served.{whole, broken_off, IsPrefix, LeavesPrefix, IsWhole, IsBrokenOff, IsOfficeFault, IsOutOfMemory, ServesErr}
-use Rattle.oftp_engine.proofs.Courses.{grows_on, grows_step, run_grows, run_over, run_waits, run_stopped}
+use Rattle.oftp_engine.proofs.Courses.{grows_on, grows_step, run_grows, run_over, run_waits, run_stopped, sound_start}
 use Rattle.oftp_engine.proofs.Phases.{over_from}
 use Rattle.oftp_engine.proofs.Progress.{octets_step}
 use Rattle.oftp_engine.proofs.Stepping.{made_register}
@@ -36,9 +35,6 @@ answered_most : (outputs : List Output) (n most : ℕ) → Counted most outputs 
 answered_most [] n most h = omega arith
 answered_most (o ∷ outputs) zero most h = omega arith
 answered_most (o ∷ outputs) (suc n) most h = let p = answered_most outputs (suc n - length o.octets) most h.1 in let q = h.0 in omega arith
-
-sound_start : (setting : Setting) (r : Register) → IsSound r → Sound r (started setting r)
-sound_start setting r sound = record { replay = refl; counted = tt; suits = opening_suits r setting.called sound }
 
 run_sound : (limit : Option ℕ) (setting : Setting) (given : List ℕ) (r : Register) → IsSound r → Sound r (run limit given (started setting r))
 run_sound limit setting given r sound = (run_grows limit given (started setting r)).sound r (sound_start setting r sound)

@@ -1,5 +1,5 @@
 -- What each change makes of the entry of a file that comes in parts.
-use Rattle.std.proofs.Common.{◌≡◌, ◌⊎◌, ℕ, List, [], ◌++◌, take, Option, None, Some, Result, Ok, refl, ap, sym, ◌∙◌, subst, inl, inr}
+use Rattle.std.proofs.Common.{◌≡◌, ℕ, List, [], ◌++◌, take, Option, None, Some, Result, Ok, refl, sym, ◌∙◌, subst, inl, inr}
 use Rattle.std.specs.Prelude.{⊤}
 use Rattle.oftp_vfile.specs.declared.format.Format.{Format}
 use Rattle.oftp_vfile.specs.VirtualFile.{BeginsWith}
@@ -13,11 +13,11 @@ use Rattle.oftp_register.specs.Register.{Register, Incoming, Outgoing, Issued, R
 use Rattle.oftp_register.specs.Changes.{apply, at_number, closed, closing, given_up, handed, issued, kept, marked, new_incoming, new_outgoing, on_incoming, on_outgoing, refused, reopened, sent, started, started_in}
 use Rattle.oftp_register.specs.LookUps.{entry_at}
 use Rattle.oftp_register.specs.Soundness.{IsSound}
-use Rattle.oftp_register.specs.ByIdentity.{WasStarted, in_at, incoming_name, named}
+use Rattle.oftp_register.specs.ByIdentity.{WasStarted, in_at, incoming_name}
 use Rattle.oftp_register.proofs.NumberLemmas.{mapped_ok}
 use Rattle.oftp_register.proofs.IncomingLemmas.{closed_same, given_up_same, if_open_ok, issued_on_ok, issued_same, kept_same, sent_of_ok, sent_same}
 use Rattle.oftp_register.proofs.ByIdentityLemmas.{changed_named, filed_ok, started_named, submitted_ok}
-use Rattle.oftp_engine.specs.Parts.{File, IsBegun, IsSoFar, IsUnbroken}
+use Rattle.oftp_engine.specs.Parts.{File, IsSoFar, IsUnbroken}
 use Rattle.oftp_engine.proofs.PartRows.{cut_begins}
 
 -- what a change rests on, where it is of the file: rows that are kept go on to begin it, and those that close it make it whole

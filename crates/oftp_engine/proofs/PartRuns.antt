@@ -1,7 +1,7 @@
 -- Over a run, and over jobs in turn, a file that comes in parts is what its parts carry.
-use Rattle.std.proofs.Common.{◌≡◌, ◌⊎◌, ℕ, zero, suc, ◌+◌, ◌<◌, ◌≤◌, ◌&&◌, ◌||◌, not, Bool, true, false, cond, List, [], ◌∷◌, ◌++◌, length, take, Option, None, Some, Result, Ok, Err, refl, ap, sym, ◌∙◌, subst, inl, inr, arith, length-append}
-use Rattle.std.specs.Prelude.{⊤, codes, nat_le}
-use Rattle.std.proofs.lemmas.Bool.{cases_Bool, cases_lt}
+use Rattle.std.proofs.Common.{◌≡◌, ℕ, zero, suc, ◌+◌, ◌≤◌, ◌&&◌, ◌||◌, not, Bool, true, false, cond, List, [], ◌∷◌, ◌++◌, length, take, Option, None, Some, Result, Ok, Err, refl, ap, sym, ◌∙◌, subst, inl, inr, arith, length-append}
+use Rattle.std.specs.Prelude.{codes, is_some, nat_le}
+use Rattle.std.proofs.lemmas.Bool.{cases_lt}
 use Rattle.std.proofs.lemmas.List.{take-append-le, take_all}
 use Rattle.oftp_wire.specs.Kinds.{command_of}
 use Rattle.oftp_wire.specs.Reasons.{reason_of}
@@ -10,7 +10,9 @@ use Rattle.oftp_wire.specs.declared.fault.WireFault.{WireFault}
 use Rattle.oftp_wire.specs.declared.frame_fault.FrameFault.{FrameFault}
 use Rattle.oftp_wire.specs.declared.reason.SessionReason.{SessionReason}
 use Rattle.oftp_wire.specs.declared.reason.SessionReason.TheVariants.{CommandNotRecognised, ProtocolViolation}
+use Rattle.oftp_partners.specs.Book.{BookData, partner_at}
 use Rattle.oftp_partners.specs.declared.partner.Partner.{Partner}
+use Rattle.oftp_vfile.specs.declared.format.Format.{Format}
 use Rattle.oftp_register.specs.declared.change.Cause.{Cause}
 use Rattle.oftp_register.specs.declared.change.Change.{Change}
 use Rattle.oftp_register.specs.declared.change.Change.TheVariants as change
@@ -20,28 +22,29 @@ use Rattle.oftp_register.specs.declared.entry.ResponseKind.{ResponseKind}
 use Rattle.oftp_register.specs.declared.entry.ResponseKind.TheVariants.{EndResponse, NegativeEndResponse}
 use Rattle.oftp_register.specs.Register.{Register, Incoming}
 use Rattle.oftp_register.specs.ByIdentity.{WasStarted, in_at}
-use Rattle.oftp_register.specs.Changes.{apply, apply_all, new_incoming, started_in}
-use Rattle.oftp_register.specs.Soundness.{IsFit, IsResponse, IsSound}
+use Rattle.oftp_register.specs.Changes.{apply, apply_all, is_outgoing, new_incoming, started_in}
+use Rattle.oftp_register.specs.Soundness.{IsFile, IsFit, IsResponse, IsSound}
 use Rattle.oftp_register.proofs.ByIdentityLemmas.{started_view}
 use Rattle.oftp_register.proofs.KeepLemmas.{apply_keeps}
 use Rattle.oftp_register.proofs.NumberLemmas.{mapped_ok, one_result}
 use Rattle.oftp_session.specs.Settings.{Setting}
 use Rattle.oftp_session.specs.Phases.{Step, fails, is_over, register_after}
-use Rattle.oftp_session.specs.Steps.{Suits, came, has_turn, opening, turned, turns_due}
+use Rattle.oftp_session.specs.Steps.{Suits, has_turn, opening, turned, turns_due}
 use Rattle.oftp_session.specs.Calls.{Allows, Makes, Proceeds}
-use Rattle.oftp_session.proofs.Phases.{opening_suits}
 use Rattle.oftp_session.proofs.Proceeding.{turned_proceeds}
 use Rattle.oftp_engine.specs.declared.operating.Operator.{Operator}
 use Rattle.oftp_engine.specs.declared.operating.Operator.TheVariants as operator
-use Rattle.oftp_engine.specs.declared.operating.Refusal.TheVariants.{Field}
+use Rattle.oftp_engine.specs.declared.operating.Refusal.TheVariants.{Duplicate, Field, Limit, Unknown}
 use Rattle.oftp_engine.specs.Frames.{at_rest, over_commands}
-use Rattle.oftp_engine.specs.Operating.{Deed, IsDeed, decided, makes, refuses, refused, released}
+use Rattle.oftp_engine.specs.declared.submitting.Submission.{Submission}
+use Rattle.oftp_engine.specs.Operating.{Deed, IsDeed, IsFileOf, decided, identity_of, is_too_big, makes, refuses, registered, submitted}
+use Rattle.oftp_engine.proofs.Offers.{is_file}
 use Rattle.oftp_engine.specs.Parts.{AreParts, BringsParts, File, IsLeft, IsOpenWith, IsPart, IsSoFar, Job, JobsMakeTheFile, LeaveAll, Leaves, MayDo, NoCountPasses, Operates, PartsMakeTheFile, Serves, Session, course_of, rows_of}
 use Rattle.oftp_engine.specs.Runs.{Course, advance, came_in, is_stopped, refusal, settled, started, step_on, turned_in, turns, with_change}
 use Rattle.oftp_engine.specs.Serving.{Sound}
-use Rattle.oftp_engine.proofs.Courses.{grows_step}
+use Rattle.oftp_engine.proofs.Courses.{grows_step, sound_start}
 use Rattle.oftp_engine.proofs.Folding.{folds_all}
-use Rattle.oftp_engine.proofs.PartChanges.{PartGrounds, part_change}
+use Rattle.oftp_engine.proofs.PartChanges.{part_change}
 use Rattle.oftp_engine.proofs.PartSteps.{IsPartPhase, IsPartStep, StepGrounds, came_part, turned_part}
 use Rattle.oftp_engine.proofs.Phases.{fails_proceed, step_proceeds}
 
@@ -162,7 +165,7 @@ module _ (file : File) (identity : Identity) (start : Register) where
 -- a session before its first step
 first_course : (file : File) (identity : Identity) (setting : Setting) (r : Register) → IsSoIn file identity r → IsPartCourse file identity r (started setting r)
 first_course file identity setting r so = record {
-  sound = record { replay = refl; counted = tt; suits = opening_suits r setting.called so.sound };
+  sound = sound_start setting r so.sound;
   phase = first_phase setting.called;
   before = none;
 }
@@ -204,13 +207,46 @@ decided_so : (file : File) (identity : Identity) (r s : Register) (verb : List �
 decided_so file identity r s verb n change (Ok after) so step made = step made
 decided_so file identity r s verb n change (Err cause) so step made = subst (IsSoIn file identity) (sym made) so
 
-call_leaves : (file : File) (identity : Identity) (call : Operator) (deed : Deed) (r s : Register) → IsSoIn file identity r → IsDeed r call deed → Makes deed.change r s
-    → IsSoIn file identity s
-call_leaves file identity (operator.Release n) deed r s so is made =
+-- a file that is handed in goes, and nothing that comes changes
+submit_so : (file : File) (identity : Identity) (r s : Register) (name : Identity) (format : Format) (longest : ℕ) (description : List ℕ) (rows : List (List ℕ))
+    → IsFile format longest rows → IsSoIn file identity r → apply r (change.Submit name format longest description rows) ≡ Ok s → IsSoIn file identity s
+unfolding IsFit
+submit_so file identity r s name format longest description rows fits so made =
+    let submit = change.Submit name format longest description rows in
+    record { sound = apply_keeps r submit s so.sound fits made; so_far = part_change file identity r s so.so_far submit so.sound tt made }
+
+submit_leaves : (file : File) (identity : Identity) (book : BookData) (handed : Submission) (rows : List (List ℕ)) (r s : Register) → IsSoIn file identity r
+    → IsFileOf handed rows → Makes (submitted book r handed rows).change r s → IsSoIn file identity s
+submit_leaves file identity book handed rows r s so is made =
+    by (is_some (partner_at handed.to.now book.partners)) (is_outgoing r (identity_of book handed)) (is_too_big r.limits rows) refl made
+  where
+    submit : Change
+    submit = change.Submit (identity_of book handed) handed.format handed.longest handed.description.now rows
+
+    by : (known there big : Bool) → is_too_big r.limits rows ≡ big
+        → (let d : Deed = cond known (cond there (refuses Duplicate) (cond big (refuses Limit) (registered (identity_of book handed) handed rows r))) (refuses Unknown) in
+        Makes d.change r s)
+        → IsSoIn file identity s
+    by false there big e made = subst (IsSoIn file identity) (sym made) so
+    by true true big e made = subst (IsSoIn file identity) (sym made) so
+    by true false true e made = subst (IsSoIn file identity) (sym made) so
+    by true false false e made =
+        let fits = is_file handed rows r.limits is e in
+        let goes = submit_so file identity r s (identity_of book handed) handed.format handed.longest handed.description.now rows fits so in
+        decided_so file identity r s (codes "done: submit ") (1 + length r.outgoing) submit (apply r submit) so goes made
+
+call_leaves : (file : File) (identity : Identity) (book : BookData) (call : Operator) (deed : Deed) (r s : Register) → IsSoIn file identity r → IsDeed book r call deed
+    → Makes deed.change r s → IsSoIn file identity s
+call_leaves file identity book (operator.Submit handed) deed r s so (inl (rows, is, same)) made =
+    submit_leaves file identity book handed rows r s so is (subst (λ (d : Deed). Makes d.change r s) same made)
+call_leaves file identity book (operator.Submit handed) deed r s so (inr (none, same)) made =
+    let unchanged : s ≡ r = subst (λ (d : Deed). Makes d.change r s) same made in
+    subst (IsSoIn file identity) (sym unchanged) so
+call_leaves file identity book (operator.Release n) deed r s so is made =
     let issue = change.Issue n EndResponse 0 [] in
     decided_so file identity r s (codes "done: release ") n issue (apply r issue) so (issue_so file identity r s n EndResponse 0 [] (refl, refl, refl) so)
     (subst (λ (d : Deed). Makes d.change r s) is made)
-call_leaves file identity (operator.Refuse n reason text) deed r s so is made =
+call_leaves file identity book (operator.Refuse n reason text) deed r s so is made =
     by (nat_le reason 99 && nat_le (length text.now) 999) (subst (λ (d : Deed). Makes d.change r s) is made)
   where
     verb : List ℕ
@@ -227,8 +263,8 @@ call_leaves file identity (operator.Refuse n reason text) deed r s so is made =
 
 job_leaves : (file : File) (identity : Identity) (job : Job) (r s : Register) → IsSoIn file identity r → MayDo file identity job r → Leaves job r s → IsSoIn file identity s
 job_leaves file identity (Serves session) r s so may left = session_leaves file identity session r s so may left
-job_leaves file identity (Operates call) r s so may (inl same) = subst (IsSoIn file identity) (sym same) so
-job_leaves file identity (Operates call) r s so may (inr deed) = call_leaves file identity call deed.0 r s so deed.1 deed.2
+job_leaves file identity (Operates book call) r s so may (inl same) = subst (IsSoIn file identity) (sym same) so
+job_leaves file identity (Operates book call) r s so may (inr deed) = call_leaves file identity book call deed.0 r s so deed.1 deed.2
 
 all_leave : (file : File) (identity : Identity) (jobs : List Job) (r s : Register) → IsSoIn file identity r → LeaveAll file identity jobs r s → IsSoIn file identity s
 all_leave file identity [] r s so same = subst (IsSoIn file identity) (sym same) so

@@ -1,5 +1,5 @@
 -- What each step of a session makes of a file that comes in parts, by cases of phase.
-use Rattle.std.proofs.Common.{◌≡◌, ◌⊎◌, ℕ, zero, suc, ◌+◌, ◌-◌, ◌≤◌, ◌==◌, ◌&&◌, nat_le, nat_lt, not, Bool, true, false, cond, List, [], ◌∷◌, ◌++◌, length, take, drop, slice_get, Option, None, Some, Result, Ok, Err, refl, ap, sym, ◌∙◌, subst, inl, inr, arith, length-append}
+use Rattle.std.proofs.Common.{◌≡◌, ℕ, zero, suc, ◌+◌, ◌-◌, ◌==◌, ◌&&◌, nat_le, nat_lt, not, Bool, true, false, cond, List, [], ◌∷◌, ◌++◌, length, take, drop, slice_get, Option, None, Some, Result, Ok, Err, refl, ap, sym, ◌∙◌, subst, inl, inr, arith, length-append}
 use Rattle.std.specs.Prelude.{⊤}
 use Rattle.std.proofs.lemmas.Bool.{eqb-true, not-false}
 use Rattle.std.proofs.lemmas.List.{length-take-le, take-append-drop, take-append-le}
@@ -42,7 +42,7 @@ use Rattle.oftp_register.specs.ByIdentity.{in_at, incoming_name}
 use Rattle.oftp_register.specs.Changes.{is_closing}
 use Rattle.oftp_register.specs.LookUps.{entry_at, next_item}
 use Rattle.oftp_register.specs.Soundness.{IsSound}
-use Rattle.oftp_register.specs.Verdicts.{end_verdict, format_of, longest_of}
+use Rattle.oftp_register.specs.Verdicts.{end_verdict}
 use Rattle.oftp_register.proofs.ByIdentityLemmas.{found_named, same_self}
 use Rattle.oftp_session.specs.declared.link.WhenDone.{WhenDone}
 use Rattle.oftp_session.specs.declared.link.WhenDone.TheVariants.{ChangeDirection, EndSession}
@@ -53,9 +53,9 @@ use Rattle.oftp_session.specs.Phases.{AwaitingEnd, AwaitingRtr, AwaitingSsid, Aw
 use Rattle.oftp_session.specs.Opening.{Agreement, came_awaiting_ssid, came_initiator_opening, open_step, opened_step, ssid_verdict}
 use Rattle.oftp_session.specs.Opening.{offer_step as calling_step}
 use Rattle.oftp_session.specs.Listener.{came_listener_idle, end_response, file_of, filing, is_between, negative_end_response, response_step}
-use Rattle.oftp_session.specs.Receiving.{came_receiving, carried_by, data_step, end_step, is_window_full, keeping, kept_of, offer_step, offered_identity, on_end_verdict, on_start_verdict, on_taken, reason_of, receipt_of, rows_to_keep, verdict_on, window_step, with_payload, with_rows}
+use Rattle.oftp_session.specs.Receiving.{came_receiving, carried_by, data_step, end_step, is_window_full, keeping, offer_step, on_end_verdict, on_start_verdict, on_taken, reason_of, rows_to_keep, verdict_on, window_step, with_payload, with_rows}
 use Rattle.oftp_session.specs.Speaker.{came_awaiting_rtr, nothing_next, offers, on_item, speaks}
-use Rattle.oftp_session.specs.Sending.{after_file, came_awaiting_end, came_awaiting_start, came_sending, credit_left, credited, marking, new_mark, payloads_in, refusal, reopening, sends_next, transfer_of, turned_sending}
+use Rattle.oftp_session.specs.Sending.{after_file, came_awaiting_end, came_awaiting_start, came_sending, credit_left, credited, new_mark, payloads_in, refusal, reopening, sends_next, transfer_of, turned_sending}
 use Rattle.oftp_session.specs.Steps.{IsReceived, Suits, came, turned}
 use Rattle.oftp_session.proofs.Receipts.{carried_next, carried_same, payload_holds}
 use Rattle.oftp_engine.specs.Parts.{CarriesPart, File, IsPartCommand, IsSoFar, IsUnbroken}
@@ -302,8 +302,8 @@ module _ (file : File) (identity : Identity) (r : Register) where
             let b = ap length (octets_in-closed xs tail) in
             let c = ap length (flat_map-append (λ (x : List ℕ). x) front xs) in
             let d = ap length (flat_map-append (λ (x : List ℕ). x) front ys) in
-            let joined = (length-append (octets_in (front ++ xs)) tail, length-append (octets_in xs) tail) in
-            omega (arith, h, a, b, c, d, joined, length-append (octets_in front) (octets_in xs), length-append (octets_in front) (octets_in ys))
+            let e = length-append (octets_in (front ++ xs)) tail in
+            omega (arith, h, a, b, c, d, e, length-append (octets_in xs) tail, length-append (octets_in front) (octets_in xs), length-append (octets_in front) (octets_in ys))
 
   -- the entry with the number of a file that comes
   its_entry : (f : Receipt) (e : Incoming) → IsReceived r f → entry_at f.number r.incoming ≡ Some e → f.file ≡ e

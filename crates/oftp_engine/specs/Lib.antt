@@ -8,3 +8,8 @@ pub mod Operated
 pub mod Offers
 pub mod Jobs
 pub mod Parts
+pub mod World
+pub mod TwoStations
+pub mod Standing
+pub mod Grounds
+pub mod Promise

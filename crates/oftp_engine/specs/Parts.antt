@@ -6,6 +6,7 @@ use Rattle.oftp_wire.specs.declared.fault.WireFault.{WireFault}
 use Rattle.oftp_wire.specs.declared.frame_fault.FrameFault.{FrameFault}
 use Rattle.oftp_wire.specs.Kinds.{command_of}
 use Rattle.oftp_wire.specs.Stream.{Reads}
+use Rattle.oftp_partners.specs.Book.{BookData}
 use Rattle.oftp_vfile.specs.declared.format.Format.{Format}
 use Rattle.oftp_vfile.specs.VirtualFile.{AreRows, BeginsWith, records_in, units_in}
 use Rattle.oftp_vfile.specs.Carries.{CarriesWhole}
@@ -108,17 +109,17 @@ PartsMakeTheFile = (file : File) (identity : Identity) (session : Session) (r s 
 -- what a station does: a session, or an operator's call
 pub data Job : Type 0 where
   Serves : (session : Session) → Job
-  Operates : (call : Operator) → Job
+  Operates : (book : BookData) (call : Operator) → Job
 
 -- what is asked of a job, from a register
 abbrev pub MayDo : File → Identity → Job → Register → Type 0
 MayDo file identity (Serves session) r = BringsParts file identity session r
-MayDo file identity (Operates call) r = ⊤
+MayDo file identity (Operates book call) r = ⊤
 
 -- a register that a job may leave; a call may be stopped before its change is made
 abbrev pub Leaves : Job → Register → Register → Type 0
 Leaves (Serves session) r s = IsLeft (course_of session r) r s
-Leaves (Operates call) r s = (s ≡ r) ⊎ ((deed : Deed) × IsDeed r call deed × Makes deed.change r s)
+Leaves (Operates book call) r s = (s ≡ r) ⊎ ((deed : Deed) × IsDeed book r call deed × Makes deed.change r s)
 
 -- a register that jobs in turn may leave
 abbrev pub LeaveAll : File → Identity → List Job → Register → Register → Type 0

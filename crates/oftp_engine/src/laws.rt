@@ -5,6 +5,7 @@ ghost use Rattle.oftp_wire.specs.declared.frame_fault.FrameFault.{FrameFault};
 ghost use Rattle.oftp_wire.specs.Stream.{Reads};
 ghost use Rattle.oftp_engine.specs.Frames.{over_commands};
 ghost use Rattle.oftp_engine.specs.Parts.{JobsMakeTheFile, NoCountPasses, PartsMakeTheFile};
+ghost use Rattle.oftp_engine.specs.Promise.{TwoStations};
 ghost use Rattle.oftp_engine.specs.Runs.{Course, run, started};
 ghost use Rattle.oftp_session.specs.Settings.{Setting};
 ghost use Rattle.oftp_register.specs.Register.{Register};
@@ -38,4 +39,12 @@ pub fn parts_make_the_file()
 /// A start that is accepted finds as many rows as it names, and leaves exactly these. It does nothing; its contract is the law.
 pub fn no_count_passes()
     ensures { NoCountPasses }
+{}
+
+/// Two stations that only the connection joins keep their promise after every list of events: sessions, commands that come or are
+/// lost, breaks, stops and faults of an office at any change, and operators' calls. What the one holds as handed over is whole at
+/// the other, what is whole there is a file of the one, and what the one holds as delivered or returned was answered so there. It
+/// does nothing; its contract is the law.
+pub fn two_stations()
+    ensures { TwoStations }
 {}

@@ -8,7 +8,10 @@ mod running;
 mod serving;
 mod submitting;
 
-pub use laws::{changes_are_made, folds_over_frames, jobs_make_the_file, no_count_passes, parts_make_the_file};
+pub use laws::{
+    changes_are_made, folds_over_frames, jobs_make_the_file, no_count_passes, parts_make_the_file,
+    two_stations,
+};
 pub use operating::{Operator, Refusal, Told, operate};
 pub use port::Port;
 pub use running::{CallJob, Job, SessionJob, run};

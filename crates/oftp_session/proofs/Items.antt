@@ -112,7 +112,7 @@ one_more : (n k : ℕ) → n ≡ 1 + k → n ≡ suc k
 one_more n k h = omega (arith, h)
 
 -- which of the two is next
-a_response : (response : Option IssuedEntry) (file : Option OutgoingEntry) (e : IssuedEntry) → item_of response file ≡ Some (item.Response e) → response ≡ Some e
+pub a_response : (response : Option IssuedEntry) (file : Option OutgoingEntry) (e : IssuedEntry) → item_of response file ≡ Some (item.Response e) → response ≡ Some e
 a_response (Some x) file e h = cc
 a_response None (Some x) e h = absurd (let no : ⊥ = cc in no)
 a_response None None e h = absurd (let no : ⊥ = cc in no)

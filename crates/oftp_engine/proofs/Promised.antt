@@ -1,0 +1,99 @@
+-- The promise follows from the invariant, and the invariant holds at first.
+use Rattle.std.proofs.Common.{◌≡◌, ◌≤◌, List, [], ◌∷◌, Option, None, Some, refl, sym, ◌∙◌, subst}
+use Rattle.std.proofs.lemmas.Bool.{false≢true}
+use Rattle.std.proofs.lemmas.List.Elements.{All-nil}
+use Rattle.oftp_partners.specs.Book.{BookData}
+use Rattle.oftp_partners.specs.declared.partner.Partner.{Partner}
+use Rattle.oftp_vfile.specs.declared.format.Limits.{Limits}
+use Rattle.oftp_register.specs.declared.entry.IncomingState.TheVariants.{Whole}
+use Rattle.oftp_register.specs.Register.{Register, Incoming, Outgoing, empty}
+use Rattle.oftp_register.specs.declared.fit.TheConstants.{MOST_FILES, MOST_OCTETS}
+use Rattle.oftp_register.specs.Soundness.{IsSound, IsSoundIncoming, IsSoundOutgoing, IsSoundReceived}
+use Rattle.oftp_engine.specs.Runs.{Course}
+use Rattle.oftp_engine.specs.World.{Station, World, Event, register_in, register_of, after_event, after_events}
+use Rattle.oftp_register.specs.ByIdentity.{out_at, in_at}
+use Rattle.oftp_engine.specs.TwoStations.{IfAny, IsContent, IsAnswered, IsWholeOf, ContentArrives, ResponsesAreIssued}
+use Rattle.oftp_engine.specs.Standing.{Fits, AllFit, IsPartOf, Stands, IsInSession, IsSoundStation, Leaves, LeftBy}
+use Rattle.oftp_engine.specs.Promise.{ContentIsKept, ResponsesAreKept, IsLawful, world_of, new_station, TwoStations, KeepsStanding}
+use Rattle.oftp_engine.proofs.Fitting.{not_handed}
+
+whole_of : (f : Outgoing) (e : Incoming) → IsPartOf f e → e.state ≡ Whole → IsWholeOf f e
+whole_of f e fit w = record { whole = w; format = fit.format; longest = fit.longest; rows = fit.whole w }
+
+-- content
+pub fits_content : (out : Option Outgoing) (there : Option Incoming) → Fits out there → IsContent out there
+fits_content None None fit = record { handed = tt; whole = tt }
+fits_content None (Some e) fit = absurd fit
+fits_content (Some f) None fit = record { handed = λ k. absurd (false≢true (sym fit ∙ k)); whole = tt }
+fits_content (Some f) (Some e) fit = record { handed = λ k. whole_of f e fit (fit.handed k); whole = λ w. whole_of f e fit w }
+
+-- responses
+pub fits_answered : (out : Option Outgoing) (there : Option Incoming) → Fits out there → IsAnswered out there
+fits_answered None there fit = record { delivered = tt; returned = tt }
+fits_answered (Some f) None fit = record { delivered = λ k. absurd ((not_handed f.state fit).0 k); returned = λ k. absurd ((not_handed f.state fit).1 k) }
+fits_answered (Some f) (Some e) fit = record { delivered = λ k. fit.delivered k; returned = λ k. fit.returned k }
+
+pub fit_content : (r s : Register) → AllFit r s → ContentArrives r s
+fit_content r s fit i = fits_content (out_at r i) (in_at s i) (fit i)
+
+pub fit_answered : (r s : Register) → AllFit r s → ResponsesAreIssued r s
+fit_answered r s fit i = fits_answered (out_at r i) (in_at s i) (fit i)
+
+-- the register of a station is one that a stop may leave
+leaves_now : (start : Register) (session : Option Course) → IfAny session (IsInSession start) → LeftBy start session (register_in start session)
+leaves_now s None h = refl
+leaves_now s (Some c) h = h.now
+
+pub stands_promise : (w : World) → Stands w → ContentIsKept w × ResponsesAreKept w
+stands_promise w h =
+    let r = register_of w.one in
+    let s = register_of w.other in
+    let one : Leaves w.one r = leaves_now w.one.start w.one.session h.one.session in
+    let other : Leaves w.other s = leaves_now w.other.start w.other.session h.other.session in
+    let to_other = h.to_other r s one other in
+    let to_one = h.to_one r s one other in
+    ((fit_content r s to_other, fit_content s r to_one), (fit_answered r s to_other, fit_answered s r to_one))
+
+-- at first
+sound_empty : (limits : Limits) → limits.files ≤ MOST_FILES → limits.octets ≤ MOST_OCTETS → IsSound (empty limits)
+sound_empty limits files octets = record {
+  few = files;
+  small = octets;
+  incoming = All-nil IsSoundIncoming;
+  outgoing = All-nil IsSoundOutgoing;
+  received = All-nil IsSoundReceived;
+  incoming_once = tt;
+  outgoing_once = tt;
+  received_once = tt;
+}
+
+new_sound : (book : BookData) (partner : Partner) (limits : Limits) (other : Station) → IsLawful book limits → IsSoundStation (new_station book partner limits) other
+new_sound book partner limits other lawful = record {
+  registers = λ r e. subst IsSound (sym e) (sound_empty limits lawful.files lawful.octets);
+  room = lawful.buffer;
+  session = tt;
+  coming = refl;
+}
+
+empty_fit : (r s : Register) (limits limits' : Limits) → r ≡ empty limits → s ≡ empty limits' → AllFit r s
+empty_fit r s limits limits' e d = subst (λ x. AllFit x s) (sym e) (subst (λ y. AllFit (empty limits) y) (sym d) (λ i. tt))
+
+pub stands_first : (book book' : BookData) (partner partner' : Partner) (limits limits' : Limits) → IsLawful book limits → IsLawful book' limits'
+    → Stands (world_of book book' partner partner' limits limits')
+stands_first book book' partner partner' limits limits' lawful lawful' = record {
+  one = new_sound book partner limits (new_station book' partner' limits') lawful;
+  other = new_sound book' partner' limits' (new_station book partner limits) lawful';
+  to_other = λ r s e d. empty_fit r s limits limits' e d;
+  to_one = λ r s e d. empty_fit s r limits' limits d e;
+  meet = tt;
+}
+
+-- after every list of events, where each event keeps it
+stands_after : KeepsStanding → (w : World) (events : List Event) → Stands w → Stands (after_events w events)
+stands_after keeps w [] h = h
+stands_after keeps w (e ∷ es) h = stands_after keeps (after_event w e) es (keeps w e h)
+
+pub two_stations_from : KeepsStanding → TwoStations
+two_stations_from keeps book book' partner partner' limits limits' events lawful lawful' =
+    let first = world_of book book' partner partner' limits limits' in
+    stands_promise (after_events first events) (stands_after keeps first events (stands_first book book' partner partner' limits limits' lawful lawful'))

@@ -1,0 +1,122 @@
+-- Which registers a stop may leave after a step: the one after it, and, where nothing was said, those before.
+use Rattle.std.proofs.Common.{◌≡◌, ◌⊎◌, ℕ, zero, suc, ◌<◌, ◌≤◌, List, [], ◌∷◌, ◌++◌, length, take, fold, Option, None, Some, Result, Ok, Err, refl, ap, sym, ◌∙◌, subst, inl, inr, arith}
+use Rattle.std.proofs.lemmas.List.{length-append, take_all, take-append-le}
+use Rattle.std.proofs.lemmas.Bool.{cases_lt}
+use Rattle.std.specs.Result.{result_unwrap_or}
+use Rattle.oftp_wire.specs.declared.command.Command.{Command}
+use Rattle.oftp_register.specs.declared.change.Change.{Change}
+use Rattle.oftp_register.specs.declared.change.Cause.{Cause}
+use Rattle.oftp_register.specs.Register.{Register}
+use Rattle.oftp_register.specs.Changes.{apply_all, go_on_by}
+use Rattle.oftp_session.specs.Calls.{Makes}
+use Rattle.oftp_session.specs.Phases.{Step, register_after, frame_of}
+use Rattle.oftp_engine.specs.Runs.{Course, Output, advance, with_change, with_output}
+use Rattle.oftp_engine.specs.World.{latest}
+use Rattle.oftp_engine.specs.Standing.{MayLeave}
+use Rattle.oftp_engine.proofs.Courses.{more_changes, replay_step}
+
+-- a fold over one element more
+fold_push : {A B : Type 0} (f : B → A → B) (b : B) (xs : List A) (x : A) → fold f b (xs ++ x ∷ []) ≡ f (fold f b xs) x
+fold_push f b [] x = refl
+fold_push f b (y ∷ ys) x = fold_push f (f b y) ys x
+
+-- where all were made, each beginning of them was made
+stuck : (cause : Cause) (changes : List Change) (r : Register) → fold go_on_by (let e : Result Register Cause = Err cause in e) changes ≡ Ok r → ⊥
+stuck cause [] r h = cc
+stuck cause (k ∷ ks) r h = stuck cause ks r h
+
+from_result : (result : Result Register Cause) (n : ℕ) (changes : List Change) (r : Register) → fold go_on_by result changes ≡ Ok r → (s : Register) × (fold go_on_by result (take n changes) ≡ Ok s)
+from_result result zero changes r h = by result h
+  where
+    by : (result : Result Register Cause) → fold go_on_by result changes ≡ Ok r → (s : Register) × (result ≡ Ok s)
+    by (Ok s) g = (s, refl)
+    by (Err cause) g = absurd (stuck cause changes r g)
+from_result result (suc n) [] r h = (r, h)
+from_result result (suc n) (k ∷ ks) r h = from_result (go_on_by result k) n ks r h
+
+-- the register of a number of changes, whatever stands for a refusal
+left_same : (start : Register) (c : Course) (changes : List Change) (n : ℕ) (r d : Register) → apply_all start changes ≡ Ok r
+    → result_unwrap_or (apply_all start (take n changes)) d ≡ result_unwrap_or (apply_all start (take n changes)) c.register
+left_same start c changes n r d h =
+    let made = from_result (Ok start) n changes r h in
+    ap (λ (x : Result Register Cause). result_unwrap_or x d) made.1 ∙ sym (ap (λ (x : Result Register Cause). result_unwrap_or x c.register) made.1)
+
+-- the register after a change that was made
+pub made_after : (r : Register) (change : Option Change) (after : Register) → Makes change r after → register_after r change ≡ after
+made_after r None after h = sym h
+made_after r (Some k) after h = ap (λ (x : Result Register Cause). result_unwrap_or x r) h
+
+-- the changes of a session go on with it
+pub replay_next : (start : Register) (c : Course) (step : Step) (after : Register) → apply_all start c.changes ≡ Ok c.register → Makes step.change c.register after
+    → apply_all start (advance c step).changes ≡ Ok (advance c step).register
+unfolding advance
+replay_next start c step after h made =
+    replay_step start c.register c.changes step.change h (subst (Makes step.change c.register) (sym (made_after c.register step.change after made)) made)
+
+-- after a step a stop leaves the register after it, or, where nothing was said, one that it might have left before
+pub leaves_next : (start : Register) (c : Course) (step : Step) (after r : Register) → latest c.outputs ≤ length c.changes → apply_all start c.changes ≡ Ok c.register
+    → Makes step.change c.register after → MayLeave start (advance c step) r
+    → (r ≡ after) ⊎ ((step.output ≡ None) × MayLeave start c r)
+unfolding advance
+leaves_next start c step after r few h made leaves = by_output step.output refl leaves.least
+  where
+    all : List Change
+    all = with_change c.changes step.change
+
+    whole : apply_all start (with_change c.changes step.change) ≡ Ok (register_after c.register step.change)
+    whole = replay_next start c step after h made
+
+    last : length (with_change c.changes step.change) ≤ leaves.changes → r ≡ after
+    last l =
+        leaves.is ∙ ap (λ (x : List Change). result_unwrap_or (apply_all start x) (register_after c.register step.change)) (take_all leaves.changes (with_change c.changes step.change) l)
+        ∙ ap (λ (x : Result Register Cause). result_unwrap_or x (register_after c.register step.change)) whole ∙ made_after c.register step.change after made
+
+    shorter : (change : Option Change) → leaves.changes < length (with_change c.changes change) ⊎ length (with_change c.changes change) ≤ leaves.changes
+        → leaves.changes < length (with_change c.changes change) → leaves.changes ≤ length c.changes
+    shorter None o l = omega (arith, l)
+    shorter (Some k) o l = omega (arith, l, length-append c.changes (k ∷ []))
+
+    cut : (change : Option Change) → leaves.changes ≤ length c.changes → take leaves.changes (with_change c.changes change) ≡ take leaves.changes c.changes
+    cut None l = refl
+    cut (Some k) l = take-append-le leaves.changes c.changes (k ∷ []) l
+
+    before : latest c.outputs ≤ leaves.changes → leaves.changes < length (with_change c.changes step.change) → MayLeave start c r
+    before least l =
+        let within = shorter step.change (inl l) l in
+        record {
+          changes = leaves.changes;
+          least = least;
+          most = within;
+          is = leaves.is ∙ ap (λ (x : List Change). result_unwrap_or (apply_all start x) (register_after c.register step.change)) (cut step.change within)
+              ∙ left_same start c c.changes leaves.changes c.register (register_after c.register step.change) h;
+        }
+
+    by_output : (output : Option Command) → step.output ≡ output → latest (with_output c.outputs output (length (with_change c.changes step.change))) ≤ leaves.changes
+        → (r ≡ after) ⊎ ((output ≡ None) × MayLeave start c r)
+    by_output None e least = elim (cases_lt leaves.changes (length (with_change c.changes step.change))) [ inl l ↦ inr (refl, before least l) | inr l ↦ inl (last l) ]
+    by_output (Some command) e least =
+        let n = length (with_change c.changes step.change) in
+        let o : Output = record { octets = frame_of command; after = n } in
+        let is : latest (c.outputs ++ o ∷ []) ≡ n = fold_push (λ (m : ℕ) (x : Output). x.after) 0 c.outputs o in
+        inl (last (omega (arith, is, least)))
+
+-- the register after a step is one that a stop may leave then
+pub latest_next : (start : Register) (c : Course) (step : Step) (after : Register) → latest c.outputs ≤ length c.changes → apply_all start c.changes ≡ Ok c.register
+    → Makes step.change c.register after → MayLeave start (advance c step) (advance c step).register
+unfolding advance
+latest_next start c step after few h made = record {
+  changes = length (with_change c.changes step.change);
+  least = by_output step.output;
+  most = omega arith;
+  is = sym (ap (λ (x : List Change). result_unwrap_or (apply_all start x) (register_after c.register step.change))
+      (take_all (length (with_change c.changes step.change)) (with_change c.changes step.change) (omega arith))
+      ∙ ap (λ (x : Result Register Cause). result_unwrap_or x (register_after c.register step.change)) (replay_next start c step after h made));
+}
+  where
+    by_output : (output : Option Command) → latest (with_output c.outputs output (length (with_change c.changes step.change))) ≤ length (with_change c.changes step.change)
+    by_output None = let g = more_changes c.changes step.change in omega (arith, few, g)
+    by_output (Some command) =
+        let n = length (with_change c.changes step.change) in
+        let o : Output = record { octets = frame_of command; after = n } in
+        let is : latest (c.outputs ++ o ∷ []) ≡ n = fold_push (λ (m : ℕ) (x : Output). x.after) 0 c.outputs o in
+        omega (arith, is)

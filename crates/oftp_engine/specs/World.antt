@@ -1,0 +1,190 @@
+-- Two stations, and what is on its way between them.
+use Rattle.std.specs.Prelude.{ℕ, ◌&&◌, Bool, nat_le, if◌then◌else◌, List, [], ◌∷◌, ◌++◌, length, take, fold, Option, None, Some, is_some}
+use Rattle.std.specs.Result.{result_unwrap_or}
+use Rattle.oftp_wire.specs.declared.command.Command.{Command}
+use Rattle.oftp_partners.specs.Book.{BookData}
+use Rattle.oftp_partners.specs.declared.partner.Partner.{Partner}
+use Rattle.oftp_vfile.specs.declared.format.Format.{Format}
+use Rattle.oftp_register.specs.declared.change.Change.{Change}
+use Rattle.oftp_register.specs.declared.change.Change.TheVariants.{Submit, Issue}
+use Rattle.oftp_register.specs.declared.entry.Identity.{Identity}
+use Rattle.oftp_register.specs.declared.entry.ResponseKind.TheVariants.{EndResponse, NegativeEndResponse}
+use Rattle.oftp_register.specs.Register.{Register}
+use Rattle.oftp_register.specs.Changes.{apply, apply_all}
+use Rattle.oftp_register.specs.Soundness.{IsFile}
+use Rattle.oftp_wire.specs.declared.reason.SessionReason.TheVariants.{ResourcesNotAvailable}
+use Rattle.oftp_session.specs.Phases.{Step, esid_of, is_over}
+use Rattle.oftp_session.specs.Steps.{came, turned}
+use Rattle.oftp_engine.specs.Runs.{Course, Output, started, advance}
+
+-- a station: its book and its entry for the other one, the register that its last session left, its session if it has one, and the
+-- commands that are on their way to it
+pub record Station : Type 0 where
+  pub book : BookData
+  pub partner : Partner
+  pub start : Register
+  pub session : Option Course
+  pub coming : List Command
+
+-- the register of a station now
+abbrev pub register_in : Register → Option Course → Register
+register_in start None = start
+register_in start (Some c) = c.register
+
+abbrev pub register_of : Station → Register
+register_of s = register_in s.start s.session
+
+-- its session ends, and what was on its way to it is lost
+abbrev pub stopped_with : Station → Register → Station
+stopped_with s r = record s { start = r; session = None; coming = [] }
+
+abbrev pub settled : Station → Course → Station
+settled s c = if is_over c.phase then stopped_with s c.register else record s { session = Some c }
+
+-- a command that goes to a station: it is lost where there is no session
+abbrev pub told : Station → Option Command → Station
+told s None = s
+told s (Some command) = if is_some s.session then record s { coming = s.coming ++ command ∷ [] } else s
+
+-- one station and the other
+pub record World : Type 0 where
+  pub one : Station
+  pub other : Station
+
+abbrev pub turned_round : World → World
+turned_round w = record { one = w.other; other = w.one }
+
+-- a step of the one station, and its output goes to the other
+abbrev pub stepped : World → Course → Step → World
+stepped w c s = record { one = settled w.one (advance c s); other = told w.other s.output }
+
+-- what a stop leaves: the register after so many of the changes of the session, of which those stay that an output answered
+abbrev pub latest : List Output → ℕ
+latest outputs = fold (λ (n : ℕ) (o : Output). o.after) 0 outputs
+
+abbrev pub left_after : Register → Course → ℕ → Register
+left_after start c n = result_unwrap_or (apply_all start (take n c.changes)) c.register
+
+-- a stop may leave so many changes of a session of which these outputs are out
+abbrev pub may_stop : Course → List Output → ℕ → Bool
+may_stop c out n = nat_le (latest out) n && nat_le n (length c.changes)
+
+-- the station stops there
+abbrev pub stops_at : World → Course → List Output → ℕ → World
+stops_at w c out n = if may_stop c out n then record w { one = stopped_with w.one (left_after w.one.start c n) } else w
+
+-- its office tells a fault there: the session ends, and the other one is told so
+abbrev pub fails_at : World → Course → List Output → ℕ → World
+fails_at w c out n = if may_stop c out n
+    then record { one = stopped_with w.one (left_after w.one.start c n); other = told w.other (Some (esid_of ResourcesNotAvailable)) }
+    else w
+
+-- what the one station does next in a session: the due turn, or the next command
+pub data Doing : Type 0 where
+  Turns : Doing
+  Takes : Doing
+
+abbrev pub step_of : Course → Doing → List Command → Option Step
+step_of c Turns coming = Some (turned c.setting c.phase c.register)
+step_of c Takes [] = None
+step_of c Takes (command ∷ coming) = Some (came c.setting c.phase c.register command)
+
+abbrev pub left_of : Doing → List Command → List Command
+left_of Turns coming = coming
+left_of Takes [] = []
+left_of Takes (command ∷ coming) = coming
+
+-- a file that an operator hands in
+pub record Handed : Type 0 where
+  pub dataset : List ℕ
+  pub date : List ℕ
+  pub time : List ℕ
+  pub format : Format
+  pub longest : ℕ
+  pub description : List ℕ
+  pub rows : List (List ℕ)
+  pub is_file : IsFile format longest rows
+
+-- what an operator asks of a station
+pub data Call : Type 0 where
+  Submits : Handed → Call
+  Releases : (number : ℕ) → Call
+  Refuses : (number reason : ℕ) (text : List ℕ) → Call
+
+-- a file goes from the station to the other one
+abbrev pub called_for : Station → Call → Change
+called_for s (Submits f) =
+    let identity : Identity = record { dataset = f.dataset; date = f.date; time = f.time; originator = s.book.station.code; destination = s.partner.code } in
+    Submit identity f.format f.longest f.description f.rows
+called_for s (Releases number) = Issue number EndResponse 0 []
+called_for s (Refuses number reason text) = Issue number NegativeEndResponse reason text
+
+-- what happens at the one station: it does a step, loses the connection, stops between steps or within one, ends the session at a fault
+-- of its office within a step, does what an operator asks, or calls the other. A stop, or a fault of the office, leaves so many of the
+-- session's changes
+pub data Happening : Type 0 where
+  Does : Doing → Happening
+  Breaks : Happening
+  Stops : (changes : ℕ) → Happening
+  StopsWithin : Doing → (changes : ℕ) → Happening
+  FailsWithin : Doing → (changes : ℕ) → Happening
+  Operates : Call → Happening
+  Calls : Happening
+
+-- a happening where the station has a session
+abbrev pub does : World → Course → List Command → Option Step → World
+does w c rest None = w
+does w c rest (Some s) = stepped (record w { one = record w.one { coming = rest } }) c s
+
+abbrev pub stops_within : World → Course → ℕ → Option Step → World
+stops_within w c n None = w
+stops_within w c n (Some s) = stops_at w (advance c s) c.outputs n
+
+abbrev pub fails_within : World → Course → ℕ → Option Step → World
+fails_within w c n None = w
+fails_within w c n (Some s) = fails_at w (advance c s) c.outputs n
+
+unfoldable pub in_session : World → Course → Happening → World
+in_session w c (Does doing) = does w c (left_of doing w.one.coming) (step_of c doing w.one.coming)
+in_session w c Breaks = record w { one = stopped_with w.one c.register }
+in_session w c (Stops n) = stops_at w c c.outputs n
+in_session w c (StopsWithin doing n) = stops_within w c n (step_of c doing w.one.coming)
+in_session w c (FailsWithin doing n) = fails_within w c n (step_of c doing w.one.coming)
+in_session w c (Operates call) = w
+in_session w c Calls = w
+
+-- both begin a session: the one calls
+abbrev pub begins : Station → Option Partner → Station
+begins s called = record s { session = Some (started (record { book = s.book; called = called }) s.start); coming = [] }
+
+abbrev pub calls : World → Option Course → World
+calls w None = record { one = begins w.one (Some w.one.partner); other = begins w.other None }
+calls w (Some c) = w
+
+-- a happening where it has none
+unfoldable pub at_rest : World → Happening → World
+at_rest w (Does doing) = w
+at_rest w Breaks = w
+at_rest w (Stops n) = w
+at_rest w (StopsWithin doing n) = w
+at_rest w (FailsWithin doing n) = w
+at_rest w (Operates call) = record w { one = record w.one { start = result_unwrap_or (apply w.one.start (called_for w.one call)) w.one.start } }
+at_rest w Calls = calls w w.other.session
+
+abbrev pub happens_in : World → Happening → Option Course → World
+happens_in w h (Some c) = in_session w c h
+happens_in w h None = at_rest w h
+
+abbrev pub happens : World → Happening → World
+happens w h = happens_in w h w.one.session
+
+-- an event: what happens, and whether at the one station or at the other
+pub record Event : Type 0 where
+  pub at_one : Bool
+  pub happening : Happening
+
+abbrev pub after_event : World → Event → World
+after_event w e = if e.at_one then happens w e.happening else turned_round (happens (turned_round w) e.happening)
+
+abbrev pub after_events : World → List Event → World
+after_events w events = fold after_event w events
