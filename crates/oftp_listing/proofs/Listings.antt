@@ -7,9 +7,14 @@ use Rattle.serde_json.specs.Data.{Data}
 use Rattle.serde_json.specs.View.{items_of, view}
 use Rattle.serde_json.specs.Written.{has_float, items_have_float}
 use Rattle.serde_json.specs.declared.value.Value.{Value}
+use Rattle.serde_json.specs.declared.value.Value.TheVariants.{Array}
+use Rattle.serde_json.proofs.Views.{view-Array}
+use Rattle.std.specs.Prelude.{Vec}
+use Rattle.std.specs.Global.{Global}
 use Rattle.oftp_register.specs.Register.{Register}
 use Rattle.oftp_register.specs.Offices.{View, LooksUp}
-use Rattle.oftp_listing.specs.Texts.{Asks}
+use Rattle.oftp_listing.specs.Finding.{Finds}
+use Rattle.oftp_listing.specs.Texts.{Asks, list_of}
 use Rattle.oftp_listing.proofs.Asking.{asks_on, asks_once}
 
 -- the values are the objects of the entries so far, of all that the office told of, and none has a float
@@ -85,7 +90,16 @@ listing_on all object made old now new told entries values e x v right l looks i
     (λ k s. is ∙ right old.register (told_first old now new x l.asks l.untold looks k s)) (ap has_float is ∙ integer)
 
 -- all are listed
-pub listing_ends : {E : Type 0} (all : Register → List E) (object : Register → E → Data) (old now : View) (told : List E) (values : List Value) (i : ℕ)
+listing_ends : {E : Type 0} (all : Register → List E) (object : Register → E → Data) (old now : View) (told : List E) (values : List Value) (i : ℕ)
     → IsListing all object old now told (take i told) values
     → length told ≤ i → (k : now.clean) (s : old.stands) → map view values ≡ map (object old.register) (all old.register)
 listing_ends all object old now told values i l long k s = l.objects k s ∙ ap (map (object old.register)) (take_all i told long ∙ l.whole k s)
+
+-- so the list is what was asked for
+pub listing_finds : {E : Type 0} (all : Register → List E) (object : Register → E → Data) (old now : View) (told : List E) (list : Vec Value Global) (i : ℕ)
+    → IsListing all object old now told (take i told) list.items → length told ≤ i → Finds (λ r v. view v ≡ list_of (map (object r) (all r))) old now (Ok (Array list))
+listing_finds all object old now told list i l long = record {
+  asks = l.asks;
+  answer = λ k s. view-Array list ∙ ap list_of (listing_ends all object old now told list.items i l long k s);
+  counts = l.untold;
+}

@@ -84,7 +84,8 @@ stands r s is_open autocommit settled schema store tables sound =
 
 stands_new : (r : Register) (old new : State) → IsEmpty old.now → IsAt r old → IsNew new.now → Shows old new new.now new.now false → StandsFor r new
 stands_new r old new none at made shown =
-    stands r new shown.is_open shown.mode (sym shown.committed_is) made.schema made.sound (subst (λ (x : Register). Tables x new.now.trees) (sym (empty_at r old none at)) (new_tables r.limits new.now.trees made.tables)) at.register
+    let tables : Tables r new.now.trees = subst (λ (x : Register). Tables x new.now.trees) (sym (empty_at r old none at)) (new_tables r.limits new.now.trees made.tables) in
+    stands r new shown.is_open shown.mode (sym shown.committed_is) made.schema made.sound tables at.register
 
 stands_found : (r : Register) (old new : State) → HasOffice old.now → old.in_transaction ≡ false → IsAt r old → IsUnchanged old new → StandsFor r new
 stands_found r old new ours mode at same =
@@ -137,4 +138,8 @@ pub migrated_content : (r : Register) (old : State) (db : Trees) → IsAtFirst r
 migrated_content r old db at left =
     let new = left.1.0 in
     let made = left.1.1 in
-    subst (λ t. IsContentOf t r) (sym left.1.2) (record { store = subst (λ schema. IsSoundStore schema new.trees) made.schema made.sound; tables = migrated_tables r old new at made; sound = at.content.sound })
+    subst (λ t. IsContentOf t r) (sym left.1.2) (record {
+      store = subst (λ schema. IsSoundStore schema new.trees) made.schema made.sound;
+      tables = migrated_tables r old new at made;
+      sound = at.content.sound;
+    })

@@ -78,11 +78,13 @@ place_at-push code ps x new =
     ]
 
 -- what an index tells leads to the partner
-pub partner_at-indexed : (m : BTreeMap (Vec ℕ Global) ℕ) (ps : List Partner) (code : List ℕ) (told : Option ℕ) → IsIndex m ps → told ≡ indexed_at m code → option_and_then (slice_get ps) told ≡ partner_at code ps
+pub partner_at-indexed : (m : BTreeMap (Vec ℕ Global) ℕ) (ps : List Partner) (code : List ℕ) (told : Option ℕ) → IsIndex m ps → told ≡ indexed_at m code
+    → option_and_then (slice_get ps) told ≡ partner_at code ps
 partner_at-indexed m ps code told index is = rw (is, index code) (sym (partner_at-place code ps))
 
 -- what `get` lends is the element
-pub slice_get-lent : (ps : List Partner) (i : ℕ) (lent : Option (Bor Partner)) → is_some lent ≡ ltb i (length ps) → IfSome lent (λ p. p.now ≡ get_or ps i p.now) → option_map (λ p. p.now) lent ≡ slice_get ps i
+pub slice_get-lent : (ps : List Partner) (i : ℕ) (lent : Option (Bor Partner)) → is_some lent ≡ ltb i (length ps)
+    → IfSome lent (λ p. p.now ≡ get_or ps i p.now) → option_map (λ p. p.now) lent ≡ slice_get ps i
 slice_get-lent ps i None past h = sym (slice_get_past ps i (grind (arith, nat_tests)))
 slice_get-lent ps i (Some p) within h = sym (slice_get_read ps (length ps) i p.now refl (grind (arith, nat_tests)) h)
 
@@ -106,7 +108,8 @@ indexed_at-update : (m n : BTreeMap (Vec ℕ Global) ℕ) (key : Vec ℕ Global)
 indexed_at-update m n key w h code =
     ⊎_elim
     (λ y. subst (λ l. indexed_at n l ≡ w) ((bytes_eq-Decides key.items code).0 y) h.1 ∙ sym (cond-true (bytes_eq key.items code) w (indexed_at m code) y))
-    (λ e. other_entries _ _ _ _ h.3 _ (λ x y. (eq_by_cmp_equiv nat_list_cmp_total).congr code x.items y.items) (λ k. apart key.items code k.items e) ∙ sym (cond-false (bytes_eq key.items code) w (indexed_at m code) e))
+    (λ e. other_entries _ _ _ _ h.3 _ (λ x y. (eq_by_cmp_equiv nat_list_cmp_total).congr code x.items y.items) (λ k. apart key.items code k.items e)
+    ∙ sym (cond-false (bytes_eq key.items code) w (indexed_at m code) e))
     (cases_Bool (bytes_eq key.items code))
 
 -- an index with one more partner, of a new code

@@ -1,5 +1,5 @@
 -- What each change makes of the file of an identity.
-use Rattle.std.proofs.Common.{◌≡◌, ◌≢◌, ℕ, zero, suc, Bool, true, false, cond, ◌&&◌, nat_le, List, [], ◌∷◌, ◌++◌, length, map, slice_get, All, Option, None, Some, Result, Ok, Err, refl, ap, sym, ◌∙◌, subst, inl, inr}
+use Rattle.std.proofs.Common.{◌≡◌, ◌≢◌, ℕ, zero, suc, Bool, true, false, cond, ◌&&◌, List, [], ◌∷◌, ◌++◌, length, map, slice_get, All, Option, None, Some, Result, Ok, refl, ap, sym, ◌∙◌, subst, inl, inr}
 use Rattle.std.proofs.lemmas.Bool.{cases_Bool, cond-true, cond-false, or_parts, ltb-false}
 use Rattle.std.proofs.lemmas.List.Elements.{All-head, All-tail}
 use Rattle.std.proofs.lemmas.Slice.Eq.{bytes_eq-Decides}
@@ -7,19 +7,19 @@ use Rattle.std.specs.List.{list_any}
 use Rattle.std.specs.Option.{option_map}
 use Rattle.std.specs.Str.{bytes_eq}
 use Rattle.oftp_register.specs.declared.change.Cause.{Cause}
-use Rattle.oftp_register.specs.declared.change.Cause.TheVariants.{Duplicate, Full}
 use Rattle.oftp_register.specs.declared.change.Change.{Change}
 use Rattle.oftp_register.specs.declared.change.Change.TheVariants as change
 use Rattle.oftp_register.specs.declared.entry.Dispatch.TheVariants.{Due}
 use Rattle.oftp_register.specs.declared.entry.Identity.{Identity}
 use Rattle.oftp_register.specs.declared.entry.ResponseKind.{ResponseKind}
-use Rattle.oftp_register.specs.Register.{Register, Incoming, Outgoing, Issued, Received, has_received, same_identity}
-use Rattle.oftp_register.specs.Changes.{answered, apply, at_number, begun, closed, closing, filed, given_up, gone_on, handed, is_outgoing, issued, kept, mapped, marked, new_incoming, new_outgoing, on_incoming, on_outgoing, refused, reopened, sent, settled, started, started_in, submitted}
+use Rattle.oftp_register.specs.Register.{Register, Incoming, Outgoing, Issued, Received, same_identity}
+use Rattle.oftp_register.specs.Changes.{answered, apply, at_number, begun, closed, closing, filed, given_up, gone_on, handed, issued, kept, mapped, marked, new_incoming, new_outgoing, on_incoming, on_outgoing, refused, reopened, sent, settled, started, started_in, submitted}
 use Rattle.oftp_register.specs.Soundness.{AreNamedOnce}
 use Rattle.oftp_register.specs.LookUps.{entry_at}
 use Rattle.oftp_register.specs.ByIdentity.{OneChanged, OneStarted, StaysElsewhere, WasStarted, in_at, incoming_name, named, or_else, out_at, outgoing_name, subject}
 use Rattle.oftp_register.proofs.NameLemmas.{same_identity-true}
-use Rattle.oftp_register.proofs.NumberLemmas.{at_number_same, mapped_ok, not_both, one_result}
+use Rattle.oftp_register.proofs.NumberLemmas.{at_number_same, mapped_ok}
+use Rattle.oftp_register.proofs.AdditionLemmas.{filed_ok, submitted_ok}
 use Rattle.oftp_register.proofs.IncomingLemmas.{begun_ok, closed_same, given_up_same, gone_on_ok, issued_same, kept_same, sent_same}
 use Rattle.oftp_register.proofs.OutgoingLemmas.{closing_same, handed_same, marked_same, refused_same, reopened_same}
 
@@ -159,35 +159,6 @@ module _ {A : Type 0} (name : A → Identity) where
           | inr e ↦ c.others i e
         ]
 
--- what was submitted
-pub submitted_ok : (r s : Register) (file : Outgoing) → submitted r file ≡ Ok s → record r { outgoing = r.outgoing ++ file ∷ [] } ≡ s
-submitted_ok r s file h =
-    let there = is_outgoing r file.identity in
-    let full = nat_le r.limits.files (length r.outgoing) in
-    let more : Register = record r { outgoing = r.outgoing ++ file ∷ [] } in
-    let table : Result Register Cause = cond full (Err Full) (Ok more) in
-    let answer : Result Register Cause = cond there (Err Duplicate) table in
-    elim (cases_Bool there) [
-      | inl e ↦ absurd (not_both answer Duplicate s (cond-true there (Err Duplicate) table e) h)
-      | inr e ↦ (let room : table ≡ Ok s = sym (cond-false there (Err Duplicate) table e) ∙ h in
-          elim (cases_Bool full) [
-            | inl d ↦ absurd (not_both table Full s (cond-true full (Err Full) (Ok more) d) room)
-            | inr d ↦ one_result table more s (cond-false full (Err Full) (Ok more) d) room
-          ])
-    ]
-
--- what was filed
-pub filed_ok : (r s : Register) (response : Received) → filed r response ≡ Ok s
-    → record r { outgoing = map (settled response.kind response.identity) r.outgoing; received = r.received ++ response ∷ [] } ≡ s
-filed_ok r s response h =
-    let there = has_received r response.kind response.identity in
-    let more : Register = record r { outgoing = map (settled response.kind response.identity) r.outgoing; received = r.received ++ response ∷ [] } in
-    let answer : Result Register Cause = cond there (Err Duplicate) (Ok more) in
-    elim (cases_Bool there) [
-      | inl e ↦ absurd (not_both answer Duplicate s (cond-true there (Err Duplicate) (Ok more) e) h)
-      | inr e ↦ one_result answer more s (cond-false there (Err Duplicate) (Ok more) e) h
-    ]
-
 -- a file that a response settles keeps its name
 pub settled_name : (kind : ResponseKind) (identity : Identity) (file : Outgoing) → (settled kind identity file).identity ≡ file.identity
 settled_name kind identity file = by (same_identity file.identity identity)
@@ -286,7 +257,7 @@ pushed_elsewhere None file b h = cond-false b (Some file) None h
 submitted_elsewhere : (r s : Register) (file : Outgoing) → submitted r file ≡ Ok s → (i : Identity) → Some file.identity ≢ Some i → (in_at s i ≡ in_at r i) × (out_at s i ≡ out_at r i)
 submitted_elsewhere r s file h i apart =
     let pushed = pushed_elsewhere (out_at r i) file (same_identity file.identity i) (apart_of file.identity i apart) in
-    subst (λ (z : Register). (in_at z i ≡ in_at r i) × (out_at z i ≡ out_at r i)) (submitted_ok r s file h) (refl, named_push outgoing_name i r.outgoing file ∙ pushed)
+    subst (λ (z : Register). (in_at z i ≡ in_at r i) × (out_at z i ≡ out_at r i)) (submitted_ok r s file h).1 (refl, named_push outgoing_name i r.outgoing file ∙ pushed)
 
 -- a file that comes
 started_elsewhere : (r s : Register) (header : Incoming) (count : ℕ) → started r header count ≡ Ok s → (i : Identity) → Some header.identity ≢ Some i
@@ -314,7 +285,7 @@ filed_elsewhere r s response h i apart =
     let identity = response.identity in
     let settle = settled kind identity in
     let stays = settled_elsewhere kind identity i r.outgoing apart (out_at r i) refl in
-    subst (λ (z : Register). (in_at z i ≡ in_at r i) × (out_at z i ≡ out_at r i)) (filed_ok r s response h) (refl, named_map outgoing_name settle (settled_name kind identity) i r.outgoing ∙ stays)
+    subst (λ (z : Register). (in_at z i ≡ in_at r i) × (out_at z i ≡ out_at r i)) (filed_ok r s response h).1 (refl, named_map outgoing_name settle (settled_name kind identity) i r.outgoing ∙ stays)
 
 both_elsewhere : (r : Register) (k : Change) (s : Register) → apply r k ≡ Ok s → (i : Identity) → subject r k ≢ Some i → (in_at s i ≡ in_at r i) × (out_at s i ≡ out_at r i)
 unfolding apply

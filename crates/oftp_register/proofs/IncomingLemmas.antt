@@ -5,6 +5,7 @@ use Rattle.std.proofs.lemmas.List.Elements.{All-cons, All-head, All-tail, All-ni
 use Rattle.std.specs.List.{list_any}
 use Rattle.std.proofs.lemmas.Bool.{or_from}
 use Rattle.oftp_vfile.specs.VirtualFile.{IsLongest}
+use Rattle.oftp_vfile.specs.declared.format.TheConstants.{MOST_ROWS}
 use Rattle.oftp_register.specs.declared.change.Cause.{Cause}
 use Rattle.oftp_register.specs.declared.change.Cause.TheVariants.{State, Full}
 use Rattle.oftp_register.specs.declared.entry.IncomingState.{IncomingState}
@@ -31,40 +32,31 @@ pub if_open_ok : (file : Incoming) (rows : List (List ℕ)) (next state : Incomi
 if_open_ok file rows next Open after h = (refl, cc)
 if_open_ok file rows next Whole after h = absurd (cc)
 
+-- an incoming file in another state, with other rows that fit it
+in_state_sound : (file : Incoming) (rows : List (List ℕ)) (next : IncomingState) → IsSoundIncoming file → length rows ≤ MOST_ROWS → FitsState next file.format file.longest rows
+    → IsAnsweredWhole next file.response → IsSoundIncoming (record file { rows = rows; state = next })
+in_state_sound file rows next sound few fits answered =
+    record { longest = sound.longest; few = few; fits = fits; answered = answered; answer = sound.answer }
+
 pub kept_sound : (rows : List (List ℕ)) (file after : Incoming) → IsSoundIncoming file → IfOpen file.state (GoesOn rows file) → kept rows file ≡ Ok after → IsSoundIncoming after
 kept_sound rows file after sound asked h =
     let made = if_open_ok file (file.rows ++ rows) Open file.state after h in
     let fit : GoesOn rows file = subst (λ state. IfOpen state (GoesOn rows file)) made.0 asked in
-    subst IsSoundIncoming made.1 (record {
-      longest = sound.longest;
-      few = omega (arith, fit.few, length-append file.rows rows);
-      fits = full-append file.format file.longest file.rows rows (open_rows file sound made.0) fit.fits;
-      answered = open_unanswered file sound made.0;
-      answer = sound.answer;
-    })
+    let fits = full-append file.format file.longest file.rows rows (open_rows file sound made.0) fit.fits in
+    subst IsSoundIncoming made.1
+    (in_state_sound file (file.rows ++ rows) Open sound (omega (arith, fit.few, length-append file.rows rows)) fits (open_unanswered file sound made.0))
 
 pub closed_sound : (rows : List (List ℕ)) (file after : Incoming) → IsSoundIncoming file → IfOpen file.state (Ends rows file) → closed rows file ≡ Ok after → IsSoundIncoming after
 closed_sound rows file after sound asked h =
     let made = if_open_ok file (file.rows ++ rows) Whole file.state after h in
     let fit : Ends rows file = subst (λ state. IfOpen state (Ends rows file)) made.0 asked in
-    subst IsSoundIncoming made.1 (record {
-      longest = sound.longest;
-      few = omega (arith, fit.few, length-append file.rows rows);
-      fits = rows-append file.format file.longest file.rows rows (open_rows file sound made.0) fit.fits;
-      answered = tt;
-      answer = sound.answer;
-    })
+    let fits = rows-append file.format file.longest file.rows rows (open_rows file sound made.0) fit.fits in
+    subst IsSoundIncoming made.1 (in_state_sound file (file.rows ++ rows) Whole sound (omega (arith, fit.few, length-append file.rows rows)) fits tt)
 
 pub given_up_sound : (file after : Incoming) → IsSoundIncoming file → given_up file ≡ Ok after → IsSoundIncoming after
 given_up_sound file after sound h =
     let made = if_open_ok file [] Open file.state after h in
-    subst IsSoundIncoming made.1 (record {
-      longest = sound.longest;
-      few = omega arith;
-      fits = full-nil file.format file.longest;
-      answered = open_unanswered file sound made.0;
-      answer = sound.answer;
-    })
+    subst IsSoundIncoming made.1 (in_state_sound file [] Open sound (omega arith) (full-nil file.format file.longest) (open_unanswered file sound made.0))
 
 -- a response is issued to a whole file alone
 pub issued_on_ok : (response : Issued) (file : Incoming) (state : IncomingState) (after : Incoming) → issued_on response file state ≡ Ok after

@@ -1,18 +1,17 @@
 -- Each change keeps a register sound.
-use Rattle.std.proofs.Common.{◌≡◌, ℕ, zero, suc, cond, nat_le, List, [], ◌∷◌, ◌++◌, length, map, All, Result, Ok, Err, refl, sym, ◌∙◌, subst, inl, inr, arith}
-use Rattle.std.proofs.lemmas.Bool.{cases_Bool, cond-true, cond-false}
+use Rattle.std.proofs.Common.{◌≡◌, ℕ, zero, suc, List, [], ◌∷◌, ◌++◌, map, All, Result, Ok, refl, sym, ◌∙◌, subst, arith}
 use Rattle.std.proofs.lemmas.List.{map-append}
 use Rattle.std.proofs.lemmas.List.Elements.{All-push}
 use Rattle.oftp_register.specs.declared.change.Cause.{Cause}
-use Rattle.oftp_register.specs.declared.change.Cause.TheVariants.{Duplicate, Full}
 use Rattle.oftp_register.specs.declared.change.Change.{Change}
 use Rattle.oftp_register.specs.declared.change.Change.TheVariants as change
 use Rattle.oftp_register.specs.declared.entry.Dispatch.TheVariants.{Due}
-use Rattle.oftp_register.specs.Register.{Register, Incoming, Outgoing, Received, Issued, has_received, same_identity}
-use Rattle.oftp_register.specs.Changes.{apply, at_number, closed, closing, filed, given_up, handed, is_outgoing, issued, kept, marked, new_incoming, new_outgoing, on_incoming, on_outgoing, refused, reopened, sent, settled, started, started_in, submitted}
+use Rattle.oftp_register.specs.Register.{Register, Incoming, Outgoing, Received, Issued, same_identity}
+use Rattle.oftp_register.specs.Changes.{apply, at_number, closed, closing, filed, given_up, handed, issued, kept, marked, new_incoming, new_outgoing, on_incoming, on_outgoing, refused, reopened, sent, started, started_in, submitted}
 use Rattle.oftp_register.specs.Soundness.{AreNamedOnce, AtNumber, Ends, GoesOn, IfOpen, IsFit, IsSound, IsSoundIncoming, IsSoundOutgoing, IsSoundReceived, MayStart}
 use Rattle.oftp_register.proofs.NameLemmas.{filed-append, list_any-map, once-append}
-use Rattle.oftp_register.proofs.NumberLemmas.{at_number_keeps, at_number_same, mapped_ok, not_both, one_result}
+use Rattle.oftp_register.proofs.NumberLemmas.{at_number_keeps, at_number_same, mapped_ok}
+use Rattle.oftp_register.proofs.AdditionLemmas.{filed_ok, submitted_ok}
 use Rattle.oftp_register.proofs.IncomingLemmas.{Begins, closed_same, closed_sound, given_up_same, given_up_sound, issued_same, issued_sound, kept_same, kept_sound, sent_same, sent_sound, started_once, started_sound}
 use Rattle.oftp_register.proofs.OutgoingLemmas.{all_settled_same, all_settled_sound, closing_same, closing_sound, handed_same, handed_sound, marked_same, marked_sound, refused_same, refused_sound, reopened_same, reopened_sound}
 
@@ -72,22 +71,11 @@ on_outgoing_keeps f keeps same n r s sound h =
 submitted_sound : (r s : Register) (file : Outgoing) → IsSound r → IsSoundOutgoing file → submitted r file ≡ Ok s → IsSound s
 submitted_sound r s file sound fit h =
     let name = λ (f : Outgoing). f.identity in
-    let there = is_outgoing r file.identity in
-    let full = nat_le r.limits.files (length r.outgoing) in
-    let more : Register = record r { outgoing = r.outgoing ++ file ∷ [] } in
-    let table : Result Register Cause = cond full (Err Full) (Ok more) in
-    let answer : Result Register Cause = cond there (Err Duplicate) table in
-    elim (cases_Bool there) [
-      | inl e ↦ absurd (not_both answer Duplicate s (cond-true there (Err Duplicate) table e) h)
-      | inr e ↦ (let room : table ≡ Ok s = sym (cond-false there (Err Duplicate) table e) ∙ h in
-          elim (cases_Bool full) [
-            | inl d ↦ absurd (not_both table Full s (cond-true full (Err Full) (Ok more) d) room)
-            | inr d ↦ subst IsSound (one_result table more s (cond-false full (Err Full) (Ok more) d) room)
-                (with_outgoing r (r.outgoing ++ file ∷ []) sound (All-push IsSoundOutgoing r.outgoing file sound.outgoing fit)
-                (subst AreNamedOnce (sym (map-append name r.outgoing (file ∷ [])))
-                (once-append (map name r.outgoing) file.identity sound.outgoing_once (list_any-map (λ x. same_identity x file.identity) name r.outgoing ∙ e))))
-          ])
-    ]
+    let made = submitted_ok r s file h in
+    subst IsSound made.1
+    (with_outgoing r (r.outgoing ++ file ∷ []) sound (All-push IsSoundOutgoing r.outgoing file sound.outgoing fit)
+    (subst AreNamedOnce (sym (map-append name r.outgoing (file ∷ [])))
+    (once-append (map name r.outgoing) file.identity sound.outgoing_once (list_any-map (λ x. same_identity x file.identity) name r.outgoing ∙ made.0))))
 
 -- a file that comes
 start_keeps : (r s : Register) (header : Incoming) (count : ℕ) → IsSound r → Begins header
@@ -101,23 +89,17 @@ start_keeps r s header count sound begins fit h =
 -- a response that comes
 filed_sound : (r s : Register) (response : Received) → IsSound r → IsSoundReceived response → filed r response ≡ Ok s → IsSound s
 filed_sound r s response sound fit h =
-    let there = has_received r response.kind response.identity in
-    let files = map (settled response.kind response.identity) r.outgoing in
-    let more : Register = record r { outgoing = files; received = r.received ++ response ∷ [] } in
-    let answer : Result Register Cause = cond there (Err Duplicate) (Ok more) in
-    elim (cases_Bool there) [
-      | inl e ↦ absurd (not_both answer Duplicate s (cond-true there (Err Duplicate) (Ok more) e) h)
-      | inr e ↦ subst IsSound (one_result answer more s (cond-false there (Err Duplicate) (Ok more) e) h) (record {
-        few = sound.few;
-        small = sound.small;
-        incoming = sound.incoming;
-        outgoing = all_settled_sound response.kind response.identity r.outgoing sound.outgoing;
-        received = All-push IsSoundReceived r.received response sound.received fit;
-        incoming_once = sound.incoming_once;
-        outgoing_once = subst AreNamedOnce (sym (all_settled_same response.kind response.identity r.outgoing)) sound.outgoing_once;
-        received_once = filed-append r.received response sound.received_once e;
-      })
-    ]
+    let made = filed_ok r s response h in
+    subst IsSound made.1 (record {
+      few = sound.few;
+      small = sound.small;
+      incoming = sound.incoming;
+      outgoing = all_settled_sound response.kind response.identity r.outgoing sound.outgoing;
+      received = All-push IsSoundReceived r.received response sound.received fit;
+      incoming_once = sound.incoming_once;
+      outgoing_once = subst AreNamedOnce (sym (all_settled_same response.kind response.identity r.outgoing)) sound.outgoing_once;
+      received_once = filed-append r.received response sound.received_once made.0;
+    })
 
 -- a change that is fit keeps the register sound
 pub apply_keeps : (r : Register) (k : Change) (s : Register) → IsSound r → IsFit r k → apply r k ≡ Ok s → IsSound s

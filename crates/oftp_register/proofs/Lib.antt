@@ -4,6 +4,7 @@ pub mod NameLemmas
 pub mod NumberLemmas
 pub mod IncomingLemmas
 pub mod OutgoingLemmas
+pub mod AdditionLemmas
 pub mod KeepLemmas
 pub mod FitLemmas
 pub mod UnitLemmas

@@ -8,9 +8,12 @@ use Rattle.std.specs.Option.{option_to_list}
 use Rattle.std.proofs.lemmas.List.Folds.{find_at}
 use Rattle.std.specs.Prelude.{Vec}
 use Rattle.std.specs.Vec.{vec_len}
+use Rattle.oftp_register.specs.declared.entry.Identity.{Identity}
+use Rattle.oftp_register.specs.Register.{same_identity}
 use Rattle.oftp_register.specs.LookUps.{entry_at, numbered}
 use Rattle.oftp_register.specs.Lists.{IsPlace}
 use Rattle.oftp_register.proofs.Places.{above}
+use Rattle.oftp_register.proofs.PlainStarts.{position-None}
 
 -- the entry at a place
 pub numbered-at : {S A B : Type 0} (view : S → A) (entry : ℕ → A → B) (n : ℕ) (xs : List S) (i : ℕ) (x : S) → i < length xs → x ≡ get_or xs i x
@@ -57,6 +60,23 @@ find-numbered-none view entry p q same n [] h = refl
 find-numbered-none view entry p q same n (x ∷ xs) h =
     let parts = or_parts (q x) (list_any q xs) h in
     cond-false (p (entry n (view x))) _ _ (same n x ∙ parts.0) ∙ find-numbered-none view entry p q same (n + 1) xs parts.1
+
+-- what an identity finds stands at the place where the first of a lent list has it
+pub looked_at : {S A B : Type 0} (view : S → A) (entry : ℕ → A → B) (named : B → Identity) (name : S → Identity) → ((n : ℕ) (x : S) → named (entry n (view x)) ≡ name x) → (identity : Identity)
+    (lent xs : List S) (told : Option ℕ) (i : ℕ) → lent ≡ xs → told ≡ position (λ x. same_identity (name x) identity) lent → told ≡ Some i
+    → find (λ b. same_identity (named b) identity) (numbered entry 1 (map view xs)) ≡ slice_get (numbered entry 1 (map view xs)) i
+looked_at {S = S} view entry named name same identity lent xs told i lent_is told_is place =
+    let has = λ (x : S). same_identity (name x) identity in
+    find-numbered view entry (λ b. same_identity (named b) identity) has (λ n x. ap (λ z. same_identity z identity) (same n x)) 1 xs i
+    (ap (position has) (sym lent_is) ∙ sym told_is ∙ place)
+
+pub looked_nowhere : {S A B : Type 0} (view : S → A) (entry : ℕ → A → B) (named : B → Identity) (name : S → Identity) → ((n : ℕ) (x : S) → named (entry n (view x)) ≡ name x)
+    → (identity : Identity) (lent xs : List S) (told : Option ℕ) → lent ≡ xs → told ≡ position (λ x. same_identity (name x) identity) lent → told ≡ None
+    → find (λ b. same_identity (named b) identity) (numbered entry 1 (map view xs)) ≡ None
+looked_nowhere {S = S} view entry named name same identity lent xs told lent_is told_is none =
+    let has = λ (x : S). same_identity (name x) identity in
+    find-numbered-none view entry (λ b. same_identity (named b) identity) has (λ n x. ap (λ z. same_identity z identity) (same n x)) 1 xs
+    (position-None has xs (ap (position has) (sym lent_is) ∙ sym told_is ∙ none))
 
 -- what is found by its number
 pub find-number : {A B : Type 0} (entry : ℕ → A → B) (number : B → ℕ) → ((n : ℕ) (x : A) → number (entry n x) ≡ n) → (n : ℕ) (xs : List A) (i : ℕ) → i < length xs
@@ -143,11 +163,28 @@ issued-miss view entry p i xs x within is h = issued-here view entry p i xs x wi
 pub issued-end : {S A B : Type 0} (view : S → A) (entry : ℕ → A → Option B) (p : B → Bool) (i : ℕ) (xs : List S) → length xs ≤ i → issued_from view entry p i xs ≡ None
 issued-end view entry p i xs past = ap (λ ys. find p (filter_map (λ e. e) (numbered entry (1 + i) (map view ys)))) (drop_all i xs past)
 
+-- the entry at a place of a list that is lent
+pub lent_place : {S : Type 0} (lent xs : List S) (i : ℕ) (x : S) → lent ≡ xs → i < length lent → x ≡ get_or lent i x → (i < length xs) × (x ≡ get_or xs i x)
+lent_place lent xs i x same within is = (subst (λ ys. i < length ys) same within, subst (λ ys. x ≡ get_or ys i x) same is)
+
 -- a fact of each view, at a place
 pub fact_at : {S A : Type 0} (view : S → A) (P : A → Type 0) (xs : List S) (i : ℕ) (x : S) → All P (map view xs) → i < length xs → x ≡ get_or xs i x → P (view x)
 fact_at view P [] i x all within is = absurd (omega arith)
 fact_at view P (z ∷ xs) zero x all within is = subst (λ y. P (view y)) (sym is) (All-head P (view z) (map view xs) all)
 fact_at view P (z ∷ xs) (suc i) x all within is = fact_at view P xs i x (All-tail P (view z) (map view xs) all) (omega arith) is
+
+-- a fact of each view, at a place of a list that is lent
+pub fact_lent : {S A : Type 0} (view : S → A) (P : A → Type 0) (lent xs : List S) (i : ℕ) (x : S) → All P (map view xs) → lent ≡ xs → i < length lent → x ≡ get_or lent i x → P (view x)
+fact_lent view P lent xs i x all same within is =
+    let at = lent_place lent xs i x same within is in
+    fact_at view P xs i x all at.0 at.1
+
+-- the entry at a place is the one that was made of it
+pub made_at : {S A B Z : Type 0} (view : S → A) (entry : ℕ → A → B) (xs : Vec S Z) (i : ℕ) (x : S) (made : B) → i < vec_len xs → x ≡ get_or xs.items i x
+    → made ≡ entry (i + 1) (view x) → Some made ≡ slice_get (numbered entry 1 (map view xs.items)) i
+made_at view entry xs i x made within is told =
+    let e : i + 1 ≡ 1 + i = omega arith in
+    ap Some (told ∙ ap (λ n. entry n (view x)) e) ∙ sym (numbered-at view entry 1 xs.items i x (omega (arith, within, xs.ok.0)) is)
 
 -- one more entry is listed
 pub listed_more : {S A B : Type 0} (view : S → A) (entry : ℕ → A → B) (xs : List S) (i : ℕ) (x : S) (before after : List B) (b : B) → i < length xs → x ≡ get_or xs i x
@@ -161,6 +198,13 @@ listed_more view entry xs i x before after b within is so_far made pushed =
     ∙ sym (numbered-push entry 1 (map view front) (view x))
     ∙ ap (numbered entry 1) (sym (map-append view front (x ∷ [])))
     ∙ ap (λ ys. numbered entry 1 (map view ys)) (ap (λ y. front ++ y ∷ []) is ∙ sym (take_more xs i x within))
+
+-- the same, where the list is lent
+pub listed_lent : {S A B : Type 0} (view : S → A) (entry : ℕ → A → B) (lent xs : List S) (i : ℕ) (x : S) (before after : List B) (b : B) → lent ≡ xs → i < length lent → x ≡ get_or lent i x
+    → before ≡ numbered entry 1 (map view (take i xs)) → b ≡ entry (i + 1) (view x) → after ≡ before ++ b ∷ [] → after ≡ numbered entry 1 (map view (take (i + 1) xs))
+listed_lent view entry lent xs i x before after b same within is =
+    let at = lent_place lent xs i x same within is in
+    listed_more view entry xs i x before after b at.0 at.1
 
 -- one more entry, or none, is listed
 pub listed_option : {S A B : Type 0} (view : S → A) (entry : ℕ → A → Option B) (xs : List S) (i : ℕ) (x : S) (before after : List B) (b : Option B) → i < length xs → x ≡ get_or xs i x
@@ -207,7 +251,3 @@ entry_past (x ∷ xs) (suc i) past = entry_past xs i (omega arith)
 pub entry_at-nowhere : {B : Type 0} (xs : List B) (n : ℕ) → (nat_lt 0 n && nat_le n (length xs)) ≡ false → entry_at n xs ≡ None
 entry_at-nowhere xs zero h = refl
 entry_at-nowhere xs (suc i) h = entry_past xs i (omega (arith, above i (length xs) h))
-
--- the entry at a place of a list that is lent
-pub lent_place : {S : Type 0} (lent xs : List S) (i : ℕ) (x : S) → lent ≡ xs → i < length lent → x ≡ get_or lent i x → (i < length xs) × (x ≡ get_or xs i x)
-lent_place lent xs i x same within is = (subst (λ ys. i < length ys) same within, subst (λ ys. x ≡ get_or ys i x) same is)

@@ -1,6 +1,7 @@
 -- What a change of one file makes of a register in memory.
 use Rattle.std.proofs.Common.{List, ◌≡◌, ℕ, ◌<◌, ◌&&◌, length, map, set, get_or, Some, None, Result, Err, refl, ap, ◌∙◌, nat_lt, nat_le, sym, arith}
 use Rattle.std.proofs.lemmas.List.{length-map}
+use Rattle.std.specs.Prelude.{Vec}
 use Rattle.std.specs.Vec.{with_item, vec_len}
 use Rattle.oftp_register.specs.declared.change.Cause.{Cause}
 use Rattle.oftp_register.specs.declared.change.Cause.TheVariants.{Unknown}
@@ -13,44 +14,46 @@ use Rattle.oftp_register.specs.Changes.{mapped, at_number, on_incoming, on_outgo
 use Rattle.oftp_register.specs.Lists.{IsPlace, CarriesOut, incoming_of, outgoing_of, register_in}
 use Rattle.oftp_register.proofs.Places.{at_number-outside, makes_at_number, makes_part}
 
+-- a change of the entry with a number of one list, which has a place of its own in the register
+changed_at : {S A T Z : Type 0} (view : S → A) (place : List A → Register) (f : A → Result A Cause) (files : Vec S Z) (o after : Lists) (n i len : ℕ) (x y : S) (result : Result T OfficeFault)
+    → register_in o ≡ place (map view files.items) → register_in after ≡ place (map view (set files.items i y))
+    → len ≡ vec_len files → IsPlace n len (Some i) → x ≡ get_or files.items i x → CarriesOut view (f (view x)) x y result
+    → CarriesOut register_in (mapped place (at_number f n (map view files.items))) o after result
+changed_at view place f files o after n i len x y result was now length_is at is h =
+    let within : i < length files.items = omega (arith, at.1, length_is, files.ok.0) in
+    makes_part (map view) register_in place (at_number f n (map view files.items)) files.items (set files.items i y) o after result was now
+    (makes_at_number view f files.items n i x y result at.0 within is h)
+
+-- a change of an entry that isn't there
+unknown_at : {S A Z : Type 0} (view : S → A) (place : List A → Register) (f : A → Result A Cause) (files : Vec S Z) (n len : ℕ) → len ≡ vec_len files → IsPlace n len None
+    → mapped place (at_number f n (map view files.items)) ≡ Err Unknown
+unknown_at view place f files n len length_is h =
+    let counted : length (map view files.items) ≡ len = length-map files.items view ∙ sym (length_is ∙ files.ok.0) in
+    ap (mapped place) (at_number-outside f n (map view files.items) (ap (λ k. nat_lt 0 n && nat_le n k) counted ∙ h))
+
+-- the register with other files
+abbrev with_incoming : Lists → List Incoming → Register
+with_incoming o files = record (register_in o) { incoming = files }
+
+abbrev with_outgoing : Lists → List Outgoing → Register
+with_outgoing o files = record (register_in o) { outgoing = files }
+
 -- a change of an incoming file
 pub incoming_changed : {T : Type 0} (f : Incoming → Result Incoming Cause) (o : Lists) (n i len : ℕ) (x y : IncomingFile) (result : Result T OfficeFault) → len ≡ vec_len o.incoming
-    → IsPlace n len (Some i)
-    → x ≡ get_or o.incoming.items i x → CarriesOut incoming_of (f (incoming_of x)) x y result
+    → IsPlace n len (Some i) → x ≡ get_or o.incoming.items i x → CarriesOut incoming_of (f (incoming_of x)) x y result
     → CarriesOut register_in (on_incoming f n (register_in o)) o (record o { incoming = with_item o.incoming i y }) result
-incoming_changed f o n i len x y result length_is place is h =
-    let files = o.incoming.items in
-    let counted : len ≡ length files = length_is ∙ o.incoming.ok.0 in
-    let within : i < length files = omega (arith, place.1) in
-    let after : Lists = record o { incoming = with_item o.incoming i y } in
-    let with_files = λ (entries : List Incoming). let r : Register = record (register_in o) { incoming = entries } in r in
-    makes_part (map incoming_of) register_in with_files (at_number f n (map incoming_of files)) files (set files i y) o after result
-    refl refl (makes_at_number incoming_of f files n i x y result place.0 within is h)
+incoming_changed f o n i len x y result =
+    changed_at incoming_of (with_incoming o) f o.incoming o (record o { incoming = with_item o.incoming i y }) n i len x y result refl refl
 
--- a change of an incoming file that isn't there
 pub incoming_unknown : (f : Incoming → Result Incoming Cause) (o : Lists) (n len : ℕ) → len ≡ vec_len o.incoming → IsPlace n len None → on_incoming f n (register_in o) ≡ Err Unknown
-incoming_unknown f o n len length_is h =
-    let files = o.incoming.items in
-    let counted : length (map incoming_of files) ≡ len = length-map files incoming_of ∙ sym (length_is ∙ o.incoming.ok.0) in
-    ap (mapped (λ entries. record (register_in o) { incoming = entries })) (at_number-outside f n (map incoming_of files) (ap (λ k. nat_lt 0 n && nat_le n k) counted ∙ h))
+incoming_unknown f o n len = unknown_at incoming_of (with_incoming o) f o.incoming n len
 
 -- a change of an outgoing file
 pub outgoing_changed : {T : Type 0} (f : Outgoing → Result Outgoing Cause) (o : Lists) (n i len : ℕ) (x y : OutgoingFile) (result : Result T OfficeFault) → len ≡ vec_len o.outgoing
-    → IsPlace n len (Some i)
-    → x ≡ get_or o.outgoing.items i x → CarriesOut outgoing_of (f (outgoing_of x)) x y result
+    → IsPlace n len (Some i) → x ≡ get_or o.outgoing.items i x → CarriesOut outgoing_of (f (outgoing_of x)) x y result
     → CarriesOut register_in (on_outgoing f n (register_in o)) o (record o { outgoing = with_item o.outgoing i y }) result
-outgoing_changed f o n i len x y result length_is place is h =
-    let files = o.outgoing.items in
-    let counted : len ≡ length files = length_is ∙ o.outgoing.ok.0 in
-    let within : i < length files = omega (arith, place.1) in
-    let after : Lists = record o { outgoing = with_item o.outgoing i y } in
-    let with_files = λ (entries : List Outgoing). let r : Register = record (register_in o) { outgoing = entries } in r in
-    makes_part (map outgoing_of) register_in with_files (at_number f n (map outgoing_of files)) files (set files i y) o after result
-    refl refl (makes_at_number outgoing_of f files n i x y result place.0 within is h)
+outgoing_changed f o n i len x y result =
+    changed_at outgoing_of (with_outgoing o) f o.outgoing o (record o { outgoing = with_item o.outgoing i y }) n i len x y result refl refl
 
--- a change of an outgoing file that isn't there
 pub outgoing_unknown : (f : Outgoing → Result Outgoing Cause) (o : Lists) (n len : ℕ) → len ≡ vec_len o.outgoing → IsPlace n len None → on_outgoing f n (register_in o) ≡ Err Unknown
-outgoing_unknown f o n len length_is h =
-    let files = o.outgoing.items in
-    let counted : length (map outgoing_of files) ≡ len = length-map files outgoing_of ∙ sym (length_is ∙ o.outgoing.ok.0) in
-    ap (mapped (λ entries. record (register_in o) { outgoing = entries })) (at_number-outside f n (map outgoing_of files) (ap (λ k. nat_lt 0 n && nat_le n k) counted ∙ h))
+outgoing_unknown f o n len = unknown_at outgoing_of (with_outgoing o) f o.outgoing n len

@@ -91,7 +91,8 @@ index_same : (ts : List Table) → IsAscending (λ (s t : Table). same_name s.na
 index_same ts named few row i j p q =
     let owner = same_words _ p.table.name q.table.name p.described.owner_is q.described.owner_is in
     let table : p.table ≡ q.table = one_table ts p.table q.table named p.listed q.listed owner in
-    defined_same q.table i j (column row 4) (has_all _ ts q.table few q.listed) (same_tree _ i.tree j.tree p.described.id q.described.id) (subst (λ t. IsDefined t i (column row 4)) table p.defined) q.defined
+    defined_same q.table i j (column row 4) (has_all _ ts q.table few q.listed) (same_tree _ i.tree j.tree p.described.id q.described.id)
+    (subst (λ t. IsDefined t i (column row 4)) table p.defined) q.defined
 
 no_views : (rows : List Row) (ws : List Stored) → AllZip IsViewRow rows [] → AllZip IsViewRow rows ws → ws ≡ []
 no_views [] [] p q = refl
@@ -108,7 +109,8 @@ schema_is ours s db unviewed few ours_is theirs =
     let indexes : s.indexes ≡ ours.indexes =
     zip_same (IsIndexRow ours.tables) (IsIndexRow ours.tables) (index_same ours.tables p.named few) (filter is_index_row objects) s.indexes ours.indexes theirs_indexes p.indexes in
     let views : s.views ≡ [] = no_views (filter is_view_row objects) s.views (subst (λ ws. AllZip IsViewRow (filter is_view_row objects) ws) unviewed p.views) q.views in
-    ap (λ ts. let it : Schema = record { tables = ts; indexes = s.indexes; views = s.views } in it) tables ∙ ap (λ is. let it : Schema = record { tables = ours.tables; indexes = is; views = s.views } in it) indexes
+    ap (λ ts. let it : Schema = record { tables = ts; indexes = s.indexes; views = s.views } in it) tables
+    ∙ ap (λ is. let it : Schema = record { tables = ours.tables; indexes = is; views = s.views } in it) indexes
     ∙ ap (λ ws. let it : Schema = record { tables = ours.tables; indexes = ours.indexes; views = ws } in it) (views ∙ sym unviewed)
 
 pub same_schema : (s : Schema) (db : Trees) → IsSound office_schema db → IsSound s db → s ≡ office_schema

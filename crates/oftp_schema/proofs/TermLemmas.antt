@@ -110,7 +110,9 @@ cast_int n = either _ (Int n)
 -- no foreign key acts
 pub no_works : (tree : ℕ) (olds news : List Row) → works office_schema Enforced 0 tree olds news ≡ []
 no_works tree olds news =
-    elim (length news == 0) as (λ b. flat_map (λ child. filter_map (λ ref. work_by 0 tree (pairs olds news) child ref (deed_for Enforced b ref) (parent_key office_schema.tables ref)) child.references) office_schema.tables ≡ []) [
+    elim (length news == 0) as (λ b.
+    flat_map (λ child. filter_map (λ ref. work_by 0 tree (pairs olds news) child ref (deed_for Enforced b ref) (parent_key office_schema.tables ref)) child.references) office_schema.tables
+    ≡ []) [
       | true ↦ refl
       | false ↦ refl
     ]

@@ -66,8 +66,8 @@ map_err (Ok x) f h = tt
 map_err (Err e) f h = f h
 
 -- one statement
-pub statement_runs : {S : Type 0} (g : Ghosts S) (old new : Held S) (Before : Database → Type 0) (Made : Database → Database → Type 0) (sql : List ℕ) (params : Row) (e : Error) (result : Result ℕ Error)
-    → ((state g old).in_transaction ≡ false → (result ≡ Err e) × (new ≡ old))
+pub statement_runs : {S : Type 0} (g : Ghosts S) (old new : Held S) (Before : Database → Type 0) (Made : Database → Database → Type 0)
+    (sql : List ℕ) (params : Row) (e : Error) (result : Result ℕ Error) → ((state g old).in_transaction ≡ false → (result ≡ Err e) × (new ≡ old))
     → (HasCleanDisk (state g new) → IsTrue (state g old).in_transaction → ExecutesInside 0 sql params (state g old) (state g new) result)
     → Survives (state g old) (state g new) (λ _. ⊥)
     → ((count : ℕ) → Before (state g old).now → ExecutesInside 0 sql params (state g old) (state g new) (Ok count) → Made (state g old).now (state g new).now)

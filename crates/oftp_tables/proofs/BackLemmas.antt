@@ -87,7 +87,8 @@ not_issued k n (f ∷ fs) h = go f.response (not_issued k (n + 1) fs (omega arit
     go None more = more
     go (Some r) more = rw (above n k h) more
 
-response_at : (k n : ℕ) (files : List Incoming) (f : Incoming) (after : List Incoming) → k ≡ n + length files → AllByRecursion (λ (g : Incoming). HasReason g.response) (files ++ f ∷ after) → IsSoundAnswer f.response
+response_at : (k n : ℕ) (files : List Incoming) (f : Incoming) (after : List Incoming) → k ≡ n + length files
+    → AllByRecursion (λ (g : Incoming). HasReason g.response) (files ++ f ∷ after) → IsSoundAnswer f.response
     → option_map issued_in (find (has_number k) (issued_from n (files ++ f ∷ after))) ≡ f.response
 response_at k n [] f after is reasons sound =
     let here : k ≡ n = omega (arith, is) in
@@ -128,7 +129,8 @@ note_at k n [] r after is sound =
     go NegativeEndResponse s = rw (alike k) (record { creator = refl; text = refl })
 note_at k n (g ∷ before) r after is sound = go g.kind (note_at k (n + 1) before r after (omega (arith, is)) sound)
   where
-    go : (kind : ResponseKind) → IsNote r (find (has_number k) (notes_from (n + 1) (before ++ r ∷ after))) → IsNote r (find (has_number k) (note_if_negative n g kind ++ notes_from (n + 1) (before ++ r ∷ after)))
+    go : (kind : ResponseKind) → IsNote r (find (has_number k) (notes_from (n + 1) (before ++ r ∷ after)))
+        → IsNote r (find (has_number k) (note_if_negative n g kind ++ notes_from (n + 1) (before ++ r ∷ after)))
     go EndResponse more = more
     go NegativeEndResponse more = let other : (n == k) ≡ false = unlike n k (omega (arith, is)) in rw other more
 
@@ -165,39 +167,52 @@ length-map : {X Y : Type 0} (f : X → Y) (xs : List X) → length (map f xs) �
 length-map f [] = refl
 length-map f (x ∷ xs) = ap suc (length-map f xs)
 
+-- an entry whose parts are read back is read back
+same_incoming : (f : Incoming) (format : Format) (state : IncomingState) (rows : List (List ℕ)) (response : Option Issued)
+    → format ≡ f.format → state ≡ f.state → rows ≡ f.rows → response ≡ f.response
+    → record f { format = format; state = state; rows = rows; response = response } ≡ f
+same_incoming f format state rows response format_is state_is rows_are response_is = rw (format_is, state_is, rows_are, response_is) refl
+
+same_outgoing : (f : Outgoing) (format : Format) (rows : List (List ℕ)) (state : OutgoingState)
+    → format ≡ f.format → rows ≡ f.rows → state ≡ f.state → record f { format = format; rows = rows; state = state } ≡ f
+same_outgoing f format rows state format_is rows_are state_is = rw (format_is, rows_are, state_is) refl
+
+same_received : (x : Received) (kind : ResponseKind) (reason : ℕ) (creator text : List ℕ)
+    → kind ≡ x.kind → reason ≡ x.reason → creator ≡ x.creator → text ≡ x.text
+    → record x { kind = kind; reason = reason; creator = creator; text = text } ≡ x
+same_received x kind reason creator text kind_is reason_is creator_is text_is = rw (kind_is, reason_is, creator_is, text_is) refl
+
 module _ (r : Register) (db : Trees) (kept : Tables r db) (sound : IsSound r) where
   one_incoming : (k : ℕ) (before : List Incoming) (f : Incoming) (after : List Incoming) → r.incoming ≡ before ++ f ∷ after → k ≡ 1 + length before → incoming_in db (in_file_row k f) ≡ f
   one_incoming k before f after is at =
       let rows : bodies_in k (less_rowids (db in_row_tree)) ≡ f.rows =
       bodies_back k (map rows_in before) f.rows (map rows_in after) (less_rowids (db in_row_tree)) (omega (arith, at, length-map rows_in before))
       (subst (λ files. IsPermutation (bodies_from 1 files) (less_rowids (db in_row_tree))) (ap (map rows_in) is ∙ map-append rows_in before (f ∷ after)) kept.incoming.rows) in
+      let reasons = subst (AllByRecursion (λ (g : Incoming). HasReason g.response)) is kept.incoming.reasons in
+      let right = all_at_place IsSoundIncoming before f after (subst (All IsSoundIncoming) is sound.incoming) in
       let response : option_map issued_in (find (has_number k) (db issued_tree)) ≡ f.response =
       ap (λ (rows : List Row). option_map issued_in (find (has_number k) rows)) (kept.incoming.responses ∙ ap (issued_from 1) is)
-      ∙ response_at k 1 before f after at (subst (AllByRecursion (λ (g : Incoming). HasReason g.response)) is kept.incoming.reasons) (all_at_place IsSoundIncoming before f after (subst (All IsSoundIncoming) is sound.incoming)).answer in
-      ap (λ x. let i : Incoming = record { identity = f.identity; format = x; longest = f.longest; description = f.description; state = in_state_in (in_state_text f.state); rows = bodies_in k (less_rowids (db in_row_tree)); response = option_map issued_in (find (has_number k) (db issued_tree)) } in i) (format_back f.format)
-      ∙ ap (λ x. let i : Incoming = record { identity = f.identity; format = f.format; longest = f.longest; description = f.description; state = x; rows = bodies_in k (less_rowids (db in_row_tree)); response = option_map issued_in (find (has_number k) (db issued_tree)) } in i) (in_state_back f.state)
-      ∙ ap (λ x. let i : Incoming = record { identity = f.identity; format = f.format; longest = f.longest; description = f.description; state = f.state; rows = x; response = option_map issued_in (find (has_number k) (db issued_tree)) } in i) rows
-      ∙ ap (λ x. let i : Incoming = record { identity = f.identity; format = f.format; longest = f.longest; description = f.description; state = f.state; rows = f.rows; response = x } in i) response
+      ∙ response_at k 1 before f after at reasons right.answer in
+      same_incoming f _ _ _ _ (format_back f.format) (in_state_back f.state) rows response
 
   one_outgoing : (k : ℕ) (before : List Outgoing) (f : Outgoing) (after : List Outgoing) → r.outgoing ≡ before ++ f ∷ after → k ≡ 1 + length before → outgoing_in db (out_file_row k f) ≡ f
   one_outgoing k before f after is at =
       let rows : bodies_in k (less_rowids (db out_row_tree)) ≡ f.rows =
       bodies_back k (map rows_out before) f.rows (map rows_out after) (less_rowids (db out_row_tree)) (omega (arith, at, length-map rows_out before))
       (subst (λ files. IsPermutation (bodies_from 1 files) (less_rowids (db out_row_tree))) (ap (map rows_out) is ∙ map-append rows_out before (f ∷ after)) kept.outgoing.rows) in
-      let state = out_state_back f.state (at_place (λ (g : Outgoing). HasRefusal g.state) before f after (subst (AllByRecursion (λ (g : Outgoing). HasRefusal g.state)) is kept.outgoing.reasons)) in
-      ap (λ x. let i : Outgoing = record { identity = f.identity; format = x; longest = f.longest; description = f.description; rows = bodies_in k (less_rowids (db out_row_tree)); mark = f.mark; state = out_state_in (out_state_text f.state) (refusal_text f.state) } in i) (format_back f.format)
-      ∙ ap (λ x. let i : Outgoing = record { identity = f.identity; format = f.format; longest = f.longest; description = f.description; rows = x; mark = f.mark; state = out_state_in (out_state_text f.state) (refusal_text f.state) } in i) rows
-      ∙ ap (λ x. let i : Outgoing = record { identity = f.identity; format = f.format; longest = f.longest; description = f.description; rows = f.rows; mark = f.mark; state = x } in i) state
+      let has_refusal = λ (g : Outgoing). HasRefusal g.state in
+      let state = out_state_back f.state (at_place has_refusal before f after (subst (AllByRecursion has_refusal) is kept.outgoing.reasons)) in
+      same_outgoing f _ _ _ (format_back f.format) rows state
 
   one_received : (k : ℕ) (before : List Received) (x : Received) (after : List Received) → r.received ≡ before ++ x ∷ after → k ≡ 1 + length before → received_in db (received_row k x) ≡ x
   one_received k before x after is at =
       let right = all_at_place IsSoundReceived before x after (subst (All IsSoundReceived) is sound.received) in
-      let reason = reason_back x.kind x.reason x.creator x.text (at_place (λ (y : Received). y.reason < 100) before x after (subst (AllByRecursion (λ (y : Received). y.reason < 100)) is kept.received.reasons)) right in
-      let note : IsNote x (find (has_number k) (db note_tree)) = subst (λ (rows : List Row). IsNote x (find (has_number k) rows)) (sym (kept.received.notes_are ∙ ap (notes_from 1) is)) (note_at k 1 before x after at right) in
-      ap (λ y. let i : Received = record { kind = y; identity = x.identity; reason = number (reason_text x.kind x.reason); creator = text_at 2 (find (has_number k) (db note_tree)); text = text_at 3 (find (has_number k) (db note_tree)) } in i) (kind_back x.kind)
-      ∙ ap (λ y. let i : Received = record { kind = x.kind; identity = x.identity; reason = y; creator = text_at 2 (find (has_number k) (db note_tree)); text = text_at 3 (find (has_number k) (db note_tree)) } in i) reason
-      ∙ ap (λ y. let i : Received = record { kind = x.kind; identity = x.identity; reason = x.reason; creator = y; text = text_at 3 (find (has_number k) (db note_tree)) } in i) note.creator
-      ∙ ap (λ y. let i : Received = record { kind = x.kind; identity = x.identity; reason = x.reason; creator = x.creator; text = y } in i) note.text
+      let is_small = λ (y : Received). y.reason < 100 in
+      let reason = reason_back x.kind x.reason x.creator x.text (at_place is_small before x after (subst (AllByRecursion is_small) is kept.received.reasons)) right in
+      let notes : db note_tree ≡ notes_from 1 (before ++ x ∷ after) = kept.received.notes_are ∙ ap (notes_from 1) is in
+      let note : IsNote x (find (has_number k) (db note_tree)) =
+      subst (λ (rows : List Row). IsNote x (find (has_number k) rows)) (sym notes) (note_at k 1 before x after at right) in
+      same_received x _ _ _ _ (kind_back x.kind) reason note.creator note.text
 
   -- the tables stand for one register
   pub register_of : register_in r.limits db ≡ r

@@ -83,7 +83,8 @@ append_nothing : (xs : List Row) → xs ++ [] ≡ xs
 append_nothing [] = refl
 append_nothing (x ∷ xs) = ap (λ (more : List Row). x ∷ more) (append_nothing xs)
 
-pub rows_at : (k n : ℕ) (files : List (List (List ℕ))) (bodies : List (List ℕ)) (after : List (List (List ℕ))) → k ≡ n + length files → filter (has_number k) (bodies_from n (files ++ bodies ∷ after)) ≡ body_rows k 0 bodies
+pub rows_at : (k n : ℕ) (files : List (List (List ℕ))) (bodies : List (List ℕ)) (after : List (List (List ℕ))) → k ≡ n + length files
+    → filter (has_number k) (bodies_from n (files ++ bodies ∷ after)) ≡ body_rows k 0 bodies
 rows_at k n [] bodies after is =
     let here : k ≡ n = omega (arith, is) in
     subst (λ m. filter (has_number k) (bodies_from m (bodies ∷ after)) ≡ body_rows k 0 bodies) here

@@ -42,7 +42,8 @@ without_ids (id ∷ ids) rows =
 abbrev pub id_of : Row → ℤ
 id_of r = id_in (rowid r)
 
-none_at : (test : Row → Bool) (x : Row) (rows : List Row) → AllByRecursion (λ b. (has_rowid (id_of x) b ≡ false) × (has_rowid (id_of b) x ≡ false)) rows → is_in (map id_of (filter test rows)) x ≡ false
+none_at : (test : Row → Bool) (x : Row) (rows : List Row) → AllByRecursion (λ b. (has_rowid (id_of x) b ≡ false) × (has_rowid (id_of b) x ≡ false)) rows
+    → is_in (map id_of (filter test rows)) x ≡ false
 none_at test x [] h = refl
 none_at test x (r ∷ rows) h =
     elim (test r) as (λ b. is_in (map id_of (cond b (r ∷ filter test rows) (filter test rows))) x ≡ false) [
@@ -50,8 +51,8 @@ none_at test x (r ∷ rows) h =
       | false ↦ none_at test x rows h.1
     ]
 
-later_same : (test : Row → Bool) (x : Row) (rows all : List Row) → AllByRecursion (λ b. (has_rowid (id_of x) b ≡ false) × (has_rowid (id_of b) x ≡ false)) rows → AllByRecursion (λ r. is_in (map id_of (filter test all)) r ≡ test r) rows
-    → AllByRecursion (λ r. is_in (map id_of (filter test (x ∷ all))) r ≡ test r) rows
+later_same : (test : Row → Bool) (x : Row) (rows all : List Row) → AllByRecursion (λ b. (has_rowid (id_of x) b ≡ false) × (has_rowid (id_of b) x ≡ false)) rows
+    → AllByRecursion (λ r. is_in (map id_of (filter test all)) r ≡ test r) rows → AllByRecursion (λ r. is_in (map id_of (filter test (x ∷ all))) r ≡ test r) rows
 later_same test x [] all h same = tt
 later_same test x (r ∷ rows) all h same = (
   elim (test x) as (λ b. is_in (map id_of (cond b (x ∷ filter test all) (filter test all))) r ≡ test r) [
@@ -72,7 +73,8 @@ each_found test (x ∷ rows) h = (
     first true is = rw is (ap (λ b. b || is_in (map id_of (filter test rows)) x) h.0.0)
     first false is = rw is (none_at test x rows h.1.0)
 
-permuted : (ids found : List ℤ) → IsPermutation found ids → (rows : List Row) (test : Row → Bool) → AllByRecursion (λ r. is_in found r ≡ test r) rows → AllByRecursion (λ r. not (is_in ids r) ≡ not (test r)) rows
+permuted : (ids found : List ℤ) → IsPermutation found ids → (rows : List Row) (test : Row → Bool) → AllByRecursion (λ r. is_in found r ≡ test r) rows
+    → AllByRecursion (λ r. not (is_in ids r) ≡ not (test r)) rows
 permuted ids found perm [] test h = tt
 permuted ids found perm (r ∷ rows) test h = (ap not (sym (list_any-IsPermutation (λ id. has_rowid id r) found ids perm) ∙ h.0), permuted ids found perm rows test h.1)
 

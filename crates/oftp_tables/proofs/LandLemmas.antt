@@ -33,5 +33,7 @@ module _ (tree : ℕ) (rows : List Row) (old new : Trees) (is : new tree ≡ row
             subst (holds (new 1) (new 3)) (sym (at 9 others.1.1.1.1.1.0))
             (subst (λ in_row. holds (new 1) in_row (mid 9)) (sym (at 3 others.1.1.0)) (subst (λ in_file. holds in_file (mid 3) (mid 9)) (sym (at 1 others.1.0)) t.incoming));
         outgoing = subst (HoldOutgoing s.outgoing (new 5)) (sym (at 7 others.1.1.1.1.0)) (subst (λ out_file. HoldOutgoing s.outgoing out_file (mid 7)) (sym (at 5 others.1.1.1.0)) t.outgoing);
-        received = subst (HoldReceived s.received (new 10)) (sym (at 12 others.1.1.1.1.1.1.1.0)) (subst (λ received. HoldReceived s.received received (mid 12)) (sym (at 10 others.1.1.1.1.1.1.0)) t.received);
+        received =
+            subst (HoldReceived s.received (new 10)) (sym (at 12 others.1.1.1.1.1.1.1.0))
+            (subst (λ received. HoldReceived s.received received (mid 12)) (sym (at 10 others.1.1.1.1.1.1.0)) t.received);
       }

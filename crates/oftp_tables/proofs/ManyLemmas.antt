@@ -15,11 +15,12 @@ use Rattle.oftp_tables.proofs.CutLemmas.{filter-both, filter_same}
 use Rattle.oftp_tables.proofs.SortedLemmas.{found}
 
 -- a query that doesn't look at the rowid
-pub without_rowids : (q : Query) (params : Row) (test : Row → Bool) (show : Row → Output) → ((r : Row) → list_all (holds (params ∷ r ∷ [])) q.filter ≡ test (drop 1 r)) → ((r : Row) → output q (params ∷ r ∷ []) ≡ show (drop 1 r))
-    → (rows : List Row) → map (output q) (found q.filter params rows) ≡ map show (filter test (less_rowids rows))
+pub without_rowids : (q : Query) (params : Row) (test : Row → Bool) (show : Row → Output) → ((r : Row) → list_all (holds (params ∷ r ∷ [])) q.filter ≡ test (drop 1 r))
+    → ((r : Row) → output q (params ∷ r ∷ []) ≡ show (drop 1 r)) → (rows : List Row) → map (output q) (found q.filter params rows) ≡ map show (filter test (less_rowids rows))
 without_rowids q params test show passes shows [] = refl
 without_rowids q params test show passes shows (r ∷ rows) =
-    rw (passes r) (elim (test (drop 1 r)) as (λ b. map (output q) (cond b ((params ∷ r ∷ []) ∷ []) [] ++ found q.filter params rows) ≡ map show (cond b (drop 1 r ∷ filter test (less_rowids rows)) (filter test (less_rowids rows)))) [
+    let more = filter test (less_rowids rows) in
+    rw (passes r) (elim (test (drop 1 r)) as (λ b. map (output q) (cond b ((params ∷ r ∷ []) ∷ []) [] ++ found q.filter params rows) ≡ map show (cond b (drop 1 r ∷ more) more)) [
       | true ↦ ap (λ o. o ∷ map (output q) (found q.filter params rows)) (shows r) ∙ ap (λ os. show (drop 1 r) ∷ os) (without_rowids q params test show passes shows rows)
       | false ↦ without_rowids q params test show passes shows rows
     ])
@@ -51,7 +52,8 @@ from_place k from at (b ∷ bodies) =
           let more : from - (at + 1) ≡ 0 = grind (arith, nat_tests, here) in
           let start : at + 0 ≡ at = omega arith in
           let next : (at + 1) + 0 ≡ at + 1 = omega arith in
-          rw (here, none, start) (ap (λ (rows : List Row). body_row k at b ∷ rows) (from_place k from (at + 1) bodies ∙ ap (λ m. body_rows k ((at + 1) + m) (drop m bodies)) more ∙ ap (λ m. body_rows k m bodies) next))
+          let rest = from_place k from (at + 1) bodies ∙ ap (λ m. body_rows k ((at + 1) + m) (drop m bodies)) more ∙ ap (λ m. body_rows k m bodies) next in
+          rw (here, none, start) (ap (λ (rows : List Row). body_row k at b ∷ rows) rest)
       | inr below ↦
           let some : from - at ≡ suc (from - (at + 1)) = grind (arith, nat_tests, below) in
           let next : (at + 1) + (from - (at + 1)) ≡ at + suc (from - (at + 1)) = omega arith in
@@ -83,7 +85,8 @@ pub no_rows_zeroth : (from : ℕ) (files : List (List (List ℕ))) → filter (�
 no_rows_zeroth from files = sym (filter-both (has_number 0) (λ r. nat_le from (place r)) (bodies_from 1 files)) ∙ ap (filter (λ r. nat_le from (place r))) (none_before 0 1 files (omega arith))
 
 -- what passes a test of the statement, among rows in any order, is what passes the test of the number and the position
-pub passing : (test wanted : Row → Bool) → ((n at : ℕ) (b : List ℕ) → test (body_row n at b) ≡ wanted (body_row n at b)) → (files : List (List (List ℕ))) (rows : List Row) → IsPermutation (bodies_from 1 files) rows
-    → IsPermutation (filter wanted (bodies_from 1 files)) (filter test rows)
+pub passing : (test wanted : Row → Bool) → ((n at : ℕ) (b : List ℕ) → test (body_row n at b) ≡ wanted (body_row n at b))
+    → (files : List (List (List ℕ))) (rows : List Row) → IsPermutation (bodies_from 1 files) rows → IsPermutation (filter wanted (bodies_from 1 files)) (filter test rows)
 passing test wanted same files rows perm =
-    subst (λ xs. IsPermutation xs (filter test rows)) (filter_same test wanted (bodies_from 1 files) (bodies_from-all (λ r. test r ≡ wanted r) same 1 files)) (IsPermutation-filter test (bodies_from 1 files) rows perm)
+    let all = bodies_from 1 files in
+    subst (λ xs. IsPermutation xs (filter test rows)) (filter_same test wanted all (bodies_from-all (λ r. test r ≡ wanted r) same 1 files)) (IsPermutation-filter test all rows perm)

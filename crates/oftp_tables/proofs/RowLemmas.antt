@@ -28,7 +28,8 @@ pub put_fresh : (new : Row) (rows : List Row) → is_taken rows new ≡ false �
 put_fresh new [] h = IsPermutation-refl (new ∷ [])
 put_fresh new (r ∷ rs) h = go (value_cmp (rowid r) (rowid new)) (put_fresh new rs) h
   where
-    go : (o : Ordering) → (is_taken rs new ≡ false → IsPermutation (new ∷ rs) (put_row new rs)) → (is_eq o || is_taken rs new) ≡ false → IsPermutation (new ∷ r ∷ rs) (match_ordering o (r ∷ put_row new rs) (new ∷ rs) (new ∷ r ∷ rs))
+    go : (o : Ordering) → (is_taken rs new ≡ false → IsPermutation (new ∷ rs) (put_row new rs)) → (is_eq o || is_taken rs new) ≡ false
+        → IsPermutation (new ∷ r ∷ rs) (match_ordering o (r ∷ put_row new rs) (new ∷ rs) (new ∷ r ∷ rs))
     go Less more h = IsPermutation-trans _ (r ∷ new ∷ rs) _ (IsPermutation-insert (r ∷ rs) 1 new) (IsPermutation-cons r _ _ (more h))
     go Equal more h = absurd (let e = h in cc)
     go Greater more h = IsPermutation-refl (new ∷ r ∷ rs)
@@ -61,7 +62,8 @@ turned v w = (eq_by_cmp_equiv value_cmp_total).symm v w
 same_value : (id : ℤ) (r : Row) → has_rowid id r ≡ true → (new : Value) → is_eq (value_cmp (rowid r) new) ≡ false → is_eq (value_cmp new (Int id)) ≡ false
 same_value id r h new other = turned new (Int id) ∙ sym ((eq_by_cmp_equiv value_cmp_total).congr (rowid r) (Int id) new h) ∙ other
 
-fresh_apart : (id : ℤ) (more : Row) (rows : List Row) → AllByRecursion (λ r. has_rowid (id_in (rowid r)) r ≡ true) rows → is_taken rows (Int id ∷ more) ≡ false → AllByRecursion (Others (Int id ∷ more)) rows
+fresh_apart : (id : ℤ) (more : Row) (rows : List Row) → AllByRecursion (λ r. has_rowid (id_in (rowid r)) r ≡ true) rows
+    → is_taken rows (Int id ∷ more) ≡ false → AllByRecursion (Others (Int id ∷ more)) rows
 fresh_apart id more [] all h = tt
 fresh_apart id more (r ∷ rows) all h =
     let parts = or_both (is_eq (value_cmp (rowid r) (Int id))) _ h in

@@ -81,7 +81,8 @@ module _ (project : List Term) (k : ℕ) (more : Row) where
   chosen_none (r ∷ lo) hi split =
       rw (split.below.0.is, equal_numbers split.below.0.number k, unlike split.below.0.number k split.below.0.below) (chosen_none lo hi (record { below = split.below.1; above = split.above }))
 
-  pub chosen_one : (r : Row) (lo hi : List Row) → column r 0 ≡ Int (pos k) → IsSplit k lo hi → chosen by_number project (number_value k ∷ more) (lo ++ r ∷ hi) ≡ eval_all project ((number_value k ∷ more) ∷ r ∷ []) ∷ []
+  pub chosen_one : (r : Row) (lo hi : List Row) → column r 0 ≡ Int (pos k) → IsSplit k lo hi
+      → chosen by_number project (number_value k ∷ more) (lo ++ r ∷ hi) ≡ eval_all project ((number_value k ∷ more) ∷ r ∷ []) ∷ []
   chosen_one r [] hi is split = rw (is, equal_numbers k k, alike k) (ap (λ rows. eval_all project ((number_value k ∷ more) ∷ r ∷ []) ∷ rows) (none_above hi split.above))
   chosen_one r (x ∷ lo) hi is split =
       rw (split.below.0.is, equal_numbers split.below.0.number k, unlike split.below.0.number k split.below.0.below) (chosen_one r lo hi is (record { below = split.below.1; above = split.above }))
@@ -117,12 +118,14 @@ module _ {X : Type 0} (piece : ℕ → X → List Row) (numbered : (n : ℕ) (x 
   pieces_above k n [] h = tt
   pieces_above k n (x ∷ xs) h = both_all (IsAbove k) (piece n x) _ (all_above n k (piece n x) h (numbered n x)) (pieces_above k (n + 1) xs (omega (arith, h)))
 
-  pieces_at : (k n : ℕ) (before : List X) (x : X) (after : List X) → k ≡ n + length before → pieces_from piece n (before ++ x ∷ after) ≡ pieces_from piece n before ++ (piece k x ++ pieces_from piece (k + 1) after)
+  pieces_at : (k n : ℕ) (before : List X) (x : X) (after : List X) → k ≡ n + length before
+      → pieces_from piece n (before ++ x ∷ after) ≡ pieces_from piece n before ++ (piece k x ++ pieces_from piece (k + 1) after)
   pieces_at k n [] x after is =
       let here : k ≡ n = omega (arith, is) in
       subst (λ m. pieces_from piece m (x ∷ after) ≡ piece k x ++ pieces_from piece (k + 1) after) here refl
   pieces_at k n (y ∷ before) x after is =
-      ap (λ rows. piece n y ++ rows) (pieces_at k (n + 1) before x after (omega (arith, is))) ∙ sym (append_assoc (piece n y) (pieces_from piece (n + 1) before) (piece k x ++ pieces_from piece (k + 1) after))
+      ap (λ rows. piece n y ++ rows) (pieces_at k (n + 1) before x after (omega (arith, is)))
+      ∙ sym (append_assoc (piece n y) (pieces_from piece (n + 1) before) (piece k x ++ pieces_from piece (k + 1) after))
 
   -- the rows of the entry with a number, between the others
   pub record IsAmong (k : ℕ) (before : List X) (x : X) (after : List X) : Type 0 where

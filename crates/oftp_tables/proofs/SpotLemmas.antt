@@ -71,7 +71,8 @@ module _ {X E : Type 0} (row : ℕ → X → Row) (test : Row → Bool) (show : 
   shows_past n [] h = refl
   shows_past n (x ∷ xs) h = let other : (n == k) ≡ false = unlike n k (omega (arith, h)) in rw (same n x, other) (shows_past (n + 1) xs (omega (arith, h)))
 
-  pub shows_there : (n : ℕ) (before : List X) (x : X) (after : List X) → k ≡ n + length before → flat_map (λ r. cond (test r) (show r ∷ []) []) (rows_from row n (before ++ x ∷ after)) ≡ show (row k x) ∷ []
+  pub shows_there : (n : ℕ) (before : List X) (x : X) (after : List X) → k ≡ n + length before
+      → flat_map (λ r. cond (test r) (show r ∷ []) []) (rows_from row n (before ++ x ∷ after)) ≡ show (row k x) ∷ []
   shows_there n [] x after is =
       let here : k ≡ n = omega (arith, is) in
       subst (λ m. flat_map (λ r. cond (test r) (show r ∷ []) []) (rows_from row m (x ∷ after)) ≡ show (row k x) ∷ []) here

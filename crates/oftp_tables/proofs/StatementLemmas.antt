@@ -19,6 +19,7 @@ use Rattle.sqlite.specs.Table.{Table}
 use Rattle.sqlite.specs.State.{State, ExecutesInside, mode_of}
 use Rattle.sqlite.proofs.Callers.{IsPlain, command_of, statement_of, runs_as, one_permutation}
 use Rattle.sqlite_rules.specs.Calls.{ids_of}
+use Rattle.sqlite.specs.Schema.{Schema}
 use Rattle.oftp_schema.specs.Schema.{office_schema}
 use Rattle.oftp_schema.proofs.TermLemmas.{no_works}
 use Rattle.oftp_schema.proofs.QueryLemmas.{plain_query, chosen, answers}
@@ -38,8 +39,8 @@ pub record PutsIn (k : ℕ) (t : Table) (source : Row) (old new : Trees) : Type 
 
 -- the row with a number is another
 pub record Rewrites (k : ℕ) (t : Table) (terms : List Term) (more : Row) (old new : Trees) : Type 0 where
-  pub rows : (lo hi : List Row) (r s : Row) → IsSplit k lo hi → column r 0 ≡ Int (pos k) → column s 0 ≡ Int (pos k) → cast_row t (column r 0 ∷ eval_all terms ((number_value k ∷ more) ∷ r ∷ [])) ≡ s → old t.tree ≡ lo ++ r ∷ hi
-      → new t.tree ≡ lo ++ s ∷ hi
+  pub rows : (lo hi : List Row) (r s : Row) → IsSplit k lo hi → column r 0 ≡ Int (pos k) → column s 0 ≡ Int (pos k)
+      → cast_row t (column r 0 ∷ eval_all terms ((number_value k ∷ more) ∷ r ∷ [])) ≡ s → old t.tree ≡ lo ++ r ∷ hi → new t.tree ≡ lo ++ s ∷ hi
   pub others : Others t.tree old new
 
 own_rowid : (k : ℕ) (rows : List Row) (r : Row) → column r 0 ≡ Int (pos k) → with_rowid Chosen rows r ≡ r
@@ -59,8 +60,10 @@ pub inserts_row : (old new : State) (text : List ℕ) (at : ℕ) (t : Table) (te
     → value_rows params width (length terms / width) terms ≡ source ∷ [] → ExecutesInside 0 text params old new (Ok count) → Moves (PutsIn k (simple t) source) old new
 inserts_row old new text at t terms width params source k count has is plain found given h =
     let w = runs_as text params old new office_schema has (Insert at (Values terms width)) is plain count h.0 in
-    let made = inserts (mode_of old) old.step_limit params (record { schema = office_schema; trees = old.now.trees }) (statement_of text (understood office_schema text)) at t terms width source (w.tally, new.now) found given (no_works t.tree)
-    (subst (λ s. Does old.step_limit (mode_of old) params (record old.now { schema = s }) (statement_of text (understood office_schema text)) None (Insert at (Values terms width)) (Ok (w.tally, new.now))) has w.changed) in
+    let statement = statement_of text (understood office_schema text) in
+    let does = λ (s : Schema). Does old.step_limit (mode_of old) params (record old.now { schema = s }) statement None (Insert at (Values terms width)) (Ok (w.tally, new.now)) in
+    let made = inserts (mode_of old) old.step_limit params (record { schema = office_schema; trees = old.now.trees }) statement at t terms width source (w.tally, new.now)
+    found given (no_works t.tree) (subst does has w.changed) in
     record { schema = made.0; made = puts_in k t source old.now.trees new.now.trees made.1; store = w.sound; shown = h.1 }
 
 -- what such an UPDATE shows: the rowid, and the new row
@@ -80,9 +83,11 @@ rewrites k t terms more old new found made perm = record {
   rows = λ lo hi r s split numbered still is was.
       let params = number_value k ∷ more in
       let shown = eval_all (shown_terms terms) (params ∷ r ∷ []) in
-      let one : found ≡ shown ∷ [] = one_permutation shown found (subst (λ xs. IsPermutation xs found) (ap (chosen by_number (shown_terms terms) params) was ∙ chosen_one (shown_terms terms) k more r lo hi numbered split) perm) in
+      let one_chosen = ap (chosen by_number (shown_terms terms) params) was ∙ chosen_one (shown_terms terms) k more r lo hi numbered split in
+      let one : found ≡ shown ∷ [] = one_permutation shown found (subst (λ xs. IsPermutation xs found) one_chosen perm) in
       let left : taken_out r (old t.tree) ≡ lo ++ hi = ap (λ v. without_rowid (id_in v) (old t.tree)) numbered ∙ ap (without_rowid (pos k)) was ∙ without_between k r lo hi numbered split in
-      made.rows ∙ ap (λ (rs : List Row). edited old (edit_of old t (ids_of rs) Given 1 rs)) one ∙ ap (λ x. put_row x (taken_out r (old t.tree))) is ∙ ap (put_row s) left ∙ put_between k s lo hi still split;
+      made.rows ∙ ap (λ (rs : List Row). edited old (edit_of old t (ids_of rs) Given 1 rs)) one ∙ ap (λ x. put_row x (taken_out r (old t.tree))) is
+      ∙ ap (put_row s) left ∙ put_between k s lo hi still split;
   others = made.tables;
 }
 
@@ -94,8 +99,10 @@ updates_row old new text at t terms more k count has is plain found h =
     let params = number_value k ∷ more in
     let command = Update at (by_number_program t.tree terms) in
     let w = runs_as text params old new office_schema has command is plain count h.0 in
-    let u = updates (mode_of old) old.step_limit params (record { schema = office_schema; trees = old.now.trees }) (statement_of text (understood office_schema text)) at t (by_number_program t.tree terms) (w.tally, new.now) found (no_works t.tree)
-    (subst (λ s. Does old.step_limit (mode_of old) params (record old.now { schema = s }) (statement_of text (understood office_schema text)) None command (Ok (w.tally, new.now))) has w.changed) in
+    let statement = statement_of text (understood office_schema text) in
+    let does = λ (s : Schema). Does old.step_limit (mode_of old) params (record old.now { schema = s }) statement None command (Ok (w.tally, new.now)) in
+    let u = updates (mode_of old) old.step_limit params (record { schema = office_schema; trees = old.now.trees }) statement at t (by_number_program t.tree terms) (w.tally, new.now)
+    found (no_works t.tree) (subst does has w.changed) in
     record {
       schema = u.2;
       made = rewrites k t terms more old.now.trees new.now.trees u.0 u.3 (answers old.now.trees t.tree by_number (shown_terms terms) params u.0 (u.1.answer Null));

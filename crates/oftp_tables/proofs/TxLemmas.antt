@@ -44,7 +44,8 @@ pub commits_on : (Made : Trees → Trees → Type 0) (old last new : State) (res
 commits_on Made old last new (Ok x) moved h = commits Made old last new moved h.1
 commits_on Made old last new (Err e) moved h = tt
 
-pub commit_fails_on : (Made : Trees → Trees → Type 0) (old last new : State) (result : Result (Unit {0}) Error) → Moves Made (record old { in_transaction = true }) last → IfErr result (FailsToCommit last new) → OnErr result (IsUndone old new)
+pub commit_fails_on : (Made : Trees → Trees → Type 0) (old last new : State) (result : Result (Unit {0}) Error) → Moves Made (record old { in_transaction = true }) last
+    → IfErr result (FailsToCommit last new) → OnErr result (IsUndone old new)
 commit_fails_on Made old last new (Ok x) moved h = tt
 commit_fails_on Made old last new (Err e) moved h = commit_fails Made old last new moved e h
 

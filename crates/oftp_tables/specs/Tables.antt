@@ -83,7 +83,8 @@ in_file_row n f = number_value n ∷ Null ∷ identity_values f.identity ++ Text
 
 abbrev pub out_file_row : ℕ → Outgoing → Row
 out_file_row n f =
-    number_value n ∷ Null ∷ identity_values f.identity ++ Text (format_text f.format) ∷ number_value f.longest ∷ Text f.description ∷ number_value f.mark ∷ Text (out_state_text f.state) ∷ Text (refusal_text f.state) ∷ []
+    number_value n ∷ Null ∷ identity_values f.identity ++ Text (format_text f.format) ∷ number_value f.longest ∷ Text f.description ∷ number_value f.mark
+    ∷ Text (out_state_text f.state) ∷ Text (refusal_text f.state) ∷ []
 
 abbrev pub issued_row : ℕ → Issued → Row
 issued_row n r = number_value n ∷ Null ∷ Text (kind_text r.kind) ∷ Text (reason_text r.kind r.reason) ∷ Text r.text ∷ number_value (sent_number r.dispatch) ∷ []

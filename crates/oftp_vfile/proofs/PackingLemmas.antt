@@ -120,7 +120,7 @@ packed_ends size start octets free rows row offset count r written ends h e p f 
     ∙ ap (λ (x : ℕ). cond ends rs (drop x rest ∷ rs)) (sym n) in
     subst (λ (x : List (List ℕ)). HasPacked size start written (free - (1 + count)) x) g m2
 
-pub packed_done : (size size' at count free : ℕ) (start records records' : List (List ℕ)) (written : List ℕ) → size' ≡ size → free ≡ size - at
+packed_done : (size size' at count free : ℕ) (start records records' : List (List ℕ)) (written : List ℕ) → size' ≡ size → free ≡ size - at
     → HasPacked size start written (free - (1 + count)) records → records ≡ records'
     → HasPacked size' start written (size' - (at + (1 + count))) records'
 packed_done size size' at count free start records records' written e f p r =
@@ -130,7 +130,7 @@ packed_done size size' at count free start records records' written e f p r =
     subst (λ (x : List (List ℕ)). HasPacked size' start written (size' - (at + (1 + count))) x) r b
 
 -- the loop wrote the next subrecord, which is the part in front of what is left of its record
-pub packed_step : (size : ℕ) (start rows : List (List ℕ)) (row offset at count : ℕ) (r rest part out out' : List ℕ)
+packed_step : (size : ℕ) (start rows : List (List ℕ)) (row offset at count : ℕ) (r rest part out out' : List ℕ)
     → row < length rows → r ≡ get_or rows row r → rest ≡ drop offset r → part ≡ take count rest → length part ≡ count
     → HasPacked size start (take at out) (size - at) (from_offset offset (drop row rows))
     → needs rest ≤ size - at → count ≡ next_length rest (size - at)
@@ -147,14 +147,34 @@ packed_step size start rows row offset at count r rest part out out' h e back fr
     let last : ends ≡ eqb count (length (drop offset r)) = ap (λ (x : List ℕ). eqb count (length x)) back in
     packed_ends size start (take at out) (size - at) rows row offset count r (take (at + (1 + count)) out') ends h e p fits sized last written
 
+pub needs_some : (octets : List ℕ) → 0 < needs octets
+needs_some [] = omega arith
+needs_some (x ∷ xs) = omega arith
+
+-- the loop goes on behind the subrecord that it wrote: there is room for it, and what is packed then leaves what stands behind it
+pub record GoesOn (start rows : List (List ℕ)) (row offset at count : ℕ) (r rest out : List ℕ) : Type 0 where
+  pub room : at + (1 + count) ≤ length out
+  pub packed : (left : List (List ℕ)) → cond (eqb count (length rest)) (drop (row + 1) rows) (drop count (drop offset r) ∷ drop (row + 1) rows) ≡ left
+      → HasPacked (length out) start (take (at + (1 + count)) out) (length out - (at + (1 + count))) left
+
+pub goes_on : (size : ℕ) (start rows : List (List ℕ)) (row offset at count : ℕ) (r rest part out out' : List ℕ)
+    → row < length rows → r ≡ get_or rows row r → rest ≡ drop offset r → part ≡ take count rest → length part ≡ count
+    → HasPacked size start (take at out) (size - at) (from_offset offset (drop row rows))
+    → needs rest ≤ size - at → count ≡ next_length rest (size - at)
+    → take (at + (1 + length part)) out' ≡ take at out ++ spelled (record { ends = eqb count (length rest); octets = part })
+    → at ≤ size → length out' ≡ size → GoesOn start rows row offset at count r rest out'
+goes_on size start rows row offset at count r rest part out out' h e back front len p fits counted written within same =
+    let some = needs_some rest in
+    let step = packed_step size start rows row offset at count r rest part out out' h e back front len p fits counted written in
+    record {
+      room = omega (arith, same, counted, some, fits, within);
+      packed = λ left is. packed_done size (length out') at count (size - at) start _ left _ same refl step is;
+    }
+
 -- a place in a row is in the row
 pub in_row : (offset n : ℕ) → (0 < offset → offset < n) → offset ≤ n
 in_row zero n h = omega arith
 in_row (suc k) n h = let q : suc k < n = h (omega arith) in omega arith
-
-pub needs_some : (octets : List ℕ) → 0 < needs octets
-needs_some [] = omega arith
-needs_some (x ∷ xs) = omega arith
 
 -- a header before octets that were written
 pub header_step : (out new cur : List ℕ) (at count k h : ℕ) → at + 1 ≤ length out → count ≤ length new → take count new ≡ take count cur

@@ -19,7 +19,8 @@ use Rattle.oftp_vfile.specs.Fill.{Fills, behind, fill_from, weight, fill, record
 use Rattle.oftp_vfile.specs.Filling.{Filling, new_filling, from_offset, left_of, AreBehind, IsFirstPayload, IfBuffer, nothing_left, Moves, FillsNext, Sent, AreLent}
 use Rattle.oftp_vfile.proofs.PackingLemmas.{from_offset-zero}
 use Rattle.oftp_vfile.proofs.FillerLemmas.{left_records, left_stream, in_octets}
-use Rattle.oftp_vfile.proofs.FillListLemmas.{fills_fill}
+use Rattle.oftp_vfile.specs.Packing.{PacksNext}
+use Rattle.oftp_vfile.proofs.FillListLemmas.{fills_fill, first_if}
 use Rattle.oftp_vfile.proofs.CarriesLemmas.{octets_in-pieces, octets_in-push, some_piece, short-append, short-left, blocks_length}
 use Rattle.oftp_vfile.proofs.TakingLemmas.{last_of}
 use Rattle.oftp_vfile.proofs.FillCarriesLemmas.{flat, flat-append, fills_pieces, fills_short, decode_all, sent_records}
@@ -93,7 +94,7 @@ sent_step size old new from file lent payloads last octets s a f m =
           omega (arith, o.1, n, long, s.within, s.began));
     }
 
-pub sent_if : (size : ℕ) (old new : Filling) (from : ℕ) (file lent payloads : List (List ℕ)) (last : Bool) (out : List ℕ) (r : Filled) → Sent old size from file payloads
+sent_if : (size : ℕ) (old new : Filling) (from : ℕ) (file lent payloads : List (List ℕ)) (last : Bool) (out : List ℕ) (r : Filled) → Sent old size from file payloads
     → AreLent old from file lent last
     → IfBuffer r (λ n. (n ≤ size) × IsFirstPayload size old new lent last (take n out)) → FillsNext size old new lent last r → IfBuffer r (λ n. Sent new size from file (payloads ++ take n out ∷ []))
 sent_if size old new from file lent payloads last out (Buffer n) s a f h = sent_step size old new from file lent payloads last (take n out) s a f.1 h.moves
@@ -118,9 +119,27 @@ sent_all : (size : ℕ) (f : Filling) (from : ℕ) (file lent payloads : List (L
 sent_all size f from file lent payloads last s a n =
     sym (append-nil payloads) ∙ ap (λ (x : List (List ℕ)). payloads ++ x) (sym (ap (λ (x : List (List ℕ)). fill size (left_of f x)) a.1 ∙ nothing_filled size f lent a.0 last n a.2)) ∙ s.split
 
-pub sent_done : (size : ℕ) (f new : Filling) (from : ℕ) (file lent payloads : List (List ℕ)) (last : Bool) (r : Filled) → Sent f size from file payloads
+sent_done : (size : ℕ) (f new : Filling) (from : ℕ) (file lent payloads : List (List ℕ)) (last : Bool) (r : Filled) → Sent f size from file payloads
     → AreLent f from file lent last → FillsNext size f new lent last r → r ≡ Done → payloads ≡ payloads_of f.format size file
 sent_done size f new from file lent payloads last r s a h d = sent_all size f from file lent payloads last s a (subst (λ (x : Filled). FillsNext size f new lent last x) d h).none
+
+-- what a call of the filler tells whose answer is the next payload of the lent rows
+pub record Tells (size : ℕ) (old new : Filling) (lent : List (List ℕ)) (last : Bool) (out : List ℕ) (r : Filled) : Type 0 where
+  pub buffer : IfBuffer r (λ n. (n ≤ size) × IsFirstPayload size old new lent last (take n out))
+  pub sent : (from : ℕ) (file payloads : List (List ℕ)) → Sent old size from file payloads → AreLent old from file lent last
+      → IfBuffer r (λ n. Sent new size from file (payloads ++ take n out ∷ []))
+  pub all : (from : ℕ) (file payloads : List (List ℕ)) → Sent old size from file payloads → AreLent old from file lent last → r ≡ Done
+      → payloads ≡ payloads_of old.format size file
+
+pub tells : (size : ℕ) (old new : Filling) (lent : List (List ℕ)) (last : Bool) (out : List ℕ) (r : Filled) → 2 ≤ size
+    → IfBuffer r (λ n. (n ≤ size) × PacksNext size old new lent last (take n out)) → FillsNext size old new lent last r → Tells size old new lent last out r
+tells size old new lent last out r room packs fills =
+    let first = first_if size old new lent last out r room packs in
+    record {
+      buffer = first;
+      sent = λ from file payloads s k. sent_if size old new from file lent payloads last out r s k first fills;
+      all = λ from file payloads s k. sent_done size old new from file lent payloads last r s k fills;
+    }
 
 -- each end flag makes one more piece
 pieces_length : (ss : List Subrecord) → length (pieces ss) ≡ suc (count_by (λ (s : Subrecord). s.ends) ss)

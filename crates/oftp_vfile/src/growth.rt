@@ -21,32 +21,6 @@ fn append(tail: &mut Vec<u8>, part: &[u8], size: usize) -> Result<(), AllocError
     tail.extend_from_slice(part)
 }
 
-// Takes a part of a record, and makes the record a row where it ends. After an `Err` the rows and
-// the tail may have grown.
-fn grow_record(
-    alloc: Global,
-    rows: &mut Vec<Row>,
-    tail: &mut Vec<u8>,
-    ends: bool,
-    part: &[u8],
-    size: usize,
-) -> Result<(), AllocError>
-    ensures rows { let octets = tail.old.items ++ part.now in OnOk result
-        (rows.new.items ≡ (if ends then rows.old.items ++ octets ∷ [] else rows.old.items)) }
-    ensures tail { OnOk result (tail.new.items ≡ (if ends then [] else tail.old.items ++ part.now)) }
-    ensures room { OnOk result (ends ≡ false
-        → vec_capacity tail.old < vec_len tail.old + length part.now
-        → size ≤ vec_capacity tail.new) }
-    ensures err { OnErr result
-        (HasGrown rows.old.items tail.old.items rows.new.items tail.new.items) }
-{
-    append(tail, part, size)?;
-    if ends {
-        close(alloc, rows, tail)?;
-    }
-    Ok(())
-}
-
 // Makes the tail a row, without a copy. An `Err` changes nothing.
 fn close(alloc: Global, rows: &mut Vec<Row>, tail: &mut Vec<u8>) -> Result<(), AllocError>
     ensures rows { OnOk result (rows.new.items ≡ rows.old.items ++ tail.old.items ∷ []) }
@@ -127,12 +101,15 @@ pub fn add_to_record(
     ensures same_rows { OnErr result (rows.new.items ≡ rows.old.items) }
     ensures same_tail { OnErr result (tail.new.items ≡ tail.old.items) }
 {
-    let row_count = rows.len();
     let tail_len = tail.len();
-    match grow_record(alloc, rows, tail, ends, part, size) {
+    append(tail, part, size)?;
+    if !ends {
+        return Ok(());
+    }
+    match close(alloc, rows, tail) {
         Ok(()) => Ok(()),
         Err(refused) => {
-            back_to(rows, tail, row_count, tail_len);
+            tail.truncate(tail_len);
             Err(refused)
         }
     }

@@ -161,8 +161,15 @@ fn all_sent() -> [SentFile; 6] {
     ]
 }
 
-// The object of one of them, by pieces.
-fn object_of(alloc: Global, file: SentFile) -> Result<String, AllocError> {
+// How one of them is shown: its object and its line.
+#[derive(Drop)]
+struct Texts {
+    object: String,
+    line: String,
+}
+
+// The object and the line of one of them, by pieces.
+fn texts_of(alloc: Global, file: SentFile) -> Result<Texts, AllocError> {
     let SentFile {
         dataset,
         format,
@@ -182,35 +189,21 @@ fn object_of(alloc: Global, file: SentFile) -> Result<String, AllocError> {
         ",\"rows\":2,\"state\":\"{state}\",\"time\":\"1015300001\",\"units\":6}}"
     )?;
     object.push_str(rest.as_str())?;
-    Ok(object)
-}
-
-// The line of one of them, by pieces.
-fn line_of(alloc: Global, file: SentFile) -> Result<String, AllocError> {
-    let SentFile {
-        dataset,
-        format,
-        mark,
-        no,
-        state,
-        reason,
-    } = file;
     let mut line = format!(in alloc; "{no},{dataset},20240131,1015300001,O0177CARMAKER,{format}")?;
     let rest = format!(in alloc; ",2,6,{mark},{state},{reason}\n")?;
     line.push_str(rest.as_str())?;
-    Ok(line)
+    Ok(Texts { object, line })
 }
 
 // Whether the file is shown by its number.
 fn is_shown_alone(
     alloc: Global,
     office: &mut PlainOffice,
-    file: SentFile,
+    no: u64,
+    object: &str,
 ) -> Result<bool, AllocError> {
-    let no = file.no;
     let request = format!(in alloc; "GET /out/{no} HTTP/1.1\r\n\r\n")?;
-    let object = object_of(alloc, file)?;
-    is_shown(alloc, office, request.as_bytes(), object.as_str())
+    is_shown(alloc, office, request.as_bytes(), object)
 }
 
 #[test]
@@ -223,14 +216,15 @@ fn outgoing_states(rt: HostRuntime) -> Result<(), Fail> {
         "no,dataset,date,time,destination,format,rows,units,mark,state,reason\n",
     )?;
     for file in all_sent() {
+        let texts = texts_of(alloc, file)?;
         assert!(rt;
-            is_shown_alone(alloc, &mut office, file)?,
+            is_shown_alone(alloc, &mut office, file.no, texts.object.as_str())?,
             "file {}",
             file.no
         );
         list.push_str(if file.no == 1 { "[" } else { "," })?;
-        list.push_str(object_of(alloc, file)?.as_str())?;
-        lines.push_str(line_of(alloc, file)?.as_str())?;
+        list.push_str(texts.object.as_str())?;
+        lines.push_str(texts.line.as_str())?;
     }
     list.push_str("]")?;
     assert!(rt;

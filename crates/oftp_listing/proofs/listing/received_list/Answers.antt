@@ -1,9 +1,8 @@
 use Rattle.std.proofs.Common.{ap, arith, refl, ◌∙◌}
-use Rattle.serde_json.proofs.Views.{view-Array}
 use Rattle.oftp_register.specs.LookUps.{list_received}
 use Rattle.oftp_listing.specs.Objects.{received_object}
-use Rattle.oftp_listing.specs.Texts.{list_of, no_of, shown_received}
-use Rattle.oftp_listing.proofs.Listings.{listing_ends, listing_on, take_next}
+use Rattle.oftp_listing.specs.Texts.{no_of, shown_received}
+use Rattle.oftp_listing.proofs.Listings.{listing_finds, listing_on, take_next}
 use Rattle.oftp_listing.proofs.listing.received_list.Goals as goal
 
 pub loop-entry-preserved : goal.loop-entry-preserved
@@ -14,8 +13,4 @@ loop-entry-preserved g c =
     (λ r told. ap (λ file. received_object e (no_of file)) told) c.loop-entry.invariant c.in_ok-file.ensures.looks (c.in_ok-received_object.ensures ∙ ap (received_object e) c.no_of.ensures) refl)
 
 pub returns-clause-finds : goal.returns-clause-finds
-returns-clause-finds g c = record {
-  asks = c.loop-entry.invariant.asks;
-  answer = λ k s. view-Array c.loop-entry.list ∙ ap list_of (listing_ends list_received shown_received _ _ _ _ c.loop-entry.entry-index c.loop-entry.invariant (omega arith) k s);
-  counts = c.loop-entry.invariant.untold;
-}
+returns-clause-finds g c = listing_finds list_received shown_received _ _ _ _ c.loop-entry.entry-index c.loop-entry.invariant (omega arith)

@@ -12,6 +12,9 @@ returns-clause-runs g c =
     let ours = λ (db : Database). db.schema ≡ office_schema in
     let numbers = c.args.numbers.now in
     let noted = notes_made numbers in
-    let two = runs_then (HasTables 7) ours (Creates 7) (AddsNotes numbers) noted _ _ _ _ _ (λ d e first made. made.has) (λ d e f made added. (e, made, added)) c.in_ok-make_table.ensures.runs c.in_ok-add_notes.ensures.runs in
+    let two =
+    runs_then (HasTables 7) ours (Creates 7) (AddsNotes numbers) noted _ _ _ _ _ (λ d e first made. made.has) (λ d e f made added. (e, made, added)) c.in_ok-make_table.ensures.runs
+    c.in_ok-add_notes.ensures.runs in
     runs_whatever (HasTables 7) (Upgrades numbers) _ _ _ tt
-    (runs_then (HasTables 7) ours noted SetsSchema (Upgrades numbers) _ _ _ _ _ (λ d f first made. made.2.schema) (λ d f g made set. upgrades numbers d made.0 f g made.1 made.2 set) two c.in_ok-set_schema.ensures.runs)
+    (runs_then (HasTables 7) ours noted SetsSchema (Upgrades numbers) _ _ _ _ _ (λ d f first made. made.2.schema)
+    (λ d f g made set. upgrades numbers d made.0 f g made.1 made.2 set) two c.in_ok-set_schema.ensures.runs)

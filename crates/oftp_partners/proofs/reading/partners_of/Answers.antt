@@ -1,4 +1,4 @@
-use Rattle.std.proofs.Common.{arith, ◌≡◌, ◌++◌, ◌∷◌, [], ◌+◌, drop, Ok, ◌∙◌}
+use Rattle.std.proofs.Common.{arith, ◌≡◌, ◌++◌, ◌∷◌, [], ◌+◌, ℕ, drop, Ok, ◌∙◌}
 use Rattle.std.proofs.lemmas.Grind.{common_steps}
 use Rattle.toml.specs.View.{view, items_view}
 use Rattle.oftp_partners.specs.Book.{partner_of, partners_of}
@@ -16,7 +16,9 @@ loop-value-preserved c =
     let added : c.add.new.self ≡ before ++ c.in_ok-partner.partner ∷ [] = c.in_ok-add.ensures.ok in
     let judged : partner_of station before (view c.value-item.result) ≡ Ok c.in_ok-partner.partner = c.in_ok-partner.ensures.value in
     let step = partners_of_step station before c.args.values.now c.loop-value.value-index c.value-item.result c.loop-value-test.true c.value-item.is in
-    let after : partners_of station before (items_view (drop c.loop-value.value-index c.args.values.now)) ≡ partners_of station (before ++ c.in_ok-partner.partner ∷ []) (items_view (drop (c.loop-value.value-index + 1) c.args.values.now)) = rw judged at step in
+    let rest = λ (n : ℕ). items_view (drop n c.args.values.now) in
+    let at = c.loop-value.value-index in
+    let after : partners_of station before (rest at) ≡ partners_of station (before ++ c.in_ok-partner.partner ∷ []) (rest (at + 1)) = rw judged at step in
     record {
       rest = rw added (c.loop-value.invariant.rest ∙ after);
       count = grind (arith, common_steps);

@@ -15,7 +15,8 @@ tables-preserved g c =
     let up = λ (n : ℕ) (old new : Database). HasEmptyTables n new in
     let created : Runs (HasEmptyTables at) (up (at + 1)) _ _ _ =
     runs_weaker (HasTables at) (HasEmptyTables at) (Creates at) (up (at + 1)) _ _ _ (λ d empty. empty.has) (λ d e. stays_empty at d e) c.in_ok-make_table.ensures.runs in
+    let both = runs_then IsEmpty (HasEmptyTables at) (up at) (up (at + 1)) (up (at + 1)) _ _ _ tt _ (λ d e none empty. empty) (λ d e f empty made. made) c.tables.invariant.runs created in
     record {
       same_reference = c.make_table.ensures.same_reference ∙ c.tables.invariant.same_reference;
-      runs = runs_whatever IsEmpty (up (at + 1)) _ _ _ tt (runs_then IsEmpty (HasEmptyTables at) (up at) (up (at + 1)) (up (at + 1)) _ _ _ tt _ (λ d e none empty. empty) (λ d e f empty made. made) c.tables.invariant.runs created);
+      runs = runs_whatever IsEmpty (up (at + 1)) _ _ _ tt both;
     }

@@ -6,8 +6,12 @@ use Rattle.oftp_tables.proofs.query.ask.Goals as goal
 
 pub returns-in-Ok-clause-looks : goal.returns-in-Ok-clause-looks
 returns-in-Ok-clause-looks g c plain =
-    looks_of _ _ _ (queries_shown office_schema c.args.sql.now (bound c.args.params.now) _ _ plain c.query_all.ensures.survives.clean c.query_all.ensures.mode c.query_all.ensures.survives _ (λ clean. (_, c.in-Ok.ensures.ok clean))) tt
+    let e = c.query_all.ensures in
+    looks_of _ _ _ (queries_shown office_schema c.args.sql.now (bound c.args.params.now) _ _ plain e.survives.clean e.mode e.survives _ (λ clean. (_, c.in-Ok.ensures.ok clean))) tt
 
 pub returns-in-Err-clause-looks : goal.returns-in-Err-clause-looks
 returns-in-Err-clause-looks g c plain =
-    looks_of _ _ _ (queries_failed office_schema c.args.sql.now (bound c.args.params.now) _ _ plain c.query_all.ensures.survives.clean c.query_all.ensures.mode c.query_all.ensures.survives c.fault_of.result _ (λ clean. c.in-Err.ensures.err clean)) c.fault_of.ensures
+    let e = c.query_all.ensures in
+    let failed =
+    queries_failed office_schema c.args.sql.now (bound c.args.params.now) _ _ plain e.survives.clean e.mode e.survives c.fault_of.result _ (λ clean. c.in-Err.ensures.err clean) in
+    looks_of _ _ _ failed c.fault_of.ensures

@@ -1,28 +1,17 @@
-use Rattle.std.proofs.Common.{refl, sym, ap, ◌∙◌}
-use Rattle.std.specs.List.{position}
-use Rattle.oftp_register.specs.Register.{same_identity}
+use Rattle.std.proofs.Common.{refl, sym}
 use Rattle.oftp_register.specs.LookUps.{outgoing_entry}
 use Rattle.oftp_register.specs.declared.entries.OutgoingEntry.{OutgoingEntry}
 use Rattle.oftp_register.specs.declared.plain.outgoing.OutgoingFile.{OutgoingFile}
 use Rattle.oftp_register.specs.Lists.{outgoing_of}
-use Rattle.oftp_register.proofs.LookUpLemmas.{find-numbered, find-numbered-none}
-use Rattle.oftp_register.proofs.PlainStarts.{position-None}
+use Rattle.oftp_register.proofs.LookUpLemmas.{looked_at, looked_nowhere}
 use Rattle.oftp_register.proofs.plain.lists.Lists.look_out.Goals as goal
 
 pub returns-in-Some-clause-value : goal.returns-in-Some-clause-value
 returns-in-Some-clause-value c =
-    let identity = c.args.identity.now in
-    let named = λ (f : OutgoingFile). same_identity f.identity identity in
-    let first = ap (position named) (sym c.deref.ensures.value) ∙ sym c.place_out.ensures ∙ c.in-Some.is in
-    let is_named = λ (e : OutgoingEntry). same_identity e.identity identity in
-    let found = find-numbered outgoing_of outgoing_entry is_named named (λ n x. refl) 1 c.args.self.now.outgoing.items c.in-Some.place first in
-    rw found c.outgoing_at.ensures.value
+    rw (looked_at outgoing_of outgoing_entry (λ (e : OutgoingEntry). e.identity) (λ (f : OutgoingFile). f.identity) (λ n x. refl) c.args.identity.now
+    _ _ _ c.in-Some.place c.deref.ensures.value c.place_out.ensures c.in-Some.is) c.outgoing_at.ensures.value
 
 pub returns-in-None-clause-value : goal.returns-in-None-clause-value
 returns-in-None-clause-value c =
-    let identity = c.args.identity.now in
-    let named = λ (f : OutgoingFile). same_identity f.identity identity in
-    let none = ap (position named) (sym c.deref.ensures.value) ∙ sym c.place_out.ensures ∙ c.in-None.is in
-    let is_named = λ (e : OutgoingEntry). same_identity e.identity identity in
-    let files = c.args.self.now.outgoing.items in
-    sym (find-numbered-none outgoing_of outgoing_entry is_named named (λ n x. refl) 1 files (position-None named files none))
+    sym (looked_nowhere outgoing_of outgoing_entry (λ (e : OutgoingEntry). e.identity) (λ (f : OutgoingFile). f.identity) (λ n x. refl) c.args.identity.now
+    _ _ _ c.deref.ensures.value c.place_out.ensures c.in-None.is)
