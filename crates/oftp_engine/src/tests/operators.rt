@@ -406,16 +406,22 @@ fn each_format_is_submitted(rt: HostRuntime) -> Result<(), Fail> {
     submitted(alloc, &rt, &mut office, fixed, "done: submit 2\n")?;
     submitted(alloc, &rt, &mut office, variable, "done: submit 3\n")?;
     submitted(alloc, &rt, &mut office, text, "done: submit 4\n")?;
-    let rows: [&[&[u8]]; 4] = [&[b"abc"], &[b"ab", b"cd"], &[b"ab", b""], &[b"abc"]];
-    for (no, wanted) in (1u64..).zip(rows) {
+    let files: [(u64, &[&[u8]]); 4] = [
+        (1, &[b"abc"]),
+        (2, &[b"ab", b"cd"]),
+        (3, &[b"ab", b""]),
+        (4, &[b"abc"]),
+    ];
+    for (no, wanted) in files {
         let found = office.rows_of(Side::Outgoing, no, 0, 9)?;
         assert_eq!(rt; found.len(), wanted.len());
         for (row, octets) in found.as_slice().iter().zip(wanted) {
             assert!(rt; row.octets() == *octets);
         }
     }
-    let files = office.list_out()?;
-    let file = &files[2];
+    let entries = office.list_out()?;
+    assert_eq!(rt; entries.len(), 4);
+    let file = &entries[2];
     assert_eq!(rt; file.state, OutgoingState::Waiting);
     assert_eq!(rt; file.format, Format::Variable);
     assert_eq!(rt; file.longest, 2);
