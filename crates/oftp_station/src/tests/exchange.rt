@@ -115,7 +115,7 @@ impl<'b> End<'b> {
 
 /// A session that one station begins with the other, broken off after so many steps. It answers whether it came to its end.
 fn converse(alloc: Global, caller: &mut Station, called: &mut Station, steps: u32) -> Result<bool, Fail> {
-    let Some(partner) = caller.book.partner(called.book.station().code.octets()) else {
+    let Some(partner) = caller.book.partner(called.book.station().code.field().octets()) else {
         return Err("the two aren't partners")?;
     };
     let mut near = End::new(alloc, Session::initiator(alloc, &caller.book, partner));
