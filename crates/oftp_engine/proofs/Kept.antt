@@ -24,7 +24,8 @@ use Rattle.oftp_engine.specs.TwoStations.{Has, is_handed, IsAnsweredBy}
 use Rattle.oftp_vfile.specs.VirtualFile.{BeginsWith}
 use Rattle.oftp_engine.specs.Standing.{Fits, AllFit}
 use Rattle.oftp_engine.specs.Grounds.{Grounds}
-use Rattle.oftp_register.proofs.ByIdentityLemmas.{changed_named, filed_ok, named_all, named_is, named_map, named_push, settled_name, started_named, submitted_ok}
+use Rattle.oftp_register.proofs.AdditionLemmas.{filed_ok, submitted_ok}
+use Rattle.oftp_register.proofs.ByIdentityLemmas.{changed_named, named_all, named_is, named_map, named_push, settled_name, started_named}
 use Rattle.oftp_engine.proofs.Fitting.{marked_fits, closing_fits, refused_fits, reopened_fits, handed_fits, opened_fits, closed_fits, issued_fits, sent_fits, started_fits, settle_state}
 
 -- the two sides

@@ -18,7 +18,8 @@ use Rattle.oftp_register.proofs.IncomingLemmas.{kept_same, closed_same, given_up
 use Rattle.oftp_register.proofs.OutgoingLemmas.{marked_same, closing_same, handed_same, refused_same, reopened_same, allowed_ok}
 use Rattle.oftp_register.specs.ByIdentity.{out_at, in_at, incoming_name, outgoing_name, WasStarted, or_else}
 use Rattle.oftp_engine.specs.TwoStations.{IsAnsweredBy}
-use Rattle.oftp_register.proofs.ByIdentityLemmas.{changed_named, started_named, named_push, named_map, submitted_ok, filed_ok, settled_name}
+use Rattle.oftp_register.proofs.AdditionLemmas.{filed_ok, submitted_ok}
+use Rattle.oftp_register.proofs.ByIdentityLemmas.{changed_named, started_named, named_push, named_map, settled_name}
 use Rattle.oftp_engine.proofs.Fitting.{IsSameContent, issued_first, sent_answers}
 
 -- what an incoming file keeps

@@ -25,7 +25,8 @@ use Rattle.oftp_register.specs.Changes.{apply, is_outgoing, new_outgoing}
 use Rattle.oftp_register.specs.LookUps.{look_out, numbered, outgoing_entry}
 use Rattle.oftp_register.specs.Offices.{Commits, LooksUp, Only, View, WithOrWithout, next_count}
 use Rattle.oftp_register.specs.Soundness.{IsFile, IsFit}
-use Rattle.oftp_register.proofs.ByIdentityLemmas.{same_self, submitted_ok}
+use Rattle.oftp_register.proofs.AdditionLemmas.{submitted_ok}
+use Rattle.oftp_register.proofs.ByIdentityLemmas.{same_self}
 use Rattle.oftp_session.specs.Calls.{Makes}
 use Rattle.oftp_engine.specs.declared.operating.Outcome.{Outcome}
 use Rattle.oftp_engine.specs.declared.operating.Outcome.TheVariants as outcome

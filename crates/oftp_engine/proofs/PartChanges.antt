@@ -16,7 +16,8 @@ use Rattle.oftp_register.specs.Soundness.{IsSound}
 use Rattle.oftp_register.specs.ByIdentity.{WasStarted, in_at, incoming_name}
 use Rattle.oftp_register.proofs.NumberLemmas.{mapped_ok}
 use Rattle.oftp_register.proofs.IncomingLemmas.{closed_same, given_up_same, if_open_ok, issued_on_ok, issued_same, kept_same, sent_of_ok, sent_same}
-use Rattle.oftp_register.proofs.ByIdentityLemmas.{changed_named, filed_ok, started_named, submitted_ok}
+use Rattle.oftp_register.proofs.AdditionLemmas.{filed_ok, submitted_ok}
+use Rattle.oftp_register.proofs.ByIdentityLemmas.{changed_named, started_named}
 use Rattle.oftp_engine.specs.Parts.{File, IsSoFar, IsUnbroken}
 use Rattle.oftp_engine.proofs.PartRows.{cut_begins}
 
