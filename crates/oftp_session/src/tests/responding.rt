@@ -1,7 +1,7 @@
 //! Responses that an initiator sends.
 
 use super::talk::Line::{Comes, Says};
-use super::talk::{CHANGE, OFFER, READY_AGAIN, file, play, submit_octets, words};
+use super::talk::{CHANGE, Line, OFFER, READY_AGAIN, file, play, submit_octets, words};
 use super::*;
 use oftp_register::{Change, Dispatch, OfficeFault, ResponseKind};
 use oftp_vfile::{Format, Rows};
@@ -55,6 +55,18 @@ fn is_response(office: &mut PlainOffice, no: u64, dispatch: Dispatch) -> bool {
     }
 }
 
+/// The first response is sent, and the second goes out.
+const FIRST_SENT: &[Line] = &[Says(EERP), Comes(READY_AGAIN), Says(NERP)];
+
+/// The second response is sent; responses go before files, and then nothing is left of them.
+const SECOND_SENT: &[Line] = &[
+    Says(NERP),
+    Comes(READY_AGAIN),
+    Says(OFFER),
+    Comes(b"302Y000"),
+    Says(CHANGE),
+];
+
 #[test]
 fn response_goes_out(rt: HostRuntime) -> Result<(), Fail> {
     let book = read(rt.alloc(), BOOK)?;
@@ -77,19 +89,11 @@ fn response_goes_out(rt: HostRuntime) -> Result<(), Fail> {
     // Until RTR comes the response is due, and no other goes out.
     assert_eq!(rt; play(rt.alloc(), &mut office, &book, &[Says(EERP)])?, None);
     assert!(rt; is_response(&mut office, 1, Dispatch::Due));
-    let lines = [Says(EERP), Comes(READY_AGAIN), Says(NERP)];
-    assert_eq!(rt; play(rt.alloc(), &mut office, &book, &lines)?, None);
+    assert_eq!(rt; play(rt.alloc(), &mut office, &book, FIRST_SENT)?, None);
     assert!(rt; is_response(&mut office, 1, Dispatch::Sent));
     assert!(rt; is_response(&mut office, 2, Dispatch::Due));
     // Responses go before files, and then nothing is left of them.
-    let lines = [
-        Says(NERP),
-        Comes(READY_AGAIN),
-        Says(OFFER),
-        Comes(b"302Y000"),
-        Says(CHANGE),
-    ];
-    assert_eq!(rt; play(rt.alloc(), &mut office, &book, &lines)?, None);
+    assert_eq!(rt; play(rt.alloc(), &mut office, &book, SECOND_SENT)?, None);
     assert!(rt; is_response(&mut office, 2, Dispatch::Sent));
     Ok(())
 }

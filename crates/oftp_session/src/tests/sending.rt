@@ -42,6 +42,9 @@ fn is_file<O: Office>(office: &mut O, state: OutgoingState, mark: u64) -> bool {
     }
 }
 
+/// The end of the same file is answered, and nothing is left.
+const ANSWERED: &[Line] = &[Comes(HAS_IT), Says(CHANGE), Comes(END)];
+
 #[test]
 fn three_octets_out(rt: HostRuntime) -> Result<(), Fail> {
     let book = read(rt.alloc(), BOOK)?;
@@ -55,36 +58,40 @@ fn three_octets_out(rt: HostRuntime) -> Result<(), Fail> {
     assert_eq!(rt; unmet(rt.alloc(), &mut session, &mut office, SENT)?, None);
     // That EFID is out hands nothing over.
     assert!(rt; is_file(&mut office, OutgoingState::Closing, 0));
-    let lines = [Comes(HAS_IT), Says(CHANGE), Comes(END)];
-    assert_eq!(rt; unmet(rt.alloc(), &mut session, &mut office, &lines)?, None);
+    assert_eq!(rt;
+        unmet(rt.alloc(), &mut session, &mut office, ANSWERED)?,
+        None
+    );
     assert!(rt; is_file(&mut office, OutgoingState::Handed, 0));
     assert_eq!(rt; session.ended(), Some(Ending::Partner(Count::new(0))));
     Ok(())
 }
 
+/// What is said where the end of a file was sent and its answer lost, and what then is left.
+const AFTER_A_LOST_ANSWER: [(&[Line], OutgoingState); 3] = [
+    (
+        &[Says(OFFER), Comes(b"313N000"), Says(CHANGE)],
+        OutgoingState::Handed,
+    ),
+    (&[Says(OFFER), Comes(TAKEN)], OutgoingState::Waiting),
+    (
+        &[
+            Says(OFFER),
+            Comes(TAKEN),
+            Sends(0, &[(0x83, 3)]),
+            Says(END_OF_3),
+            Comes(HAS_IT),
+            Says(CHANGE),
+        ],
+        OutgoingState::Handed,
+    ),
+];
+
 #[test]
 fn end_answer_lost(rt: HostRuntime) -> Result<(), Fail> {
     let book = read(rt.alloc(), BOOK)?;
     // The next session offers the file again, whose end was sent. What the partner answers, and what then is left.
-    let cases: [(&[Line], OutgoingState); 3] = [
-        (
-            &[Says(OFFER), Comes(b"313N000"), Says(CHANGE)],
-            OutgoingState::Handed,
-        ),
-        (&[Says(OFFER), Comes(TAKEN)], OutgoingState::Waiting),
-        (
-            &[
-                Says(OFFER),
-                Comes(TAKEN),
-                Sends(0, &[(0x83, 3)]),
-                Says(END_OF_3),
-                Comes(HAS_IT),
-                Says(CHANGE),
-            ],
-            OutgoingState::Handed,
-        ),
-    ];
-    for (lines, state) in cases {
+    for (lines, state) in AFTER_A_LOST_ANSWER {
         let mut office = PlainOffice::new(rt.alloc(), LIMITS);
         submit_octets(rt.alloc(), &mut office, 3)?;
         assert_eq!(rt; play(rt.alloc(), &mut office, &book, SENT)?, None);
@@ -93,6 +100,25 @@ fn end_answer_lost(rt: HostRuntime) -> Result<(), Fail> {
     }
     Ok(())
 }
+
+/// A session with a credit of one.
+const CREDIT_OF_ONE: &[Line] = &[
+    Answers(
+        READY,
+        b"X5O0013SUPPLIER            SUPPW   00128BNYN001N            \r",
+    ),
+    Comes(PARTNER),
+    Says(OFFER),
+    Comes(TAKEN),
+    Sends(0, FULL),
+    Comes(CREDIT),
+    Sends(125, &[(0x3f, 63), (0xbe, 62)]),
+    Comes(CREDIT),
+    Says(END_OF_250),
+    Comes(HAS_IT),
+    Says(CHANGE),
+    Comes(END),
+];
 
 #[test]
 fn credit_of_one(rt: HostRuntime) -> Result<(), Fail> {
@@ -103,27 +129,16 @@ fn credit_of_one(rt: HostRuntime) -> Result<(), Fail> {
     let mut office = PlainOffice::new(rt.alloc(), LIMITS);
     submit_octets(rt.alloc(), &mut office, 250)?;
     let mut session = calling(rt.alloc(), &book)?;
-    let lines = [
-        Answers(
-            READY,
-            b"X5O0013SUPPLIER            SUPPW   00128BNYN001N            \r",
-        ),
-        Comes(PARTNER),
-        Says(OFFER),
-        Comes(TAKEN),
-        Sends(0, FULL),
-        Comes(CREDIT),
-        Sends(125, &[(0x3f, 63), (0xbe, 62)]),
-        Comes(CREDIT),
-        Says(END_OF_250),
-        Comes(HAS_IT),
-        Says(CHANGE),
-        Comes(END),
-    ];
-    assert_eq!(rt; unmet(rt.alloc(), &mut session, &mut office, &lines)?, None);
+    assert_eq!(rt;
+        unmet(rt.alloc(), &mut session, &mut office, CREDIT_OF_ONE)?,
+        None
+    );
     assert!(rt; is_file(&mut office, OutgoingState::Handed, 0));
     Ok(())
 }
+
+/// The file is offered and taken.
+const OFFERED: &[Line] = &[Says(OFFER), Comes(TAKEN)];
 
 /// CDT that isn't awaited ends the session.
 #[test]
@@ -136,8 +151,10 @@ fn credit_not_awaited(rt: HostRuntime) -> Result<(), Fail> {
         unmet(rt.alloc(), &mut session, &mut office, OPENING)?,
         None
     );
-    let lines = [Says(OFFER), Comes(TAKEN)];
-    assert_eq!(rt; unmet(rt.alloc(), &mut session, &mut office, &lines)?, None);
+    assert_eq!(rt;
+        unmet(rt.alloc(), &mut session, &mut office, OFFERED)?,
+        None
+    );
     assert!(rt;
         sends(
             take(&mut session, &mut office, CREDIT),
@@ -175,49 +192,51 @@ fn break_off(alloc: Global, office: &mut PlainOffice, book: &Book) -> Result<boo
     Ok(true)
 }
 
+/// What is said where a file is offered from row 2 on, and what then is left.
+const AFTER_A_BREAK: [(&[Line], OutgoingState, u64); 3] = [
+    (
+        &[
+            Says(LONG_OFFER_FROM_2),
+            Comes(b"200000000000000002"),
+            Sends(2048, FULL),
+            Sends(2173, FULL),
+            Comes(CREDIT),
+            Sends(2298, FULL),
+            Sends(2423, &[(0x3f, 63), (0x8e, 14)]),
+            Comes(CREDIT),
+            Says(END_OF_2500),
+            Comes(HAS_IT),
+        ],
+        OutgoingState::Handed,
+        2,
+    ),
+    // The partner has less than was known of it: the mark falls at the first credit.
+    (
+        &[
+            Says(LONG_OFFER_FROM_2),
+            Comes(b"200000000000000001"),
+            Sends(1024, FULL),
+            Sends(1149, FULL),
+            Comes(CREDIT),
+        ],
+        OutgoingState::Waiting,
+        1,
+    ),
+    (
+        &[
+            Says(LONG_OFFER_FROM_2),
+            Answers(b"200000000000000003", b"F02000\r"),
+        ],
+        OutgoingState::Waiting,
+        2,
+    ),
+];
+
 #[test]
 fn restart_offered(rt: HostRuntime) -> Result<(), Fail> {
     let book = read(rt.alloc(), BOOK)?;
     // What the partner answers to the restart position, and what then is left.
-    let cases: [(&[Line], OutgoingState, u64); 3] = [
-        (
-            &[
-                Says(LONG_OFFER_FROM_2),
-                Comes(b"200000000000000002"),
-                Sends(2048, FULL),
-                Sends(2173, FULL),
-                Comes(CREDIT),
-                Sends(2298, FULL),
-                Sends(2423, &[(0x3f, 63), (0x8e, 14)]),
-                Comes(CREDIT),
-                Says(END_OF_2500),
-                Comes(HAS_IT),
-            ],
-            OutgoingState::Handed,
-            2,
-        ),
-        // The partner has less than was known of it: the mark falls at the first credit.
-        (
-            &[
-                Says(LONG_OFFER_FROM_2),
-                Comes(b"200000000000000001"),
-                Sends(1024, FULL),
-                Sends(1149, FULL),
-                Comes(CREDIT),
-            ],
-            OutgoingState::Waiting,
-            1,
-        ),
-        (
-            &[
-                Says(LONG_OFFER_FROM_2),
-                Answers(b"200000000000000003", b"F02000\r"),
-            ],
-            OutgoingState::Waiting,
-            2,
-        ),
-    ];
-    for (lines, state, mark) in cases {
+    for (lines, state, mark) in AFTER_A_BREAK {
         let mut office = PlainOffice::new(rt.alloc(), LIMITS);
         assert!(rt; break_off(rt.alloc(), &mut office, &book)?);
         assert!(rt; is_file(&mut office, OutgoingState::Waiting, 2));
@@ -227,6 +246,13 @@ fn restart_offered(rt: HostRuntime) -> Result<(), Fail> {
     Ok(())
 }
 
+/// A session in which restart isn't agreed.
+const WITHOUT_RESTART: &[Line] = &[
+    Answers(READY, CALL),
+    Comes(b"X5O0177CARMAKER            CARPW   00128BNNN002N            \r"),
+    Says(LONG_OFFER),
+];
+
 /// A partner that says no to restart is offered the file from its first row on.
 #[test]
 fn restart_not_agreed(rt: HostRuntime) -> Result<(), Fail> {
@@ -234,62 +260,68 @@ fn restart_not_agreed(rt: HostRuntime) -> Result<(), Fail> {
     let mut office = PlainOffice::new(rt.alloc(), LIMITS);
     assert!(rt; break_off(rt.alloc(), &mut office, &book)?);
     let mut session = calling(rt.alloc(), &book)?;
-    let lines = [
-        Answers(READY, CALL),
-        Comes(b"X5O0177CARMAKER            CARPW   00128BNNN002N            \r"),
-        Says(LONG_OFFER),
-    ];
-    assert_eq!(rt; unmet(rt.alloc(), &mut session, &mut office, &lines)?, None);
+    assert_eq!(rt;
+        unmet(rt.alloc(), &mut session, &mut office, WITHOUT_RESTART)?,
+        None
+    );
     Ok(())
+}
+
+/// SFNA, what it leaves, and what the next session says. A file that waits and is a duplicate to the partner isn't the partner's.
+const REFUSALS: &[(&[u8], Option<u64>, &[Line])] = &[
+    (b"302N000", Some(2), &[Says(CHANGE)]),
+    (b"302Y000", None, &[Says(OFFER)]),
+    (b"313N000", Some(13), &[Says(CHANGE)]),
+];
+
+/// Whether the first outgoing file was refused for this reason, or waits where there is none.
+fn is_refused(office: &mut PlainOffice, wanted: Option<u64>) -> bool {
+    match office.out_by_no(1) {
+        Ok(Some(entry)) => match entry.state {
+            OutgoingState::Refused(reason) => wanted == Some(reason.get()),
+            OutgoingState::Waiting => wanted.is_none(),
+            _ => false,
+        },
+        Ok(None) | Err(_) => false,
+    }
 }
 
 #[test]
 fn refused_with_or_without_retry(rt: HostRuntime) -> Result<(), Fail> {
     let book = read(rt.alloc(), BOOK)?;
     // The file is tried once in a session. A file that waits and is a duplicate to the partner isn't the partner's.
-    let cases: [(&'static [u8], OutgoingState, &[Line]); 3] = [
-        (
-            b"302N000",
-            OutgoingState::Refused(Count::new(2)),
-            &[Says(CHANGE)],
-        ),
-        (b"302Y000", OutgoingState::Waiting, &[Says(OFFER)]),
-        (
-            b"313N000",
-            OutgoingState::Refused(Count::new(13)),
-            &[Says(CHANGE)],
-        ),
-    ];
-    for (answer, state, next) in cases {
+    for (answer, reason, next) in REFUSALS {
         let mut office = PlainOffice::new(rt.alloc(), LIMITS);
         submit_octets(rt.alloc(), &mut office, 3)?;
-        let lines = [Says(OFFER), Comes(answer), Says(CHANGE), Comes(END)];
+        let lines = [Says(OFFER), Comes(*answer), Says(CHANGE), Comes(END)];
         assert_eq!(rt; play(rt.alloc(), &mut office, &book, &lines)?, None);
-        assert!(rt; is_file(&mut office, state, 0));
+        assert!(rt; is_refused(&mut office, *reason));
         assert_eq!(rt; play(rt.alloc(), &mut office, &book, next)?, None);
     }
     Ok(())
 }
+
+/// The partner finds other counts at the end of a file that was taken up from row 2 on.
+const BAD_COUNT: &[Line] = &[
+    Says(LONG_OFFER_FROM_2),
+    Comes(b"200000000000000002"),
+    Sends(2048, FULL),
+    Sends(2173, FULL),
+    Comes(CREDIT),
+    Sends(2298, FULL),
+    Sends(2423, &[(0x3f, 63), (0x8e, 14)]),
+    Comes(CREDIT),
+    Says(END_OF_2500),
+    Comes(b"511000"),
+    Says(CHANGE),
+];
 
 #[test]
 fn bad_count_at_the_partner(rt: HostRuntime) -> Result<(), Fail> {
     let book = read(rt.alloc(), BOOK)?;
     let mut office = PlainOffice::new(rt.alloc(), LIMITS);
     assert!(rt; break_off(rt.alloc(), &mut office, &book)?);
-    let lines = [
-        Says(LONG_OFFER_FROM_2),
-        Comes(b"200000000000000002"),
-        Sends(2048, FULL),
-        Sends(2173, FULL),
-        Comes(CREDIT),
-        Sends(2298, FULL),
-        Sends(2423, &[(0x3f, 63), (0x8e, 14)]),
-        Comes(CREDIT),
-        Says(END_OF_2500),
-        Comes(b"511000"),
-        Says(CHANGE),
-    ];
-    assert_eq!(rt; play(rt.alloc(), &mut office, &book, &lines)?, None);
+    assert_eq!(rt; play(rt.alloc(), &mut office, &book, BAD_COUNT)?, None);
     assert!(rt; is_file(&mut office, OutgoingState::Waiting, 0));
     assert_eq!(rt;
         play(rt.alloc(), &mut office, &book, &[Says(LONG_OFFER)])?,
@@ -297,6 +329,9 @@ fn bad_count_at_the_partner(rt: HostRuntime) -> Result<(), Fail> {
     );
     Ok(())
 }
+
+/// The partner asks to speak, and has nothing to say.
+const PARTNER_SPEAKS: &[Line] = &[Comes(b"4Y"), Says(CHANGE), Comes(CHANGE)];
 
 /// EFPA with the wish to speak is answered by CD at once, although a file is next.
 #[test]
@@ -311,8 +346,10 @@ fn partner_asks_to_speak(rt: HostRuntime) -> Result<(), Fail> {
         None
     );
     assert_eq!(rt; unmet(rt.alloc(), &mut session, &mut office, SENT)?, None);
-    let lines = [Comes(b"4Y"), Says(CHANGE), Comes(CHANGE)];
-    assert_eq!(rt; unmet(rt.alloc(), &mut session, &mut office, &lines)?, None);
+    assert_eq!(rt;
+        unmet(rt.alloc(), &mut session, &mut office, PARTNER_SPEAKS)?,
+        None
+    );
     assert!(rt; is_file(&mut office, OutgoingState::Handed, 0));
     Ok(())
 }
@@ -328,6 +365,13 @@ fn submit_other(office: &mut PlainOffice, alloc: Global) -> Result<(), OfficeFau
     })
 }
 
+/// A session with a partner that only sends.
+const PARTNER_ONLY_SENDS: &[Line] = &[
+    Answers(READY, CALL),
+    Comes(b"X5O0177CARMAKER            CARPW   00128SNYN002N            \r"),
+    Says(CHANGE),
+];
+
 /// A partner that only sends is offered no file.
 #[test]
 fn files_kept_where_the_partner_only_sends(rt: HostRuntime) -> Result<(), Fail> {
@@ -335,12 +379,10 @@ fn files_kept_where_the_partner_only_sends(rt: HostRuntime) -> Result<(), Fail> 
     let mut office = PlainOffice::new(rt.alloc(), LIMITS);
     submit_octets(rt.alloc(), &mut office, 3)?;
     let mut session = calling(rt.alloc(), &book)?;
-    let lines = [
-        Answers(READY, CALL),
-        Comes(b"X5O0177CARMAKER            CARPW   00128SNYN002N            \r"),
-        Says(CHANGE),
-    ];
-    assert_eq!(rt; unmet(rt.alloc(), &mut session, &mut office, &lines)?, None);
+    assert_eq!(rt;
+        unmet(rt.alloc(), &mut session, &mut office, PARTNER_ONLY_SENDS)?,
+        None
+    );
     assert!(rt; is_file(&mut office, OutgoingState::Waiting, 0));
     Ok(())
 }
@@ -352,6 +394,20 @@ const EMPTY_RECORDS: &[u8] =
 const LAST_EMPTY_RECORDS: &[u8] =
     b"D\x80\x80\x80\x80\x80\x80\x80\x80\x80\x80\x80\x80\x80\x80\x80\x80\x80\x80\x80\x80\x80\x80\x80\x80\x80\x80\x80\x80\x80\x80\x80\x80\x80\x80\x80\x80\x80\x80\x80\x80\x80\x80\x80\x80\x80\x80";
 
+/// A file of 300 empty records.
+const EMPTY_RECORDS_OUT: &[Line] = &[
+    Says(
+        b"HASN.0001                     202401311015300001        O0177CARMAKER            O0013SUPPLIER            V000010000000000000000000000000000000000000000000000000N000",
+    ),
+    Comes(TAKEN),
+    Says(EMPTY_RECORDS),
+    Says(EMPTY_RECORDS),
+    Comes(CREDIT),
+    Says(LAST_EMPTY_RECORDS),
+    Says(b"T0000000000000030000000000000000000"),
+    Comes(HAS_IT),
+];
+
 /// The speaker asks for 64 rows and, as there is room for more, for twice as many, but never for more than a DATA can carry.
 #[test]
 fn rows_asked_for(rt: HostRuntime) -> Result<(), Fail> {
@@ -362,42 +418,37 @@ fn rows_asked_for(rt: HostRuntime) -> Result<(), Fail> {
         loses: false,
     };
     submit_records(rt.alloc(), &mut office, 300)?;
-    let lines = [
-        Says(
-            b"HASN.0001                     202401311015300001        O0177CARMAKER            O0013SUPPLIER            V000010000000000000000000000000000000000000000000000000N000",
-        ),
-        Comes(TAKEN),
-        Says(EMPTY_RECORDS),
-        Says(EMPTY_RECORDS),
-        Comes(CREDIT),
-        Says(LAST_EMPTY_RECORDS),
-        Says(b"T0000000000000030000000000000000000"),
-        Comes(HAS_IT),
-    ];
-    assert_eq!(rt; play(rt.alloc(), &mut office, &book, &lines)?, None);
+    assert_eq!(rt;
+        play(rt.alloc(), &mut office, &book, EMPTY_RECORDS_OUT)?,
+        None
+    );
     assert!(rt; is_file(&mut office, OutgoingState::Handed, 254));
     assert_eq!(rt; office.most, 127);
     Ok(())
 }
+
+/// A file is taken from above the offer.
+const ABOVE: &[Line] = &[Says(OFFER), Answers(b"200000000000000001", b"F02000\r")];
 
 #[test]
 fn answer_above_the_offer(rt: HostRuntime) -> Result<(), Fail> {
     let book = read(rt.alloc(), BOOK)?;
     let mut office = PlainOffice::new(rt.alloc(), LIMITS);
     submit_octets(rt.alloc(), &mut office, 3)?;
-    let lines = [Says(OFFER), Answers(b"200000000000000001", b"F02000\r")];
-    assert_eq!(rt; play(rt.alloc(), &mut office, &book, &lines)?, None);
+    assert_eq!(rt; play(rt.alloc(), &mut office, &book, ABOVE)?, None);
     assert!(rt; is_file(&mut office, OutgoingState::Waiting, 0));
     Ok(())
 }
+
+/// A text isn't UTF-8.
+const NOT_UTF8: &[Line] = &[Says(OFFER), Answers(b"399N001\xff", b"F06000\r")];
 
 #[test]
 fn text_not_utf8(rt: HostRuntime) -> Result<(), Fail> {
     let book = read(rt.alloc(), BOOK)?;
     let mut office = PlainOffice::new(rt.alloc(), LIMITS);
     submit_octets(rt.alloc(), &mut office, 3)?;
-    let lines = [Says(OFFER), Answers(b"399N001\xff", b"F06000\r")];
-    assert_eq!(rt; play(rt.alloc(), &mut office, &book, &lines)?, None);
+    assert_eq!(rt; play(rt.alloc(), &mut office, &book, NOT_UTF8)?, None);
     assert!(rt; is_file(&mut office, OutgoingState::Waiting, 0));
     Ok(())
 }
