@@ -57,7 +57,7 @@ fits_new file None false there h fit = fit
 
 submitted_fits : (r s there : Register) (file : Outgoing) → is_handed file.state ≡ false → submitted r file ≡ Ok s → BothFit r there → BothFit s there
 submitted_fits r s there file new h fit =
-    subst (λ (z : Register). BothFit z there) (submitted_ok r s file h)
+    subst (λ (z : Register). BothFit z there) (submitted_ok r s file h).1
     (λ i. subst (λ o. Fits o (in_at there i)) (sym (named_push outgoing_name i r.outgoing file)) (fits_new file (out_at r i) (same_identity file.identity i) (in_at there i) new (fit.0 i)), fit.1)
 
 -- a response is filed
@@ -99,7 +99,7 @@ filed_fits r s there response sound g h fit =
     let kind = response.kind in
     let identity = response.identity in
     let whole = has_whole kind (in_at there identity) (λ x e. named_all incoming_name IsSoundIncoming identity there.incoming x sound.incoming e) g in
-    subst (λ (z : Register). BothFit z there) (filed_ok r s response h) (
+    subst (λ (z : Register). BothFit z there) (filed_ok r s response h).1 (
       λ i. subst (λ o. Fits o (in_at there i)) (sym (named_map outgoing_name (settled kind identity) (settled_name kind identity) i r.outgoing))
           (settle_found kind identity i (out_at r i) (in_at there i)
           (λ x e is. subst (λ j. Has (in_at there j) (λ e. (e.state ≡ Whole) × IsAnsweredBy kind e)) (sym is ∙ named_is outgoing_name i r.outgoing x e) whole)

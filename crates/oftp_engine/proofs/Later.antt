@@ -140,7 +140,7 @@ pub apply_later : (r : Register) (k : Change) (s : Register) → IsSound r → a
 unfolding apply
 apply_later r (change.Submit identity format longest description rows) s sound h =
     let file : Outgoing = record { identity = identity; format = format; longest = longest; description = description; rows = rows; mark = 0; state = Waiting } in
-    subst (IsLater r) (submitted_ok r s file h) (record {
+    subst (IsLater r) (submitted_ok r s file h).1 (record {
       outgoing = λ i. subst (Stays IsSameContent (out_at r i)) (sym (named_push outgoing_name i r.outgoing file)) (pushed (out_at r i) file (same_identity file.identity i));
       incoming = λ i. stays_in (in_at r i);
     })
@@ -151,7 +151,7 @@ apply_later r (change.Close n rows) s sound h = on_incoming_later (closed rows) 
 apply_later r (change.GiveUp n) s sound h = on_incoming_later given_up given_up_same n r s sound h (λ x y d. open_later x [] Open y d)
 apply_later r (change.File kind identity reason creator text) s sound h =
     let response : Received = record { kind = kind; identity = identity; reason = reason; creator = creator; text = text } in
-    subst (IsLater r) (filed_ok r s response h) (record {
+    subst (IsLater r) (filed_ok r s response h).1 (record {
       outgoing = λ i. subst (Stays IsSameContent (out_at r i)) (sym (named_map outgoing_name (settled kind identity) (settled_name kind identity) i r.outgoing))
           (settled_stays kind identity (out_at r i));
       incoming = λ i. stays_in (in_at r i);

@@ -107,7 +107,7 @@ module _ (identity : Identity) (s : Submission) (rows : List (List ℕ)) where
   found_new r after made =
       elim (cases_Bool (is_outgoing r identity)) [
         | inl there ↦ (let never : Err cause.Duplicate ≡ Ok after = sym (cond-true (is_outgoing r identity) (Err cause.Duplicate) _ there) ∙ made in absurd (cc))
-        | inr new ↦ subst (λ (x : Register). look_out x identity ≡ Some (outgoing_entry (1 + length r.outgoing) file)) (submitted_ok r after file made)
+        | inr new ↦ subst (λ (x : Register). look_out x identity ≡ Some (outgoing_entry (1 + length r.outgoing) file)) (submitted_ok r after file made).1
             (finds_new identity 1 r.outgoing file new (same_self identity))
       ]
 

@@ -115,7 +115,7 @@ module _ (file : File) where
     pub part_change : (k : Change) → IsSound r → PartGrounds file identity r k → apply r k ≡ Ok s → IsSoFar file (in_at s identity)
     unfolding apply
     part_change (change.Submit i format longest description rows) sound g h =
-        subst (λ (z : Register). IsSoFar file (in_at z identity)) (submitted_ok r s (new_outgoing i format longest description rows) h) was
+        subst (λ (z : Register). IsSoFar file (in_at z identity)) (submitted_ok r s (new_outgoing i format longest description rows) h).1 was
     part_change (change.Start i format longest description count) sound g h = at_start i format longest description count h
     part_change (change.Keep n rows) sound g h =
         at_incoming (kept rows) (kept_same rows) n sound (λ x y e is d so. kept_entry rows x y d (g x e is)) h
@@ -124,7 +124,7 @@ module _ (file : File) where
     part_change (change.GiveUp n) sound g h = at_incoming given_up given_up_same n sound (λ x y e is d so. given_entry x y d) h
     part_change (change.File kind i reason creator text) sound g h =
         let response : Received = record { kind = kind; identity = i; reason = reason; creator = creator; text = text } in
-        subst (λ (z : Register). IsSoFar file (in_at z identity)) (filed_ok r s response h) was
+        subst (λ (z : Register). IsSoFar file (in_at z identity)) (filed_ok r s response h).1 was
     part_change (change.Issue n kind reason text) sound g h =
         let response : Issued = record { kind = kind; reason = reason; text = text; dispatch = Due } in
         at_incoming (issued response) (issued_same response) n sound (λ x y e is d so. issued_entry response x y d so) h
