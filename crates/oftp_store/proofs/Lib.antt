@@ -17,3 +17,4 @@ mod SlotLemmas
 mod SubmissionLemmas
 mod BeginningLemmas
 mod FilingLemmas
+mod UnknownLemmas

@@ -2,7 +2,9 @@
 
 pub(crate) mod arrival;
 pub(crate) mod beginning;
+pub(crate) mod commit;
 pub(crate) mod edit;
+pub(crate) mod filing;
 pub(crate) mod response;
 mod statements;
 pub(crate) mod step;
