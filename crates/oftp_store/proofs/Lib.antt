@@ -13,3 +13,8 @@ mod RowLookLemmas
 mod CommitLemmas
 mod ChangeLemmas
 mod PlaceLemmas
+mod ListLemmas
+mod ReceivedLemmas
+mod LoopLemmas
+mod PageLemmas
+mod OfficeLemmas

@@ -5,3 +5,6 @@ pub mod Reads
 pub mod Commits
 pub mod Steps
 pub mod Places
+pub mod Tells
+pub mod Views
+pub mod Opens

@@ -1,6 +1,7 @@
 //! The changes of the register in the database.
 
 pub(crate) mod arrival;
+pub(crate) mod commit;
 pub(crate) mod edit;
 pub(crate) mod response;
 mod statements;
