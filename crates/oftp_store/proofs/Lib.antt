@@ -13,3 +13,8 @@ mod RowLookLemmas
 mod CommitLemmas
 mod ChangeLemmas
 mod PlaceLemmas
+mod SlotLemmas
+mod SubmissionLemmas
+mod BeginningLemmas
+mod FilingLemmas
+mod UnknownLemmas

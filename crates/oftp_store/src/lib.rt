@@ -3,3 +3,5 @@
 
 mod changes;
 mod looks;
+#[cfg(test)]
+mod tests;

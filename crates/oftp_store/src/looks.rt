@@ -1,6 +1,7 @@
 //! The look-ups in the database.
 
 pub(crate) mod entry;
+pub(crate) mod filing;
 pub(crate) mod find;
 pub(crate) mod header;
 pub(crate) mod identity;
@@ -10,3 +11,4 @@ mod number;
 pub(crate) mod place;
 pub(crate) mod response;
 pub(crate) mod rows;
+pub(crate) mod slot;
