@@ -110,69 +110,69 @@ no_refusal T wanted Store P h = tt
 no_refusal T wanted Memory P h = tt
 no_refusal T wanted (Refused cause) P h = absurd h
 
-pub commits_failed : {A T : Type 0} (change : Change) (old new : State) (fault : OfficeFault) → Looks {T = A} old new (Err fault) → CommitsOn {T = T} change old new (Err fault)
-commits_failed {T = T} change old new fault looks = record {
+pub commits_failed : {A T : Type 0} (limits : Limits) (change : Change) (old new : State) (fault : OfficeFault) → Looks {T = A} old new (Err fault) → CommitsOn {T = T} limits change old new (Err fault)
+commits_failed {T = T} limits change old new fault looks = record {
   clean = looks.clean;
   mode = looks.mode;
-  done = λ k limits stands fit. tt;
-  refused = λ k limits stands. no_refusal T _ fault _ looks.unrefused;
-  same = λ k limits stands h. ap (register_at limits) (spared_same limits old new stands (looks.failed k stands.holds.schema) h);
-  left = λ k limits stands fit db h. inl (looks.left k stands.holds.schema db h);
+  done = λ k stands fit. tt;
+  refused = λ k stands. no_refusal T _ fault _ looks.unrefused;
+  same = λ k stands h. ap (register_at limits) (spared_same limits old new stands (looks.failed k stands.holds.schema) h);
+  left = λ k stands fit db h. inl (looks.left k stands.holds.schema db h);
 }
 
-pub commits_refused : {A T : Type 0} (change : Change) (old new : State) (x : A) (cause : Cause) → Looks old new (Ok x)
-    → (HasCleanDisk new → (limits : Limits) → Stands limits old → apply (register_in limits old.now.trees) change ≡ Err cause) → CommitsOn {T = T} change old new (Err (Refused cause))
-commits_refused change old new x cause looks refuses = record {
+pub commits_refused : {A T : Type 0} (limits : Limits) (change : Change) (old new : State) (x : A) (cause : Cause) → Looks old new (Ok x)
+    → (HasCleanDisk new → Stands limits old → apply (register_in limits old.now.trees) change ≡ Err cause) → CommitsOn {T = T} limits change old new (Err (Refused cause))
+commits_refused limits change old new x cause looks refuses = record {
   clean = looks.clean;
   mode = looks.mode;
-  done = λ k limits stands fit. tt;
-  refused = λ k limits stands. (refuses k limits stands, stands_same limits old new stands (looks.same k stands.holds.schema));
-  same = λ k limits stands h. ap (register_at limits) (looks.same k stands.holds.schema).0.now_is;
-  left = λ k limits stands fit db h. inl (looks.left k stands.holds.schema db h);
+  done = λ k stands fit. tt;
+  refused = λ k stands. (refuses k stands, stands_same limits old new stands (looks.same k stands.holds.schema));
+  same = λ k stands h. ap (register_at limits) (looks.same k stands.holds.schema).0.now_is;
+  left = λ k stands fit db h. inl (looks.left k stands.holds.schema db h);
 }
 
 -- ---- a commit that ends with its transaction
 
-module _ {A : Type 0} (Made : Trees → Trees → Type 0) (change : Change) (old mid new : State) (x : A) (looks : Looks old mid (Ok x))
+module _ {A : Type 0} (Made : Trees → Trees → Type 0) (limits : Limits) (change : Change) (old mid new : State) (x : A) (looks : Looks old mid (Ok x))
     (clean : doubt mid.is_clean ≤ doubt new.is_clean) (mode : new.in_transaction ≡ false)
-    (makes : HasCleanDisk mid → (limits : Limits) → Stands limits old → IsFit (register_in limits old.now.trees) change → (db : Trees) → Made old.now.trees db → IsMade (register_in limits old.now.trees) change db)
+    (makes : HasCleanDisk mid → Stands limits old → IsFit (register_in limits old.now.trees) change → (db : Trees) → Made old.now.trees db → IsMade (register_in limits old.now.trees) change db)
     (survives : IsOurs mid → Survives mid new (MayLeave Made mid)) where
   before : HasCleanDisk new → HasCleanDisk mid
   before k = omega (arith, clean, k)
 
-  ours : (limits : Limits) → Stands limits mid → IsOurs mid
-  ours limits stands = record { is_open = stands.is_open; schema = stands.holds.schema; store = stands.holds.store }
+  ours : Stands limits mid → IsOurs mid
+  ours stands = record { is_open = stands.is_open; schema = stands.holds.schema; store = stands.holds.store }
 
-  mid_stands : HasCleanDisk new → (limits : Limits) → Stands limits old → Stands limits mid
-  mid_stands k limits stands = stands_same limits old mid stands (looks.same (before k) stands.holds.schema)
+  mid_stands : HasCleanDisk new → Stands limits old → Stands limits mid
+  mid_stands k stands = stands_same limits old mid stands (looks.same (before k) stands.holds.schema)
 
-  as_old : HasCleanDisk new → (limits : Limits) → Stands limits old → (db : Trees) → Made mid.now.trees db → Made old.now.trees db
-  as_old k limits stands db made = subst (λ (d : Database). Made d.trees db) (looks.same (before k) stands.holds.schema).0.now_is made
+  as_old : HasCleanDisk new → Stands limits old → (db : Trees) → Made mid.now.trees db → Made old.now.trees db
+  as_old k stands db made = subst (λ (d : Database). Made d.trees db) (looks.same (before k) stands.holds.schema).0.now_is made
 
-  left_by_it : HasCleanDisk new → (limits : Limits) → Stands limits old → IsFit (register_in limits old.now.trees) change → (db : Trees) → new.may_leave db
+  left_by_it : HasCleanDisk new → Stands limits old → IsFit (register_in limits old.now.trees) change → (db : Trees) → new.may_leave db
       → old.may_leave db ⊎ ((r : Register) × (apply (register_in limits old.now.trees) change ≡ Ok r) × IsContentOf db r)
-  left_by_it k limits stands fit db h =
-      elim ((survives (ours limits (mid_stands k limits stands))).crash k db h) [
+  left_by_it k stands fit db h =
+      elim ((survives (ours (mid_stands k stands))).crash k db h) [
         | inl earlier ↦ inl (looks.left (before k) stands.holds.schema db earlier)
         | inr now ↦
-            let m = makes (before k) limits stands fit db (as_old k limits stands db now.1) in
+            let m = makes (before k) stands fit db (as_old k stands db now.1) in
             inr (m.now, m.is, record { store = now.0; tables = m.tables; sound = m.sound })
       ]
 
-  pub commits_made : (HasCleanDisk new → IsOurs mid → Changes Made mid new) → CommitsOn {T = Unit {0}} change old new (Ok tt)
+  pub commits_made : (HasCleanDisk new → IsOurs mid → Changes Made mid new) → CommitsOn {T = Unit {0}} limits change old new (Ok tt)
   commits_made did = record {
     clean = omega (arith, looks.clean, clean);
     mode = λ h. mode;
-    done = λ k limits stands fit. made k limits stands fit (did k (ours limits (mid_stands k limits stands)));
-    refused = λ k limits stands. tt;
-    same = λ k limits stands. tt;
+    done = λ k stands fit. made k stands fit (did k (ours (mid_stands k stands)));
+    refused = λ k stands. tt;
+    same = λ k stands. tt;
     left = left_by_it;
   }
     where
-      made : HasCleanDisk new → (limits : Limits) → Stands limits old → IsFit (register_in limits old.now.trees) change → Changes Made mid new
+      made : HasCleanDisk new → Stands limits old → IsFit (register_in limits old.now.trees) change → Changes Made mid new
           → (apply (register_in limits old.now.trees) change ≡ Ok (register_in limits new.now.trees)) × Stands limits new
-      made k limits stands fit changes =
-          let m = makes (before k) limits stands fit new.now.trees (as_old k limits stands new.now.trees changes.made) in
+      made k stands fit changes =
+          let m = makes (before k) stands fit new.now.trees (as_old k stands new.now.trees changes.made) in
           let read : register_in limits new.now.trees ≡ m.now = subst (λ (l : Limits). register_in l new.now.trees ≡ m.now) m.limits (register_of m.now new.now.trees m.tables m.sound) in (
             m.is ∙ ap Ok (sym read),
             record {
@@ -188,23 +188,23 @@ module _ {A : Type 0} (Made : Trees → Trees → Type 0) (change : Change) (old
             },
           )
 
-  pub commits_undone : (fault : OfficeFault) → IsFailure fault → (HasCleanDisk new → IsOurs mid → IsUndone mid new) → CommitsOn {T = Unit {0}} change old new (Err fault)
+  pub commits_undone : (fault : OfficeFault) → IsFailure fault → (HasCleanDisk new → IsOurs mid → IsUndone mid new) → CommitsOn {T = Unit {0}} limits change old new (Err fault)
   commits_undone fault failure did = record {
     clean = omega (arith, looks.clean, clean);
     mode = λ h. mode;
-    done = λ k limits stands fit. tt;
-    refused = λ k limits stands. no_refusal (Unit {0}) _ fault _ failure;
-    same = λ k limits stands h.
-        let m = mid_stands k limits stands in
-        ap (register_at limits) (((did k (ours limits m)).undone h).0 ∙ sym m.settled ∙ (looks.same (before k) stands.holds.schema).0.now_is);
+    done = λ k stands fit. tt;
+    refused = λ k stands. no_refusal (Unit {0}) _ fault _ failure;
+    same = λ k stands h.
+        let m = mid_stands k stands in
+        ap (register_at limits) (((did k (ours m)).undone h).0 ∙ sym m.settled ∙ (looks.same (before k) stands.holds.schema).0.now_is);
     left = left_by_it;
   }
 
 -- a commit that ends with its edits
-pub commits_by : {A : Type 0} (edits : List Edit) (change : Change) (old mid new : State) (x : A) (result : Result (Unit {0}) OfficeFault) → Looks old mid (Ok x) → doubt mid.is_clean ≤ doubt new.is_clean → new.in_transaction ≡ false
-    → (HasCleanDisk mid → (limits : Limits) → Stands limits old → IsMadeBy edits (register_in limits old.now.trees) change) → (IsOurs mid → Survives mid new (MayLeave (MakesAll edits) mid))
-    → (HasCleanDisk new → IsOurs mid → OnOk result (Changes (MakesAll edits) mid new)) → (HasCleanDisk new → IsOurs mid → OnErr result (IsUndone mid new)) → IfErr result IsFailure → CommitsOn change old new result
-commits_by edits change old mid new x (Ok _) looks clean mode by survives done failed failure =
-    commits_made (MakesAll edits) change old mid new x looks clean mode (λ k limits stands fit db made. is_made edits _ change _ db stands.holds.sound fit stands.holds.tables (by k limits stands) made) survives done
-commits_by edits change old mid new x (Err fault) looks clean mode by survives done failed failure =
-    commits_undone (MakesAll edits) change old mid new x looks clean mode (λ k limits stands fit db made. is_made edits _ change _ db stands.holds.sound fit stands.holds.tables (by k limits stands) made) survives fault failure failed
+pub commits_by : {A : Type 0} (edits : List Edit) (limits : Limits) (change : Change) (old mid new : State) (x : A) (result : Result (Unit {0}) OfficeFault) → Looks old mid (Ok x) → doubt mid.is_clean ≤ doubt new.is_clean → new.in_transaction ≡ false
+    → (HasCleanDisk mid → Stands limits old → IsMadeBy edits (register_in limits old.now.trees) change) → (IsOurs mid → Survives mid new (MayLeave (MakesAll edits) mid))
+    → (HasCleanDisk new → IsOurs mid → OnOk result (Changes (MakesAll edits) mid new)) → (HasCleanDisk new → IsOurs mid → OnErr result (IsUndone mid new)) → IfErr result IsFailure → CommitsOn limits change old new result
+commits_by edits limits change old mid new x (Ok _) looks clean mode by survives done failed failure =
+    commits_made (MakesAll edits) limits change old mid new x looks clean mode (λ k stands fit db made. is_made edits _ change _ db stands.holds.sound fit stands.holds.tables (by k stands) made) survives done
+commits_by edits limits change old mid new x (Err fault) looks clean mode by survives done failed failure =
+    commits_undone (MakesAll edits) limits change old mid new x looks clean mode (λ k stands fit db made. is_made edits _ change _ db stands.holds.sound fit stands.holds.tables (by k stands) made) survives fault failure failed

@@ -18,3 +18,8 @@ mod ReceivedLemmas
 mod LoopLemmas
 mod PageLemmas
 mod OfficeLemmas
+mod SlotLemmas
+mod SubmissionLemmas
+mod BeginningLemmas
+mod FilingLemmas
+mod UnknownLemmas

@@ -80,14 +80,14 @@ looks_nowhere says limits m s x alone told = record {
   counts = refl;
 }
 
-pub commits : {T : Type 0} (limits : Limits) (change : Change) (m n : ℕ) (old new : State) (result : Result T OfficeFault) → IsAlone limits old → CommitsOn change old new result → Counts m n result
+pub commits : {T : Type 0} (limits : Limits) (change : Change) (m n : ℕ) (old new : State) (result : Result T OfficeFault) → IsAlone limits old → CommitsOn limits change old new result → Counts m n result
     → Commits change (view_of limits m old) (view_of limits n new) result
 commits limits change m n old new result alone made counts = record {
   clean = λ k. omega (arith, made.clean, k);
-  done = λ k stands. made.done k limits stands;
-  refused = λ k stands. made.refused k limits stands;
-  same = λ k stands. on_err_weaker result (λ same (now : Stands limits new). same now.is_open) (made.same k limits stands);
-  left = λ k stands fit db h. elim (made.left k limits stands fit db h) [ inl before ↦ inl (alone stands db before) | inr after ↦ inr after ];
+  done = made.done;
+  refused = made.refused;
+  same = λ k stands. on_err_weaker result (λ same (now : Stands limits new). same now.is_open) (made.same k stands);
+  left = λ k stands fit db h. elim (made.left k stands fit db h) [ inl before ↦ inl (alone stands db before) | inr after ↦ inr after ];
   counts = counts;
 }
 

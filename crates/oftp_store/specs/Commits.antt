@@ -13,14 +13,14 @@ use Rattle.oftp_register.specs.Offices.{IsRefused}
 use Rattle.oftp_tables.specs.Tables.{register_in}
 use Rattle.oftp_open.specs.Stands.{IsContentOf, Stands}
 
--- The change is made, or it is refused for its cause, or the store failed and the register stays where the connection is open. A
--- stop leaves it made or not made.
-pub record CommitsOn {T : Type 0} (change : Change) (old new : State) (result : Result T OfficeFault) : Type 0 where
+-- Within these limits the change is made, or it is refused for its cause, or the store failed and the register stays where the
+-- connection is open. A stop leaves it made or not made.
+pub record CommitsOn {T : Type 0} (limits : Limits) (change : Change) (old new : State) (result : Result T OfficeFault) : Type 0 where
   pub clean : doubt old.is_clean ≤ doubt new.is_clean
   pub mode : old.in_transaction ≡ false → new.in_transaction ≡ false
-  pub done : HasCleanDisk new → (limits : Limits) → Stands limits old → IsFit (register_in limits old.now.trees) change
+  pub done : HasCleanDisk new → Stands limits old → IsFit (register_in limits old.now.trees) change
       → OnOk result ((apply (register_in limits old.now.trees) change ≡ Ok (register_in limits new.now.trees)) × Stands limits new)
-  pub refused : HasCleanDisk new → (limits : Limits) → Stands limits old → IsRefused (apply (register_in limits old.now.trees) change) result (Stands limits new)
-  pub same : HasCleanDisk new → (limits : Limits) → Stands limits old → OnErr result (IsTrue new.is_open → register_in limits new.now.trees ≡ register_in limits old.now.trees)
-  pub left : HasCleanDisk new → (limits : Limits) → Stands limits old → IsFit (register_in limits old.now.trees) change → (db : Trees) → new.may_leave db
+  pub refused : HasCleanDisk new → Stands limits old → IsRefused (apply (register_in limits old.now.trees) change) result (Stands limits new)
+  pub same : HasCleanDisk new → Stands limits old → OnErr result (IsTrue new.is_open → register_in limits new.now.trees ≡ register_in limits old.now.trees)
+  pub left : HasCleanDisk new → Stands limits old → IsFit (register_in limits old.now.trees) change → (db : Trees) → new.may_leave db
       → old.may_leave db ⊎ ((r : Register) × (apply (register_in limits old.now.trees) change ≡ Ok r) × IsContentOf db r)

@@ -8,3 +8,5 @@ pub mod Places
 pub mod Tells
 pub mod Views
 pub mod Opens
+pub mod Slots
+pub mod Filings

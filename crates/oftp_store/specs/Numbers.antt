@@ -3,6 +3,8 @@ use Rattle.std.specs.Prelude.{◌≡◌, ℕ, List, [], ◌∷◌, length, codes
 use Rattle.std.specs.Option.{option_map}
 use Rattle.sqlite.specs.declared.types.Value.TheVariants.{Int}
 use Rattle.sqlite.specs.Order.{Row, column}
+use Rattle.oftp_register.specs.declared.change.Change.{Change}
+use Rattle.oftp_register.specs.declared.change.Change.TheVariants as change
 use Rattle.oftp_register.specs.declared.entry.Identity.{Identity}
 use Rattle.oftp_register.specs.declared.entry.ResponseKind.{ResponseKind}
 use Rattle.oftp_register.specs.declared.entry.ResponseKind.TheVariants.{EndResponse, NegativeEndResponse}
@@ -78,3 +80,21 @@ next_file_no r partner tried = option_map (λ (e : OutgoingEntry). e.no) (next_f
 -- the number of the file with the first response that is due to a partner and wasn't tried, if there is one
 abbrev pub next_response_no : Register → List ℕ → ℕ → Option ℕ
 next_response_no r partner tried = option_map (λ (e : IssuedEntry). e.no) (next_response r partner tried)
+
+-- ---- the number that a change names
+
+-- the number of the file of a change, 0 where it names none
+abbrev pub number_named : Change → ℕ
+number_named (change.Submit identity format longest description rows) = 0
+number_named (change.Start identity format longest description count) = 0
+number_named (change.Keep n rows) = n
+number_named (change.Close n rows) = n
+number_named (change.GiveUp n) = n
+number_named (change.File kind identity reason creator text) = 0
+number_named (change.Issue n kind reason text) = n
+number_named (change.Mark n rows) = n
+number_named (change.BeginClosing n) = n
+number_named (change.HandOver n) = n
+number_named (change.Refuse n reason) = n
+number_named (change.Reopen n) = n
+number_named (change.Send n) = n

@@ -1,6 +1,7 @@
 //! The look-ups in the database.
 
 pub(crate) mod entry;
+pub(crate) mod filing;
 pub(crate) mod find;
 pub(crate) mod header;
 pub(crate) mod identity;
@@ -14,4 +15,5 @@ pub(crate) mod place;
 mod received;
 pub(crate) mod response;
 pub(crate) mod rows;
+pub(crate) mod slot;
 pub(crate) mod units;

@@ -2,6 +2,7 @@
 
 ghost use Rattle.std.specs.Prelude.{◌≡◌, ◌<◌, ◌^◌, false};
 ghost use Rattle.sqlite.specs.Held.{state};
+ghost use Rattle.oftp_vfile.specs.declared.format.Limits.{Limits};
 ghost use Rattle.oftp_register.specs.declared.change.Change.TheVariants.{Close, GiveUp, Keep};
 ghost use Rattle.oftp_store.specs.Commits.{CommitsOn};
 
@@ -22,7 +23,7 @@ pub(crate) fn keep<S: Alter>(
 ) -> Result<(), OfficeFault>
     requires autocommit { conn.old.in_transaction ≡ false }
     requires number { no < 2 ^ 63 }
-    ensures { CommitsOn (Keep no rows.now) (state S.Store conn.old) (state S.Store conn.new) result }
+    ensures { (limits : Limits) → CommitsOn limits (Keep no rows.now) (state S.Store conn.old) (state S.Store conn.new) result }
 {
     match find_place(alloc, conn, no) {
         Err(fault) => Err(fault),
@@ -50,7 +51,7 @@ pub(crate) fn close<S: Alter>(
 ) -> Result<(), OfficeFault>
     requires autocommit { conn.old.in_transaction ≡ false }
     requires number { no < 2 ^ 63 }
-    ensures { CommitsOn (Close no rows.now) (state S.Store conn.old) (state S.Store conn.new) result }
+    ensures { (limits : Limits) → CommitsOn limits (Close no rows.now) (state S.Store conn.old) (state S.Store conn.new) result }
 {
     match find_place(alloc, conn, no) {
         Err(fault) => Err(fault),
@@ -81,7 +82,7 @@ pub(crate) fn give_up<S: Alter>(
 ) -> Result<(), OfficeFault>
     requires autocommit { conn.old.in_transaction ≡ false }
     requires number { no < 2 ^ 63 }
-    ensures { CommitsOn (GiveUp no) (state S.Store conn.old) (state S.Store conn.new) result }
+    ensures { (limits : Limits) → CommitsOn limits (GiveUp no) (state S.Store conn.old) (state S.Store conn.new) result }
 {
     match find_place(alloc, conn, no) {
         Err(fault) => Err(fault),

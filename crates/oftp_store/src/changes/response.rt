@@ -2,6 +2,7 @@
 
 ghost use Rattle.std.specs.Prelude.{◌≡◌, ◌<◌, ◌^◌, false};
 ghost use Rattle.sqlite.specs.Held.{state};
+ghost use Rattle.oftp_vfile.specs.declared.format.Limits.{Limits};
 ghost use Rattle.oftp_register.specs.declared.change.Change.TheVariants.{Issue, Send};
 ghost use Rattle.oftp_store.specs.Commits.{CommitsOn};
 ghost use Rattle.oftp_store.specs.Places.{is_answerable, is_sendable};
@@ -46,7 +47,7 @@ pub(crate) fn issue<S: Alter>(
 ) -> Result<(), OfficeFault>
     requires autocommit { conn.old.in_transaction ≡ false }
     requires number { no < 2 ^ 63 }
-    ensures { CommitsOn (Issue no kind reason text.now) (state S.Store conn.old) (state S.Store conn.new) result }
+    ensures { (limits : Limits) → CommitsOn limits (Issue no kind reason text.now) (state S.Store conn.old) (state S.Store conn.new) result }
 {
     match find_answered(alloc, conn, no) {
         Err(fault) => Err(fault),
@@ -70,7 +71,7 @@ pub(crate) fn send<S: Alter>(
 ) -> Result<(), OfficeFault>
     requires autocommit { conn.old.in_transaction ≡ false }
     requires number { no < 2 ^ 63 }
-    ensures { CommitsOn (Send no) (state S.Store conn.old) (state S.Store conn.new) result }
+    ensures { (limits : Limits) → CommitsOn limits (Send no) (state S.Store conn.old) (state S.Store conn.new) result }
 {
     match find_answered(alloc, conn, no) {
         Err(fault) => Err(fault),

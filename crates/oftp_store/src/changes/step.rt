@@ -2,6 +2,7 @@
 
 ghost use Rattle.std.specs.Prelude.{◌≡◌, ◌≤◌, ◌<◌, ◌^◌, Some, None, if◌then◌else◌, false};
 ghost use Rattle.sqlite.specs.Held.{state};
+ghost use Rattle.oftp_vfile.specs.declared.format.Limits.{Limits};
 ghost use Rattle.oftp_register.specs.Changes.{is_closing, is_waiting};
 ghost use Rattle.oftp_store.specs.Commits.{CommitsOn};
 ghost use Rattle.oftp_store.specs.Steps.{change_by, is_allowed, mark_after, state_after};
@@ -95,7 +96,7 @@ pub(crate) fn make_step<S: Alter>(
 ) -> Result<(), OfficeFault>
     requires autocommit { conn.old.in_transaction ≡ false }
     requires number { no < 2 ^ 63 }
-    ensures { CommitsOn (change_by no step.now) (state S.Store conn.old) (state S.Store conn.new) result }
+    ensures { (limits : Limits) → CommitsOn limits (change_by no step.now) (state S.Store conn.old) (state S.Store conn.new) result }
 {
     match find_stage(alloc, conn, no) {
         Err(fault) => Err(fault),

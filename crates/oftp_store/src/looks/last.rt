@@ -1,6 +1,6 @@
 //! The last number of a table.
 
-ghost use Rattle.std.specs.Prelude.{◌≡◌, ◌<◌, ◌^◌, IfOk, IfErr};
+ghost use Rattle.std.specs.Prelude.{◌≡◌, ◌+◌, ◌≤◌, ◌<◌, ◌^◌, Ok, Err, IfOk, IfErr};
 ghost use Rattle.sqlite.specs.Held.{state};
 ghost use Rattle.sqlite.specs.State.{HasCleanDisk};
 ghost use Rattle.oftp_register.specs.Register.{Register};
@@ -87,6 +87,35 @@ pub(crate) fn is_full<S: Alter>(
 {
     match last_no(conn, table_of(side)) {
         Ok(last) => Ok(last >= most),
+        Err(fault) => Err(fault),
+    }
+}
+
+/// The number after this one. Where the database can hold none, this counts as a growth that was refused.
+pub(crate) fn number_after(last: u64) -> Result<u64, OfficeFault>
+    ensures made { last + 1 < 2 ^ 63 → result ≡ Ok (last + 1) }
+    ensures full { 2 ^ 63 ≤ last + 1 → result ≡ Err OfficeFault.Memory }
+{
+    if last < 0x7fff_ffff_ffff_ffff {
+        Ok(last + 1)
+    } else {
+        Err(OfficeFault::Memory)
+    }
+}
+
+/// The number that the next entry of a table gets.
+///
+/// # Errors
+///
+/// [`OfficeFault::Memory`] where no number is left, and the faults of a look-up.
+pub(crate) fn next_no<S: Alter>(conn: &mut Connection<S>, table: Table) -> Result<u64, OfficeFault>
+    ensures looks { Looks (state S.Store conn.old) (state S.Store conn.new) result }
+    ensures answer { HasCleanDisk (state S.Store conn.new) → conn.old.schema ≡ office_schema → IfOk result (λ no. (r : Register) → Tables r (state S.Store conn.old).now.trees
+        → no ≡ 1 + entries_in r table) }
+    ensures small { IfOk result (λ no. no < 2 ^ 63) }
+{
+    match last_no(conn, table) {
+        Ok(last) => number_after(last),
         Err(fault) => Err(fault),
     }
 }

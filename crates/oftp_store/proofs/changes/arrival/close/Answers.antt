@@ -10,20 +10,20 @@ use Rattle.oftp_store.proofs.CommitLemmas.{commits_by, commits_refused}
 use Rattle.oftp_store.proofs.changes.arrival.close.Goals as goal
 
 pub returns-in-Ok-None : goal.returns-in-Ok-None
-returns-in-Ok-None g c =
-    commits_refused (Close c.args.no c.args.rows.now) _ _ _ cause.Unknown c.in-Ok-None.ensures.looks
-    (λ k limits stands. unknown_close c.args.no _ c.args.rows.now ((rw c.in-Ok-None.field-0-is at c.in-Ok-None.ensures.answer) k stands.holds.schema _ stands.holds.tables))
+returns-in-Ok-None g c limits =
+    commits_refused limits (Close c.args.no c.args.rows.now) _ _ _ cause.Unknown c.in-Ok-None.ensures.looks
+    (λ k stands. unknown_close c.args.no _ c.args.rows.now ((rw c.in-Ok-None.field-0-is at c.in-Ok-None.ensures.answer) k stands.holds.schema _ stands.holds.tables))
 
 pub returns-in-Whole : goal.returns-in-Whole
-returns-in-Whole g c =
-    commits_refused (Close c.args.no c.args.rows.now) _ _ _ cause.State c.in-Ok-Some.ensures.looks
-    (λ k limits stands. whole_close c.args.no _ c.args.rows.now c.in-Ok-Some.place.rows (rw c.in-Whole.is at ((rw c.in-Ok-Some.field-0-is at c.in-Ok-Some.ensures.answer) k stands.holds.schema _ stands.holds.tables)))
+returns-in-Whole g c limits =
+    commits_refused limits (Close c.args.no c.args.rows.now) _ _ _ cause.State c.in-Ok-Some.ensures.looks
+    (λ k stands. whole_close c.args.no _ c.args.rows.now c.in-Ok-Some.place.rows (rw c.in-Whole.is at ((rw c.in-Ok-Some.field-0-is at c.in-Ok-Some.ensures.answer) k stands.holds.schema _ stands.holds.tables)))
 
 pub returns-in-Open : goal.returns-in-Open
-returns-in-Open g c =
+returns-in-Open g c limits =
     let more : Edit = record { no = c.args.no; deed = AddRows side.Incoming c.in-Ok-Some.place.rows c.args.rows } in
     let whole : Edit = record { no = c.args.no; deed = SetWhole } in
-    commits_by (more ∷ whole ∷ []) (Close c.args.no c.args.rows.now) (state g.S.Store c.args.conn.now) (state g.S.Store c.find_place.new.conn) (state g.S.Store c.make_edits.new.conn) _ c.make_edits.result
+    commits_by (more ∷ whole ∷ []) limits (Close c.args.no c.args.rows.now) (state g.S.Store c.args.conn.now) (state g.S.Store c.find_place.new.conn) (state g.S.Store c.make_edits.new.conn) _ c.make_edits.result
     c.in-Ok-Some.ensures.looks c.make_edits.ensures.clean c.make_edits.ensures.mode
-    (λ k limits stands. made_by_close c.args.no _ c.args.rows c.in-Ok-Some.place.rows (rw c.in-Open.is at ((rw c.in-Ok-Some.field-0-is at c.in-Ok-Some.ensures.answer) k stands.holds.schema _ stands.holds.tables)))
+    (λ k stands. made_by_close c.args.no _ c.args.rows c.in-Ok-Some.place.rows (rw c.in-Open.is at ((rw c.in-Ok-Some.field-0-is at c.in-Ok-Some.ensures.answer) k stands.holds.schema _ stands.holds.tables)))
     c.make_edits.ensures.survives c.make_edits.ensures.done c.make_edits.ensures.failed c.make_edits.ensures.failure

@@ -9,19 +9,19 @@ use Rattle.oftp_store.proofs.CommitLemmas.{commits_by, commits_refused}
 use Rattle.oftp_store.proofs.changes.response.send.Goals as goal
 
 pub returns-in-Ok-None : goal.returns-in-Ok-None
-returns-in-Ok-None g c =
-    commits_refused (Send c.args.no) _ _ _ cause.Unknown c.in-Ok-None.ensures.looks
-    (λ k limits stands. unknown_send c.args.no _ ((rw c.in-Ok-None.field-0-is at c.in-Ok-None.ensures.answer) k stands.holds.schema _ stands.holds.tables stands.holds.sound))
+returns-in-Ok-None g c limits =
+    commits_refused limits (Send c.args.no) _ _ _ cause.Unknown c.in-Ok-None.ensures.looks
+    (λ k stands. unknown_send c.args.no _ ((rw c.in-Ok-None.field-0-is at c.in-Ok-None.ensures.answer) k stands.holds.schema _ stands.holds.tables stands.holds.sound))
 
 pub returns-else-is_sendable : goal.returns-else-is_sendable
-returns-else-is_sendable g c =
-    commits_refused (Send c.args.no) _ _ _ cause.State c.in-Ok-Some.ensures.looks
-    (λ k limits stands. unfit_send c.args.no _ c.in-Ok-Some.answered ((rw c.in-Ok-Some.field-0-is at c.in-Ok-Some.ensures.answer) k stands.holds.schema _ stands.holds.tables stands.holds.sound) (sym c.is_sendable.ensures ∙ c.if-is_sendable.false))
+returns-else-is_sendable g c limits =
+    commits_refused limits (Send c.args.no) _ _ _ cause.State c.in-Ok-Some.ensures.looks
+    (λ k stands. unfit_send c.args.no _ c.in-Ok-Some.answered ((rw c.in-Ok-Some.field-0-is at c.in-Ok-Some.ensures.answer) k stands.holds.schema _ stands.holds.tables stands.holds.sound) (sym c.is_sendable.ensures ∙ c.if-is_sendable.false))
 
 pub returns-then-is_sendable : goal.returns-then-is_sendable
-returns-then-is_sendable g c =
+returns-then-is_sendable g c limits =
     let edit : Edit = record { no = c.args.no; deed = SetSent } in
-    commits_by (edit ∷ []) (Send c.args.no) (state g.S.Store c.args.conn.now) (state g.S.Store c.find_answered.new.conn) (state g.S.Store c.make_edits.new.conn) _ c.make_edits.result
+    commits_by (edit ∷ []) limits (Send c.args.no) (state g.S.Store c.args.conn.now) (state g.S.Store c.find_answered.new.conn) (state g.S.Store c.make_edits.new.conn) _ c.make_edits.result
     c.in-Ok-Some.ensures.looks c.make_edits.ensures.clean c.make_edits.ensures.mode
-    (λ k limits stands. made_by_send c.args.no _ c.in-Ok-Some.answered ((rw c.in-Ok-Some.field-0-is at c.in-Ok-Some.ensures.answer) k stands.holds.schema _ stands.holds.tables stands.holds.sound) (sym c.is_sendable.ensures ∙ c.if-is_sendable.true))
+    (λ k stands. made_by_send c.args.no _ c.in-Ok-Some.answered ((rw c.in-Ok-Some.field-0-is at c.in-Ok-Some.ensures.answer) k stands.holds.schema _ stands.holds.tables stands.holds.sound) (sym c.is_sendable.ensures ∙ c.if-is_sendable.true))
     c.make_edits.ensures.survives c.make_edits.ensures.done c.make_edits.ensures.failed c.make_edits.ensures.failure

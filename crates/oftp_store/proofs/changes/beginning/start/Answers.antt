@@ -1,0 +1,54 @@
+use Rattle.std.proofs.Common.{[], ◌∷◌, ◌∙◌, refl, sym}
+use Rattle.sqlite.specs.Held.{state}
+use Rattle.oftp_register.specs.declared.change.Change.TheVariants.{Start}
+use Rattle.oftp_register.specs.declared.change.Cause.TheVariants as cause
+use Rattle.oftp_store.specs.declared.changes.edit.Edit.{Edit}
+use Rattle.oftp_store.specs.declared.changes.edit.Deed.TheVariants.{AddIncoming, CutRows, SetHeader}
+use Rattle.oftp_store.proofs.CommitLemmas.{commits_by, commits_refused}
+use Rattle.oftp_store.proofs.BeginningLemmas.{full_start, late_start, late_start_full, made_by_begin, made_by_go_on, unfit_start}
+use Rattle.oftp_store.proofs.changes.beginning.start.Goals as goal
+
+pub returns-then-count-gt0 : goal.returns-then-count-gt0
+returns-then-count-gt0 g c =
+    let a = c.args in
+    commits_refused a.limits (Start a.identity.now a.format a.longest a.description.now a.count) _ _ _ cause.State c.in-Ok-Full.ensures.looks
+    (λ k stands. late_start_full _ a.identity.now a.format a.longest a.description.now a.count ((rw c.in-Ok-Full.field-0-is at c.in-Ok-Full.ensures.answer) k stands.holds.schema _ refl stands.holds.tables) c.if-count-gt0.true)
+
+pub returns-else-count-gt0 : goal.returns-else-count-gt0
+returns-else-count-gt0 g c =
+    let a = c.args in
+    commits_refused a.limits (Start a.identity.now a.format a.longest a.description.now a.count) _ _ _ cause.Full c.in-Ok-Full.ensures.looks
+    (λ k stands. full_start _ a.identity.now a.format a.longest a.description.now a.count ((rw c.in-Ok-Full.field-0-is at c.in-Ok-Full.ensures.answer) k stands.holds.schema _ refl stands.holds.tables) c.if-count-gt0.false)
+
+pub returns-then-count-gt0-2 : goal.returns-then-count-gt0-2
+returns-then-count-gt0-2 g c =
+    let a = c.args in
+    commits_refused a.limits (Start a.identity.now a.format a.longest a.description.now a.count) _ _ _ cause.State c.in-Ok-New.ensures.looks
+    (λ k stands. late_start _ a.identity.now a.format a.longest a.description.now a.count c.in-Ok-New.no ((rw c.in-Ok-New.field-0-is at c.in-Ok-New.ensures.answer) k stands.holds.schema _ refl stands.holds.tables) c.if-count-gt0-2.true)
+
+pub returns-else-count-gt0-2 : goal.returns-else-count-gt0-2
+returns-else-count-gt0-2 g c =
+    let a = c.args in
+    let edit : Edit = record { no = c.in-Ok-New.no; deed = AddIncoming a.identity a.format a.longest a.description } in
+    commits_by (edit ∷ []) a.limits (Start a.identity.now a.format a.longest a.description.now a.count) (state g.S.Store a.conn.now) (state g.S.Store c.find_arrival.new.conn)
+    (state g.S.Store c.make_edits.new.conn) _ c.make_edits.result c.in-Ok-New.ensures.looks c.make_edits.ensures.clean c.make_edits.ensures.mode
+    (λ k stands. made_by_begin _ a.identity a.format a.longest a.description a.count c.in-Ok-New.no ((rw c.in-Ok-New.field-0-is at c.in-Ok-New.ensures.answer) k stands.holds.schema _ refl stands.holds.tables) c.if-count-gt0-2.false)
+    c.make_edits.ensures.survives c.make_edits.ensures.done c.make_edits.ensures.failed c.make_edits.ensures.failure
+
+pub returns-then-not-goes_on : goal.returns-then-not-goes_on
+returns-then-not-goes_on g c =
+    let a = c.args in
+    commits_refused a.limits (Start a.identity.now a.format a.longest a.description.now a.count) _ _ _ cause.State c.in-Ok-Known.ensures.looks
+    (λ k stands. unfit_start _ a.identity.now a.format a.longest a.description.now a.count c.in-Ok-Known.no c.in-Ok-Known.place
+    ((rw c.in-Ok-Known.field-0-is at c.in-Ok-Known.ensures.answer) k stands.holds.schema _ refl stands.holds.tables) (sym c.goes_on.ensures ∙ c.if-not-goes_on.true))
+
+pub returns-else-not-goes_on : goal.returns-else-not-goes_on
+returns-else-not-goes_on g c =
+    let a = c.args in
+    let header : Edit = record { no = c.in-Ok-Known.no; deed = SetHeader a.format a.longest a.description } in
+    let rest : Edit = record { no = c.in-Ok-Known.no; deed = CutRows a.count } in
+    commits_by (header ∷ rest ∷ []) a.limits (Start a.identity.now a.format a.longest a.description.now a.count) (state g.S.Store a.conn.now) (state g.S.Store c.find_arrival.new.conn)
+    (state g.S.Store c.make_edits-in-Ok-Known.new.conn) _ c.make_edits-in-Ok-Known.result c.in-Ok-Known.ensures.looks c.make_edits-in-Ok-Known.ensures.clean c.make_edits-in-Ok-Known.ensures.mode
+    (λ k stands. made_by_go_on _ a.identity a.format a.longest a.description a.count c.in-Ok-Known.no c.in-Ok-Known.place
+    ((rw c.in-Ok-Known.field-0-is at c.in-Ok-Known.ensures.answer) k stands.holds.schema _ refl stands.holds.tables) (sym c.goes_on.ensures ∙ c.if-not-goes_on.false))
+    c.make_edits-in-Ok-Known.ensures.survives c.make_edits-in-Ok-Known.ensures.done c.make_edits-in-Ok-Known.ensures.failed c.make_edits-in-Ok-Known.ensures.failure
