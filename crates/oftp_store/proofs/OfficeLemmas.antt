@@ -37,27 +37,32 @@ abbrev pub IsAlone : Limits → State → Type 0
 IsAlone limits s = Stands limits s → (db : Trees) → s.may_leave db → IsContentOf db (register_in limits s.now.trees)
 
 -- while the store is open, a crash leaves the last commit
-pub settled_alone : {S : Type 0} (g : Ghosts S) → ((s : S) (db : Trees) → IsTrue (g.view s).is_open → g.recovers s db → db ≡ (g.view s).committed) → (limits : Limits) (h : Held S) → IsAlone limits (state g h)
+pub settled_alone : {S : Type 0} (g : Ghosts S) → ((s : S) (db : Trees) → IsTrue (g.view s).is_open → g.recovers s db → db ≡ (g.view s).committed) → (limits : Limits) (h : Held S)
+    → IsAlone limits (state g h)
 settled_alone g settled limits h stands db left = content_alone limits (state g h) stands db (settled h.store db stands.is_open left)
 
-same_now : {T : Type 0} (limits : Limits) (old new : State) (result : Result T OfficeFault) → Stands limits old → OnOk result (IsUnchanged old new) → OnErr result (IsSpared old new) → IsTrue new.is_open → new.now ≡ old.now
+same_now : {T : Type 0} (limits : Limits) (old new : State) (result : Result T OfficeFault) → Stands limits old → OnOk result (IsUnchanged old new) → OnErr result (IsSpared old new)
+    → IsTrue new.is_open → new.now ≡ old.now
 same_now limits old new (Ok x) stands same spared is_open = same.0.now_is
 same_now limits old new (Err e) stands same spared is_open = spared_same limits old new stands spared is_open
 
-pub looks_up : {T : Type 0} (says : Register → T → Type 0) (limits : Limits) (m n : ℕ) (old new : State) (result : Result T OfficeFault) → IsAlone limits old → Looks old new result → Tells says old new result → Counts m n result
+pub looks_up : {T : Type 0} (says : Register → T → Type 0) (limits : Limits) (m n : ℕ) (old new : State) (result : Result T OfficeFault) → IsAlone limits old → Looks old new result
+    → Tells says old new result → Counts m n result
     → LooksUp says (view_of limits m old) (view_of limits n new) result
 looks_up says limits m n old new result alone looks tells counts = record {
   clean = λ k. omega (arith, looks.clean, k);
   answer = λ k stands. IfOk-weaker result _ _ (λ x told. told (register_in limits old.now.trees) stands.holds.tables stands.holds.sound) (tells k stands.holds.schema);
   stays = λ k stands. on_ok_weaker result (stands_same limits old new stands) (looks.same k stands.holds.schema);
-  register = λ k stands now. ap (λ (d : Database). register_in limits d.trees) (same_now limits old new result stands (looks.same k stands.holds.schema) (looks.failed k stands.holds.schema) now.is_open);
+  register = λ k stands now. ap (λ (d : Database). register_in limits d.trees) (same_now limits old new result stands (looks.same k stands.holds.schema)
+      (looks.failed k stands.holds.schema) now.is_open);
   left = λ k stands db h. alone stands db (looks.left k stands.holds.schema db h);
   unrefused = looks.unrefused;
   counts = counts;
 }
 
 -- what else it tells of this register
-pub looks_weaker : {T : Type 0} (says tells : Register → T → Type 0) (old new : View) (result : Result T OfficeFault) → LooksUp says old new result → ((x : T) → says old.register x → tells old.register x) → LooksUp tells old new result
+pub looks_weaker : {T : Type 0} (says tells : Register → T → Type 0) (old new : View) (result : Result T OfficeFault) → LooksUp says old new result → ((x : T) → says old.register x
+    → tells old.register x) → LooksUp tells old new result
 looks_weaker says tells old new result looked more = record {
   clean = looked.clean;
   answer = λ k stands. IfOk-weaker result _ _ more (looked.answer k stands);
@@ -69,7 +74,8 @@ looks_weaker says tells old new result looked more = record {
 }
 
 -- an answer without a look
-pub looks_nowhere : {T : Type 0} (says : Register → T → Type 0) (limits : Limits) (m : ℕ) (s : State) (x : T) → IsAlone limits s → (Stands limits s → says (register_in limits s.now.trees) x) → LooksUp says (view_of limits m s) (view_of limits m s) (Ok x)
+pub looks_nowhere : {T : Type 0} (says : Register → T → Type 0) (limits : Limits) (m : ℕ) (s : State) (x : T) → IsAlone limits s → (Stands limits s → says (register_in limits s.now.trees) x)
+    → LooksUp says (view_of limits m s) (view_of limits m s) (Ok x)
 looks_nowhere says limits m s x alone told = record {
   clean = λ k. k;
   answer = λ k stands. told stands;
@@ -80,7 +86,8 @@ looks_nowhere says limits m s x alone told = record {
   counts = refl;
 }
 
-pub commits : {T : Type 0} (limits : Limits) (change : Change) (m n : ℕ) (old new : State) (result : Result T OfficeFault) → IsAlone limits old → CommitsOn limits change old new result → Counts m n result
+pub commits : {T : Type 0} (limits : Limits) (change : Change) (m n : ℕ) (old new : State) (result : Result T OfficeFault) → IsAlone limits old → CommitsOn limits change old new result
+    → Counts m n result
     → Commits change (view_of limits m old) (view_of limits n new) result
 commits limits change m n old new result alone made counts = record {
   clean = λ k. omega (arith, made.clean, k);

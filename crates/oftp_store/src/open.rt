@@ -71,9 +71,11 @@ impl<S: Alter> SqlOffice<S> {
         requires files { limits.files ≤ MOST_FILES }
         requires octets { limits.octets ≤ MOST_OCTETS }
         ensures opened { MatchResult result
-            (λ o. (o.limits ≡ limits) × (o.faults ≡ 0) × Opens IsMigratable IsAtFirst limits (state S.Store conn) (state S.Store o.conn))
+            (λ o. (o.limits ≡ limits) × (o.faults ≡ 0)
+            × Opens IsMigratable IsAtFirst limits (state S.Store conn) (state S.Store o.conn))
             (λ e. Refuses IsMigratable IsAtFirst e.fault (state S.Store conn) (state S.Store e.conn)) }
-        ensures found { IfOk result (λ o. HasCleanDisk (state S.Store o.conn) → (r : Register) → r.limits ≡ limits → IsAt r (state S.Store conn)
+        ensures found { IfOk result (λ o. HasCleanDisk (state S.Store o.conn)
+            → (r : Register) → r.limits ≡ limits → IsAt r (state S.Store conn)
             → HasOffice (state S.Store conn).now → Has limits r (state S.Store o.conn)) }
     {
         let mut conn = conn;

@@ -35,7 +35,8 @@ pub(crate) fn next_response<S: Alter>(
 ) -> Result<Option<IssuedEntry>, OfficeFault>
     requires { tried < 2 ^ 63 }
     ensures looks { Looks (state S.Store conn.old) (state S.Store conn.new) result }
-    ensures answer { Tells (λ r found. found ≡ next_response r partner.now tried) (state S.Store conn.old) (state S.Store conn.new) result }
+    ensures answer { Tells (λ r found. found ≡ next_response r partner.now tried)
+        (state S.Store conn.old) (state S.Store conn.new) result }
 {
     match next_response_no(conn, partner, tried) {
         Err(fault) => Err(fault),
@@ -53,7 +54,8 @@ pub(crate) fn next_item<S: Alter>(
     files: bool,
 ) -> Result<Option<Item>, OfficeFault>
     ensures looks { Looks (state S.Store conn.old) (state S.Store conn.new) result }
-    ensures answer { Tells (λ r item. item ≡ next_item r partner.now cursor files) (state S.Store conn.old) (state S.Store conn.new) result }
+    ensures answer { Tells (λ r item. item ≡ next_item r partner.now cursor files)
+        (state S.Store conn.old) (state S.Store conn.new) result }
     ensures within { IfOk result (λ found. IfSome found IsItemWithin) }
 {
     match next_response(alloc, conn, partner, within_store(cursor.response)) {

@@ -83,7 +83,8 @@ pub(crate) fn is_full<S: Alter>(
     most: u64,
 ) -> Result<bool, OfficeFault>
     ensures looks { Looks (state S.Store conn.old) (state S.Store conn.new) result }
-    ensures answer { Tells (λ r full. r.limits.files ≡ most → full ≡ files_full r side) (state S.Store conn.old) (state S.Store conn.new) result }
+    ensures answer { Tells (λ r full. r.limits.files ≡ most → full ≡ files_full r side)
+        (state S.Store conn.old) (state S.Store conn.new) result }
 {
     match last_no(conn, table_of(side)) {
         Ok(last) => Ok(last >= most),

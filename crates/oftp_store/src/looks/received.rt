@@ -66,7 +66,8 @@ fn find_received_header<S: Alter>(
 ) -> Result<Option<ReceivedHeader>, OfficeFault>
     requires { no < 2 ^ 63 }
     ensures looks { Looks (state S.Store conn.old) (state S.Store conn.new) result }
-    ensures answer { Tells (λ r found. IsToldOf received_header_of r.received no found) (state S.Store conn.old) (state S.Store conn.new) result }
+    ensures answer { Tells (λ r found. IsToldOf received_header_of r.received no found)
+        (state S.Store conn.old) (state S.Store conn.new) result }
 {
     match ask(
         conn,

@@ -1,4 +1,4 @@
-use Rattle.std.proofs.Common.{◌≡◌, ◌∙◌, ◌+◌, ◌*◌, ◌/◌, ◌<◌, ◌≤◌, length, take, drop, ap, refl, sym, arith}
+use Rattle.std.proofs.Common.{◌≡◌, ◌∙◌, ◌+◌, ◌*◌, ◌/◌, ◌≤◌, take, drop, ap, refl, arith}
 use Rattle.std.proofs.lemmas.Bool.Decides.{nat_tests}
 use Rattle.oftp_vfile.specs.VirtualFile.{units_in}
 use Rattle.oftp_register.specs.LookUps.{file_rows}
@@ -19,7 +19,8 @@ returns-in-Err-add_units-clause-looks g c = looks_then _ _ _ _ (looks_both _ _ _
 
 pub pages-preserved : goal.pages-preserved
 pages-preserved g c = record {
-  known = goes_on_known _ _ (λ r rows. rows.items ≡ take 64 (drop (c.pages.page * 64) (file_rows r c.args.side c.args.no))) _ _ _ c.in-Ok-find_rows.rows c.pages.invariant.known c.in-Ok-find_rows.ensures.looks
+  known = goes_on_known _ _ (λ r rows. rows.items ≡ take 64 (drop (c.pages.page * 64)
+      (file_rows r c.args.side c.args.no))) _ _ _ c.in-Ok-find_rows.rows c.pages.invariant.known c.in-Ok-find_rows.ensures.looks
       (λ k has r kept sound. c.in-Ok-find_rows.ensures.answer k has r kept) (λ r kept sound known said. (
         known.0,
         c.in-Ok-add_units.ensures.told ∙ ap (λ bodies. c.pages.units + units_in bodies) (c.as_slice.ensures.value ∙ said)
