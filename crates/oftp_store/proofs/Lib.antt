@@ -13,3 +13,7 @@ mod RowLookLemmas
 mod CommitLemmas
 mod ChangeLemmas
 mod PlaceLemmas
+mod ListLemmas
+mod ReceivedLemmas
+mod LoopLemmas
+mod PageLemmas

@@ -5,3 +5,5 @@ pub mod Reads
 pub mod Commits
 pub mod Steps
 pub mod Places
+pub mod Tells
+pub mod Opens

@@ -1,5 +1,11 @@
-//! The office over a SQLite database: its look-ups and changes by the number of a file.
+//! The office over a SQLite database: [`SqlOffice`] keeps a register in the tables of schema 2.
 #![tactic(auto)]
 
 mod changes;
 mod looks;
+mod office;
+mod open;
+
+pub use office::SqlOffice;
+pub use oftp_schema::StoreFault;
+pub use open::OpenRefused;
