@@ -32,8 +32,7 @@ length_first k before rest is = ap (λ m. length (take m (before ++ rest))) is �
 module _ {X E : Type 0} (entry : ℕ → X → E) where
   numbered_more : (n : ℕ) (xs : List X) (x : X) → numbered entry n (xs ++ x ∷ []) ≡ numbered entry n xs ++ entry (n + length xs) x ∷ []
   numbered_more n [] x = let here : n ≡ n + 0 = omega arith in ap (λ m. entry m x ∷ []) here
-  numbered_more n (y ∷ ys) x = let here : (n + 1) + length ys ≡ n + length (y ∷ ys) = omega arith in ap (λ es. entry n y ∷ es) (numbered_more (n + 1) ys x
-  ∙ ap (λ m. numbered entry (n + 1) ys ++ entry m x ∷ []) here)
+  numbered_more n (y ∷ ys) x = let here : (n + 1) + length ys ≡ n + length (y ∷ ys) = omega arith in ap (λ es. entry n y ∷ es) (numbered_more (n + 1) ys x ∙ ap (λ m. numbered entry (n + 1) ys ++ entry m x ∷ []) here)
 
 module _ {X E : Type 0} (entry : ℕ → X → E) (no : E → ℕ) (same : (n : ℕ) (x : X) → no (entry n x) ≡ n) where
   pub one_more : (k : ℕ) (xs : List X) (e : E) → Some e ≡ find (λ e. no e == k + 1) (numbered entry 1 xs) → numbered entry 1 (take (k + 1) xs) ≡ numbered entry 1 (take k xs) ++ e ∷ []
@@ -66,8 +65,7 @@ issued_low k n (f ∷ fs) h = go f.response (issued_low k (n + 1) fs (omega (ari
     other = grind (arith, nat_tests, h)
 
     go : (o : Option Issued) → find (λ (e : IssuedEntry). e.no == k) (issued_in_order (n + 1) fs) ≡ None
-        → find (λ (e : IssuedEntry). e.no == k) (filter_map (λ entry. entry)
-        (option_map (λ x. let e : IssuedEntry = record { no = n; identity = f.identity; response = issued_response x } in e) o ∷ numbered issued_entry (n + 1) fs)) ≡ None
+        → find (λ (e : IssuedEntry). e.no == k) (filter_map (λ entry. entry) (option_map (λ x. let e : IssuedEntry = record { no = n; identity = f.identity; response = issued_response x } in e) o ∷ numbered issued_entry (n + 1) fs)) ≡ None
     go None later = later
     go (Some x) later = rw other later
 
@@ -79,13 +77,11 @@ issued_past k n (f ∷ fs) h = go f.response (issued_past k (n + 1) fs (omega (a
     other = grind (arith, nat_tests, h)
 
     go : (o : Option Issued) → find (λ (e : IssuedEntry). e.no == k) (issued_in_order (n + 1) fs) ≡ None
-        → find (λ (e : IssuedEntry). e.no == k) (filter_map (λ entry. entry)
-        (option_map (λ x. let e : IssuedEntry = record { no = n; identity = f.identity; response = issued_response x } in e) o ∷ numbered issued_entry (n + 1) fs)) ≡ None
+        → find (λ (e : IssuedEntry). e.no == k) (filter_map (λ entry. entry) (option_map (λ x. let e : IssuedEntry = record { no = n; identity = f.identity; response = issued_response x } in e) o ∷ numbered issued_entry (n + 1) fs)) ≡ None
     go None later = later
     go (Some x) later = rw other later
 
-issued_there : (k n : ℕ) (before : List Incoming) (f : Incoming) (after : List Incoming) → k ≡ n + length before → find (λ (e : IssuedEntry). e.no == k)
-    (issued_in_order n (before ++ f ∷ after)) ≡ issued_entry k f
+issued_there : (k n : ℕ) (before : List Incoming) (f : Incoming) (after : List Incoming) → k ≡ n + length before → find (λ (e : IssuedEntry). e.no == k) (issued_in_order n (before ++ f ∷ after)) ≡ issued_entry k f
 issued_there k n [] f after is = go f.response (issued_low n (n + 1) after (omega arith))
   where
     here : n ≡ k
@@ -95,8 +91,7 @@ issued_there k n [] f after is = go f.response (issued_low n (n + 1) after (omeg
     yes = grind (arith, nat_tests, here)
 
     go : (o : Option Issued) → find (λ (e : IssuedEntry). e.no == n) (issued_in_order (n + 1) after) ≡ None
-        → find (λ (e : IssuedEntry). e.no == k) (filter_map (λ entry. entry)
-        (option_map (λ x. let e : IssuedEntry = record { no = n; identity = f.identity; response = issued_response x } in e) o ∷ numbered issued_entry (n + 1) after))
+        → find (λ (e : IssuedEntry). e.no == k) (filter_map (λ entry. entry) (option_map (λ x. let e : IssuedEntry = record { no = n; identity = f.identity; response = issued_response x } in e) o ∷ numbered issued_entry (n + 1) after))
         ≡ option_map (λ x. let e : IssuedEntry = record { no = k; identity = f.identity; response = issued_response x } in e) o
     go None later = subst (λ m. find (λ (e : IssuedEntry). e.no == m) (issued_in_order (n + 1) after) ≡ None) here later
     go (Some x) later = rw yes (ap (λ m. let e : IssuedEntry = record { no = m; identity = f.identity; response = issued_response x } in Some e) here)
@@ -106,14 +101,11 @@ issued_there k n (b ∷ before) f after is = go b.response (issued_there k (n + 
     other = grind (arith, nat_tests, is)
 
     go : (o : Option Issued) → find (λ (e : IssuedEntry). e.no == k) (issued_in_order (n + 1) (before ++ f ∷ after)) ≡ issued_entry k f
-        → find (λ (e : IssuedEntry). e.no == k) (filter_map (λ entry. entry)
-        (option_map (λ x. let e : IssuedEntry = record { no = n; identity = b.identity; response = issued_response x } in e) o ∷ numbered issued_entry (n + 1) (before ++ f ∷ after)))
-        ≡ issued_entry k f
+        → find (λ (e : IssuedEntry). e.no == k) (filter_map (λ entry. entry) (option_map (λ x. let e : IssuedEntry = record { no = n; identity = b.identity; response = issued_response x } in e) o ∷ numbered issued_entry (n + 1) (before ++ f ∷ after))) ≡ issued_entry k f
     go None later = later
     go (Some x) later = rw other later
 
-pub issued_known : (k : ℕ) (fs before : List Incoming) (f : Incoming) (after : List Incoming) → IsPlaced fs k before f after → find (λ (e : IssuedEntry). e.no == k) (issued_in_order 1 fs)
-    ≡ issued_entry k f
+pub issued_known : (k : ℕ) (fs before : List Incoming) (f : Incoming) (after : List Incoming) → IsPlaced fs k before f after → find (λ (e : IssuedEntry). e.no == k) (issued_in_order 1 fs) ≡ issued_entry k f
 issued_known k fs before f after placed = ap (λ all. find (λ (e : IssuedEntry). e.no == k) (issued_in_order 1 all)) placed.here ∙ issued_there k 1 before f after placed.number
 
 issued_grows : (n : ℕ) (fs : List Incoming) (f : Incoming) → issued_in_order n (fs ++ f ∷ []) ≡ issued_in_order n fs ++ listed (issued_entry (n + length fs) f)
@@ -132,8 +124,7 @@ issued_grows n (g ∷ fs) f = go g.response (issued_grows (n + 1) fs f ∙ ap (�
     here = omega arith
 
     go : (o : Option Issued) → issued_in_order (n + 1) (fs ++ f ∷ []) ≡ issued_in_order (n + 1) fs ++ listed (issued_entry (n + length (g ∷ fs)) f)
-        → filter_map (λ entry. entry) (option_map (λ x. let e : IssuedEntry = record { no = n; identity = g.identity; response = issued_response x } in e) o ∷ numbered issued_entry (n + 1)
-        (fs ++ f ∷ []))
+        → filter_map (λ entry. entry) (option_map (λ x. let e : IssuedEntry = record { no = n; identity = g.identity; response = issued_response x } in e) o ∷ numbered issued_entry (n + 1) (fs ++ f ∷ []))
         ≡ filter_map (λ entry. entry) (option_map (λ x. let e : IssuedEntry = record { no = n; identity = g.identity; response = issued_response x } in e) o ∷ numbered issued_entry (n + 1) fs) ++ listed (issued_entry (n + length (g ∷ fs)) f)
     go None later = later
     go (Some x) later = ap (λ es. (let e : IssuedEntry = record { no = n; identity = g.identity; response = issued_response x } in e ∷ es)) later
@@ -198,8 +189,7 @@ module _ (wanted : IssuedEntry → Bool) where
 
       go : (o : Option Issued) → (option_map (λ (e : IssuedEntry). e.no) rest ≡ Some k → n + 1 ≤ k) → (option_map (λ (e : IssuedEntry). e.no) rest ≡ Some k → by ≡ rest)
           → option_map (λ (e : IssuedEntry). e.no) (find wanted (filter_map (λ entry. entry) (option_map entry o ∷ numbered issued_entry (n + 1) fs))) ≡ Some k
-          → find (λ (e : IssuedEntry). e.no == k) (filter_map (λ entry. entry) (option_map entry o ∷ numbered issued_entry (n + 1) fs)) ≡ find wanted (filter_map (λ entry. entry)
-          (option_map entry o ∷ numbered issued_entry (n + 1) fs))
+          → find (λ (e : IssuedEntry). e.no == k) (filter_map (λ entry. entry) (option_map entry o ∷ numbered issued_entry (n + 1) fs)) ≡ find wanted (filter_map (λ entry. entry) (option_map entry o ∷ numbered issued_entry (n + 1) fs))
       go None below later is = later is
       go (Some x) below later is = pick (wanted (entry x)) x below later is
 
@@ -213,8 +203,7 @@ no_response partner tried n (f ∷ fs) h = go f.response (no_response partner tr
     low = grind (arith, nat_tests, h)
 
     go : (o : Option Issued) → find (is_next_response partner tried) (issued_in_order (n + 1) fs) ≡ None
-        → find (is_next_response partner tried) (filter_map (λ entry. entry)
-        (option_map (λ x. let e : IssuedEntry = record { no = n; identity = f.identity; response = issued_response x } in e) o ∷ numbered issued_entry (n + 1) fs)) ≡ None
+        → find (is_next_response partner tried) (filter_map (λ entry. entry) (option_map (λ x. let e : IssuedEntry = record { no = n; identity = f.identity; response = issued_response x } in e) o ∷ numbered issued_entry (n + 1) fs)) ≡ None
     go None later = later
     go (Some x) later = rw low later
 
@@ -249,8 +238,7 @@ file_within r partner tried given few within =
 
 -- ---- the response to one file
 
-issued_placed : (r : Register) (k : ℕ) (o : Option IssuedResponse) (before : List Incoming) (f : Incoming) (after : List Incoming) → IsPlaced r.incoming k before f after → o
-    ≡ option_map issued_response f.response
+issued_placed : (r : Register) (k : ℕ) (o : Option IssuedResponse) (before : List Incoming) (f : Incoming) (after : List Incoming) → IsPlaced r.incoming k before f after → o ≡ option_map issued_response f.response
     → option_map (λ x. let e : IssuedEntry = record { no = k; identity = f.identity; response = x } in e) o ≡ issued_by_no r k
 issued_placed r k o before f after placed is =
     ap (option_map (λ x. let e : IssuedEntry = record { no = k; identity = f.identity; response = x } in e)) is ∙ twice f.response ∙ sym (issued_known k r.incoming before f after placed)
@@ -271,8 +259,7 @@ issued_none r k is = go (spot k r.incoming)
 pub issued_some : (r : Register) (k : ℕ) (h : IncomingHeader) (x : IssuedResponse) → IsToldOf incoming_header_of r.incoming k (Some h) → IsResponseTo r k (Some x)
     → (let e : IssuedEntry = record { no = k; identity = h.identity; response = x } in Some e ≡ issued_by_no r k)
 issued_some r k h x (before, f, after, placed, header) is =
-    ap (λ (h : IncomingHeader). let e : IssuedEntry = record { no = k; identity = h.identity; response = x } in Some e) header
-    ∙ issued_placed r k (Some x) before f after placed (is before f after placed)
+    ap (λ (h : IncomingHeader). let e : IssuedEntry = record { no = k; identity = h.identity; response = x } in Some e) header ∙ issued_placed r k (Some x) before f after placed (is before f after placed)
 
 -- ---- what is next
 
@@ -280,12 +267,10 @@ pub item_nothing : (r : Register) (partner : List ℕ) (cursor : Cursor) (files 
 item_nothing r partner cursor true unasked none = absurd (let no_such = unasked in cc)
 item_nothing r partner cursor false unasked none = ap (λ o. item_of o None) none
 
-pub item_response : (r : Register) (partner : List ℕ) (cursor : Cursor) (files : Bool) (e : IssuedEntry) → Some e ≡ next_response r partner cursor.response → Some (item.Response e)
-    ≡ next_item r partner cursor files
+pub item_response : (r : Register) (partner : List ℕ) (cursor : Cursor) (files : Bool) (e : IssuedEntry) → Some e ≡ next_response r partner cursor.response → Some (item.Response e) ≡ next_item r partner cursor files
 item_response r partner cursor files e found = ap (λ o. item_of o (if files then next_file r partner cursor.file else None)) found
 
-pub item_file : (r : Register) (partner : List ℕ) (cursor : Cursor) (files : Bool) (file : Option OutgoingEntry) → files ≡ true → None ≡ next_response r partner cursor.response → file
-    ≡ next_file r partner cursor.file
+pub item_file : (r : Register) (partner : List ℕ) (cursor : Cursor) (files : Bool) (file : Option OutgoingEntry) → files ≡ true → None ≡ next_response r partner cursor.response → file ≡ next_file r partner cursor.file
     → item_of None file ≡ next_item r partner cursor files
 item_file r partner cursor true file asked none found = ap (item_of None) found ∙ ap (λ o. item_of o (next_file r partner cursor.file)) none
 item_file r partner cursor false file asked none found = absurd (let no_such = asked in cc)

@@ -2,12 +2,14 @@
 #![tactic(auto)]
 
 mod changes;
+mod file;
 mod looks;
 mod office;
 mod open;
 #[cfg(test)]
 mod tests;
 
+pub use file::open_at;
 pub use office::SqlOffice;
 pub use oftp_schema::StoreFault;
 pub use open::OpenRefused;

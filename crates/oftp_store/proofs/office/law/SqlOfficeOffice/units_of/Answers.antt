@@ -5,7 +5,7 @@ use Rattle.oftp_store.proofs.office.law.SqlOfficeOffice.units_of.Goals as goal
 
 pub returns-then-no-ge-FIRST_FAR-clause-looks : goal.returns-then-no-ge-FIRST_FAR-clause-looks
 returns-then-no-ge-FIRST_FAR-clause-looks g c = looks_nowhere (λ r units. units ≡ units_of r c.args.side c.args.no) _ _ _ 0 (settled_alone g.S.Store g.met.S.Store.settled _ c.args.self.now.conn)
-(λ stands. far_units _ _ c.args.side c.args.no stands.holds.tables (omega (arith, c.if-no-ge-FIRST_FAR.true)))
+    (λ stands. far_units _ _ c.args.side c.args.no stands.holds.tables (omega (arith, c.if-no-ge-FIRST_FAR.true)))
 
 pub returns-clause-looks : goal.returns-clause-looks
 returns-clause-looks g c =
