@@ -13,6 +13,11 @@ mod RowLookLemmas
 mod CommitLemmas
 mod ChangeLemmas
 mod PlaceLemmas
+mod ListLemmas
+mod ReceivedLemmas
+mod LoopLemmas
+mod PageLemmas
+mod OfficeLemmas
 mod SlotLemmas
 mod SubmissionLemmas
 mod BeginningLemmas

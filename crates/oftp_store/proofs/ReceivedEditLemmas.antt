@@ -53,14 +53,14 @@ makes_noteless n kind identity reason small old new made r creator text next kep
 
 -- ---- the notes
 
-abbrev note_piece : ℕ → Received → List Row
+abbrev pub note_piece : ℕ → Received → List Row
 note_piece n r = note_if_negative n r r.kind
 
-notes_pieces : (n : ℕ) (rs : List Received) → notes_from n rs ≡ pieces_from note_piece n rs
+pub notes_pieces : (n : ℕ) (rs : List Received) → notes_from n rs ≡ pieces_from note_piece n rs
 notes_pieces n [] = refl
 notes_pieces n (r ∷ rs) = ap (λ rows. note_piece n r ++ rows) (notes_pieces (n + 1) rs)
 
-note_number : (n : ℕ) (r : Received) → HaveNumber n (note_piece n r)
+pub note_number : (n : ℕ) (r : Received) → HaveNumber n (note_piece n r)
 note_number n r = elim r.kind as (λ kind. HaveNumber n (note_if_negative n r kind)) [ EndResponse ↦ tt | NegativeEndResponse ↦ (refl, tt) ]
 
 -- an end response needs no note

@@ -5,5 +5,8 @@ pub mod Reads
 pub mod Commits
 pub mod Steps
 pub mod Places
+pub mod Tells
+pub mod Views
+pub mod Opens
 pub mod Slots
 pub mod Filings

@@ -43,6 +43,11 @@ entries_in r table.IncomingFiles = length r.incoming
 entries_in r table.OutgoingFiles = length r.outgoing
 entries_in r table.ReceivedResponses = length r.received
 
+-- how many files a side has
+abbrev pub files_in : Register → Side → ℕ
+files_in r side.Incoming = length r.incoming
+files_in r side.Outgoing = length r.outgoing
+
 -- ---- the number of an identity
 
 abbrev pub no_of_text : Side → List ℕ

@@ -5,12 +5,16 @@ use Rattle.sqlite.specs.declared.types.Value.{Value}
 use Rattle.sqlite.specs.declared.types.Value.TheVariants.{Null, Int, Text, Blob, Real}
 use Rattle.sqlite.specs.Order.{Row, bytes, column}
 use Rattle.oftp_wire.specs.Octets.{number}
+use Rattle.oftp_register.specs.declared.entry.ResponseKind.TheVariants.{NegativeEndResponse}
 use Rattle.oftp_register.specs.declared.entries.IssuedResponse.{IssuedResponse}
-use Rattle.oftp_register.specs.Register.{Register, Incoming, Outgoing}
+use Rattle.oftp_register.specs.declared.entries.ReceivedEntry.{ReceivedEntry}
+use Rattle.oftp_register.specs.Register.{Register, Incoming, Outgoing, Received}
 use Rattle.oftp_register.specs.LookUps.{entry_at, issued_response}
 use Rattle.oftp_tables.specs.Tables.{dispatch_in, format_in, identity_in, in_state_in, kind_in, number_in, out_state_in}
 use Rattle.oftp_store.specs.declared.looks.header.IncomingHeader.{IncomingHeader}
 use Rattle.oftp_store.specs.declared.looks.header.OutgoingHeader.{OutgoingHeader}
+use Rattle.oftp_store.specs.declared.looks.received.ReceivedHeader.{ReceivedHeader}
+use Rattle.oftp_store.specs.declared.looks.received.Remark.{Remark}
 
 -- ---- headers
 
@@ -62,6 +66,29 @@ response_in row = record { kind = kind_in (bytes (column row 0)); reason = numbe
 -- the response to the file with a number
 abbrev pub IsResponseTo : Register → ℕ → Option IssuedResponse → Type 0
 IsResponseTo r k found = (before : List Incoming) (f : Incoming) (after : List Incoming) → IsPlaced r.incoming k before f after → found ≡ option_map issued_response f.response
+
+-- ---- responses that came
+
+abbrev pub received_header_in : Row → ReceivedHeader
+received_header_in row = record { kind = kind_in (bytes (column row 0)); identity = identity_in 1 row; reason = number (bytes (column row 6)) }
+
+abbrev pub received_header_of : Received → ReceivedHeader
+received_header_of x = record { kind = x.kind; identity = x.identity; reason = x.reason }
+
+abbrev pub remark_in : Row → Remark
+remark_in row = record { creator = bytes (column row 0); text = bytes (column row 1) }
+
+abbrev pub remark_of : Received → Remark
+remark_of x = record { creator = x.creator; text = x.text }
+
+-- the texts of the response with a number, where it is a negative one
+abbrev pub IsRemarkOf : Register → ℕ → Remark → Type 0
+IsRemarkOf r k remark = (before : List Received) (x : Received) (after : List Received) → IsPlaced r.received k before x after → x.kind ≡ NegativeEndResponse → remark ≡ remark_of x
+
+-- a response that came as it is handed out
+abbrev pub received_entry_of : ℕ → ReceivedHeader → Remark → ReceivedEntry
+received_entry_of n header remark =
+    record { no = n; response = record { kind = header.kind; identity = header.identity; reason = header.reason; creator = remark.creator; text = remark.text } }
 
 -- ---- the number of rows
 

@@ -58,3 +58,9 @@ last_row_text side.Outgoing = codes "SELECT pos FROM out_row WHERE no = ?1 ORDER
 abbrev pub some_rows_text : Side → List ℕ
 some_rows_text side.Incoming = codes "SELECT body FROM in_row WHERE no = ?1 AND pos >= ?2 ORDER BY pos LIMIT ?3"
 some_rows_text side.Outgoing = codes "SELECT body FROM out_row WHERE no = ?1 AND pos >= ?2 ORDER BY pos LIMIT ?3"
+
+abbrev pub received_text : List ℕ
+received_text = codes "SELECT kind, dataset, date, time, originator, destination, reason FROM received WHERE no = ?1"
+
+abbrev pub remark_text : List ℕ
+remark_text = codes "SELECT creator, note FROM received_note WHERE no = ?1"

@@ -1,5 +1,15 @@
-//! The office over a SQLite database: its look-ups and its changes.
+//! The office over a SQLite database: [`SqlOffice`] keeps a register in the tables of schema 2.
 #![tactic(auto)]
 
 mod changes;
+mod file;
 mod looks;
+mod office;
+mod open;
+#[cfg(test)]
+mod tests;
+
+pub use file::open_at;
+pub use office::SqlOffice;
+pub use oftp_schema::StoreFault;
+pub use open::OpenRefused;

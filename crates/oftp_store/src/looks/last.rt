@@ -8,9 +8,11 @@ ghost use Rattle.oftp_register.specs.Offices.{IsFailure};
 ghost use Rattle.oftp_schema.specs.Schema.{office_schema};
 ghost use Rattle.oftp_tables.specs.Calls.{Looks};
 ghost use Rattle.oftp_tables.specs.Tables.{Tables};
-ghost use Rattle.oftp_store.specs.Numbers.{TellsLast, entries_in, last_text};
+ghost use Rattle.oftp_register.specs.LookUps.{files_full};
+ghost use Rattle.oftp_store.specs.Numbers.{TellsLast, entries_in, files_in, last_text};
+ghost use Rattle.oftp_store.specs.Tells.{Tells};
 
-use oftp_register::OfficeFault;
+use oftp_register::{OfficeFault, Side};
 use oftp_tables::{ask, no_at};
 use sqlite::{Alter, Connection, Row};
 
@@ -60,6 +62,32 @@ pub(crate) fn last_no<S: Alter>(conn: &mut Connection<S>, table: Table) -> Resul
 {
     match ask(conn, last_text(table), &[]) {
         Ok(rows) => last_told(rows.as_slice()),
+        Err(fault) => Err(fault),
+    }
+}
+
+// The table of the files of a side.
+fn table_of(side: Side) -> Table
+    ensures { (r : Register) → entries_in r result ≡ files_in r side }
+{
+    match side {
+        Side::Incoming => Table::IncomingFiles,
+        Side::Outgoing => Table::OutgoingFiles,
+    }
+}
+
+/// Whether a table of files has so many, or more.
+pub(crate) fn is_full<S: Alter>(
+    conn: &mut Connection<S>,
+    side: Side,
+    most: u64,
+) -> Result<bool, OfficeFault>
+    ensures looks { Looks (state S.Store conn.old) (state S.Store conn.new) result }
+    ensures answer { Tells (λ r full. r.limits.files ≡ most → full ≡ files_full r side)
+        (state S.Store conn.old) (state S.Store conn.new) result }
+{
+    match last_no(conn, table_of(side)) {
+        Ok(last) => Ok(last >= most),
         Err(fault) => Err(fault),
     }
 }

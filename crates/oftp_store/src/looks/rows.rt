@@ -5,16 +5,19 @@ ghost use Rattle.sqlite.specs.Held.{state};
 ghost use Rattle.sqlite.specs.Order.{bytes, column};
 ghost use Rattle.sqlite.specs.State.{HasCleanDisk};
 ghost use Rattle.oftp_register.specs.Register.{Register};
-ghost use Rattle.oftp_register.specs.LookUps.{file_rows};
+ghost use Rattle.oftp_register.specs.LookUps.{AreRowsWithin, file_rows, rows_of};
+ghost use Rattle.oftp_vfile.specs.declared.format.TheConstants.{MOST_ROWS};
 ghost use Rattle.oftp_register.specs.Offices.{IsFailure};
 ghost use Rattle.oftp_schema.specs.Schema.{office_schema};
 ghost use Rattle.oftp_tables.specs.Calls.{Looks};
 ghost use Rattle.oftp_tables.specs.Tables.{Tables};
 ghost use Rattle.oftp_store.specs.Reads.{TellsCount, place_told};
+ghost use Rattle.oftp_store.specs.Tells.{Tells};
 ghost use Rattle.oftp_store.specs.Texts.{last_row_text, some_rows_text};
 
 use oftp_register::{OfficeFault, Side};
 use oftp_tables::{ask, body_at, number};
+use oftp_vfile::{MOST_ROWS, Rows};
 use sqlite::types::ValueRef;
 use sqlite::{Alter, Connection, Row, params};
 use std::alloc::Global;
@@ -115,5 +118,34 @@ pub(crate) fn find_rows<S: Alter>(
     match ask(conn, some_rows_text(side), params![number(no), from, most]) {
         Ok(rows) => bodies_told(alloc, rows.as_slice()),
         Err(fault) => Err(fault),
+    }
+}
+
+/// Rows of the file with a number as an office hands them out: from one on, and so many at most. More rows than were asked for, or
+/// than a file may have, are a fault of the store.
+pub(crate) fn rows_of<S: Alter>(
+    alloc: Global,
+    conn: &mut Connection<S>,
+    side: Side,
+    no: u64,
+    from: u64,
+    most: u64,
+) -> Result<Rows, OfficeFault>
+    requires no { no < 2 ^ 63 }
+    requires from { from ≤ MOST_ROWS }
+    ensures looks { Looks (state S.Store conn.old) (state S.Store conn.new) result }
+    ensures answer { Tells (λ r rows. rows ≡ rows_of r side no from most) (state S.Store conn.old) (state S.Store conn.new) result }
+    ensures within { IfOk result (AreRowsWithin from most) }
+{
+    let few = most.min(MOST_ROWS as u64) as u32;
+    match find_rows(alloc, conn, side, no, from as u32, few) {
+        Err(fault) => Err(fault),
+        Ok(rows) => {
+            let len = rows.len() as u64;
+            if len > most || len > MOST_ROWS as u64 - from {
+                return Err(OfficeFault::Store);
+            }
+            Ok(Rows::new(rows))
+        }
     }
 }

@@ -1,0 +1,31 @@
+-- Rows that are asked for, and rows that are counted by pages.
+use Rattle.std.proofs.Common.{◌≡◌, ◌+◌, ◌*◌, ◌≤◌, ℕ, List, length, take, drop, min, sym, ap, ◌∙◌, arith, take_all, length-append}
+use Rattle.std.proofs.Math.Seq.{take-add}
+use Rattle.std.proofs.lemmas.Grind.{flat_map-append}
+use Rattle.std.proofs.lemmas.List.{length-drop, take_min}
+use Rattle.oftp_vfile.specs.VirtualFile.{units_in}
+use Rattle.oftp_vfile.specs.declared.format.TheConstants.{MOST_ROWS}
+use Rattle.oftp_register.specs.declared.entries.Side.{Side}
+use Rattle.oftp_register.specs.Register.{Register}
+use Rattle.oftp_register.specs.Soundness.{IsSound}
+use Rattle.oftp_register.specs.LookUps.{file_rows, rows_of}
+use Rattle.oftp_register.proofs.FileRowLemmas.{few_rows}
+
+-- no more is asked for than a file may have
+pub asked_rows : (r : Register) (which : Side) (n from most : ℕ) → IsSound r → take (min most MOST_ROWS) (drop from (file_rows r which n)) ≡ rows_of r which n from most
+asked_rows r which n from most sound =
+    let rest = drop from (file_rows r which n) in
+    let few : length rest ≤ MOST_ROWS = omega (arith, few_rows r which n sound, length-drop from (file_rows r which n)) in
+    let same : min (min most MOST_ROWS) (length rest) ≡ min most (length rest) = omega (arith, few) in
+    sym (take_min (min most MOST_ROWS) rest) ∙ ap (λ m. take m rest) same ∙ take_min most rest
+
+-- one page more
+pub page_more : (k : ℕ) (rows : List (List ℕ)) → units_in (take (k * 64) rows) + units_in (take 64 (drop (k * 64) rows)) ≡ units_in (take ((k + 1) * 64) rows)
+page_more k rows =
+    let more : (k + 1) * 64 ≡ k * 64 + 64 = omega arith in
+    sym (ap (λ m. units_in (take m rows)) more ∙ ap units_in (take-add (k * 64) 64 rows) ∙ ap length (flat_map-append (λ (r : List ℕ). r) (take (k * 64) rows) (take 64 (drop (k * 64) rows)))
+    ∙ length-append _ _)
+
+-- all pages
+pub all_pages : (k : ℕ) (rows : List (List ℕ)) → length rows ≤ k * 64 → units_in (take (k * 64) rows) ≡ units_in rows
+all_pages k rows h = ap units_in (take_all (k * 64) rows h)

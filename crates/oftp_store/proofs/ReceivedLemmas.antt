@@ -1,0 +1,135 @@
+-- Responses that came are read back.
+use Rattle.std.proofs.Common.{◌≡◌, ◌+◌, ◌<◌, ℕ, false, List, [], ◌∷◌, ◌++◌, codes, Some, None, All, refl, sym, ap, subst, ◌∙◌}
+use Rattle.std.specs.List.{AllByRecursion}
+use Rattle.std.specs.List.Sorted.{IsPermutation}
+use Rattle.sqlite_tied.specs.Compute.{everything}
+use Rattle.sqlite.specs.declared.types.Value.TheVariants.{Null, Text}
+use Rattle.sqlite.specs.Order.{Row}
+use Rattle.sqlite.specs.Term.{Term, col, eval_all}
+use Rattle.sqlite.specs.Command.{Command}
+use Rattle.sqlite.specs.Command.TheVariants.{Select}
+use Rattle.sqlite.specs.Listing.{understood, reads_listing}
+use Rattle.sqlite.specs.State.{State, Shown}
+use Rattle.sqlite.proofs.Callers.{IsPlain, command_of, reads_as, one_permutation}
+use Rattle.oftp_wire.specs.Octets.{number}
+use Rattle.oftp_schema.specs.Schema.{note_tree, office_schema, received_tree}
+use Rattle.oftp_schema.proofs.QueryLemmas.{answers, chosen, plain_query}
+use Rattle.oftp_register.specs.declared.entry.Dispatch.TheVariants.{Due}
+use Rattle.oftp_register.specs.declared.entry.ResponseKind.{ResponseKind}
+use Rattle.oftp_register.specs.declared.entry.ResponseKind.TheVariants.{EndResponse, NegativeEndResponse}
+use Rattle.oftp_register.specs.declared.entries.ReceivedEntry.{ReceivedEntry}
+use Rattle.oftp_register.specs.Register.{Register, Issued, Received}
+use Rattle.oftp_register.specs.Soundness.{IsResponse, IsSound, IsSoundReceived}
+use Rattle.oftp_register.specs.LookUps.{received_entry}
+use Rattle.oftp_tables.specs.Tables.{Tables, note_if_negative, notes_from, number_value, reason_text, received_row}
+use Rattle.oftp_tables.proofs.BackLemmas.{all_at_place, at_place, issued_back, kind_back}
+use Rattle.oftp_tables.proofs.SplitLemmas.{among, by_number, chosen_one, pieces_from}
+use Rattle.oftp_store.specs.Reads.{IsPlaced, IsToldOf, first_told, received_entry_of, received_header_in, received_header_of, remark_in, remark_of}
+use Rattle.oftp_store.specs.Tells.{received_by_no}
+use Rattle.oftp_store.specs.Texts.{received_text, remark_text}
+use Rattle.oftp_store.specs.declared.looks.received.ReceivedHeader.{ReceivedHeader}
+use Rattle.oftp_store.specs.declared.looks.received.Remark.{Remark}
+use Rattle.oftp_store.proofs.NumberLemmas.{OneRow, entry_known, entry_unknown, nowhere, one_row, somewhere}
+use Rattle.oftp_store.proofs.ReceivedEditLemmas.{note_number, note_piece, notes_pieces}
+
+-- ---- without the texts
+
+abbrev received_project : List Term
+received_project = col 1 2 ∷ col 1 3 ∷ col 1 4 ∷ col 1 5 ∷ col 1 6 ∷ col 1 7 ∷ col 1 8 ∷ []
+
+abbrev received_select : Command
+received_select =
+    Select (record { lets = []; body = plain_query received_tree by_number received_project })
+    (codes "kind" ∷ codes "dataset" ∷ codes "date" ∷ codes "time" ∷ codes "originator" ∷ codes "destination" ∷ codes "reason" ∷ [])
+
+received_is : (command_of (understood office_schema received_text) ≡ received_select) × (reads_listing office_schema received_text ≡ false)
+unfolding understood everything
+received_is = (refl, refl)
+
+pub received_plain : IsPlain (understood office_schema received_text)
+unfolding understood everything
+received_plain = (refl, refl)
+
+textless : (kind : ResponseKind) (reason : ℕ) (creator text : List ℕ) → IsResponse kind reason creator text → IsResponse kind reason [] []
+textless EndResponse reason creator text h = (h.0, refl, refl)
+textless NegativeEndResponse reason creator text h = tt
+
+reason_is_back : (x : Received) → x.reason < 100 → IsSoundReceived x → number (reason_text x.kind x.reason) ≡ x.reason
+reason_is_back x small sound =
+    let answer : Issued = record { kind = x.kind; reason = x.reason; text = []; dispatch = Due } in
+    ap (λ (i : Issued). i.reason) (issued_back 0 answer small (textless x.kind x.reason x.creator x.text sound))
+
+header_back : (k : ℕ) (x : Received) → x.reason < 100 → IsSoundReceived x → received_header_in (eval_all received_project ((number_value k ∷ []) ∷ received_row k x ∷ [])) ≡ received_header_of x
+header_back k x small sound =
+    ap (λ y. let h : ReceivedHeader = record { kind = y; identity = x.identity; reason = number (reason_text x.kind x.reason) } in h) (kind_back x.kind)
+    ∙ ap (λ y. let h : ReceivedHeader = record { kind = x.kind; identity = x.identity; reason = y } in h) (reason_is_back x small sound)
+
+pub finds_received : (old new : State) (k : ℕ) (rows : List Row) → old.now.schema ≡ office_schema → Shown received_text (number_value k ∷ []) old new rows → (r : Register) → Tables r old.now.trees → IsSound r
+    → IsToldOf received_header_of r.received k (first_told received_header_in rows)
+finds_received old new k rows has h r kept sound =
+    let params = number_value k ∷ [] in
+    let read = reads_as received_text params old new office_schema has received_select received_is.0 received_plain received_is.1 rows h in
+    go (one_row received_row (λ n x. refl) r.received k received_project rows (subst (λ table. IsPermutation (chosen by_number received_project params table) rows) kept.received.responses_are (answers old.now.trees received_tree by_number received_project params rows (read.answer Null))))
+  where
+    go : OneRow received_row r.received k received_project rows → IsToldOf received_header_of r.received k (first_told received_header_in rows)
+    go (nowhere none unknown) = subst (λ rows. IsToldOf received_header_of r.received k (first_told received_header_in rows)) (sym none) unknown
+    go (somewhere before x after placed one) =
+        let small = at_place (λ (y : Received). y.reason < 100) before x after (subst (AllByRecursion (λ (y : Received). y.reason < 100)) placed.here kept.received.reasons) in
+        let right = all_at_place IsSoundReceived before x after (subst (All IsSoundReceived) placed.here sound.received) in
+        subst (λ rows. IsToldOf received_header_of r.received k (first_told received_header_in rows)) (sym one) (before, x, after, placed, header_back k x small right)
+
+-- ---- the texts
+
+abbrev remark_project : List Term
+remark_project = col 1 2 ∷ col 1 3 ∷ []
+
+abbrev remark_select : Command
+remark_select = Select (record { lets = []; body = plain_query note_tree by_number remark_project }) (codes "creator" ∷ codes "note" ∷ [])
+
+remark_is : (command_of (understood office_schema remark_text) ≡ remark_select) × (reads_listing office_schema remark_text ≡ false)
+unfolding understood everything
+remark_is = (refl, refl)
+
+pub remark_plain : IsPlain (understood office_schema remark_text)
+unfolding understood everything
+remark_plain = (refl, refl)
+
+pub finds_remark : (old new : State) (k : ℕ) (rows : List Row) → old.now.schema ≡ office_schema → Shown remark_text (number_value k ∷ []) old new rows → (r : Register) → Tables r old.now.trees
+    → (before : List Received) (x : Received) (after : List Received) → IsPlaced r.received k before x after → x.kind ≡ NegativeEndResponse → first_told remark_in rows ≡ Some (remark_of x)
+finds_remark old new k rows has h r kept before x after placed negative =
+    let params = number_value k ∷ [] in
+    let read = reads_as remark_text params old new office_schema has remark_select remark_is.0 remark_plain remark_is.1 rows h in
+    let perm = answers old.now.trees note_tree by_number remark_project params rows (read.answer Null) in
+    let place = among note_piece note_number k before x after placed.number in
+    let table : old.now.trees note_tree ≡ lo ++ (note_if_negative k x NegativeEndResponse ++ hi) =
+    kept.received.notes_are ∙ ap (notes_from 1) placed.here ∙ notes_pieces 1 (before ++ x ∷ after) ∙ place.rows ∙ ap (λ kind. lo ++ (note_if_negative k x kind ++ hi)) negative in
+    ap (first_told remark_in) (one_permutation _ rows (subst (λ all. IsPermutation all rows) (chosen_one remark_project k [] note lo hi refl place.split) (subst (λ table. IsPermutation (chosen by_number remark_project params table) rows) table perm)))
+  where
+    lo : List Row
+    lo = pieces_from note_piece 1 before
+
+    hi : List Row
+    hi = pieces_from note_piece (k + 1) after
+
+    note : Row
+    note = number_value k ∷ Null ∷ Text x.creator ∷ Text x.text ∷ []
+
+-- ---- the whole
+
+pub no_received : (r : Register) (k : ℕ) → IsToldOf received_header_of r.received k None → received_by_no r k ≡ None
+no_received r k none = entry_unknown received_entry (λ (e : ReceivedEntry). e.no) (λ n x. refl) k r.received none
+
+pub received_told : (r : Register) (k : ℕ) (h : ReceivedHeader) (remark : Remark) → IsToldOf received_header_of r.received k (Some h)
+    → ((before : List Received) (x : Received) (after : List Received) → IsPlaced r.received k before x after → h.kind ≡ x.kind → remark ≡ remark_of x) → Some (received_entry_of k h remark) ≡ received_by_no r k
+received_told r k h remark (before, x, after, placed, header) texts =
+    let kind : h.kind ≡ x.kind = ap (λ (h : ReceivedHeader). h.kind) header in
+    ap (λ h. Some (received_entry_of k h remark)) header ∙ ap (λ remark. Some (received_entry_of k (received_header_of x) remark)) (texts before x after placed kind)
+    ∙ sym (entry_known received_entry (λ (e : ReceivedEntry). e.no) (λ n x. refl) k r.received before x after placed)
+
+-- an end response has no texts
+pub textless_remark : (r : Register) (k : ℕ) → IsSound r → (before : List Received) (x : Received) (after : List Received) → IsPlaced r.received k before x after → x.kind ≡ EndResponse
+    → (let none : Remark = record { creator = []; text = [] } in none ≡ remark_of x)
+textless_remark r k sound before x after placed end =
+    let right = all_at_place IsSoundReceived before x after (subst (All IsSoundReceived) placed.here sound.received) in
+    let texts : IsResponse EndResponse x.reason x.creator x.text = subst (λ kind. IsResponse kind x.reason x.creator x.text) end right in
+    ap (λ c. let m : Remark = record { creator = c; text = [] } in m) (sym texts.1) ∙ ap (λ t. let m : Remark = record { creator = x.creator; text = t } in m) (sym texts.2)

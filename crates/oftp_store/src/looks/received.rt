@@ -1,0 +1,176 @@
+//! The responses that came, by number.
+
+ghost use Rattle.std.specs.Prelude.{◌≡◌, ◌<◌, ◌^◌, [], Some, IfOk, IfErr};
+ghost use Rattle.sqlite.specs.Held.{state};
+ghost use Rattle.oftp_register.specs.Offices.{IsFailure};
+ghost use Rattle.oftp_tables.specs.Calls.{Looks};
+ghost use Rattle.oftp_store.specs.Reads.{IsRemarkOf, IsToldOf, first_told, received_entry_of, received_header_in, received_header_of, remark_in};
+ghost use Rattle.oftp_store.specs.Tells.{Tells, received_by_no};
+
+use oftp_register::{
+    Identity, Name, Note, OfficeFault, ReceivedEntry, ReceivedResponse, ResponseKind,
+};
+use oftp_tables::{ask, identity_at, kind_at, name_at, number, reason_at, text_at};
+use oftp_wire::{Count, Text, X};
+use sqlite::{Alter, Connection, Row, params};
+use std::alloc::Global;
+
+/// A response that came without its texts.
+#[derive(Drop)]
+pub(crate) struct ReceivedHeader {
+    pub kind: ResponseKind,
+    pub identity: Identity,
+    pub reason: Count<2>,
+}
+
+/// The texts of a response that came.
+#[derive(Drop)]
+pub(crate) struct Remark {
+    pub creator: Name<25>,
+    pub text: Note,
+}
+
+// The response that a row tells.
+fn header_in(row: &Row) -> Result<ReceivedHeader, OfficeFault>
+    ensures told { IfOk result (λ header. header ≡ received_header_in row.now) }
+    ensures fails { IfErr result IsFailure }
+{
+    match (kind_at(row, 0), identity_at(row, 1), reason_at(row, 6)) {
+        (Some(kind), Some(identity), Some(reason)) => Ok(ReceivedHeader {
+            kind,
+            identity,
+            reason,
+        }),
+        _ => Err(OfficeFault::Store),
+    }
+}
+
+// The response that an answer tells.
+fn header_told(rows: &[Row]) -> Result<Option<ReceivedHeader>, OfficeFault>
+    ensures told { IfOk result (λ found. found ≡ first_told received_header_in rows.now) }
+    ensures fails { IfErr result IsFailure }
+{
+    match rows {
+        [] => Ok(None),
+        [row, ..] => match header_in(row) {
+            Ok(header) => Ok(Some(header)),
+            Err(fault) => Err(fault),
+        },
+    }
+}
+
+// The response with a number, without its texts.
+fn find_received_header<S: Alter>(
+    conn: &mut Connection<S>,
+    no: u64,
+) -> Result<Option<ReceivedHeader>, OfficeFault>
+    requires { no < 2 ^ 63 }
+    ensures looks { Looks (state S.Store conn.old) (state S.Store conn.new) result }
+    ensures answer { Tells (λ r found. IsToldOf received_header_of r.received no found)
+        (state S.Store conn.old) (state S.Store conn.new) result }
+{
+    match ask(
+        conn,
+        "SELECT kind, dataset, date, time, originator, destination, reason FROM received WHERE no = ?1",
+        params![number(no)],
+    ) {
+        Ok(rows) => header_told(rows.as_slice()),
+        Err(fault) => Err(fault),
+    }
+}
+
+// The texts that an answer tells.
+fn remark_told(alloc: Global, rows: &[Row]) -> Result<Remark, OfficeFault>
+    ensures told { IfOk result (λ remark. Some remark ≡ first_told remark_in rows.now) }
+    ensures fails { IfErr result IsFailure }
+{
+    match rows {
+        [] => Err(OfficeFault::Store),
+        [row, ..] => match name_at(row, 0) {
+            None => Err(OfficeFault::Store),
+            Some(creator) => match text_at(alloc, row, 1) {
+                Ok(text) => Ok(Remark { creator, text }),
+                Err(fault) => Err(fault),
+            },
+        },
+    }
+}
+
+// The texts of the negative response with a number.
+fn find_remark<S: Alter>(
+    alloc: Global,
+    conn: &mut Connection<S>,
+    no: u64,
+) -> Result<Remark, OfficeFault>
+    requires { no < 2 ^ 63 }
+    ensures looks { Looks (state S.Store conn.old) (state S.Store conn.new) result }
+    ensures answer { Tells (λ r remark. IsRemarkOf r no remark) (state S.Store conn.old) (state S.Store conn.new) result }
+{
+    match ask(
+        conn,
+        "SELECT creator, note FROM received_note WHERE no = ?1",
+        params![number(no)],
+    ) {
+        Ok(rows) => remark_told(alloc, rows.as_slice()),
+        Err(fault) => Err(fault),
+    }
+}
+
+// No texts.
+fn no_remark(alloc: Global) -> Result<Remark, OfficeFault>
+    ensures told { IfOk result (λ remark. remark ≡ record { creator = []; text = [] }) }
+    ensures fails { IfErr result IsFailure }
+{
+    match (X::new(b""), Text::new("")) {
+        (Some(creator), Some(text)) => match Note::of(alloc, &text) {
+            Ok(text) => Ok(Remark {
+                creator: Name::of(&creator),
+                text,
+            }),
+            Err(_) => Err(OfficeFault::Memory),
+        },
+        _ => Err(OfficeFault::Store),
+    }
+}
+
+// A response with its number and texts.
+fn entry_of(no: u64, header: ReceivedHeader, remark: Remark) -> ReceivedEntry
+    ensures { result ≡ received_entry_of no header remark }
+{
+    ReceivedEntry {
+        no,
+        response: ReceivedResponse {
+            kind: header.kind,
+            identity: header.identity,
+            reason: header.reason,
+            creator: remark.creator,
+            text: remark.text,
+        },
+    }
+}
+
+/// The response that came with a number. A negative one without its texts is a fault of the store.
+pub(crate) fn find_received<S: Alter>(
+    alloc: Global,
+    conn: &mut Connection<S>,
+    no: u64,
+) -> Result<Option<ReceivedEntry>, OfficeFault>
+    requires { no < 2 ^ 63 }
+    ensures looks { Looks (state S.Store conn.old) (state S.Store conn.new) result }
+    ensures answer { Tells (λ r found. found ≡ received_by_no r no) (state S.Store conn.old) (state S.Store conn.new) result }
+{
+    match find_received_header(conn, no) {
+        Err(fault) => Err(fault),
+        Ok(None) => Ok(None),
+        Ok(Some(header)) => match header.kind {
+            ResponseKind::EndResponse => match no_remark(alloc) {
+                Ok(remark) => Ok(Some(entry_of(no, header, remark))),
+                Err(fault) => Err(fault),
+            },
+            ResponseKind::NegativeEndResponse => match find_remark(alloc, conn, no) {
+                Ok(remark) => Ok(Some(entry_of(no, header, remark))),
+                Err(fault) => Err(fault),
+            },
+        },
+    }
+}

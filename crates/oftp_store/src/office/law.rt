@@ -1,0 +1,152 @@
+//! The law of an office, over a SQLite database.
+
+ghost use Rattle.std.specs.Prelude.{◌≡◌, ◌||◌, ◌^◌, nat_le, nat_lt};
+ghost use Rattle.sqlite.specs.Held.{state};
+ghost use Rattle.oftp_vfile.specs.declared.format.TheConstants.{MOST_ROWS};
+ghost use Rattle.oftp_register.specs.Offices.{Counts};
+ghost use Rattle.oftp_store.specs.Views.{content_alone, view_of};
+
+use super::SqlOffice;
+use crate::changes::commit::commit_change;
+use crate::looks::{entry, find, identity, item, last, lists, rows, units};
+use oftp_register::{
+    Change, Cursor, Identity, IncomingEntry, IssuedEntry, Item, Name, Office, OfficeFault,
+    OutgoingEntry, ReceivedEntry, ResponseKind, Side,
+};
+use oftp_vfile::{Limits, MOST_ROWS, Rows};
+use sqlite::Alter;
+
+// No entry has this number or a greater one: the database can't hold it.
+const FIRST_FAR: u64 = 0x8000_0000_0000_0000;
+
+// Counts a fault.
+fn counted<T>(faults: &mut u64, found: Result<T, OfficeFault>) -> Result<T, OfficeFault>
+    ensures same { result ≡ found }
+    ensures counts { Counts faults.old faults.new found }
+{
+    match found {
+        Ok(x) => Ok(x),
+        Err(OfficeFault::Refused(cause)) => Err(OfficeFault::Refused(cause)),
+        Err(OfficeFault::Store) => {
+            *faults = faults.wrapping_add(1);
+            Err(OfficeFault::Store)
+        }
+        Err(OfficeFault::Memory) => {
+            *faults = faults.wrapping_add(1);
+            Err(OfficeFault::Memory)
+        }
+    }
+}
+
+// Whether a file with a number has no row from one on in any register: the store can't hold the number, or so many rows.
+fn is_past(no: u64, from: u64) -> bool
+    ensures { result ≡ (nat_le (2 ^ 63) no || nat_lt MOST_ROWS from) }
+{
+    no >= FIRST_FAR || from > MOST_ROWS as u64
+}
+
+impl<S: Alter> Office for SqlOffice<S> {
+    ghost view = { λ o. view_of o.limits o.faults (state S.Store o.conn) };
+
+    fn limits(&self) -> Limits {
+        self.limits
+    }
+
+    fn look_in(&mut self, identity: &Identity) -> Result<Option<IncomingEntry>, OfficeFault> {
+        let found = find::look_in(self.alloc, &mut self.conn, identity);
+        counted(&mut self.faults, found)
+    }
+
+    fn look_out(&mut self, identity: &Identity) -> Result<Option<OutgoingEntry>, OfficeFault> {
+        let found = find::look_out(self.alloc, &mut self.conn, identity);
+        counted(&mut self.faults, found)
+    }
+
+    fn in_by_no(&mut self, no: u64) -> Result<Option<IncomingEntry>, OfficeFault> {
+        if no >= FIRST_FAR {
+            return Ok(None);
+        }
+        let found = entry::find_incoming(self.alloc, &mut self.conn, no);
+        counted(&mut self.faults, found)
+    }
+
+    fn out_by_no(&mut self, no: u64) -> Result<Option<OutgoingEntry>, OfficeFault> {
+        if no >= FIRST_FAR {
+            return Ok(None);
+        }
+        let found = entry::find_outgoing(self.alloc, &mut self.conn, no);
+        counted(&mut self.faults, found)
+    }
+
+    fn files_full(&mut self, side: Side) -> Result<bool, OfficeFault> {
+        let full = last::is_full(&mut self.conn, side, self.limits.files);
+        counted(&mut self.faults, full)
+    }
+
+    fn has_received(
+        &mut self,
+        kind: ResponseKind,
+        identity: &Identity,
+    ) -> Result<bool, OfficeFault> {
+        let there = identity::has_filed(&mut self.conn, kind, identity);
+        counted(&mut self.faults, there)
+    }
+
+    fn next_item(
+        &mut self,
+        partner: &Name<25>,
+        cursor: Cursor,
+        files: bool,
+    ) -> Result<Option<Item>, OfficeFault> {
+        let found = item::next_item(self.alloc, &mut self.conn, partner, cursor, files);
+        counted(&mut self.faults, found)
+    }
+
+    fn rows_of(&mut self, side: Side, no: u64, from: u64, most: u64) -> Result<Rows, OfficeFault> {
+        if is_past(no, from) {
+            let none = Vec::new(self.alloc);
+            return Ok(Rows::new(none));
+        }
+        let found = rows::rows_of(self.alloc, &mut self.conn, side, no, from, most);
+        counted(&mut self.faults, found)
+    }
+
+    fn units_of(&mut self, side: Side, no: u64) -> Result<u64, OfficeFault> {
+        if no >= FIRST_FAR {
+            return Ok(0);
+        }
+        let found = units::count_units(self.alloc, &mut self.conn, side, no);
+        counted(&mut self.faults, found)
+    }
+
+    fn list_in(&mut self) -> Result<Vec<IncomingEntry>, OfficeFault> {
+        let entries = lists::list_in(self.alloc, &mut self.conn);
+        counted(&mut self.faults, entries)
+    }
+
+    fn list_out(&mut self) -> Result<Vec<OutgoingEntry>, OfficeFault> {
+        let entries = lists::list_out(self.alloc, &mut self.conn);
+        counted(&mut self.faults, entries)
+    }
+
+    fn list_issued(&mut self) -> Result<Vec<IssuedEntry>, OfficeFault> {
+        let entries = lists::list_issued(self.alloc, &mut self.conn);
+        counted(&mut self.faults, entries)
+    }
+
+    fn list_received(&mut self) -> Result<Vec<ReceivedEntry>, OfficeFault> {
+        let entries = lists::list_received(self.alloc, &mut self.conn);
+        counted(&mut self.faults, entries)
+    }
+
+    fn commit(&mut self, change: Change<'_>) -> Result<(), OfficeFault> {
+        let made = commit_change(self.alloc, &mut self.conn, self.limits, change);
+        counted(&mut self.faults, made)
+    }
+
+    ghost sound = { λ o _ stands. stands.holds.sound };
+
+    ghost alone = { λ o _ stands db left. content_alone o.limits _ stands db (S.Store.settled o.conn.store db stands.is_open left) };
+
+    ghost leaves = { λ o clean. S.Store.survives o.conn.store clean };
+}
