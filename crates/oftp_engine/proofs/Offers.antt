@@ -105,11 +105,9 @@ module _ (identity : Identity) (s : Submission) (rows : List (List ℕ)) where
   pub found_new : (r after : Register) → apply r submission ≡ Ok after → look_out after identity ≡ Some (outgoing_entry (1 + length r.outgoing) file)
   unfolding apply
   found_new r after made =
-      elim (cases_Bool (is_outgoing r identity)) [
-        | inl there ↦ (let never : Err cause.Duplicate ≡ Ok after = sym (cond-true (is_outgoing r identity) (Err cause.Duplicate) _ there) ∙ made in absurd (cc))
-        | inr new ↦ subst (λ (x : Register). look_out x identity ≡ Some (outgoing_entry (1 + length r.outgoing) file)) (submitted_ok r after file made).1
-            (finds_new identity 1 r.outgoing file new (same_self identity))
-      ]
+      let added = submitted_ok r after file made in
+      subst (λ (x : Register). look_out x identity ≡ Some (outgoing_entry (1 + length r.outgoing) file)) added.1
+      (finds_new identity 1 r.outgoing file added.0 (same_self identity))
 
 -- a call that does something of one kind does something of another that has it
 pub attempts_as : (verb : List ℕ) (P Q : Deed → Type 0) (old new : View) (result : Result Outcome RunFault) → ((deed : Deed) → P deed → Q deed)

@@ -12,10 +12,16 @@ use std::alloc::Global;
 use std::process::Abort;
 use std::test::Fail;
 
-// An office in memory that keeps so much.
-fn office_of(alloc: Global, files: u64, octets: u64) -> PlainOffice {
-    PlainOffice::new(alloc, Limits { files, octets })
-}
+const LIMITS: Limits = Limits {
+    files: 9,
+    octets: 9_999,
+};
+
+/// Two files of five octets each.
+const NARROW: Limits = Limits {
+    files: 2,
+    octets: 5,
+};
 
 // The first file that came, with no row yet.
 fn start_file(office: &mut PlainOffice) -> Result<(), OfficeFault> {
@@ -103,7 +109,7 @@ const FIELD: &str = "refused: 5 field\n";
 fn response_refusals(rt: HostRuntime) -> Result<(), Fail> {
     let alloc = rt.alloc();
     let book = read(alloc, BOOK)?;
-    let mut office = office_of(alloc, 9, 9_999);
+    let mut office = PlainOffice::new(alloc, LIMITS);
     let long = String::from_str(alloc, "0123456789")?.repeat(alloc, 100)?;
     let reason = Operator::Refuse {
         no: 1,
@@ -134,7 +140,7 @@ fn response_refusals(rt: HostRuntime) -> Result<(), Fail> {
 fn released(rt: HostRuntime) -> Result<(), Fail> {
     let alloc = rt.alloc();
     let book = read(alloc, BOOK)?;
-    let mut office = office_of(alloc, 9, 9_999);
+    let mut office = PlainOffice::new(alloc, LIMITS);
     start_file(&mut office)?;
     office.commit(Change::Close {
         no: 1,
@@ -196,7 +202,7 @@ fn submitted(
 #[test]
 fn operator_refusals(rt: HostRuntime) -> Result<(), Fail> {
     let alloc = rt.alloc();
-    let mut office = office_of(alloc, 9, 9_999);
+    let mut office = PlainOffice::new(alloc, LIMITS);
     submitted(alloc, &rt, &mut office, FILE, "done: submit 1\n")?;
     not_submitted(alloc, &rt, &mut office, FILE, DUPLICATE, Refusal::Duplicate)?;
     let unknown = Submission {
@@ -210,7 +216,7 @@ fn operator_refusals(rt: HostRuntime) -> Result<(), Fail> {
 #[test]
 fn field_faults(rt: HostRuntime) -> Result<(), Fail> {
     let alloc = rt.alloc();
-    let mut office = office_of(alloc, 9, 9_999);
+    let mut office = PlainOffice::new(alloc, LIMITS);
     let long = String::from_str(alloc, "0123456789")?.repeat(alloc, 100)?;
     let stranger = Submission {
         to: "STRANGER",
@@ -343,7 +349,7 @@ fn field_faults(rt: HostRuntime) -> Result<(), Fail> {
 #[test]
 fn limits_of_files(rt: HostRuntime) -> Result<(), Fail> {
     let alloc = rt.alloc();
-    let mut office = office_of(alloc, 2, 5);
+    let mut office = PlainOffice::new(alloc, NARROW);
     let o = &mut office;
     let big = Submission {
         content: b"abcdef",
@@ -383,7 +389,7 @@ fn limits_of_files(rt: HostRuntime) -> Result<(), Fail> {
 #[test]
 fn each_format_is_submitted(rt: HostRuntime) -> Result<(), Fail> {
     let alloc = rt.alloc();
-    let mut office = office_of(alloc, 9, 9_999);
+    let mut office = PlainOffice::new(alloc, LIMITS);
     let fixed = Submission {
         dataset: "F",
         format: Format::Fixed,
