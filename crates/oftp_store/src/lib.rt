@@ -1,4 +1,4 @@
-//! The office over a SQLite database: its look-ups and changes by the number of a file.
+//! The office over a SQLite database: its look-ups and its changes.
 #![tactic(auto)]
 
 mod changes;

@@ -26,14 +26,14 @@ fn answered_as(kind: ResponseKind) -> OutgoingState
 }
 
 /// Files a response that came, and settles the file that it answers.
-pub(crate) fn file<S: Alter>(
+pub(crate) fn file<'x, S: Alter>(
     alloc: Global,
     conn: &mut Connection<S>,
     kind: ResponseKind,
-    identity: &Identity,
+    identity: &'x Identity,
     reason: Count<2>,
-    creator: &Name<25>,
-    text: &Text<'_>,
+    creator: &'x Name<25>,
+    text: &'x Text<'x>,
 ) -> Result<(), OfficeFault>
     requires { conn.old.in_transaction ≡ false }
     ensures { (limits : Limits) → CommitsOn limits (File kind identity.now reason creator.now text.now) (state S.Store conn.old) (state S.Store conn.new) result }
