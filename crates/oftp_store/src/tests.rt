@@ -265,35 +265,42 @@ fn shown_in_memory(alloc: Global, office: &mut PlainOffice) -> Result<String, Of
     Ok(all)
 }
 
+// It has no clause, so that the proof of a test does not carry the state of each call.
+fn answer<S: Alter>(
+    conn: &mut Connection<S>,
+    sql: &str,
+    no: i64,
+) -> Result<Vec<sqlite::Row>, OfficeFault> {
+    match conn.query_all(sql, &[ValueRef::Int(no)]) {
+        Ok(rows) => Ok(rows),
+        Err(error) => Err(fault_of(error)),
+    }
+}
+
 fn add_filed<S: Alter>(
     all: &mut String,
     conn: &mut Connection<S>,
-    no: i64,
+    no: u64,
 ) -> Result<(), OfficeFault> {
-    let found = conn.query_all(
+    let no = i64::try_from(no).map_err(|_| BAD)?;
+    let response = answer(
+        conn,
         "SELECT dataset, kind, reason FROM received WHERE no = ?1",
-        &[ValueRef::Int(no)],
-    );
-    add_answer(all, "got ", found)?;
-    let found = conn.query_all(
+        no,
+    )?;
+    add_texts(all, "got ", response.as_slice())?;
+    let note = answer(
+        conn,
         "SELECT creator, note FROM received_note WHERE no = ?1",
-        &[ValueRef::Int(no)],
-    );
-    add_answer(all, "", found)?;
+        no,
+    )?;
+    add_texts(all, "", note.as_slice())?;
     write!(all, "; ")?;
     Ok(())
 }
 
-fn add_answer(
-    all: &mut String,
-    head: &str,
-    found: Result<Vec<sqlite::Row>, sqlite::Error>,
-) -> Result<(), OfficeFault> {
-    let rows = match found {
-        Ok(rows) => rows,
-        Err(error) => return Err(fault_of(error)),
-    };
-    for row in rows.as_slice() {
+fn add_texts(all: &mut String, head: &str, rows: &[sqlite::Row]) -> Result<(), OfficeFault> {
+    for row in rows {
         write!(all, "{head}")?;
         for at in 0..3 {
             if let Ok(ValueRef::Text(octets)) = row.get_ref(at) {
@@ -305,26 +312,64 @@ fn add_answer(
     Ok(())
 }
 
+fn rows_at<S: Alter>(
+    alloc: Global,
+    conn: &mut Connection<S>,
+    side: Side,
+    no: u64,
+) -> Result<Vec<Row>, OfficeFault> {
+    if no >= 1 << 63 {
+        return Err(BAD);
+    }
+    find_rows(alloc, conn, side, no, 0, 9)
+}
+
+fn incoming_at<S: Alter>(
+    alloc: Global,
+    conn: &mut Connection<S>,
+    no: u64,
+) -> Result<Option<IncomingEntry>, OfficeFault> {
+    if no >= 1 << 63 {
+        return Err(BAD);
+    }
+    find_incoming(alloc, conn, no)
+}
+
+fn outgoing_at<S: Alter>(
+    alloc: Global,
+    conn: &mut Connection<S>,
+    no: u64,
+) -> Result<Option<OutgoingEntry>, OfficeFault> {
+    if no >= 1 << 63 {
+        return Err(BAD);
+    }
+    find_outgoing(alloc, conn, no)
+}
+
+fn last<S: Alter>(conn: &mut Connection<S>, table: Table) -> Result<u64, OfficeFault> {
+    last_no(conn, table)
+}
+
 // All that a store keeps.
 fn shown_in_store<S: Alter>(
     alloc: Global,
     conn: &mut Connection<S>,
 ) -> Result<String, OfficeFault> {
     let mut all = String::new(alloc);
-    for no in 1..=last_no(conn, Table::IncomingFiles)? {
-        let rows = find_rows(alloc, conn, Side::Incoming, no, 0, 9)?;
-        if let Some(entry) = find_incoming(alloc, conn, no)? {
+    for no in 1..=last(conn, Table::IncomingFiles)? {
+        let rows = rows_at(alloc, conn, Side::Incoming, no)?;
+        if let Some(entry) = incoming_at(alloc, conn, no)? {
             add_incoming(&mut all, &entry, rows.as_slice())?;
         }
     }
-    for no in 1..=last_no(conn, Table::OutgoingFiles)? {
-        let rows = find_rows(alloc, conn, Side::Outgoing, no, 0, 9)?;
-        if let Some(entry) = find_outgoing(alloc, conn, no)? {
+    for no in 1..=last(conn, Table::OutgoingFiles)? {
+        let rows = rows_at(alloc, conn, Side::Outgoing, no)?;
+        if let Some(entry) = outgoing_at(alloc, conn, no)? {
             add_outgoing(&mut all, &entry, rows.as_slice())?;
         }
     }
-    for no in 1..=last_no(conn, Table::ReceivedResponses)? {
-        add_filed(&mut all, conn, no as i64)?;
+    for no in 1..=last(conn, Table::ReceivedResponses)? {
+        add_filed(&mut all, conn, no)?;
     }
     Ok(all)
 }

@@ -88,7 +88,12 @@ impl<'b> End<'b> {
     }
 
     /// Takes the next frame that waits, or makes an own turn, and answers whether there was one. What is said waits at the other end.
-    fn step(&mut self, alloc: Global, office: &mut PlainOffice, other: &mut Vec<Vec<u8>>) -> Result<bool, Fail> {
+    fn step(
+        &mut self,
+        alloc: Global,
+        office: &mut PlainOffice,
+        other: &mut Vec<Vec<u8>>,
+    ) -> Result<bool, Fail> {
         let said = if self.session.has_turn() {
             self.session.turn(office)
         } else if let Some(frame) = self.frames.get(self.taken) {
@@ -114,8 +119,16 @@ impl<'b> End<'b> {
 }
 
 /// A session that one station begins with the other, broken off after so many steps. It answers whether it came to its end.
-fn converse(alloc: Global, caller: &mut Station, called: &mut Station, steps: u32) -> Result<bool, Fail> {
-    let Some(partner) = caller.book.partner(called.book.station().code.field().octets()) else {
+fn converse(
+    alloc: Global,
+    caller: &mut Station,
+    called: &mut Station,
+    steps: u32,
+) -> Result<bool, Fail> {
+    let Some(partner) = caller
+        .book
+        .partner(called.book.station().code.field().octets())
+    else {
         return Err("the two aren't partners")?;
     };
     let mut near = End::new(alloc, Session::initiator(alloc, &caller.book, partner));
@@ -138,7 +151,12 @@ fn round(alloc: Global, one: &mut Station, other: &mut Station, steps: u32) -> R
 }
 
 /// The file is delivered at its sender and whole at its receiver, and one response was issued and came.
-fn assert_delivered(rt: &impl Abort, alloc: Global, sender: &mut Station, receiver: &mut Station) -> Result<(), Fail> {
+fn assert_delivered(
+    rt: &impl Abort,
+    alloc: Global,
+    sender: &mut Station,
+    receiver: &mut Station,
+) -> Result<(), Fail> {
     let Some(sent) = sender.office.out_by_no(1)? else {
         return Err("a file that was submitted isn't there")?;
     };
@@ -155,7 +173,12 @@ fn assert_delivered(rt: &impl Abort, alloc: Global, sender: &mut Station, receiv
     }
     let issued = receiver.office.list_issued()?;
     assert_eq!(rt; issued.len(), 1);
-    assert!(rt; issued.as_slice().iter().all(|entry| entry.response.dispatch == Dispatch::Sent));
+    assert!(rt;
+        issued
+            .as_slice()
+            .iter()
+            .all(|entry| entry.response.dispatch == Dispatch::Sent)
+    );
     assert_eq!(rt; sender.office.received().len(), 1);
     Ok(())
 }
@@ -169,8 +192,14 @@ fn a_file_each_way(rt: HostRuntime) -> Result<(), Fail> {
     assert_eq!(rt; supplier.submit(alloc, "O0177CARMAKER")?, Told::Done);
     assert_eq!(rt; maker.submit(alloc, "O0013SUPPLIER")?, Told::Done);
     assert!(rt; converse(alloc, &mut supplier, &mut maker, 1000)?);
-    assert_eq!(rt; supplier.operate(alloc, &Operator::Release { no: 1 })?, Told::Done);
-    assert_eq!(rt; maker.operate(alloc, &Operator::Release { no: 1 })?, Told::Done);
+    assert_eq!(rt;
+        supplier.operate(alloc, &Operator::Release { no: 1 })?,
+        Told::Done
+    );
+    assert_eq!(rt;
+        maker.operate(alloc, &Operator::Release { no: 1 })?,
+        Told::Done
+    );
     assert!(rt; converse(alloc, &mut maker, &mut supplier, 1000)?);
     assert_delivered(&rt, alloc, &mut supplier, &mut maker)?;
     assert_delivered(&rt, alloc, &mut maker, &mut supplier)

@@ -118,10 +118,22 @@ impl Call {
     }
 
     /// How the session ends where these octets of it come, and whether the station sends what it is to send.
-    fn play(&self, office: &mut PlainOffice, book: &Book, input: &[u8]) -> (Result<End, RunFault>, bool) {
+    fn play(
+        &self,
+        office: &mut PlainOffice,
+        book: &Book,
+        input: &[u8],
+    ) -> (Result<End, RunFault>, bool) {
         let mut reader = Port::new(input, 1_000_000);
         let mut writer = Port::new(Vec::new(self.alloc), 0);
-        let end = serve(self.alloc, office, book, Role::Responder, &mut reader, &mut writer);
+        let end = serve(
+            self.alloc,
+            office,
+            book,
+            Role::Responder,
+            &mut reader,
+            &mut writer,
+        );
         (end, writer.inner().as_slice() == self.output.as_slice())
     }
 
@@ -144,7 +156,12 @@ fn rows_kept(office: &mut PlainOffice) -> Result<Rows, OfficeFault> {
 }
 
 /// The first file has the octets up to a place: blocks of 1,024 octets, and a rest.
-fn assert_kept(rt: &impl Abort, alloc: Global, office: &mut PlainOffice, to: u32) -> Result<(), Fail> {
+fn assert_kept(
+    rt: &impl Abort,
+    alloc: Global,
+    office: &mut PlainOffice,
+    to: u32,
+) -> Result<(), Fail> {
     let octets = octets_of(alloc, 0, to)?;
     let blocks = octets.as_slice().chunks(1024);
     let rows = rows_kept(office)?;
@@ -257,7 +274,12 @@ fn octets_pass_the_limit(rt: HostRuntime) -> Result<(), Fail> {
     call.credits(9)?;
     call.goes("F06000\r")?;
     assert_eq!(rt; call.output.len(), 184);
-    call.assert_played(&rt, &mut office, &book, End::Own(SessionReason::InvalidData));
+    call.assert_played(
+        &rt,
+        &mut office,
+        &book,
+        End::Own(SessionReason::InvalidData),
+    );
     assert_kept(&rt, alloc, &mut office, 1024)
 }
 
