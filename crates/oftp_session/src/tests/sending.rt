@@ -274,15 +274,11 @@ const REFUSALS: &[(&[u8], Option<u64>, &[Line])] = &[
     (b"313N000", Some(13), &[Says(CHANGE)]),
 ];
 
-/// Whether the first outgoing file was refused for this reason, or waits where there is none.
-fn is_refused(office: &mut PlainOffice, wanted: Option<u64>) -> bool {
-    match office.out_by_no(1) {
-        Ok(Some(entry)) => match entry.state {
-            OutgoingState::Refused(reason) => wanted == Some(reason.get()),
-            OutgoingState::Waiting => wanted.is_none(),
-            _ => false,
-        },
-        Ok(None) | Err(_) => false,
+/// The state of a file that was refused for a reason of two digits, or that waits where there is none.
+fn state_after(reason: Option<u64>) -> OutgoingState {
+    match reason {
+        Some(number) => OutgoingState::Refused(Count::new(number % 100)),
+        None => OutgoingState::Waiting,
     }
 }
 
@@ -295,7 +291,7 @@ fn refused_with_or_without_retry(rt: HostRuntime) -> Result<(), Fail> {
         submit_octets(rt.alloc(), &mut office, 3)?;
         let lines = [Says(OFFER), Comes(*answer), Says(CHANGE), Comes(END)];
         assert_eq!(rt; play(rt.alloc(), &mut office, &book, &lines)?, None);
-        assert!(rt; is_refused(&mut office, *reason));
+        assert!(rt; is_file(&mut office, state_after(*reason), 0));
         assert_eq!(rt; play(rt.alloc(), &mut office, &book, next)?, None);
     }
     Ok(())
