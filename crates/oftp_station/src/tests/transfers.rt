@@ -308,28 +308,24 @@ fn table_full(rt: HostRuntime) -> Result<(), Fail> {
     Ok(())
 }
 
-/// The session in which the partner goes on from what an office keeps, or hears that the file is here.
-fn ending(alloc: Global, office: &mut PlainOffice) -> Result<Call, Fail> {
+/// The session in which the partner goes on behind so many rows.
+fn ending(alloc: Global, kept: u32) -> Result<Call, AllocError> {
+    let from = kept.min(2) * 1024;
     let mut call = Call::new(alloc, STATION)?;
-    let Some(entry) = office.in_by_no(1)? else {
-        call.offer(1, 3, 0)?;
-        call.rest(0, 2500)?;
-        call.accept(0)?;
-        call.credits(10)?;
-        call.goes("4N")?;
-        return Ok(call);
-    };
-    call.offer(1, 3, entry.rows)?;
-    if entry.state == IncomingState::Whole {
-        call.comes(NORMAL_END.as_bytes())?;
-        call.goes("313N000")?;
-        return Ok(call);
-    }
-    let left = 2500u32.saturating_sub(entry.rows as u32 * 1024);
-    call.rest(2500 - left, 2500)?;
-    call.accept(entry.rows)?;
-    call.credits(left.div_ceil(125) / 2)?;
+    call.offer(1, 3, u64::from(kept))?;
+    call.rest(from, 2500)?;
+    call.accept(u64::from(kept))?;
+    call.credits((2500 - from).div_ceil(125) / 2)?;
     call.goes("4N")?;
+    Ok(call)
+}
+
+/// The session in which the partner hears that the file is here.
+fn refused(alloc: Global) -> Result<Call, AllocError> {
+    let mut call = Call::new(alloc, STATION)?;
+    call.offer(1, 3, 2)?;
+    call.comes(NORMAL_END.as_bytes())?;
+    call.goes("313N000")?;
     Ok(call)
 }
 
@@ -340,6 +336,8 @@ fn cut_after_each_octet(rt: HostRuntime) -> Result<(), Fail> {
     let book = read(alloc, BOOK)?;
     let first = breaking(alloc)?;
     let second = going_on(alloc)?;
+    let endings = [ending(alloc, 0)?, ending(alloc, 1)?, ending(alloc, 2)?];
+    let refused = refused(alloc)?;
     for (before, cut) in [(None, &first), (Some(&first), &second)] {
         for count in 0..cut.input.len() {
             let mut office = PlainOffice::new(alloc, LIMITS);
@@ -349,7 +347,11 @@ fn cut_after_each_octet(rt: HostRuntime) -> Result<(), Fail> {
             let octets = cut.input.as_slice().get(..count).unwrap_or_default();
             let (end, _) = cut.play(&mut office, &book, octets);
             assert_eq!(rt; end, Ok(End::Input));
-            let last = ending(alloc, &mut office)?;
+            let last = match office.in_by_no(1)? {
+                Some(entry) if entry.state == IncomingState::Whole => &refused,
+                Some(entry) => endings.get(entry.rows as usize).unwrap_or(&refused),
+                None => &endings[0],
+            };
             last.assert_played(&rt, &mut office, &book, partner_ends());
             assert_kept(&rt, alloc, &mut office, 2500)?;
         }
