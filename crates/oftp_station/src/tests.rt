@@ -4,7 +4,6 @@ use super::*;
 use std::alloc::{AllocError, Global};
 
 mod commands;
-mod exchange;
 mod sessions;
 mod transfers;
 
