@@ -1,188 +1,111 @@
 #!/usr/bin/env python3
-"""Plays the rows of rows/ over the built program, and says which frame differs.
+"""Plays the rows of rows/ over the built program, and says which frame, line or table differs.
 
     checks/play_rows.py [ROW ..]        rows by their names; all where none is named
 
-A row is a text file: the book, who calls whom, the frames that go in and out in the order in which a partner sees them, and how
-the session ends. rows/README.md says how one is written. Each row is played three times: from a file in one piece; from a pipe
-that gives one octet at each read; and as a conversation, in which the partner waits for each answer before it sends on. The last
-line is `N passed, M failed`.
+A row is a text file: sessions, as the frames that go in and out in the order in which a partner sees them, operator's commands, and
+what is left in the database. rows/README.md says how one is written. Each row is played over a database in three ways: each
+session's octets come from a file in one piece; from a pipe that gives one octet at each read; and as a conversation, in which the
+partner waits for each answer before it sends on. What is left has to be a register, the same in each way, and the one that the row
+names. A row of one session alone is played in each way over a register in memory too. The last line is `N passed, M failed`.
 """
 
 import os
-import shlex
+import sqlite3
 import subprocess
 import sys
 import tempfile
 import threading
+from concurrent.futures import ThreadPoolExecutor
 from pathlib import Path
 
 import oftp
+import tables
+from row_files import ROOT, ROWS, Bad, Call, File, Row, Session, octets_of
 
-ROOT = Path(__file__).resolve().parent.parent
-ROWS = ROOT / "rows"
-PROGRAM = ROOT / "crates/oftp_station/out/oftp_station"
-SECONDS = 20
+PROGRAM = Path(os.environ.get("OFTP_STATION", ROOT / "crates/oftp_station/out/oftp_station"))
+SECONDS = 30
 
-
-class Bad(Exception):
-    """A row that can't be read."""
-
-
-class Row:
-    """A row as it is written: its book, its role, its steps (in or out, and octets), and its line for the end."""
-
-    def __init__(self, path):
-        self.name = path.stem
-        self.book = None
-        self.role = []
-        self.steps = []
-        self.end = None
-        self.octets = None
-        self.read(path)
-        if self.book is None or self.end is None:
-            raise Bad(f"{path}: a row has a book and an end")
-
-    def read(self, path):
-        lines = [line.strip() for line in path.read_text(encoding="utf-8").splitlines()]
-        self.take_lines(path, [line for line in lines if line and not line.startswith("#")])
-
-    def take_lines(self, path, lines):
-        while lines:
-            words = shlex.split(lines[0], comments=True)
-            if words[0] == "repeat":
-                last = lines.index("again")
-                for _ in range(int(words[1])):
-                    self.take_lines(path, lines[1:last])
-                lines = lines[last + 1 :]
-                continue
-            try:
-                self.take(words)
-            except (oftp.Unreadable, ValueError, IndexError, OSError) as why:
-                raise Bad(f"{path}: {lines[0]}: {why}") from why
-            lines = lines[1:]
-
-    def take(self, words):
-        first, rest = words[0], words[1:]
-        if first == "book":
-            self.book = ROWS / "books" / f"{rest[0]}.toml"
-        elif first == "calls":
-            self.role = ["--role", "initiator", "--partner", rest[0]]
-        elif first == "use":
-            self.read(ROWS / "parts" / f"{rest[0]}.part")
-        elif first in ("in", "out"):
-            self.steps.append((first, stream_of(rest)))
-        elif first == "end":
-            self.end = ("out", f"end: {' '.join(rest)}\n", 0)
-        elif first == "fault":
-            self.end = ("err", f"fault: {' '.join(rest)}\n", 1)
-        elif first == "octets":
-            self.octets = int(rest[0])
-        else:
-            raise ValueError("no line begins so")
-
-    def joined(self, side):
-        return b"".join(octets for which, octets in self.steps if which == side)
+# The options that a command takes from the row.
+OPTIONS = {
+    "init": ["--db"],
+    "migrate": ["--db"],
+    "check": ["--book"],
+    "submit": ["--db", "--book"],
+    "release": ["--db", "--book"],
+    "refuse": ["--db", "--book"],
+    "fetch": ["--db"],
+    "report": ["--db"],
+}
 
 
-def stream_of(words):
-    """The octets that a line puts on the stream."""
-    kind, rest = words[0], words[1:]
-    if kind == "octets":
-        return payload_of(rest)
-    if kind == "command":
-        return oftp.frame(payload_of(rest))
-    if kind == "DATA":
-        return oftp.frame(oftp.spell(kind, {"payload": payload_of(rest)}))
-    if kind not in oftp.KINDS:
-        raise ValueError("no command has this name")
-    return oftp.frame(oftp.spell(kind, dict(word.split("=", 1) for word in rest)))
-
-
-def payload_of(words):
-    """Octets in words: `41` an octet, `125*41` as many, `=TEXT` the octets of a text, `of 0..125` a part of the file in subrecords."""
-    octets = b""
-    words = list(words)
-    while words:
-        word = words.pop(0)
-        if word.startswith("="):
-            octets += word[1:].encode()
-        elif "*" in word:
-            count, octet = word.split("*")
-            octets += bytes([int(octet, 16)]) * int(count)
-        elif word == "of":
-            begin, end = (int(place) for place in words.pop(0).split(".."))
-            is_last = words[:1] == ["last"]
-            octets += in_subrecords(content(begin, end), is_last)
-            words = words[1:] if is_last else words
-        else:
-            octets += bytes([int(word, 16)])
-    return octets
-
-
-def content(begin, end):
-    """The octets of a row's file from one place to another."""
-    return bytes((place * 7 + place // 251) % 256 for place in range(begin, end))
-
-
-def in_subrecords(octets, is_last):
-    """Octets in subrecords of 63 at most; the last has the end flag where it ends the file (RFC 5024, section 7)."""
-    pieces = [octets[at : at + 63] for at in range(0, len(octets), 63)]
-    flags = [0x80 if is_last and at == len(pieces) - 1 else 0 for at in range(len(pieces))]
-    return b"".join(bytes([flag | len(piece)]) + piece for flag, piece in zip(flags, pieces))
-
-
-def check_out(row, octets):
-    """Why the octets out aren't the row's, or None."""
-    wanted = row.joined("out")
+def check_out(session, octets):
+    """Why the octets out aren't the session's, or None."""
+    wanted = session.joined("out")
     if octets == wanted:
         return None
     pairs = zip(oftp.frames_of(wanted) + [b""], oftp.frames_of(octets) + [b""])
     for number, (want, got) in enumerate(pairs, 1):
         if want != got:
-            return f"frame {number}\n    wanted  {oftp.shown(want) if want else 'nothing more'}\n    got     {oftp.shown(got) if got else 'nothing more'}"
+            return f"frame {number}\n    wanted  {shown(want)}\n    got     {shown(got)}"
     return f"{len(octets)} octets, not {len(wanted)}"
 
 
-def check_end(row, done):
-    """Why the line for the end or the exit status isn't the row's, or None."""
-    where, line, status = row.end
+def shown(frame):
+    return oftp.shown(frame) if frame else "nothing more"
+
+
+def check_lines(wanted, done):
+    """Why the lines that were printed or the exit status aren't these, or None. `wanted` says where, the text and the status."""
+    where, text, status = wanted
     told = {"out": done.stdout.decode(), "err": done.stderr.decode()}
     other = "err" if where == "out" else "out"
-    if (told[where], told[other], done.returncode) == (line, "", status):
+    if (told[where], told[other], done.returncode) == (text, "", status):
         return None
-    return f"wanted {line.strip()!r} and status {status}, got {told['out'].strip()!r}, {told['err'].strip()!r} and status {done.returncode}"
+    return f"wanted {text.strip()!r} and status {status}, got {told['out'].strip()!r}, {told['err'].strip()!r} and status {done.returncode}"
 
 
-def words_of(row, given, answer):
-    return [PROGRAM, "feed", "--book", row.book, *row.role, given, answer]
+def words_of(session, database, given, answer):
+    over = ["--db", database] if database else []
+    return [PROGRAM, "feed", *over, "--book", session.book, *session.role, given, answer]
 
 
-def in_one_piece(row, room):
+def in_one_piece(session, room, database):
     """From a file, in one piece."""
     given, answer = room / "given", room / "answer"
-    given.write_bytes(row.joined("in"))
-    done = subprocess.run(words_of(row, given, answer), capture_output=True, timeout=SECONDS, check=False)
-    return check_end(row, done) or check_out(row, answer.read_bytes())
+    given.write_bytes(session.joined("in"))
+    answer.unlink(missing_ok=True)
+    words = words_of(session, database, session.given or given, answer)
+    done = subprocess.run(words, capture_output=True, timeout=SECONDS, check=False)
+    return check_lines(session.end, done) or check_out(session, octets_in(answer))
 
 
-def octet_by_octet(row, room):
+def octets_in(answer):
+    """What the program wrote to a file, which it doesn't make where a fault comes first."""
+    return answer.read_bytes() if answer.exists() else b""
+
+
+def octet_by_octet(session, room, database):
     """From a pipe of packets, so that each read of the program gives one octet."""
     answer = room / "answer"
+    answer.unlink(missing_ok=True)
     source, sink = os.pipe2(os.O_DIRECT)
-    writer = threading.Thread(target=write_octets, args=(sink, row.joined("in")))
+    writer = threading.Thread(target=write_octets, args=(sink, session.joined("in")))
     with subprocess.Popen(
-        words_of(row, f"/dev/fd/{source}", answer),
+        words_of(session, database, f"/dev/fd/{source}", answer),
         stdout=subprocess.PIPE,
         stderr=subprocess.PIPE,
         pass_fds=[source],
     ) as program:
         os.close(source)
         writer.start()
-        told = program.communicate(timeout=SECONDS)
+        stopper = threading.Timer(SECONDS, program.kill)
+        stopper.start()
+        told = program.communicate()
+        stopper.cancel()
     writer.join()
     done = subprocess.CompletedProcess([], program.returncode, *told)
-    return check_end(row, done) or check_out(row, answer.read_bytes())
+    return check_lines(session.end, done) or check_out(session, octets_in(answer))
 
 
 def write_octets(sink, octets):
@@ -194,12 +117,12 @@ def write_octets(sink, octets):
     os.close(sink)
 
 
-def as_conversation(row, room):
+def as_conversation(session, _room, database):
     """The partner sends on only once it has read each answer before: the program must not read ahead of what it owes."""
     source, sink = os.pipe()
     answers, answer = os.pipe()
     with subprocess.Popen(
-        words_of(row, f"/dev/fd/{source}", f"/dev/fd/{answer}"),
+        words_of(session, database, f"/dev/fd/{source}", f"/dev/fd/{answer}"),
         stdout=subprocess.PIPE,
         stderr=subprocess.PIPE,
         pass_fds=[source, answer],
@@ -208,38 +131,157 @@ def as_conversation(row, room):
         os.close(answer)
         stopper = threading.Timer(SECONDS, program.kill)
         stopper.start()
-        octets = converse(row.steps, sink, answers)
+        octets = converse(session.steps, sink, answers)
         told = program.communicate()
         stopper.cancel()
-    os.close(answers)
     done = subprocess.CompletedProcess([], program.returncode, *told)
-    return check_out(row, octets) or check_end(row, done)
+    return check_out(session, octets) or check_lines(session.end, done)
 
 
 def converse(steps, sink, answers):
-    """Writes what goes in and reads what comes out, step by step. It answers all that came out."""
+    """Writes what goes in and reads what comes out, step by step, and closes both. It answers all that came out."""
     octets = b""
+    is_read = True
     for side, wanted in steps:
-        if side == "in":
+        if side == "closes":
+            os.close(answers)
+            is_read = False
+        elif side == "in":
             try:
                 os.write(sink, wanted)
             except BrokenPipeError:
                 break
-            continue
-        left = len(wanted)
-        while left > 0:
-            piece = os.read(answers, left)
-            if not piece:
-                break
-            octets += piece
-            left -= len(piece)
+        else:
+            octets += read_octets(answers, len(wanted))
     os.close(sink)
-    while piece := os.read(answers, 4096):
+    if is_read:
+        while piece := os.read(answers, 4096):
+            octets += piece
+        os.close(answers)
+    return octets
+
+
+def read_octets(answers, left):
+    octets = b""
+    while left > len(octets) and (piece := os.read(answers, left - len(octets))):
         octets += piece
     return octets
 
 
 WAYS = [in_one_piece, octet_by_octet, as_conversation]
+
+
+def play_session(way, session, room, database):
+    """Plays a session, in another way than the one asked for where it can be played in one way alone."""
+    if session.given:
+        way = in_one_piece
+    if session.closes():
+        way = as_conversation
+    return way(session, room, database)
+
+
+def play_call(call, room, database):
+    """Gives the program an operator's command."""
+    options = {"--db": database, "--book": call.book}
+    words = [word for option in OPTIONS[call.words[0]] for word in (option, options[option])]
+    done = subprocess.run(
+        [PROGRAM, call.words[0], *words, *call.words[1:]], cwd=room, capture_output=True, timeout=SECONDS, check=False
+    )
+    is_fault = call.told[:1] and call.told[0].startswith("fault:")
+    is_refused = call.told[:1] and call.told[0].startswith("refused:")
+    text = "".join(f"{line}\n" for line in call.told)
+    return check_lines(("err" if is_fault else "out", text, 1 if is_fault or is_refused else 0), done)
+
+
+def play_file(file, room):
+    """Makes a file of the operator's, or compares it."""
+    path = room / file.name
+    if file.is_made:
+        path.write_bytes(file.octets)
+        return None
+    if not path.exists():
+        return f"{file.name} isn't there"
+    return None if path.read_bytes() == file.octets else f"{file.name} has other octets"
+
+
+def play_statement(statement, database):
+    connection = sqlite3.connect(database)
+    with connection:
+        connection.executescript(statement.text)
+    connection.close()
+
+
+def play_act(way, act, room, database):
+    """Why one act doesn't come out as the row says, or None."""
+    try:
+        if isinstance(act, Session):
+            return play_session(way, act, room, database)
+        if isinstance(act, Call):
+            return play_call(act, room, database)
+        if isinstance(act, File):
+            return play_file(act, room)
+        return play_statement(act, database)
+    except subprocess.TimeoutExpired:
+        return f"it didn't end within {SECONDS} seconds"
+
+
+def play_over_database(row, way):
+    """Plays a row over a database. It answers why it differs, or None, and the tables that are left."""
+    with tempfile.TemporaryDirectory() as room:
+        database = Path(room) / "database"
+        for number, act in enumerate(row.acts, 1):
+            fault = play_act(way, act, Path(room), database)
+            if fault:
+                return f"act {number}, {type(act).__name__.lower()}: {fault}", None
+        try:
+            left = tables.read(database)
+        except tables.Damaged as why:
+            return None if row.is_damaged else str(why), None
+        if row.is_damaged:
+            return "a database is left", left
+        return tables.unfit(left) or check_left(row, left), left
+
+
+def play_over_memory(row, way):
+    with tempfile.TemporaryDirectory() as room:
+        return play_act(way, row.acts[0], Path(room), None)
+
+
+def check_left(row, left):
+    """Why the tables aren't those that the row says, or None."""
+    if row.left is None:
+        return None
+    wanted = {**row.left}
+    # A database without tables stands for an empty register too.
+    if left["about"] or wanted:
+        wanted.setdefault("about", [{"id": "1", "schema": "2"}])
+    for table in ["about", *tables.TABLES]:
+        if table not in wanted and table in ("in_row", "out_row", "received_note"):
+            continue
+        found = [described(left, table, entry) for entry in left[table]]
+        if len(found) != len(wanted.get(table, [])):
+            return f"{table} has {len(found)} rows, not {len(wanted.get(table, []))}"
+        for number, (fields, entry) in enumerate(zip(wanted.get(table, []), found), 1):
+            for name, value in fields.items():
+                if not is_said(name, value, entry[name]):
+                    return f"{table}, row {number}: {name} is {entry[name]!r}, not {value!r}"
+    return None
+
+
+def described(left, table, entry):
+    """The columns of an entry, and what a line `left` may say beside them."""
+    if table in tables.ROWS_OF:
+        found = tables.bodies(left, table, entry["no"])
+        sizes = ",".join(str(len(body)) for body in found)
+        return {**entry, "rows": len(found), "units": sum(map(len, found)), "sizes": sizes, "content": b"".join(found)}
+    if table == "received":
+        notes = [note for note in left["received_note"] if note["no"] == entry["no"]]
+        return {"creator": "", "note": "", **entry, **(notes[0] if notes else {})}
+    return entry
+
+
+def is_said(name, value, found):
+    return octets_of(value.split()) == found if isinstance(found, bytes) else value == str(found)
 
 
 def play(path):
@@ -248,15 +290,19 @@ def play(path):
         row = Row(path)
     except Bad as why:
         return [str(why)]
-    out = len(row.joined("out"))
-    if row.octets is not None and row.octets != out:
-        return [f"the row says {row.octets} octets and has {out}"]
     faults = []
+    first = None
     for way in WAYS:
-        with tempfile.TemporaryDirectory() as room:
-            fault = way(row, Path(room))
+        name = way.__name__.replace("_", " ")
+        fault, left = play_over_database(row, way)
+        first = first or left
+        if not fault and left != first:
+            fault = "what is left isn't the same as in one piece"
         if fault:
-            faults.append(f"{way.__name__.replace('_', ' ')}: {fault}")
+            faults.append(f"{name}, over a database: {fault}")
+        fault = play_over_memory(row, way) if row.is_one_session() else None
+        if fault:
+            faults.append(f"{name}, in memory: {fault}")
     return faults
 
 
@@ -265,11 +311,11 @@ def main():
     if len(sys.argv) > 1:
         paths = [path for path in paths if path.stem in sys.argv[1:]]
     failed = 0
-    for path in paths:
-        faults = play(path)
-        failed += bool(faults)
-        for fault in faults:
-            print(f"{path.relative_to(ROWS)}: {fault}")
+    with ThreadPoolExecutor(max_workers=os.cpu_count()) as players:
+        for path, faults in zip(paths, players.map(play, paths)):
+            failed += bool(faults)
+            for fault in faults:
+                print(f"{path.relative_to(ROWS)}: {fault}")
     print(f"{len(paths) - failed} passed, {failed} failed")
     return 1 if failed or not paths else 0
 

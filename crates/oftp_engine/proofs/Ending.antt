@@ -31,12 +31,18 @@ pub record IsLawful (old new : View) : Type 0 where
   pub sound : IsSound old.register
   pub alone : new.stands → Only new.register new
 
-answered_most : (outputs : List Output) (n most : ℕ) → Counted most outputs → answered outputs n ≤ most
+-- by the law of an office
+pub lawful : {O : Type 0} (view : O → View) (sound : (o : O) → (view o).clean → (view o).stands → IsSound (view o).register)
+    (alone : (o : O) → (view o).clean → (view o).stands → Only (view o).register (view o)) (old new : O)
+    → (view old).clean → (view new).clean → (view old).stands → IsLawful (view old) (view new)
+lawful view sound alone old new before now stood = record { stood = stood; sound = sound old before stood; alone = alone new now }
+
+pub answered_most : (outputs : List Output) (n most : ℕ) → Counted most outputs → answered outputs n ≤ most
 answered_most [] n most h = omega arith
 answered_most (o ∷ outputs) zero most h = omega arith
 answered_most (o ∷ outputs) (suc n) most h = let p = answered_most outputs (suc n - length o.octets) most h.1 in let q = h.0 in omega arith
 
-run_sound : (limit : Option ℕ) (setting : Setting) (given : List ℕ) (r : Register) → IsSound r → Sound r (run limit given (started setting r))
+pub run_sound : (limit : Option ℕ) (setting : Setting) (given : List ℕ) (r : Register) → IsSound r → Sound r (run limit given (started setting r))
 run_sound limit setting given r sound = (run_grows limit given (started setting r)).sound r (sound_start setting r sound)
 
 -- the register is the one after all the run's changes

@@ -152,7 +152,7 @@ module _ {R W : Type 0} (remaining : R → Option (List ℕ)) (contents : W → 
 
 -- the one change of a call, if it makes one
 
-replay_one : (change : Option Change) (r s : Register) → Makes change r s → apply_all r (with_change [] change) ≡ Ok s
+pub replay_one : (change : Option Change) (r s : Register) → Makes change r s → apply_all r (with_change [] change) ≡ Ok s
 replay_one None r s made = ap Ok (sym made)
 replay_one (Some k) r s made = made
 
@@ -160,7 +160,7 @@ made_one : (change : Option Change) (r s : Register) → Makes change r s → Ma
 made_one change r s made = subst (Makes change r) (made_register change r s made) made
 
 -- what a stop leaves within a call: the change is made or not
-left_before : (change : Option Change) (old new : View) → IsBefore change old new → LeavesSome (with_change [] change) 0 0 old new
+pub left_before : (change : Option Change) (old new : View) → IsBefore change old new → LeavesSome (with_change [] change) 0 0 old new
 left_before None old new h = record {
   kept = omega arith;
   few = omega arith;
@@ -203,7 +203,7 @@ left_before (Some k) old new h = record {
 }
 
 -- all of the changes are made
-left_all : (changes : List Change) (least : ℕ) (old new : View) (after : Register) → least ≤ length changes → apply_all old.register changes ≡ Ok after
+pub left_all : (changes : List Change) (least : ℕ) (old new : View) (after : Register) → least ≤ length changes → apply_all old.register changes ≡ Ok after
     → (new.stands → new.register ≡ after) → Only after new → LeavesSome changes least (length changes) old new
 left_all changes least old new after le made same left =
     let replay : apply_all old.register (take (length changes) changes) ≡ Ok after = ap (apply_all old.register) (take_all (length changes) changes (omega arith)) ∙ made in
@@ -339,7 +339,7 @@ module _ {R W : Type 0} (remaining : R → Option (List ℕ)) (contents : W → 
       ∙ sym (append_assoc (share_of r w).changes (changes_of (share_of r w).register es) (share_of (after_jobs (share_of r w).register es) e).changes)
 
   -- changes after others
-  replay_on : (r s : Register) (before more : List Change) → apply_all r before ≡ Ok s → apply_all r (before ++ more) ≡ apply_all s more
+  pub replay_on : (r s : Register) (before more : List Change) → apply_all r before ≡ Ok s → apply_all r (before ++ more) ≡ apply_all s more
   replay_on r s before more made = fold-append go_on_by (Ok r) before more ∙ ap (λ (so_far : Result Register Cause). fold go_on_by so_far more) made
 
   -- the register after some of the changes of a job, from the first register

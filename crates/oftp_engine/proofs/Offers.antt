@@ -35,10 +35,11 @@ use Rattle.oftp_engine.specs.declared.operating.Refusal.TheVariants as refusal
 use Rattle.oftp_engine.specs.declared.serving.RunFault.{RunFault}
 use Rattle.oftp_engine.specs.declared.serving.RunFault.TheVariants as fault
 use Rattle.oftp_engine.specs.declared.submitting.Fields.{Fields}
+use Rattle.oftp_engine.specs.declared.submitting.Offer.{Offer}
 use Rattle.oftp_engine.specs.declared.submitting.Submission.{Submission}
 use Rattle.oftp_engine.specs.Operating.{Deed, IsFileOf, Submits, decided, done_line, identity_of, is_too_big, refuses, registered}
 use Rattle.oftp_engine.specs.Operated.{Attempts, came_out_as}
-use Rattle.oftp_engine.specs.Offers.{AreFieldsOf, came_big, came_numbered, named_by}
+use Rattle.oftp_engine.specs.Offers.{AreFieldsOf, IsOffer, came_big, came_numbered, named_by}
 use Rattle.oftp_engine.proofs.Deciding.{decides}
 
 -- how many octets a local form has: in V five more for each record
@@ -53,7 +54,7 @@ variable_long format longest content rows same file =
     ap (λ (x : List ℕ). length x) file.1 ∙ ap (λ (f : Format). length (local_of f rows)) same ∙ local_long rows
 
 -- a partner that is found has the code
-pub found_code : (code : List ℕ) (ps : List Partner) (p : Partner) → partner_at code ps ≡ Some p → p.code ≡ code
+found_code : (code : List ℕ) (ps : List Partner) (p : Partner) → partner_at code ps ≡ Some p → p.code ≡ code
 found_code code [] p h = absurd (cc)
 found_code code (q ∷ ps) p h =
     elim (cases_Bool (bytes_eq q.code code)) [
@@ -263,7 +264,7 @@ module _ (identity identity' : Identity) (s : Submission) (words : List ℕ) (ro
       numbers identity s rows old mid new looked done.0 done.1 commits'.counts looks clean
 
 -- the fields that were read name the file
-pub names_file : (book : BookData) (p : Partner) (fields : Fields) (s : Submission) → AreFieldsOf s fields → p.code ≡ s.to.now → named_by book p fields ≡ identity_of book s
+names_file : (book : BookData) (p : Partner) (fields : Fields) (s : Submission) → AreFieldsOf s fields → p.code ≡ s.to.now → named_by book p fields ≡ identity_of book s
 names_file book p fields s h code =
     ap (λ (x : List ℕ). record { dataset = x; date = fields.date; time = fields.time; originator = book.station.code; destination = p.code }) h.dataset
     ∙ ap (λ (x : List ℕ). record { dataset = s.dataset.now; date = x; time = fields.time; originator = book.station.code; destination = p.code }) h.date
@@ -292,8 +293,23 @@ pub missing_at : {T : Type 0} (f : T → Partner) (found : Option T) (code to : 
     → is_some (partner_at to ps) ≡ false
 missing_at f found code to ps value same none = ap (λ (x : List ℕ). is_some (partner_at x ps)) (sym same) ∙ ap is_some (sym value ∙ ap (option_map f) none)
 
-pub found_at : (p : Partner) (code to : List ℕ) (ps : List Partner) → Some p ≡ partner_at code ps → code ≡ to → partner_at to ps ≡ Some p
+found_at : (p : Partner) (code to : List ℕ) (ps : List Partner) → Some p ≡ partner_at code ps → code ≡ to → partner_at to ps ≡ Some p
 found_at p code to ps value same = ap (λ (x : List ℕ). partner_at x ps) (sym same) ∙ sym value
+
+-- the partner to whom a file goes is in the book, and its fields name the file
+pub record IsAddressed (book : BookData) (s : Submission) (p : Partner) (fields : Fields) : Type 0 where
+  pub found : partner_at s.to.now book.partners ≡ Some p
+  pub named : named_by book p fields ≡ identity_of book s
+
+pub is_addressed : (book : BookData) (s : Submission) (p : Partner) (fields : Fields) (code : List ℕ) → AreFieldsOf s fields → Some p ≡ partner_at code book.partners
+    → code ≡ s.to.now → IsAddressed book s p fields
+is_addressed book s p fields code h value same =
+    let found = found_at p code s.to.now book.partners value same in
+    record { found = found; named = names_file book p fields s h (found_code s.to.now book.partners p found) }
+
+-- what was read of a submission is a file
+pub offered_file : (s : Submission) (offer : Offer) → IsOffer s offer → IsFileOf s offer.rows
+offered_file s offer h = record { fields = h.fields.ranges; content = h.content }
 
 -- what is handed in is a file, and its fate is decided
 module _ (book : BookData) (r : Register) (s : Submission) (rows : List (List ℕ)) (file : IsFileOf s rows) where

@@ -261,7 +261,7 @@ call_leaves file identity book (operator.Refuse n reason text) deed r s so is ma
 
 -- jobs in turn
 
-job_leaves : (file : File) (identity : Identity) (job : Job) (r s : Register) → IsSoIn file identity r → MayDo file identity job r → Leaves job r s → IsSoIn file identity s
+pub job_leaves : (file : File) (identity : Identity) (job : Job) (r s : Register) → IsSoIn file identity r → MayDo file identity job r → Leaves job r s → IsSoIn file identity s
 job_leaves file identity (Serves session) r s so may left = session_leaves file identity session r s so may left
 job_leaves file identity (Operates book call) r s so may (inl same) = subst (IsSoIn file identity) (sym same) so
 job_leaves file identity (Operates book call) r s so may (inr deed) = call_leaves file identity book call deed.0 r s so deed.1 deed.2

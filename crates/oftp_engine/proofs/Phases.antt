@@ -1,5 +1,6 @@
--- What a run needs of the session's steps: each change is one that the register takes, and how a session that is over has ended.
-use Rattle.std.proofs.Common.{◌≡◌, true, false, Option, None, Some, Result, Ok, Err, refl, sym, ap, ◌∙◌, is_some}
+-- What a run needs of the session's steps: each change is one that the register takes, how a session that is over has ended, and
+-- which session is open.
+use Rattle.std.proofs.Common.{◌≡◌, ◌≢◌, true, false, Option, None, Some, Result, Ok, Err, refl, sym, ap, ◌∙◌, is_some}
 use Rattle.std.proofs.lemmas.Bool.{false≢true}
 use Rattle.oftp_wire.specs.declared.command.Command.{Command}
 use Rattle.oftp_wire.specs.declared.fault.WireFault.{WireFault}
@@ -12,6 +13,8 @@ use Rattle.oftp_session.specs.Phases.{is_over, ending_of, Phase, fails}
 use Rattle.oftp_session.specs.Steps.{Suits}
 use Rattle.oftp_session.specs.Calls.{Proceeds}
 use Rattle.oftp_session.specs.declared.session.Ending.{Ending}
+use Rattle.oftp_session.specs.Standings.{At, Awaits, Broken, Offers, Receives, Sends, Standing, ended_as as ended_in, is_closed, is_due}
+use Rattle.oftp_session.proofs.Phases.{turn_live}
 use Rattle.oftp_session.proofs.Proceeding.{came_proceeds}
 use Rattle.oftp_engine.specs.declared.serving.End.TheVariants.{Input}
 use Rattle.oftp_engine.specs.Runs.{step_on, refusal, ended_as, end_of, ending}
@@ -45,3 +48,38 @@ input_ending p h = at (ending_of p) h
 -- how a session that is over has ended
 pub ending_from : (p : Phase) (e : Ending) → Some e ≡ ending_of p → ended_as e ≡ ending p
 ending_from p e h = ap end_of h
+
+-- a session that is open hasn't ended
+pub open_goes_on : (s : Standing) → is_closed s ≡ false → ended_in s ≡ None
+open_goes_on (At p) h = at (ending_of p) h
+  where
+    at : (e : Option Ending) → is_some e ≡ false → e ≡ None
+    at None live = refl
+    at (Some e) live = absurd (false≢true (sym live))
+open_goes_on (Receives contact reception) h = refl
+open_goes_on (Offers contact offering) h = refl
+open_goes_on (Sends contact shipment) h = refl
+open_goes_on (Awaits contact number) h = refl
+open_goes_on Broken h = absurd (false≢true (sym h))
+
+-- one that hasn't ended and isn't broken is open
+pub open_unbroken : (s : Standing) → ended_in s ≡ None → s ≢ Broken → is_closed s ≡ false
+open_unbroken (At p) h unbroken = ap is_some h
+open_unbroken (Receives contact reception) h unbroken = refl
+open_unbroken (Offers contact offering) h unbroken = refl
+open_unbroken (Sends contact shipment) h unbroken = refl
+open_unbroken (Awaits contact number) h unbroken = refl
+open_unbroken Broken h unbroken = absurd (unbroken refl)
+
+-- so is one with an own turn
+pub open_due : (s : Standing) → is_due s ≡ true → is_closed s ≡ false
+open_due (At p) h = turn_live p h
+open_due (Receives contact reception) h = refl
+open_due (Offers contact offering) h = refl
+open_due (Sends contact shipment) h = refl
+open_due (Awaits contact number) h = refl
+open_due Broken h = absurd (false≢true h)
+
+-- and one in a phase isn't broken
+pub at_unbroken : (p : Phase) (s : Standing) → s ≡ At p → s ≢ Broken
+at_unbroken p s h broken = let no : ⊥ = cc in no

@@ -154,7 +154,7 @@ module _ (k : Course) (s : List ℕ) (stream : Stream) (seen0 : Seen) (first old
 
       -- no header stood where one has to be
       module _ {T : Type 0} (x : FrameFault) (e : Err x ≡ next_of stream stream.told) (next : Seen) (z : Scene) (refused : Result T RunFault)
-          (stepped : (d : Course) → is_over d.phase ≡ false → IsAt d seen mid → Stepped d (fails ProtocolViolation) next mid z refused) where
+          (stepped : (d : Course) → IsAt d seen mid → Stepped d (fails ProtocolViolation) next mid z refused) where
         abbrev bad : (front stream.limit stream.rest ≡ Bad x) × (left_of stream stream.told ≡ with_fault stream x)
         bad = next_err stream x p.told (sym e)
 
@@ -166,7 +166,7 @@ module _ (k : Course) (s : List ℕ) (stream : Stream) (seen0 : Seen) (first old
         bad_goes = leads_bad settled.at stream.rest x taken.done live (limit_front stream (Bad x) p.limit bad.0)
 
         abbrev step_now : Stepped settled.at (fails ProtocolViolation) next mid z refused
-        step_now = stepped settled.at live settled.now
+        step_now = stepped settled.at settled.now
 
         -- the session was ended
         pub refused_bad : (v : T) → refused ≡ Ok v → IsOver k s after.rest next first z (Own ProtocolViolation)

@@ -13,7 +13,7 @@ use Rattle.oftp_register.specs.Offices.{View, Only, WithOrWithout}
 use Rattle.oftp_session.specs.declared.session.Out.{Out}
 use Rattle.oftp_session.specs.declared.session.SessionFault.{SessionFault}
 use Rattle.oftp_session.specs.declared.session.SessionFault.TheVariants as session
-use Rattle.oftp_session.specs.Phases.{EndedHere, Phase, Step, fails, is_over, register_after}
+use Rattle.oftp_session.specs.Phases.{EndedHere, Step, fails, register_after}
 use Rattle.oftp_session.specs.Steps.{Suits}
 use Rattle.oftp_session.specs.Settings.{Setting}
 use Rattle.oftp_session.specs.Calls.{Makes, IsMade, IsBefore, IsAfter, IsBroken, IsUndone, Does, DoesNot, Seen, Stands, said as said_of}
@@ -73,10 +73,8 @@ stepped_ok contents a d x y c step seen said (Err f) setting made same suits sta
 -- an ESID of the engine's own, which leaves the office alone
 module _ {T W : Type 0} (contents : W → Option (List ℕ)) (a d : Port W) (x : View) (before seen : Seen) (reason : SessionReason) (result : Result T RunFault)
     (setting : seen.setting ≡ before.setting)
-    (over : (p : Phase) → is_over p ≡ false → Stands p before → OnOk result (Stands (EndedHere reason) seen))
-    (sent : (p : Phase) → is_over p ≡ false → Stands p before → Sent contents a d (frame_of (esid_of reason)) (is_ok result))
-    (err : (p : Phase) → is_over p ≡ false → Stands p before → IfErr result (λ f. f ≡ fault.Write))
-    (c : Course) (live : is_over c.phase ≡ false) (at : IsAt c before (scene contents x a)) where
+    (over : OnOk result (Stands (EndedHere reason) seen)) (sent : Sent contents a d (frame_of (esid_of reason)) (is_ok result))
+    (err : IfErr result (λ f. f ≡ fault.Write)) (c : Course) (at : IsAt c before (scene contents x a)) where
   refused : (told : Result T RunFault) → OnOk told (Stands (EndedHere reason) seen) → Sent contents a d (frame_of (esid_of reason)) (is_ok told)
       → IfErr told (λ f. f ≡ fault.Write) → Stepped c (fails reason) seen (scene contents x a) (scene contents x d) told
   unfolding advance
@@ -98,7 +96,7 @@ module _ {T W : Type 0} (contents : W → Option (List ℕ)) (a d : Port W) (x :
   })
 
   pub stepped_refuse : Stepped c (fails reason) seen (scene contents x a) (scene contents x d) result
-  stepped_refuse = refused result (over c.phase live at.stands) (sent c.phase live at.stands) (err c.phase live at.stands)
+  stepped_refuse = refused result over sent err
 
 -- where a session stands at a course, what holds at the session's own book and register holds at the course's
 pub at_course : (P : Setting → Register → Type 0) (c : Course) (seen : Seen) (now : Scene) → IsAt c seen now → P seen.setting now.office.register → P c.setting c.register

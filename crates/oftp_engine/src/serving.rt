@@ -1,12 +1,12 @@
 //! A session over any reader and any writer.
 
-ghost use Rattle.std.specs.Prelude.{◌≡◌, ◌<◌, ◌+◌, ℕ, true, false, List, None, OnOk, IfErr, is_ok};
+ghost use Rattle.std.specs.Prelude.{◌≡◌, ◌≢◌, ◌<◌, ◌+◌, ℕ, true, false, List, None, OnOk, IfErr, is_ok};
 ghost use Rattle.oftp_wire.specs.Kinds.{command_of};
 ghost use Rattle.oftp_register.specs.Plain.{view_of};
 ghost use Rattle.oftp_session.specs.Phases.{is_over, Phase, frame_of, esid_of};
 ghost use Rattle.oftp_session.specs.Steps.{came, has_turn, opening, turned};
-ghost use Rattle.oftp_session.specs.Calls.{Stands, said};
-ghost use Rattle.oftp_session.specs.Standings.{Broken, is_due, turns_left};
+ghost use Rattle.oftp_session.specs.Calls.{IsFailure, Stands, said};
+ghost use Rattle.oftp_session.specs.Standings.{Broken, is_closed, is_due, turns_left};
 ghost use Rattle.oftp_engine.specs.Ports.{Sent, Puts};
 ghost use Rattle.oftp_engine.specs.Runs.{Course, ended_as, step_on};
 ghost use Rattle.oftp_engine.specs.Served.{Gave, InputEnded, ReaderTold, Serves, setting_of, WriterErr, WriterTold};
@@ -90,37 +90,41 @@ fn write_out<W: Write>(port: &mut Port<W>, out: Out<'_>) -> Result<(), RunFault>
     }
 }
 
-// Ends the session by an ESID.
-#[tactic(auto, using(crate::proofs::Puts::puts_none, crate::proofs::Puts::puts_on, crate::proofs::Puts::puts_sent))]
+// Ends the session, which goes on, by an ESID.
+#[tactic(auto, using(crate::proofs::Phases::open_goes_on, crate::proofs::Puts::puts_none, crate::proofs::Puts::puts_on, crate::proofs::Puts::puts_sent))]
 fn refuse<W: Write>(
     session: &mut Session<'_>,
     port: &mut Port<W>,
     reason: SessionReason,
 ) -> Result<(), RunFault>
+    requires { is_closed session.old.standing ≡ false }
     ensures own { IfErr result IsOwn }
-    ensures sent { (p : Phase) → is_over p ≡ false → Stands p session.old → Sent W.contents port.old port.new (frame_of (esid_of reason)) (is_ok result) }
-    ensures err { (p : Phase) → is_over p ≡ false → Stands p session.old → IfErr result (λ fault. fault ≡ RunFault.Write) }
-    ensures over { (p : Phase) → is_over p ≡ false → Stands p session.old → OnOk result (Stands (Phase.EndedHere reason) session.new) }
+    ensures sent { Sent W.contents port.old port.new (frame_of (esid_of reason)) (is_ok result) }
+    ensures err { IfErr result (λ fault. fault ≡ RunFault.Write) }
+    ensures over { OnOk result (Stands (Phase.EndedHere reason) session.new) }
     ensures setting { session.new.setting ≡ session.old.setting }
     ensures out { Puts W.contents port.old port.new }
     ensures told { WriterTold port.old port.new result }
 {
     match session.fail(reason) {
         Ok(out) => write_out(port, out),
-        // It never comes: a session that has ended isn't ended again.
-        Err(_) => Err(RunFault::Memory),
+        Err(_) => unreachable!(),
     }
 }
 
 // After a fault of the office, the session's last words. A fault of this write isn't told.
 #[tactic(auto, using(crate::proofs::Puts::puts_none, crate::proofs::Puts::puts_on, crate::proofs::Puts::puts_sent))]
 fn last_words<W: Write>(session: &mut Session<'_>, port: &mut Port<W>)
-    ensures words { session.old.standing ≡ Broken → LastWords W.contents port.old port.new }
+    requires { session.old.standing ≡ Broken }
+    ensures words { LastWords W.contents port.old port.new }
     ensures out { Puts W.contents port.old port.new }
     ensures told { WriterErr port.old port.new RunFault.Office }
 {
-    if let Ok(out) = session.fail(SessionReason::ResourcesNotAvailable) {
-        let _ = write_out(port, out);
+    match session.fail(SessionReason::ResourcesNotAvailable) {
+        Ok(out) => {
+            let _ = write_out(port, out);
+        }
+        Err(_) => unreachable!(),
     }
 }
 
@@ -131,8 +135,10 @@ fn break_off<W: Write>(
     port: &mut Port<W>,
     fault: SessionFault,
 ) -> RunFault
+    requires told { IsFailure fault }
+    requires broken { session.old.standing ≡ Broken }
     ensures fault { result ≡ run_fault fault }
-    ensures broke { session.old.standing ≡ Broken → BrokeOff W.contents port.old port.new fault }
+    ensures broke { BrokeOff W.contents port.old port.new fault }
     ensures out { Puts W.contents port.old port.new }
     ensures told { WriterErr port.old port.new result }
 {
@@ -141,8 +147,8 @@ fn break_off<W: Write>(
             last_words(session, port);
             RunFault::Office
         }
-        // `Ended` never comes: a session that has ended isn't asked.
-        SessionFault::Memory | SessionFault::Ended => RunFault::Memory,
+        SessionFault::Memory => RunFault::Memory,
+        SessionFault::Ended => unreachable!(),
     }
 }
 
@@ -153,10 +159,11 @@ fn take_turn<O: Office, W: Write>(
     office: &mut O,
     writer: &mut Port<W>,
 ) -> Result<(), RunFault>
+    requires { is_due session.old.standing ≡ true }
     ensures clean { (O.view office.new).clean → (O.view office.old).clean }
     ensures own { IfErr result IsOwn }
-    ensures fewer { is_due session.old.standing ≡ true
-        → OnOk result (turns_left session.new.standing < turns_left session.old.standing) }
+    ensures fewer { OnOk result (turns_left session.new.standing < turns_left session.old.standing) }
+    ensures unbroken { OnOk result (session.new.standing ≢ Broken) }
     ensures steps { (O.view office.new).clean → (O.view office.old).stands → (c : Course) → has_turn c.phase ≡ true
         → IsAt c session.old (scene W.contents (O.view office.old) writer.old)
         → Stepped c (turned c.setting c.phase c.register) session.new
@@ -178,12 +185,14 @@ fn obey<O: Office, W: Write>(
     writer: &mut Port<W>,
     command: &Command<'_>,
 ) -> Result<(), RunFault>
+    requires { is_closed session.old.standing ≡ false }
     ensures clean { (O.view office.new).clean → (O.view office.old).clean }
     ensures own { IfErr result IsOwn }
     ensures steps { (O.view office.new).clean → (O.view office.old).stands → (c : Course) → is_over c.phase ≡ false
         → IsAt c session.old (scene W.contents (O.view office.old) writer.old)
         → Stepped c (came c.setting c.phase c.register command.now) session.new
         (scene W.contents (O.view office.old) writer.old) (scene W.contents (O.view office.new) writer.new) result }
+    ensures unbroken { OnOk result (session.new.standing ≢ Broken) }
     ensures out { Puts W.contents writer.old writer.new }
     ensures told { WriterTold writer.old writer.new result }
 {
@@ -201,6 +210,7 @@ fn take_command<O: Office, W: Write>(
     writer: &mut Port<W>,
     octets: &[u8],
 ) -> Result<(), RunFault>
+    requires { is_closed session.old.standing ≡ false }
     ensures clean { (O.view office.new).clean → (O.view office.old).clean }
     ensures own { IfErr result IsOwn }
     ensures steps { (O.view office.new).clean → (O.view office.old).stands → (c : Course) → is_over c.phase ≡ false
@@ -208,6 +218,7 @@ fn take_command<O: Office, W: Write>(
         → Stepped c (step_on c.setting c.phase c.register (command_of octets.now)) session.new
         (scene W.contents (O.view office.old) writer.old)
         (scene W.contents (O.view office.new) writer.new) result }
+    ensures unbroken { OnOk result (session.new.standing ≢ Broken) }
     ensures out { Puts W.contents writer.old writer.new }
     ensures told { WriterTold writer.old writer.new result }
 {
@@ -226,6 +237,7 @@ fn take_turns<O: Office, W: Write>(
     office: &mut O,
     writer: &mut Port<W>,
 ) -> Result<(), RunFault>
+    requires { session.old.standing ≢ Broken }
     ensures clean { (O.view office.new).clean → (O.view office.old).clean }
     ensures own { IfErr result IsOwn }
     ensures steps { (O.view office.new).clean → (O.view office.old).stands → (c : Course)
@@ -233,6 +245,7 @@ fn take_turns<O: Office, W: Write>(
         → TurnsTaken c session.new
         (scene W.contents (O.view office.old) writer.old)
         (scene W.contents (O.view office.new) writer.new) result }
+    ensures unbroken { OnOk result (session.new.standing ≢ Broken) }
     ensures out { Puts W.contents writer.old writer.new }
     ensures told { WriterTold writer.old writer.new result }
 {
@@ -249,6 +262,7 @@ fn pump<O: Office, W: Write>(
     stream: &mut Deframer,
     writer: &mut Port<W>,
 ) -> Result<Option<Ending>, RunFault>
+    requires { session.old.standing ≢ Broken }
     ensures clean { (O.view office.new).clean → (O.view office.old).clean }
     ensures own { IfErr result IsOwn }
     ensures steps { (O.view office.new).clean → (O.view office.old).stands → (c : Course) → stream.old.limit ≡ 100003 → stream.old.told ≡ None
@@ -256,6 +270,7 @@ fn pump<O: Office, W: Write>(
         → Pumped c stream.old.rest stream.new session.new
         (scene W.contents (O.view office.old) writer.old)
         (scene W.contents (O.view office.new) writer.new) result }
+    ensures unbroken { OnOk result (session.new.standing ≢ Broken) }
     ensures out { Puts W.contents writer.old writer.new }
     ensures told { WriterTold writer.old writer.new result }
 {
@@ -279,6 +294,7 @@ fn pump<O: Office, W: Write>(
 fn opened<'b>(alloc: Global, book: &'b Book, role: Role<'b>) -> Session<'b>
     ensures setting { result.setting ≡ setting_of book.entry.now role.entry }
     ensures stands { Stands (opening (setting_of book.entry.now role.entry).called) result }
+    ensures unbroken { result.standing ≢ Broken }
 {
     match role {
         Role::Responder => Session::responder(alloc, book),

@@ -1,7 +1,7 @@
 -- What a store stands for when it is opened.
 use Rattle.std.specs.Prelude.{◌≡◌, ◌⊎◌, [], IsTrue}
 use Rattle.sqlite.specs.Tree.{Trees}
-use Rattle.sqlite.specs.Effect.{IsDatabase}
+use Rattle.sqlite.specs.Effect.{Database, IsDatabase}
 use Rattle.sqlite.specs.State.{State}
 use Rattle.sqlite_catalog.specs.Listing.{IsSound as IsSoundStore}
 use Rattle.oftp_vfile.specs.declared.format.Limits.{Limits}
@@ -41,6 +41,10 @@ pub record IsAtFirst (r : Register) (s : State) : Type 0 where
   pub settled : s.now ≡ s.committed
   pub sound : IsDatabase s.now
   pub content : IsFirstOf r s.now.trees
+
+-- a stop leaves what it left before, unless the store was so
+abbrev pub SparesUnless : (Database → Type 0) → State → State → Type 0
+SparesUnless IsSo old new = IsTrue old.is_open → ¬ IsSo old.now → (db : Trees) → new.may_leave db → old.may_leave db
 
 -- an office over the connection, opened with the limits of the register, stands for the register
 abbrev pub StandsFor : Register → State → Type 0

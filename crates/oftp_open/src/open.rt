@@ -8,7 +8,7 @@ ghost use Rattle.sqlite.specs.State.{HasCleanDisk};
 ghost use Rattle.oftp_register.specs.Register.{Register};
 ghost use Rattle.oftp_schema.specs.Making.{HasFirst, HasOffice, IsAsBefore, IsEmpty};
 ghost use Rattle.oftp_open.specs.Stands.{IsContentOf};
-ghost use Rattle.oftp_open.specs.Opening.{IsAt, IsAtFirst, StandsFor};
+ghost use Rattle.oftp_open.specs.Opening.{IsAt, IsAtFirst, SparesUnless, StandsFor};
 
 use crate::first::bring;
 use oftp_schema::{StoreFault, prepare};
@@ -30,6 +30,7 @@ pub fn open_tables<S: Alter>(conn: &mut Connection<S>) -> Result<(), StoreFault>
     ensures found { HasCleanDisk (state S.Store conn.new) → (r : Register) → IsAt r (state S.Store conn.old) → OnOk result (StandsFor r (state S.Store conn.new)) }
     ensures left { HasCleanDisk (state S.Store conn.new) → (r : Register) → IsAt r (state S.Store conn.old) → (db : Trees) → (state S.Store conn.new).may_leave db
         → (state S.Store conn.old).may_leave db ⊎ IsContentOf db r }
+    ensures spared { HasCleanDisk (state S.Store conn.new) → SparesUnless IsEmpty (state S.Store conn.old) (state S.Store conn.new) }
 {
     prepare(conn)
 }
@@ -53,6 +54,7 @@ pub fn migrate_tables<S: Alter>(conn: &mut Connection<S>) -> Result<(), StoreFau
     ensures migrated { HasCleanDisk (state S.Store conn.new) → (r : Register) → IsAtFirst r (state S.Store conn.old) → OnOk result (StandsFor r (state S.Store conn.new)) }
     ensures left { HasCleanDisk (state S.Store conn.new) → (r : Register) → IsAtFirst r (state S.Store conn.old) → (db : Trees) → (state S.Store conn.new).may_leave db
         → (state S.Store conn.old).may_leave db ⊎ IsContentOf db r }
+    ensures spared { HasCleanDisk (state S.Store conn.new) → SparesUnless HasFirst (state S.Store conn.old) (state S.Store conn.new) }
 {
     bring(conn)
 }

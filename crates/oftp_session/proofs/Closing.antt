@@ -14,6 +14,7 @@ use Rattle.oftp_register.specs.Register.{Register}
 use Rattle.oftp_register.specs.Soundness.{IsFit, IsSound}
 use Rattle.oftp_register.specs.Offices.{View}
 use Rattle.oftp_register.specs.Verdicts.{end_verdict}
+use Rattle.oftp_register.proofs.EntryLemmas.{give_up_fit}
 use Rattle.oftp_session.specs.declared.receiving.Reception.{Reception}
 use Rattle.oftp_session.specs.declared.session.SessionFault.{SessionFault}
 use Rattle.oftp_session.specs.declared.state.Contact.{Contact}
@@ -26,7 +27,7 @@ use Rattle.oftp_session.specs.Standings.{Tracks}
 use Rattle.oftp_session.specs.Calls.{DoesNot, IsAccepted, IsMade, Takes}
 use Rattle.oftp_session.proofs.Saying.{answered}
 use Rattle.oftp_session.proofs.Views.{then_fails, then_made}
-use Rattle.oftp_session.proofs.Ends.{close_accepted, close_fits, counts_are, end_by, end_open, give_up_accepted, give_up_fits, last_of, open_of}
+use Rattle.oftp_session.proofs.Ends.{close_accepted, close_fits, counts_are, end_by, end_open, give_up_accepted, last_of, open_of}
 
 -- the change of a verdict is fit and accepted
 
@@ -102,14 +103,14 @@ pub give_up_err : (contact : Contact) (f : Receipt) (s : Reception) (reason : En
     → (IsFit old.register (GiveUp s.number) → IsAccepted old.register (GiveUp s.number) → DoesNot (Some (GiveUp s.number)) old new told)
     → DoesNot (on_end_verdict contact old.register f (carried_by f) («end».Refuse reason)).change old new told
 give_up_err contact f s reason old new told holds at does =
-    subst (λ (x : Change). DoesNot (Some x) old new told) (give_up_is contact f s at) (does (give_up_fits old.register s.number) (give_up_goes old.register contact f s holds at))
+    subst (λ (x : Change). DoesNot (Some x) old new told) (give_up_is contact f s at) (does (give_up_fit old.register s.number) (give_up_goes old.register contact f s holds at))
 
 pub give_up_ok : (contact : Contact) (f : Receipt) (s : Reception) (reason : EndReason) (old new : View) (frame : List ℕ) → IsReceived old.register f → Tracks contact f s
     → frame ≡ frame_of (efna_of reason)
     → (IsFit old.register (GiveUp s.number) → IsAccepted old.register (GiveUp s.number) → IsMade (Some (GiveUp s.number)) None old new [])
     → Takes (on_end_verdict contact old.register f (carried_by f) («end».Refuse reason)) old new frame (Ok (state.ListenerIdle contact))
 give_up_ok contact f s reason old new frame holds at said does =
-    let made = does (give_up_fits old.register s.number) (give_up_goes old.register contact f s holds at) in
+    let made = does (give_up_fit old.register s.number) (give_up_goes old.register contact f s holds at) in
     (answered _ (efna_of reason) old new frame said (subst (λ (x : Change). IsMade (Some x) None old new []) (give_up_is contact f s at) made), refl)
 
 -- the verdict on the counts that the taker told

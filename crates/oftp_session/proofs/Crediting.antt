@@ -15,6 +15,7 @@ use Rattle.oftp_register.specs.declared.change.Change.TheVariants.{Mark, BeginCl
 use Rattle.oftp_register.specs.Register.{Register}
 use Rattle.oftp_register.specs.Offices.{View}
 use Rattle.oftp_register.specs.Soundness.{IsFit, IsSound, IsSoundOutgoing}
+use Rattle.oftp_register.proofs.EntryLemmas.{all_at}
 use Rattle.oftp_session.specs.declared.sending.Shipment.{Shipment}
 use Rattle.oftp_session.specs.declared.session.SessionFault.{SessionFault}
 use Rattle.oftp_session.specs.declared.state.Contact.{Contact}
@@ -26,7 +27,6 @@ use Rattle.oftp_session.specs.Sending.{credited, credited_transfer, efid_of, mar
 use Rattle.oftp_session.specs.Steps.{IsSent}
 use Rattle.oftp_session.specs.Standings.{Awaits, Ships}
 use Rattle.oftp_session.specs.Calls.{DoesNot, Files, IsAccepted, IsMade, Takes}
-use Rattle.oftp_session.proofs.Ends.{all_at}
 use Rattle.oftp_session.proofs.Outgoing.{closing_accepted, closing_fits, mark_accepted, mark_fits, mark_within}
 use Rattle.oftp_session.proofs.Saying.{answered}
 use Rattle.oftp_session.proofs.Shipping.{turned_next}

@@ -25,7 +25,9 @@ use Rattle.oftp_register.specs.Changes.{apply, given_up, if_open, mapped}
 use Rattle.oftp_register.specs.Changes.{closed as closed_entry}
 use Rattle.oftp_register.specs.LookUps.{entry_at}
 use Rattle.oftp_register.specs.Verdicts.{end_verdict}
-use Rattle.oftp_register.specs.Soundness.{AreFullRows, Ends, FitsState, IfOpen, IsFit, IsSound, IsSoundIncoming}
+use Rattle.oftp_register.specs.Soundness.{AreFullRows, Ends, IsFit, IsSound, IsSoundIncoming}
+use Rattle.oftp_register.proofs.EntryLemmas.{all_at, close_changes, close_fit, give_up_changes}
+use Rattle.oftp_register.proofs.IncomingLemmas.{open_rows}
 use Rattle.oftp_session.specs.declared.receiving.Reception.{Reception}
 use Rattle.oftp_session.specs.declared.state.Contact.{Contact}
 use Rattle.oftp_session.specs.Phases.{Receipt, fails}
@@ -33,7 +35,7 @@ use Rattle.oftp_session.specs.Receiving.{carried_by, end_step, kept_of, on_end_v
 use Rattle.oftp_session.specs.Steps.{IsReceived}
 use Rattle.oftp_session.specs.Standings.{Tracks}
 use Rattle.oftp_session.specs.Calls.{IsAccepted}
-use Rattle.oftp_session.proofs.Receipts.{at_entry, at_entry_number, carried_limit, carried_same, kept_within}
+use Rattle.oftp_session.proofs.Receipts.{carried_limit, carried_same, kept_within}
 
 -- the steps
 pub end_open : (contact : Contact) (r : Register) (f : Receipt) (efid : Efid) → is_open (carried_by f).stage ≡ true → end_step contact r f efid ≡ fails ProtocolViolation
@@ -55,16 +57,6 @@ counts_are r contact f s holds at = ap counts_of at.taker ∙ shed_counts (kept_
 
 pub last_of : (contact : Contact) (f : Receipt) (s : Reception) → Tracks contact f s → closed s.taker.rows s.taker.tail ≡ closed (rows_to_keep f (carried_by f)) (carried_by f).tail
 last_of contact f s at = ap (λ (t : Taking). closed t.rows t.tail) at.taker
-
--- a fact of all entries holds of the one with a number
-pub all_at : {A : Type 0} (P : A → Type 0) (n : ℕ) (xs : List A) (x : A) → All P xs → entry_at n xs ≡ Some x → P x
-all_at {A = A} P zero xs x all e = absurd (cc)
-all_at {A = A} P (suc n) xs x all e = by n xs all e
-  where
-    by : (n : ℕ) (xs : List A) → All P xs → slice_get xs n ≡ Some x → P x
-    by n [] all e = absurd (cc)
-    by zero (y ∷ ys) all e = let is : y ≡ x = cc in subst P is (All-head P y ys all)
-    by (suc n) (y ∷ ys) all e = by n ys (All-tail P y ys all) e
 
 -- the octets of full blocks
 block_octets : (rows : List (List ℕ)) → All (λ (r : List ℕ). length r ≡ 1024) rows → length (octets_in rows) ≡ 1024 * length rows
@@ -92,11 +84,7 @@ stream_few t ss from rows (x ∷ xs) b u o k l few =
     let within = o some in
     omega (arith, within, n, u, k, l, length-append rows ((x ∷ xs) ∷ []))
 
--- the rows of an open file in U and T are full blocks
-open_blocks : (state : IncomingState) (format : Format) (longest : ℕ) (rows : List (List ℕ)) → state ≡ Open → FitsState state format longest rows → AreFullRows format longest rows
-open_blocks Open format longest rows e h = h
-open_blocks Whole format longest rows e h = absurd (cc)
-
+-- a file that ends has no more rows than it may
 pub end_few : (r : Register) (f : Receipt) → IsSound r → IsReceived r f → is_open (carried_by f).stage ≡ false → f.from + length (closed (carried_by f).rows (carried_by f).tail) ≤ 1000000
 end_few r f sound holds shut = by t.format refl
   where
@@ -121,7 +109,7 @@ end_few r f sound holds shut = by t.format refl
     blocks : (format : Format) → f.file.format ≡ format → AreFullRows format f.file.longest f.file.rows
     blocks format e =
         let entry = all_at IsSoundIncoming f.number r.incoming f.file sound.incoming holds.entry in
-        subst (λ (x : Format). AreFullRows x f.file.longest f.file.rows) e (open_blocks f.file.state f.file.format f.file.longest f.file.rows holds.opened entry.fits)
+        subst (λ (x : Format). AreFullRows x f.file.longest f.file.rows) e (open_rows f.file entry holds.opened)
 
     stream : InBlocks (octets_of ss) t.rows t.tail → All (λ (r : List ℕ). length r ≡ 1024) f.file.rows → f.from + length (closed t.rows t.tail) ≤ 1000000
     stream b all =
@@ -141,7 +129,6 @@ end_few r f sound holds shut = by t.format refl
 -- the last rows may close the file
 pub close_fits : (r : Register) (f : Receipt) → IsSound r → IsReceived r f → is_open (carried_by f).stage ≡ false
     → IsFit r (Close f.number (closed (rows_to_keep f (carried_by f)) (carried_by f).tail))
-unfolding IsFit
 close_fits r f sound holds shut =
     let t = carried_by f in
     let k = kept_of f in
@@ -159,24 +146,11 @@ close_fits r f sound holds shut =
     let more = closed_more t.rows t.tail in
     let within = kept_within r f holds in
     let ends : Ends rows f.file = record { few = omega (arith, few, more, within, ap length cut, length-drop k all, holds.kept); fits = fits } in
-    at_entry_number (λ (x : Incoming). IfOpen x.state (Ends rows x)) f.number r.incoming f.file holds.entry
-    (subst (λ (state : IncomingState). IfOpen state (Ends rows f.file)) (sym holds.opened) ends)
+    close_fit r f.number f.file holds.entry holds.opened rows ends
 
 -- the changes are ones that the register takes
 pub close_accepted : (r : Register) (f : Receipt) (rows : List (List ℕ)) → IsReceived r f → IsAccepted r (Close f.number rows)
-unfolding apply
-close_accepted r f rows holds =
-    let made = ap (if_open f.file (f.file.rows ++ rows) Whole) holds.opened in
-    let at = at_entry (closed_entry rows) f.number r.incoming f.file (record f.file { rows = f.file.rows ++ rows; state = Whole }) holds.entry made in
-    ap (λ (x : Result (List Incoming) Cause). is_ok (mapped (λ files. record r { incoming = files }) x)) at.1
+close_accepted r f rows holds = ap is_ok (close_changes r f.number f.file holds.entry holds.opened rows).made
 
 pub give_up_accepted : (r : Register) (f : Receipt) → IsReceived r f → IsAccepted r (GiveUp f.number)
-unfolding apply
-give_up_accepted r f holds =
-    let made = ap (if_open f.file [] Open) holds.opened in
-    let at = at_entry given_up f.number r.incoming f.file (record f.file { rows = []; state = Open }) holds.entry made in
-    ap (λ (x : Result (List Incoming) Cause). is_ok (mapped (λ files. record r { incoming = files }) x)) at.1
-
-pub give_up_fits : (r : Register) (n : ℕ) → IsFit r (GiveUp n)
-unfolding IsFit
-give_up_fits r n = tt
+give_up_accepted r f holds = ap is_ok (give_up_changes r f.number f.file holds.entry holds.opened).made

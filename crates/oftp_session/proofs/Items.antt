@@ -16,10 +16,10 @@ use Rattle.oftp_register.specs.declared.entries.Side.TheVariants as side
 use Rattle.oftp_register.specs.Register.{Register, Incoming, Outgoing, Issued}
 use Rattle.oftp_register.specs.LookUps.{entry_at, file_rows, is_due, is_next_file, is_next_response, is_on_its_way, issued_entry, issued_response, item_of, next_file, next_item, next_response, numbered, outgoing_entry, rows_of, units_of}
 use Rattle.oftp_register.specs.Soundness.{IsSound, IsSoundOutgoing}
+use Rattle.oftp_register.proofs.EntryLemmas.{all_at, rows_of_outgoing}
 use Rattle.oftp_session.specs.declared.state.Contact.{Contact}
 use Rattle.oftp_session.specs.Speaker.{offer_of, offered_from}
 use Rattle.oftp_session.specs.Steps.{IsOffered, IsResponding}
-use Rattle.oftp_session.proofs.Ends.{all_at}
 
 -- the first response that may be next, from a number on
 record IsDueAt (n : ℕ) (xs : List Incoming) (e : IssuedEntry) : Type 0 where
@@ -157,18 +157,9 @@ item_goes r contact partner tried files e sound h =
       record { entry = entry; goes = k.goes; within = offer_within contact.link.restart k.file (all_at IsSoundOutgoing e.no r.outgoing k.file sound.outgoing entry) },
     )
 
--- the rows of an outgoing file with a number
-pub rows_are : (r : Register) (n : ℕ) (file : Outgoing) → entry_at n r.outgoing ≡ Some file → file_rows r side.Outgoing n ≡ file.rows
-rows_are r zero file h = absurd (let no : ⊥ = cc in no)
-rows_are r (suc n) file h = ap (λ (o : Option (List (List ℕ))). unwrap_or o []) (at r.outgoing n h)
-  where
-    at : (xs : List Outgoing) (n : ℕ) → slice_get xs n ≡ Some file → slice_get (map (λ (x : Outgoing). x.rows) xs) n ≡ Some file.rows
-    at [] n e = absurd (let no : ⊥ = cc in no)
-    at (x ∷ xs) zero e = let same : x ≡ file = cc in ap (λ (y : Outgoing). let o : Option (List (List ℕ)) = Some y.rows in o) same
-    at (x ∷ xs) (suc n) e = at xs n e
-
+-- the octets of an outgoing file with a number, and its rows that are lent
 pub units_are : (r : Register) (n : ℕ) (file : Outgoing) → entry_at n r.outgoing ≡ Some file → units_of r side.Outgoing n ≡ units_in file.rows
-units_are r n file h = ap units_in (rows_are r n file h)
+units_are r n file h = ap units_in (rows_of_outgoing r n file h)
 
 pub rows_lent_are : (r : Register) (n from most : ℕ) (file : Outgoing) → entry_at n r.outgoing ≡ Some file → rows_of r side.Outgoing n from most ≡ take most (drop from file.rows)
-rows_lent_are r n from most file h = ap (λ (rows : List (List ℕ)). take most (drop from rows)) (rows_are r n file h)
+rows_lent_are r n from most file h = ap (λ (rows : List (List ℕ)). take most (drop from rows)) (rows_of_outgoing r n file h)

@@ -15,6 +15,7 @@ use Rattle.oftp_register.specs.LookUps.{rows_of}
 use Rattle.oftp_register.specs.Register.{Register}
 use Rattle.oftp_register.specs.Soundness.{IsSound, IsSoundOutgoing}
 use Rattle.oftp_register.proofs.RowLemmas.{rows-part}
+use Rattle.oftp_register.proofs.EntryLemmas.{all_at}
 use Rattle.oftp_session.specs.declared.frame.TheConstants.{DATA_HEAD}
 use Rattle.oftp_session.specs.declared.sending.Shipment.{Shipment}
 use Rattle.oftp_session.specs.declared.state.Contact.{Contact}
@@ -23,7 +24,6 @@ use Rattle.oftp_session.specs.Sending.{payload_size, payloads_in, rows_from}
 use Rattle.oftp_session.specs.Steps.{IsSent}
 use Rattle.oftp_session.specs.Standings.{Ships}
 use Rattle.oftp_session.specs.Payloads.{IsAllSent, IsDataSaid, IsNextData, MayLend}
-use Rattle.oftp_session.proofs.Ends.{all_at}
 use Rattle.oftp_session.proofs.Framing.{data_framed}
 use Rattle.oftp_session.proofs.Items.{rows_lent_are}
 
@@ -81,7 +81,8 @@ lent r contact t s most rows last sound holds at some e all part =
     let within = row_within r contact t s holds at in
     let total = at.rows in
     let l = lends_rows s.filler t.file.longest (payload_size contact) t.from most (rows_from t) (take t.sent (payloads_in contact t)) last longest are at.sent some
-    (λ q. let m = all q in omega (arith, m, count, left, within, total)) (λ q. elim (cases_lt most (length rest)) [ inl h ↦ h | inr h ↦ absurd (part q (omega (arith, h, count, left, within, total))) ]) in
+    (λ q. let m = all q in omega (arith, m, count, left, within, total))
+    (λ q. elim (cases_lt most (length rest)) [ inl h ↦ h | inr h ↦ absurd (part q (omega (arith, h, count, left, within, total))) ]) in
     record {
       are = subst (λ (x : List (List ℕ)). AreLent s.filler t.from (rows_from t) x last) (sym is) l.0;
       place = subst (λ (x : List (List ℕ)). IsInRows s.filler x) (sym is) l.1;

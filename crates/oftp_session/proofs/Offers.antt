@@ -19,6 +19,7 @@ use Rattle.oftp_register.specs.LookUps.{entry_at, incoming_entry, look_in, units
 use Rattle.oftp_register.specs.Verdicts.{format_of, longest_of}
 use Rattle.oftp_register.specs.Soundness.{IsFit, IsSound}
 use Rattle.oftp_register.specs.Offices.{LooksUp, View}
+use Rattle.oftp_register.proofs.EntryLemmas.{rows_of_incoming}
 use Rattle.oftp_session.specs.declared.link.Link.{Link}
 use Rattle.oftp_session.specs.declared.receiving.Reception.{Reception}
 use Rattle.oftp_session.specs.declared.session.SessionFault.{SessionFault}
@@ -33,13 +34,12 @@ use Rattle.oftp_session.specs.Standings.{Tracks}
 use Rattle.oftp_session.specs.Starting.{IsFound, MayBegin, Starts, reception_of}
 use Rattle.oftp_session.specs.Calls.{DoesNot, Finds, IsAccepted, IsMade, Takes}
 use Rattle.oftp_session.proofs.Saying.{answered}
-use Rattle.oftp_session.proofs.Starts.{accepted_begins, rows_at}
+use Rattle.oftp_session.proofs.Starts.{accepted_begins}
 use Rattle.oftp_session.proofs.Views.{after_fails, made_then, then_fails, then_made}
 
 -- the octets of the file with a number
 units_at : (r : Register) (number : ℕ) (file : Incoming) → entry_at number r.incoming ≡ Some file → units_of r side.Incoming number ≡ units_in file.rows
-units_at r zero file e = absurd (cc)
-units_at r (suc n) file e = ap (λ (o : Option (List (List ℕ))). units_in (unwrap_or o [])) (rows_at r.incoming n file e)
+units_at r number file e = ap units_in (rows_of_incoming r number file e)
 
 -- what receives the file is made of what is looked up
 pub begun_finds : (link : Link) (identity : Identity) (number : ℕ) (file : Incoming) (old mid new : View) (entry : IncomingEntry) (units : ℕ) (limits : Limits)

@@ -19,20 +19,12 @@ use Rattle.oftp_register.specs.Register.{Register, Incoming, Outgoing, Issued}
 use Rattle.oftp_register.specs.Changes.{apply, closing, handed, if_allowed, is_closing, is_waiting, mapped, marked, on_outgoing, refused, reopened, sent, sent_as, sent_of}
 use Rattle.oftp_register.specs.LookUps.{entry_at, is_on_its_way}
 use Rattle.oftp_register.specs.Soundness.{IsFit, IsSound, IsSoundOutgoing}
+use Rattle.oftp_register.proofs.EntryLemmas.{IsChanged, all_at, changes_incoming, changes_outgoing}
 use Rattle.oftp_session.specs.declared.state.Contact.{Contact}
 use Rattle.oftp_session.specs.Phases.{Offer, Transfer, register_after}
 use Rattle.oftp_session.specs.Sending.{after_file, closing_transfer, credited_transfer, marking, new_mark, payload_size, refusal, reopening, rows_from as rows_sent, transfer_of}
 use Rattle.oftp_session.specs.Steps.{Holds, IsEnded, IsOffered, IsResponding, IsSent}
 use Rattle.oftp_session.specs.Calls.{IsAccepted}
-use Rattle.oftp_session.proofs.Ends.{all_at}
-use Rattle.oftp_session.proofs.Receipts.{at_entry}
-
--- an outgoing file with a number is changed
-out_made : (g : Outgoing → Result Outgoing Cause) (n : ℕ) (r : Register) (x y : Outgoing) → entry_at n r.outgoing ≡ Some x → g x ≡ Ok y
-    → (s : Register) × (on_outgoing g n r ≡ Ok s) × (entry_at n s.outgoing ≡ Some y)
-out_made g n r x y e h =
-    let at = at_entry g n r.outgoing x y e h in
-    (record r { outgoing = at.0 }, ap (mapped (λ files. record r { outgoing = files })) at.1, at.2)
 
 -- a change that its entry's state allows
 allowed : (b : Bool) (file : Outgoing) → b ≡ true → if_allowed b file ≡ Ok file
@@ -56,8 +48,7 @@ send_accepted r n holds =
     let file : Incoming = record holds.file { response = Some now } in
     let made : sent holds.file ≡ Ok file =
     ap (sent_of holds.file) holds.issued ∙ ap (λ (d : Dispatch). mapped (λ answer. record holds.file { response = Some answer }) (sent_as holds.response d)) holds.due in
-    let at = at_entry sent n r.incoming holds.file file holds.entry made in
-    ap (λ (x : Result (List Incoming) Cause). is_ok (mapped (λ files. record r { incoming = files }) x)) at.1
+    ap is_ok (changes_incoming sent n r holds.file file holds.entry made).made
 
 -- CDT: rows are covered by credit
 
@@ -80,8 +71,8 @@ mark_made r t mark holds within =
     let now : Outgoing = record t.file { mark = mark } in
     let made : marked mark t.file ≡ Ok now =
     ap (λ x. if_allowed (is_waiting x && nat_le mark (length t.file.rows)) now) holds.waits ∙ ap (λ b. if_allowed b now) (le-leb mark (length t.file.rows) within) in
-    let s = out_made (marked mark) t.number r t.file now holds.entry made in
-    (s.0, s.1, record { entry = s.2; waits = holds.waits; within = holds.within })
+    let c = changes_outgoing (marked mark) t.number r t.file now holds.entry made in
+    (c.after, c.made, record { entry = c.entry; waits = holds.waits; within = holds.within })
 
 pub mark_accepted : (r : Register) (t : Transfer) (mark : ℕ) → IsSent r t → mark ≤ length t.file.rows → IsAccepted r (Mark t.number mark)
 mark_accepted r t mark holds within = ap is_ok (mark_made r t mark holds within).1
@@ -119,8 +110,8 @@ unfolding apply
 closing_made r t holds =
     let now : Outgoing = record t.file { state = Closing } in
     let made : closing t.file ≡ Ok now = ap (λ (s : OutgoingState). if_allowed (is_waiting s) now) holds.waits in
-    let s = out_made closing t.number r t.file now holds.entry made in
-    (s.0, s.1, record { entry = s.2; closing = refl })
+    let c = changes_outgoing closing t.number r t.file now holds.entry made in
+    (c.after, c.made, record { entry = c.entry; closing = refl })
 
 pub closing_accepted : (r : Register) (t : Transfer) → IsSent r t → IsAccepted r (BeginClosing t.number)
 closing_accepted r t holds = ap is_ok (closing_made r t holds).1
@@ -141,7 +132,7 @@ hand_over : (r : Register) (n : ℕ) (file : Outgoing) → entry_at n r.outgoing
 unfolding apply
 hand_over r n file entry closes =
     let now : Outgoing = record file { state = Handed } in
-    ap is_ok (out_made handed n r file now entry (allowed (is_closing file.state) now closes)).1
+    ap is_ok (changes_outgoing handed n r file now entry (allowed (is_closing file.state) now closes)).made
 
 pub handed_accepted : (r : Register) (t : Transfer) → IsEnded r t → IsAccepted r (HandOver t.number)
 handed_accepted r t holds = hand_over r t.number t.file holds.entry (ap is_closing holds.closing)
@@ -173,7 +164,7 @@ unfolding apply
 refused_accepted r offer reason holds =
     let now : Outgoing = record offer.file { state = Refused reason } in
     let may = allowed (is_waiting offer.file.state || is_closing offer.file.state) now (goes_on offer.file.state holds.goes) in
-    ap is_ok (out_made (refused reason) offer.number r offer.file now holds.entry may).1
+    ap is_ok (changes_outgoing (refused reason) offer.number r offer.file now holds.entry may).made
 
 -- each change of an answer that doesn't take the file
 pub refusal_goes : (r : Register) (offer : Offer) (sfna : Sfna) (change : Change) → IsOffered r offer → refusal offer sfna ≡ Some change → IsFit r change × IsAccepted r change
@@ -203,17 +194,17 @@ unfolding IsFit
 reopened_fits r n = tt
 
 reopened_made : (r : Register) (n : ℕ) (file : Outgoing) → entry_at n r.outgoing ≡ Some file → is_closing file.state ≡ true
-    → (s : Register) × (apply r (Reopen n) ≡ Ok s) × (let now : Outgoing = record file { state = Waiting; mark = 0 } in entry_at n s.outgoing ≡ Some now)
+    → IsChanged (λ (s : Register). s.outgoing) n r (record file { state = Waiting; mark = 0 }) (apply r (Reopen n))
 unfolding apply
 reopened_made r n file entry closes =
     let now : Outgoing = record file { state = Waiting; mark = 0 } in
-    out_made reopened n r file now entry (allowed (is_closing file.state) now closes)
+    changes_outgoing reopened n r file now entry (allowed (is_closing file.state) now closes)
 
 pub reopened_accepted : (r : Register) (t : Transfer) → IsEnded r t → IsAccepted r (Reopen t.number)
-reopened_accepted r t holds = ap is_ok (reopened_made r t.number t.file holds.entry (ap is_closing holds.closing)).1
+reopened_accepted r t holds = ap is_ok (reopened_made r t.number t.file holds.entry (ap is_closing holds.closing)).made
 
 pub offered_reopened : (r : Register) (offer : Offer) → IsOffered r offer → is_closing offer.file.state ≡ true → IsAccepted r (Reopen offer.number)
-offered_reopened r offer holds closes = ap is_ok (reopened_made r offer.number offer.file holds.entry closes).1
+offered_reopened r offer holds closes = ap is_ok (reopened_made r offer.number offer.file holds.entry closes).made
 
 -- the change of an answer that takes the file
 pub reopening_goes : (r : Register) (offer : Offer) (change : Change) → IsOffered r offer → reopening offer ≡ Some change → IsFit r change × IsAccepted r change
@@ -242,6 +233,7 @@ reopened_after r offer from holds before = by (is_closing offer.file.state) refl
 
     by : (b : Bool) → is_closing offer.file.state ≡ b → IsSent (register_after r (cond b (Some (Reopen offer.number)) None)) (transfer b)
     by true h =
-        let s = reopened_made r offer.number offer.file holds.entry h in
-        after_made (λ (z : Register). IsSent z (transfer true)) r (Reopen offer.number) s.0 s.1 (record { entry = s.2; waits = refl; within = omega (arith, before, holds.within) })
+        let c = reopened_made r offer.number offer.file holds.entry h in
+        after_made (λ (z : Register). IsSent z (transfer true)) r (Reopen offer.number) c.after c.made
+        (record { entry = c.entry; waits = refl; within = omega (arith, before, holds.within) })
     by false h = record { entry = holds.entry; waits = waits offer.file.state holds.goes h; within = omega (arith, before, holds.within) }

@@ -25,6 +25,7 @@ use Rattle.oftp_register.specs.Register.{Register, Received, has_received}
 use Rattle.oftp_register.specs.Changes.{apply}
 use Rattle.oftp_register.specs.Soundness.{IsFit, IsSound, IsSoundReceived}
 use Rattle.oftp_register.specs.Verdicts.{end_verdict}
+use Rattle.oftp_register.proofs.EntryLemmas.{give_up_fit}
 use Rattle.oftp_register.proofs.KeepLemmas.{apply_keeps}
 use Rattle.oftp_session.specs.declared.link.WhenDone.TheVariants.{ChangeDirection, EndSession}
 use Rattle.oftp_session.specs.declared.state.Contact.{Contact}
@@ -38,7 +39,7 @@ use Rattle.oftp_session.specs.Starting.{MayBegin}
 use Rattle.oftp_session.specs.Steps.{came, turned, Holds, IsReceived, Suits}
 use Rattle.oftp_session.specs.Calls.{IsAccepted, Proceeds}
 use Rattle.oftp_session.proofs.Accepting.{accepted_proceeds, same_proceeds, unexpected_proceeds}
-use Rattle.oftp_session.proofs.Ends.{close_accepted, close_fits, give_up_accepted, give_up_fits}
+use Rattle.oftp_session.proofs.Ends.{close_accepted, close_fits, give_up_accepted}
 use Rattle.oftp_session.proofs.Filing.{files_new, files_fit}
 use Rattle.oftp_session.proofs.Receipts.{carried_next, keep_accepted, keep_after, keep_fits, payload_holds}
 use Rattle.oftp_session.proofs.Continuing.{end_answer_proceeds, rtr_proceeds, sending_proceeds, sends_proceeds, speaks_proceeds, start_answer_proceeds}
@@ -128,7 +129,7 @@ end_proceeds contact r f efid sound holds = by (is_open (carried_by f).stage) re
   where
     ends : (verdict : EndVerdict) → is_open (carried_by f).stage ≡ false → Proceeds r (on_end_verdict contact r f (carried_by f) verdict)
     ends «end».Accept shut = accepted_proceeds r (ListenerIdle contact) _ _ sound (close_fits r f sound holds shut) (close_accepted r f _ holds) tt
-    ends («end».Refuse reason) shut = accepted_proceeds r (ListenerIdle contact) _ _ sound (give_up_fits r f.number) (give_up_accepted r f holds) tt
+    ends («end».Refuse reason) shut = accepted_proceeds r (ListenerIdle contact) _ _ sound (give_up_fit r f.number) (give_up_accepted r f holds) tt
 
     by : (was : Bool) → is_open (carried_by f).stage ≡ was
         → Proceeds r (cond was (fails ProtocolViolation) (on_end_verdict contact r f (carried_by f) (end_verdict efid (counts_of (carried_by f)).0 (counts_of (carried_by f)).1)))

@@ -19,7 +19,9 @@ use Rattle.oftp_register.specs.declared.entry.IncomingState.TheVariants.{Open}
 use Rattle.oftp_register.specs.Register.{Register, Incoming}
 use Rattle.oftp_register.specs.Changes.{apply, at_number, mapped, kept, if_open}
 use Rattle.oftp_register.specs.LookUps.{entry_at}
-use Rattle.oftp_register.specs.Soundness.{AreFullRows, AtNumber, GoesOn, IfOpen, IsFit}
+use Rattle.oftp_register.specs.Soundness.{AreFullRows, GoesOn, IsFit}
+use Rattle.oftp_register.proofs.EntryLemmas.{keep_changes, keep_fit}
+use Rattle.oftp_register.proofs.NumberLemmas.{mapped_ok}
 use Rattle.oftp_session.specs.Phases.{Receipt, register_after}
 use Rattle.oftp_session.specs.Receiving.{taker_of, carried_by, kept_of, keeping, rows_to_keep, with_payload, with_rows}
 use Rattle.oftp_session.specs.Steps.{IsReceived}
@@ -43,44 +45,29 @@ payload_holds r f t payload holds h =
       took = subst (λ (x : Taking). Took x [] (f.payloads ++ payload ∷ [])) (sym is) (took_next (carried_by f) t [] f.payloads payload holds.took h);
     }
 
--- a change of the entry with a number is made, where the entry allows it
-pub at_entry : {A : Type 0} (g : A → Result A Cause) (n : ℕ) (xs : List A) (x y : A) → entry_at n xs ≡ Some x → g x ≡ Ok y
-    → (ys : List A) × (at_number g n xs ≡ Ok ys) × (entry_at n ys ≡ Some y)
-at_entry {A = A} g zero xs x y e h = absurd (cc)
-at_entry {A = A} g (suc n) xs x y e h = by n xs e
-  where
-    by : (n : ℕ) (xs : List A) → slice_get xs n ≡ Some x → (ys : List A) × (at_number g (suc n) xs ≡ Ok ys) × (slice_get ys n ≡ Some y)
-    by n [] e = absurd (cc)
-    by zero (z ∷ zs) e = let is : z ≡ x = cc in (y ∷ zs, ap (λ w. mapped (λ v. v ∷ zs) (g w)) is ∙ ap (mapped (λ v. v ∷ zs)) h, refl)
-    by (suc n) (z ∷ zs) e = let ih = by n zs e in (z ∷ ih.0, ap (mapped (λ vs. z ∷ vs)) ih.1, ih.2)
+-- a change of the incoming files leaves the limits
+pub files_limits : (r s : Register) (files : Result (List Incoming) Cause) → mapped (λ fs. record r { incoming = fs }) files ≡ Ok s → r.limits ≡ s.limits
+files_limits r s files made =
+    let part = mapped_ok (λ fs. record r { incoming = fs }) files s made in
+    ap (λ (x : Register). x.limits) part.2
 
--- a fact of the entry with a number
-pub at_entry_number : {A : Type 0} (P : A → Type 0) (n : ℕ) (xs : List A) (x : A) → entry_at n xs ≡ Some x → P x → AtNumber P n xs
-at_entry_number {A = A} P zero xs x e h = tt
-at_entry_number {A = A} P (suc n) xs x e h = by n xs e
-  where
-    by : (n : ℕ) (xs : List A) → slice_get xs n ≡ Some x → AtNumber P (suc n) xs
-    by n [] e = tt
-    by zero (y ∷ ys) e = let is : y ≡ x = cc in subst P (sym is) h
-    by (suc n) (y ∷ ys) e = by n ys e
+keep_limits : (r s : Register) (n : ℕ) (rows : List (List ℕ)) → apply r (Keep n rows) ≡ Ok s → r.limits ≡ s.limits
+unfolding apply
+keep_limits r s n rows made = files_limits r s (at_number (kept rows) n r.incoming) made
 
 -- the rows are kept, and the phase goes on to say what it said
 pub keep_holds : (r : Register) (f : Receipt) → IsReceived r f
     → let rows = rows_to_keep f (carried_by f) in (s : Register) × (apply r (Keep f.number rows) ≡ Ok s) × IsReceived s (with_rows f rows)
-unfolding apply
 keep_holds r f holds =
     let t = carried_by f in
     let rows = rows_to_keep f t in
-    let new : Incoming = record f.file { rows = f.file.rows ++ rows } in
     let with_state : IncomingState → Incoming = λ x. record f.file { rows = f.file.rows ++ rows; state = x } in
-    let state : with_state Open ≡ new = ap with_state (sym holds.opened) in
-    let made : kept rows f.file ≡ Ok new = ap (if_open f.file (f.file.rows ++ rows) Open) holds.opened ∙ ap (λ (x : Incoming). let y : Result Incoming Cause = Ok x in y) state in
-    let at = at_entry (kept rows) f.number r.incoming f.file new holds.entry made in (
-      record r { incoming = at.0 },
-      ap (mapped (λ files. record r { incoming = files })) at.1,
+    let c = keep_changes r f.number f.file holds.entry holds.opened rows in (
+      c.after,
+      c.made,
       record {
-        limit = holds.limit;
-        entry = at.2;
+        limit = holds.limit ∙ ap (λ limits. limits.octets) (keep_limits r c.after f.number rows c.made);
+        entry = c.entry ∙ ap (λ x. Some (with_state x)) (sym holds.opened);
         opened = holds.opened;
         kept = omega (arith, holds.kept, length-append f.file.rows rows);
         most = omega (arith, holds.most, holds.kept, length-append f.file.rows rows, length-drop (length f.file.rows - f.from) t.rows);
@@ -144,7 +131,6 @@ full_drop Text longest k rows h = All-drop (λ (r : List ℕ). length r ≡ 1024
 
 -- rows that came may be kept
 pub keep_fits : (r : Register) (f : Receipt) → IsReceived r f → IsFit r (Keep f.number (rows_to_keep f (carried_by f)))
-unfolding IsFit
 keep_fits r f holds =
     let t = carried_by f in
     let rows = rows_to_keep f t in
@@ -154,8 +140,7 @@ keep_fits r f holds =
     let its = subst (λ (l : ℕ). AreFullRows f.file.format l t.rows) same.1 (subst (λ (x : Format). AreFullRows x t.longest t.rows) same.0 full) in
     let fits = full_drop f.file.format f.file.longest (kept_of f) t.rows its in
     let on : GoesOn rows f.file = record { few = omega (arith, held.few, same.2, holds.kept, holds.most, length-drop (kept_of f) t.rows); fits = fits } in
-    at_entry_number (λ (x : Incoming). IfOpen x.state (GoesOn rows x)) f.number r.incoming f.file holds.entry
-    (subst (λ (state : IncomingState). IfOpen state (GoesOn rows f.file)) (sym holds.opened) on)
+    keep_fit r f.number f.file holds.entry holds.opened rows on
 
 -- rows that came are ones that the register takes
 pub keep_accepted : (r : Register) (f : Receipt) → IsReceived r f → IsAccepted r (Keep f.number (rows_to_keep f (carried_by f)))

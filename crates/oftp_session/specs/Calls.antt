@@ -1,6 +1,7 @@
 -- What a call of a session does: one step.
-use Rattle.std.specs.Prelude.{◌≡◌, ◌≢◌, ℕ, ◌<◌, ◌⊎◌, ⊤, true, List, [], length, Option, None, Some, Result, Ok, Err, is_ok}
+use Rattle.std.specs.Prelude.{◌≡◌, ◌≢◌, ℕ, ◌<◌, ◌⊎◌, ⊤, Bool, true, false, List, [], length, Option, None, Some, Result, Ok, Err, is_ok}
 use Rattle.oftp_wire.specs.declared.command.Command.{Command}
+use Rattle.oftp_wire.specs.declared.command.Command.TheVariants as command
 use Rattle.oftp_register.specs.declared.change.Change.{Change}
 use Rattle.oftp_register.specs.declared.change.Change.TheVariants as change
 use Rattle.oftp_register.specs.Register.{Register}
@@ -108,6 +109,12 @@ abbrev pub IsFailure : SessionFault → Type 0
 IsFailure fault.Ended = ⊥
 IsFailure fault.Office = ⊤
 IsFailure fault.Memory = ⊤
+
+-- a command for which memory may be taken: a part of a file that comes, and its end
+abbrev pub takes_memory : Command → Bool
+takes_memory (command.Data payload) = true
+takes_memory (command.Efid efid) = true
+takes_memory other = false
 
 -- a change that isn't refused
 abbrev pub IsAccepted : Register → Change → Type 0

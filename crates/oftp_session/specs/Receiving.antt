@@ -1,6 +1,5 @@
 -- How a listener takes a file: SFID to EFPA (RFC 5024, sections 5.3.3 to 5.3.10).
-use Rattle.std.specs.Prelude.{ℕ, ◌+◌, ◌-◌, ◌%◌, ◌==◌, Bool, false, nat_lt, max, if◌then◌else◌, List, [], ◌∷◌, ◌++◌, length, take, drop, Option, None, Some, is_some, Result, Ok, Err}
-use Rattle.std.specs.List.{position_or_len}
+use Rattle.std.specs.Prelude.{ℕ, ◌+◌, ◌-◌, ◌%◌, ◌==◌, Bool, false, nat_lt, max, if◌then◌else◌, List, [], ◌∷◌, ◌++◌, length, drop, Option, None, Some, is_some, Result, Ok, Err}
 use Rattle.oftp_wire.specs.declared.command.Command.{Command}
 use Rattle.oftp_wire.specs.declared.command.Command.TheVariants as command
 use Rattle.oftp_wire.specs.declared.command.Sfid.{Sfid}
@@ -20,15 +19,16 @@ use Rattle.oftp_vfile.specs.Reading.{taken, taken_all}
 use Rattle.oftp_register.specs.declared.change.Change.{Change}
 use Rattle.oftp_register.specs.declared.change.Change.TheVariants.{Start, Keep, Close, GiveUp}
 use Rattle.oftp_register.specs.declared.entry.Identity.{Identity}
-use Rattle.oftp_register.specs.declared.entry.IncomingState.TheVariants.{Open}
 use Rattle.oftp_register.specs.declared.entries.Side.TheVariants as side
 use Rattle.oftp_register.specs.declared.verdicts.Terms.{Terms}
 use Rattle.oftp_register.specs.declared.verdicts.StartVerdict.{StartVerdict}
 use Rattle.oftp_register.specs.declared.verdicts.StartVerdict.TheVariants as start
 use Rattle.oftp_register.specs.declared.verdicts.EndVerdict.{EndVerdict}
 use Rattle.oftp_register.specs.declared.verdicts.EndVerdict.TheVariants as «end»
-use Rattle.oftp_register.specs.Register.{Register, Incoming, same_identity}
-use Rattle.oftp_register.specs.LookUps.{look_in, files_full, file_rows, next_item}
+use Rattle.oftp_register.specs.Register.{Register, Incoming}
+use Rattle.oftp_register.specs.Changes.{new_incoming}
+use Rattle.oftp_register.specs.ByIdentity.{number_of, started_file}
+use Rattle.oftp_register.specs.LookUps.{look_in, files_full, next_item}
 use Rattle.oftp_register.specs.Verdicts.{start_verdict, end_verdict, format_of, longest_of}
 use Rattle.oftp_session.specs.declared.state.Contact.{Contact}
 use Rattle.oftp_session.specs.Settings.{Setting}
@@ -42,15 +42,7 @@ offered_identity sfid = record { dataset = sfid.dataset; date = sfid.date; time 
 
 -- its entry, before a row of it is here
 abbrev pub offered_file : Sfid → Incoming
-offered_file sfid = record {
-  identity = offered_identity sfid;
-  format = format_of sfid.layout;
-  longest = longest_of sfid.layout;
-  description = sfid.description;
-  state = Open;
-  rows = [];
-  response = None;
-}
+offered_file sfid = new_incoming (offered_identity sfid) (format_of sfid.layout) (longest_of sfid.layout) sfid.description
 
 -- on what terms a file is taken by an office that may hold so much
 abbrev pub terms_within : Setting → Contact → Limits → Terms
@@ -67,10 +59,6 @@ abbrev pub verdict_on : Setting → Contact → Register → Sfid → StartVerdi
 verdict_on setting contact r sfid =
     start_verdict sfid (look_in r (offered_identity sfid)) (files_full r side.Incoming) (terms_within setting contact r.limits)
 
--- the number of the file of an identity, or the one that it gets
-abbrev pub number_of : Register → Identity → ℕ
-number_of r identity = 1 + position_or_len (λ (f : Incoming). same_identity f.identity identity) r.incoming
-
 -- the file begins, or goes on after so many of its rows
 abbrev pub start_of : Sfid → ℕ → Change
 start_of sfid count = Start (offered_identity sfid) (format_of sfid.layout) (longest_of sfid.layout) sfid.description count
@@ -78,13 +66,12 @@ start_of sfid count = Start (offered_identity sfid) (format_of sfid.layout) (lon
 -- the file as it is received from this row on
 abbrev pub receipt_of : Register → Sfid → ℕ → Receipt
 receipt_of r sfid count =
-    let number = number_of r (offered_identity sfid) in
-    let rows = take count (file_rows r side.Incoming number) in
+    let file = started_file r (offered_file sfid) count in
     record {
-      number = number;
-      file = record (offered_file sfid) { rows = rows };
+      number = number_of r (offered_identity sfid);
+      file = file;
       from = count;
-      units = units_in rows;
+      units = units_in file.rows;
       limit = r.limits.octets;
       payloads = [];
     }

@@ -5,6 +5,7 @@ ghost use Rattle.oftp_register.specs.declared.change.Change.TheVariants.{Close, 
 ghost use Rattle.oftp_register.specs.Register.{Incoming};
 ghost use Rattle.oftp_register.specs.Soundness.{IsFit, IsSoundReceived};
 ghost use Rattle.oftp_vfile.specs.Taking.{new_taking};
+ghost use Rattle.oftp_vfile.specs.declared.format.TheConstants.{MOST_ROWS};
 ghost use Rattle.oftp_session.specs.Settings.{setting_of};
 ghost use Rattle.oftp_session.specs.Listener.{came_listener_idle, filing, is_between, response_step};
 ghost use Rattle.oftp_session.specs.Receiving.{asks_to_speak, keeping, offer_step, offered_identity, terms_within, verdict_on};
@@ -236,7 +237,7 @@ fn reception(
     units: u64,
     limits: Limits,
 ) -> Reception
-    requires rows { entry.now.rows ≤ 1000000 }
+    requires rows { entry.now.rows ≤ MOST_ROWS }
     requires fits { units + limits.octets < 2 ^ 63 }
     ensures { result ≡ record {
       number = entry.now.no;

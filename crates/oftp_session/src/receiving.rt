@@ -1,12 +1,12 @@
 //! A file that comes: DATA and EFID (RFC 5024, sections 5.3.6 to 5.3.10).
 
-ghost use Rattle.std.specs.Prelude.{◌≡◌, ◌+◌, ◌≤◌, false, nat_lt, length, IfErr};
+ghost use Rattle.std.specs.Prelude.{◌≡◌, ◌≢◌, ◌+◌, ◌≤◌, false, nat_lt, length, IfErr};
 ghost use Rattle.oftp_vfile.specs.Carries.{is_open};
 ghost use Rattle.oftp_session.specs.Phases.{Receipt};
 ghost use Rattle.oftp_session.specs.Receiving.{came_receiving, carried_by, data_step, end_step, on_end_verdict, reason_of, rows_to_keep, window_step};
 ghost use Rattle.oftp_session.specs.Steps.{IsReceived};
 ghost use Rattle.oftp_session.specs.Standings.{HasTaken, Tracks};
-ghost use Rattle.oftp_session.specs.Calls.{IsFailure, Refuses, Takes};
+ghost use Rattle.oftp_session.specs.Calls.{IsFailure, Refuses, Takes, takes_memory};
 
 use crate::commands::{efna, efpa};
 use crate::frame::Frame;
@@ -199,6 +199,7 @@ pub(crate) fn in_receiving<O: Office>(
         → Takes (came_receiving contact (O.view office.old).register f command.now)
         (O.view office.old) (O.view office.new) frame.new result }
     ensures err { IfErr result IsFailure }
+    ensures light { takes_memory command.now ≡ false → IfErr result (λ fault. fault ≢ SessionFault.Memory) }
 {
     match command {
         Command::Data(payload) => take_data(contact, reception, office, payload.octets(), frame),

@@ -6,7 +6,7 @@ ghost use Rattle.oftp_session.specs.Settings.{Setting as Known, setting_of};
 ghost use Rattle.oftp_session.specs.Phases.{Phase, ending_of, esid_of, frame_of, is_over};
 ghost use Rattle.oftp_session.specs.Steps.{came, has_turn, turned, Holds};
 ghost use Rattle.oftp_session.specs.Standings.{Broken, StandsIn, ended_as, is_closed, is_due, is_receiving, is_sending, standing_of, turns_left};
-ghost use Rattle.oftp_session.specs.Calls.{Does, Goes, IsFailure, IsFull, Seen, Stands, Takes, heard};
+ghost use Rattle.oftp_session.specs.Calls.{Does, Goes, IsFailure, IsFull, Seen, Stands, Takes, heard, takes_memory};
 
 use crate::frame::Frame;
 use crate::listener::in_listener_idle;
@@ -91,6 +91,7 @@ fn came<O: Office>(
         (O.view office.old) (O.view office.new) frame.new result }
     ensures err { IfErr result IsFailure }
     ensures spared { is_receiving (standing_of state) ≡ false → IfErr result (λ fault. fault ≢ SessionFault.Memory) }
+    ensures light { takes_memory command.now ≡ false → IfErr result (λ fault. fault ≢ SessionFault.Memory) }
 {
     match state {
         State::ResponderOpening | State::SpeakerIdle(_, _) | State::GivingWay(_) => {
@@ -235,7 +236,8 @@ impl<'b> Session<'b> {
     /// # Errors
     ///
     /// [`SessionFault::Ended`] where the session had ended or was broken, and then nothing is changed; [`SessionFault::Office`]
-    /// where the office told a fault, after which only [`Session::fail`] is left.
+    /// where the office told a fault, and [`SessionFault::Memory`] where a growth was refused for a DATA or an EFID of the file
+    /// that is received. After these two only [`Session::fail`] is left.
     pub fn on_command<O: Office>(
         &mut self,
         office: &mut O,
@@ -248,8 +250,9 @@ impl<'b> Session<'b> {
             (O.view office.old) (O.view office.new) (heard result) }
         ensures full { IfOk result IsFull }
         ensures err { is_closed self.old.standing ≡ false → IfErr result IsFailure }
-        // Memory is taken only while a file is received.
+        // Memory is taken only while a file is received, for its parts and its end.
         ensures spared { is_receiving self.old.standing ≡ false → IfErr result (λ fault. fault ≢ SessionFault.Memory) }
+        ensures light { takes_memory command.now ≡ false → IfErr result (λ fault. fault ≢ SessionFault.Memory) }
         ensures closed { is_closed self.old.standing ≡ true
             → (heard result ≡ Err SessionFault.Ended) × (office.new ≡ office.old) }
         ensures* goes { sem 𝓛 (Rests (the_row (record { mir = named 1; lft = [] })) self.entry

@@ -2,11 +2,11 @@
 use Rattle.std.proofs.Common.{zero, suc, ◌≡◌, ◌⊎◌, ◌∙◌, subst, ◌<◌, ◌≤◌, ap, ◌&&◌, ◌||◌, ℕ, Bool, true, false, not, List, [], ◌∷◌, length, map, codes, is_some, Option, Some, None, refl, sym, inl, inr, arith, true≢false}
 use Rattle.std.specs.List.{All, find, list_all, list_any, slice_index_or}
 use Rattle.std.specs.Str.{bytes_eq}
-use Rattle.std.specs.Prelude.{option_map, slice_get}
+use Rattle.std.specs.Prelude.{IsSome, option_map, slice_get}
 use Rattle.std.specs.Borrow.{Bor}
 use Rattle.std.proofs.lemmas.Slice.Eq.{bytes_eq-Decides}
 use Rattle.clap.specs.Texts.{items_of}
-use Rattle.clap.specs.Words.{Rule, Text, app_of, found_of, has_subcommand, rows_of, rule_of, shape_of}
+use Rattle.clap.specs.Words.{Rule, Text, app_of, first_of, found_of, has_subcommand, rows_of, rule_of, shape_of}
 use Rattle.clap.specs.Simple.{has_plain_fields}
 use Rattle.clap.specs.declared.builder.command.Command.TheOpen.{Command-F}
 use Rattle.clap.specs.Facts.{Entry, EntryPasses, IsParsed, args_of, groups_of, least_values}
@@ -24,7 +24,7 @@ use Rattle.clap.proofs.CallerLemmas.{default_present, entry_by_id, present_has_e
 use Rattle.clap.proofs.SimpleLemmas.{is_false, is_nil}
 use Rattle.clap.proofs.TakesLemmas.{each_rule}
 use Rattle.clap.proofs.WalkLemmas.{both, first_value-rows}
-use Rattle.oftp_station.specs.Arguments.{HasValues, has_certain, is_certain, is_own, is_set}
+use Rattle.oftp_station.specs.Arguments.{always_has, has_alone, is_certain, is_own, is_set}
 
 -- ---- from the tests of the rules to facts of the arguments
 
@@ -90,12 +90,12 @@ certain a e =
 
 -- ---- the place of the argument with an id
 
-record Place (xs : List Arg) (id : Text) : Type 0 where
-  place : ℕ
-  within : place < length xs
-  named : (d : Arg) → (slice_index_or xs place d).id.now ≡ id
-  certain : (d : Arg) → is_certain (rule_of (slice_index_or xs place d)) ≡ true
-  only : (j : ℕ) (e : Arg) → j < length xs → bytes_eq (slice_index_or xs j e).id.now id ≡ true → j ≡ place
+pub record Place (is_such : Rule → Bool) (xs : List Arg) (id : Text) : Type 0 where
+  pub place : ℕ
+  pub within : place < length xs
+  pub named : (d : Arg) → (slice_index_or xs place d).id.now ≡ id
+  pub such : (d : Arg) → is_such (rule_of (slice_index_or xs place d)) ≡ true
+  pub only : (j : ℕ) (e : Arg) → j < length xs → bytes_eq (slice_index_or xs j e).id.now id ≡ true → j ≡ place
 
 none_has : (xs : List Arg) (id : Text) → list_any (λ (other : Rule). bytes_eq other.id id) (map rule_of xs) ≡ false
     → (j : ℕ) (e : Arg) → j < length xs → bytes_eq (slice_index_or xs j e).id.now id ≡ true → ⊥
@@ -103,28 +103,28 @@ none_has [] id none j e lt is = omega arith
 none_has (x ∷ xs) id none zero e lt is = true≢false (sym is ∙ (neither _ _ none).0)
 none_has (x ∷ xs) id none (suc j) e lt is = none_has xs id (neither _ _ none).1 j e (omega arith) is
 
-place_at : (xs : List Arg) (id : Text) → has_certain id (map rule_of xs) ≡ true → Place xs id
-place_at [] id e = absurd (true≢false (sym e))
-place_at (x ∷ xs) id e = go (bytes_eq x.id.now id) refl (λ rest. place_at xs id rest)
+place_at : (is_such : Rule → Bool) (xs : List Arg) (id : Text) → has_alone is_such id (map rule_of xs) ≡ true → Place is_such xs id
+place_at is_such [] id e = absurd (true≢false (sym e))
+place_at is_such (x ∷ xs) id e = go (bytes_eq x.id.now id) refl (λ rest. place_at is_such xs id rest)
   where
     first : bytes_eq x.id.now id ≡ true → list_any (λ (other : Rule). bytes_eq other.id id) (map rule_of xs) ≡ false
         → (j : ℕ) (d : Arg) → j < length (x ∷ xs) → bytes_eq (slice_index_or (x ∷ xs) j d).id.now id ≡ true → j ≡ 0
     first is none zero d lt same = refl
     first is none (suc j) d lt same = absurd (none_has xs id none j d (omega arith) same)
 
-    later : bytes_eq x.id.now id ≡ false → (rest : Place xs id)
+    later : bytes_eq x.id.now id ≡ false → (rest : Place is_such xs id)
         → (j : ℕ) (d : Arg) → j < length (x ∷ xs) → bytes_eq (slice_index_or (x ∷ xs) j d).id.now id ≡ true → j ≡ suc rest.place
     later is rest zero d lt same = absurd (true≢false (sym same ∙ is))
     later is rest (suc j) d lt same = ap suc (rest.only j d (omega arith) same)
 
-    go : (b : Bool) → bytes_eq x.id.now id ≡ b → (has_certain id (map rule_of xs) ≡ true → Place xs id) → Place (x ∷ xs) id
+    go : (b : Bool) → bytes_eq x.id.now id ≡ b → (has_alone is_such id (map rule_of xs) ≡ true → Place is_such xs id) → Place is_such (x ∷ xs) id
     go true is rec =
         let parts = both _ _ (rw is at e) in
         record {
           place = 0;
           within = omega arith;
           named = λ d. (bytes_eq-Decides x.id.now id).0 is;
-          certain = λ d. parts.0;
+          such = λ d. parts.0;
           only = first is (is_false _ parts.1);
         }
     go false is rec =
@@ -133,7 +133,7 @@ place_at (x ∷ xs) id e = go (bytes_eq x.id.now id) refl (λ rest. place_at xs 
           place = suc rest.place;
           within = omega (arith, rest.within);
           named = λ d. rest.named d;
-          certain = λ d. rest.certain d;
+          such = λ d. rest.such d;
           only = later is rest;
         }
 
@@ -206,38 +206,6 @@ entry_has_value old m p plain globals k d lt set delim least unique named own ha
 
 -- ---- each parse
 
--- the value of the argument at a place
-value_at : (c : Command) (m : ArgMatches) → IsParsedFrom c m → IsPlain c → (out-Command c).has_globals ≡ false
-    → (out-Command c).subcommand_negates_reqs ≡ false
-    → All (λ (a : Arg). (is_simple_arg a && is_free_arg a) ≡ true) (args_of c)
-    → (id : Text) → is_own id ≡ true → (at : Place (args_of c) id) → (d : Arg)
-    → is_some (first_value (found_of m) id) ≡ true
-value_at c m p plain globals negates all id own at d =
-    let k = at.place in
-    let a = slice_index_or (args_of c) k d in
-    let alone = lone a (all k d at.within) in
-    let named = at.named d in
-    let sure = certain a (at.certain d) in
-    let parts = both _ _ own in
-    let names = both _ _ parts.1 in
-    let entry : is_some (matched_of (found_of m) a.id.now) ≡ true = elim sure.wanted [
-      | inl required ↦ present_has_entry (found_of m) a.id.now (required_present c m p plain globals negates k d at.within required)
-      | inr defaults ↦
-          let has = default_present c m p globals k d at.within (alone.no_ifs, defaults) in
-          found_by_id (found_of m).entries.items a.id.now has.0 has.1 has.2
-    ] in
-    let value = entry_has_value c m p plain globals k d at.within sure.set alone.no_delimiter sure.least
-    (λ j e lt same. at.only j e lt (rw named at same))
-    (λ empty.
-    let bad : is_empty id ≡ true = rw (sym named ∙ empty) refl in
-    true≢false (sym bad ∙ is_false _ parts.0))
-    (λ auto. elim auto [
-      | inl help ↦ true≢false (sym ((bytes_eq-Decides id (codes "help")).1 (sym named ∙ help)) ∙ is_false _ names.0)
-      | inr version ↦ true≢false (sym ((bytes_eq-Decides id (codes "version")).1 (sym named ∙ version)) ∙ is_false _ names.1)
-    ])
-    entry in
-    subst (λ (t : Text). is_some (first_value (found_of m) t) ≡ true) named value
-
 -- the first of the arguments, for a list that is not empty
 some_arg : (xs : List Arg) → 0 < length xs → Arg
 some_arg [] lt = absurd (omega arith)
@@ -253,16 +221,68 @@ plain_fields f e =
     external.1 in
     (is_nil _ groups.0, is_false _ globals.0)
 
-pub has_values : (c : Command) (m : ArgMatches) → IsParsedFrom c m → HasValues (app_of c) (rows_of (found_of m))
-has_values c m p id e =
+-- what `always_has` says of a command
+pub record Always (is_such : Rule → Bool) (c : Command) (id : Text) : Type 0 where
+  pub plain : IsPlain c
+  pub globals : (out-Command c).has_globals ≡ false
+  pub negates : (out-Command c).subcommand_negates_reqs ≡ false
+  pub lone : All (λ (a : Arg). (is_simple_arg a && is_free_arg a) ≡ true) (args_of c)
+  pub named : id ≡ [] → ⊥
+  pub not_auto : (a : Arg) → a.id.now ≡ id → IsAuto a → ⊥
+  pub at : Place is_such (args_of c) id
+  pub some : Arg
+
+pub always : (is_such : Rule → Bool) (c : Command) (id : Text) → always_has is_such (app_of c) id ≡ true → Always is_such c id
+always is_such c id e =
     let top = shape_of c in
     let plain_and = both top.is_plain _ e in
     let negates_and = both (not top.subcommand_negates_reqs) _ plain_and.1 in
     let lone_and = both (list_all (λ (r : Rule). r.is_simple && r.is_free) top.rules) _ negates_and.1 in
-    let own_and = both (is_own id) (has_certain id top.rules) lone_and.1 in
+    let own_and = both (is_own id) (has_alone is_such id top.rules) lone_and.1 in
+    let parts = both _ _ own_and.0 in
+    let names = both _ _ parts.1 in
     let fields = plain_fields (out-Command c) plain_and.0 in
     let all = each_rule (λ (r : Rule). r.is_simple && r.is_free) (args_of c) lone_and.0 in
-    let plain : IsPlain c = ((λ k d lt. (lone (slice_index_or (args_of c) k d) (all k d lt)).plain), fields.0) in
-    let at = place_at (args_of c) id own_and.1 in
-    let value = value_at c m p plain fields.1 (is_false _ negates_and.0) all id own_and.0 at (some_arg (args_of c) (omega (arith, at.within))) in
+    let place = place_at is_such (args_of c) id own_and.1 in
+    record {
+      plain = ((λ k d lt. (lone (slice_index_or (args_of c) k d) (all k d lt)).plain), fields.0);
+      globals = fields.1;
+      negates = is_false _ negates_and.0;
+      lone = all;
+      named = λ empty.
+          let bad : is_empty id ≡ true = rw empty refl in
+          true≢false (sym bad ∙ is_false _ parts.0);
+      not_auto = λ a same auto. elim auto [
+        | inl help ↦ true≢false (sym ((bytes_eq-Decides id (codes "help")).1 (sym same ∙ help)) ∙ is_false _ names.0)
+        | inr version ↦ true≢false (sym ((bytes_eq-Decides id (codes "version")).1 (sym same ∙ version)) ∙ is_false _ names.1)
+      ];
+      at = place;
+      some = some_arg (args_of c) (omega (arith, place.within));
+    }
+
+-- such an argument has a value, where it is certain
+pub value_at : (is_such : Rule → Bool) → ((r : Rule) → is_such r ≡ true → is_certain r ≡ true) → (c : Command) (m : ArgMatches) → IsParsedFrom c m
+    → (id : Text) → Always is_such c id → is_some (first_value (found_of m) id) ≡ true
+value_at is_such is_sure c m p id h =
+    let k = h.at.place in
+    let d = h.some in
+    let a = slice_index_or (args_of c) k d in
+    let alone = lone a (h.lone k d h.at.within) in
+    let named = h.at.named d in
+    let sure = certain a (is_sure _ (h.at.such d)) in
+    let entry : is_some (matched_of (found_of m) a.id.now) ≡ true = elim sure.wanted [
+      | inl required ↦ present_has_entry (found_of m) a.id.now (required_present c m p h.plain h.globals h.negates k d h.at.within required)
+      | inr defaults ↦
+          let has = default_present c m p h.globals k d h.at.within (alone.no_ifs, defaults) in
+          found_by_id (found_of m).entries.items a.id.now has.0 has.1 has.2
+    ] in
+    let value = entry_has_value c m p h.plain h.globals k d h.at.within sure.set alone.no_delimiter sure.least
+    (λ j e lt same. h.at.only j e lt (rw named at same))
+    (λ empty. h.named (sym named ∙ empty)) (h.not_auto a named) entry in
+    subst (λ (t : Text). is_some (first_value (found_of m) t) ≡ true) named value
+
+pub has_texts : (c : Command) (m : ArgMatches) → IsParsedFrom c m → (id : Text) → always_has is_certain (app_of c) id ≡ true
+    → IsSome (first_of id (rows_of (found_of m)))
+has_texts c m p id e =
+    let value = value_at is_certain (λ r sure. sure) c m p id (always is_certain c id e) in
     subst (λ (o : Option Text). is_some o ≡ true) (first_value-rows (found_of m) id) value

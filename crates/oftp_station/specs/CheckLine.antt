@@ -1,7 +1,7 @@
 -- The command line of `check`.
-use Rattle.std.specs.Prelude.{List, Option, codes, option_map}
+use Rattle.std.specs.Prelude.{List, codes}
 use Rattle.clap.specs.Words.{App, Row, Text, new_app, with_rule}
-use Rattle.oftp_station.specs.Arguments.{given, needed, taken}
+use Rattle.oftp_station.specs.Arguments.{given, needed}
 use Rattle.oftp_station.specs.declared.line.commands.check.Check.{Check}
 
 -- what `check` is asked for
@@ -19,7 +19,3 @@ check_app = with_rule (new_app (codes "check")) (needed (codes "book"))
 -- what `check` is asked for by these values
 abbrev pub check_with : List Row → CheckSaid
 check_with rows = record { book = given (codes "book") rows }
-
--- what `check` is asked for by the words: none where it does not take them
-unfoldable pub check_of : List Text → Option CheckSaid
-check_of words = option_map check_with (taken check_app words)

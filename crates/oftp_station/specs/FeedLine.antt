@@ -1,14 +1,14 @@
 -- The command line of `feed`.
-use Rattle.std.specs.Prelude.{List, None, Option, Some, codes, if◌then◌else◌, option_and_then, option_map}
-use Rattle.std.specs.Str.{bytes_eq}
+use Rattle.std.specs.Prelude.{List, [], ◌∷◌, Option, codes, option_map}
 use Rattle.clap.specs.Words.{App, Row, Text, first_of, new_app, with_rule}
-use Rattle.oftp_station.specs.Arguments.{defaulted, given, needed, optional, taken, word}
+use Rattle.oftp_station.specs.Arguments.{defaulted, given, named, needed, optional, word}
 use Rattle.oftp_station.specs.declared.line.commands.feed.Feed.{Feed}
 use Rattle.oftp_station.specs.declared.line.commands.feed.Side.{Side}
 use Rattle.oftp_station.specs.declared.line.commands.feed.Side.TheVariants.{Initiator, Responder}
 
 -- what `feed` is asked for
 pub record FeedSaid : Type 0 where
+  pub database : Option Text
   pub book : Text
   pub role : Side
   pub partner : Option Text
@@ -18,6 +18,7 @@ pub record FeedSaid : Type 0 where
 -- the same, of the command that was read
 abbrev pub feed_said : Feed → FeedSaid
 feed_said f = record {
+  database = option_map (λ s. s.now) f.database;
   book = f.book.now;
   role = f.role;
   partner = option_map (λ s. s.now) f.partner;
@@ -27,18 +28,19 @@ feed_said f = record {
 
 -- `feed`, as the parser is told of it
 unfoldable pub feed_app : App
-feed_app = with_rule (with_rule (with_rule (with_rule (with_rule (new_app (codes "feed"))
-    (needed (codes "book"))) (defaulted (codes "role") (codes "responder")))
-    (optional (codes "partner"))) (word (codes "in"))) (word (codes "out"))
+feed_app = with_rule (with_rule (with_rule (with_rule (with_rule (with_rule (new_app (codes "feed"))
+    (optional (codes "db"))) (needed (codes "book")))
+    (defaulted (codes "role") (codes "responder"))) (optional (codes "partner")))
+    (word (codes "in"))) (word (codes "out"))
 
 -- the side that a text names
 abbrev pub side_of : Text → Option Side
-side_of text = if bytes_eq text (codes "responder") then Some Responder
-    else (if bytes_eq text (codes "initiator") then Some Initiator else None)
+side_of = named ((codes "responder", Responder) ∷ (codes "initiator", Initiator) ∷ [])
 
 -- what `feed` is asked for by these values, in a role
 abbrev pub feed_with : Side → List Row → FeedSaid
 feed_with role rows = record {
+  database = first_of (codes "db") rows;
   book = given (codes "book") rows;
   role = role;
   partner = first_of (codes "partner") rows;
@@ -46,10 +48,6 @@ feed_with role rows = record {
   output = given (codes "out") rows;
 }
 
--- the same, in the role that they name
+-- the same, in the role that they name: none where they name no side
 abbrev pub feed_in : List Row → Option FeedSaid
 feed_in rows = option_map (λ role. feed_with role rows) (side_of (given (codes "role") rows))
-
--- what `feed` is asked for by the words: none where it does not take them, or the role is no side
-unfoldable pub feed_of : List Text → Option FeedSaid
-feed_of words = option_and_then feed_in (taken feed_app words)

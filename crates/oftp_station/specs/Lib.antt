@@ -1,6 +1,14 @@
 pub mod Arguments
 pub mod CheckLine
+pub mod Fetched
 pub mod Fault
 pub mod FeedLine
+pub mod FetchLine
+pub mod InitLine
 pub mod Line
+pub mod MigrateLine
 pub mod Printed
+pub mod RefuseLine
+pub mod ReleaseLine
+pub mod ReportLine
+pub mod SubmitLine

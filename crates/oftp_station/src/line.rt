@@ -8,18 +8,38 @@ ghost use Rattle.oftp_station.specs.declared.line.LineFault.TheVariants.{Memory}
 mod arguments;
 mod commands;
 
-use commands::USAGES;
+use arguments::matched;
 pub use commands::check::Check;
-use commands::check::check_line;
-use commands::feed::feed_line;
 pub use commands::feed::{Feed, Side};
+pub use commands::fetch::Fetch;
+pub use commands::init::Init;
+pub use commands::migrate::Migrate;
+pub use commands::refuse::Refuse;
+pub use commands::release::Release;
+pub use commands::report::Report;
+pub use commands::submit::Submit;
+use commands::{Name, USAGES};
 use std::alloc::{AllocError, Global};
 
 /// A command with its options and words, borrowed from the words of the command line.
 #[derive(Debug, Clone, Copy, PartialEq, Eq)]
 pub enum Line<'a> {
+    /// The database is opened, and its tables are made.
+    Init(Init<'a>),
+    /// A database of schema 1 is brought to schema 2.
+    Migrate(Migrate<'a>),
     /// The book is read, and its partners are counted.
     Check(Check<'a>),
+    /// A file is to be sent to a partner.
+    Submit(Submit<'a>),
+    /// An incoming file was delivered.
+    Release(Release<'a>),
+    /// An incoming file wasn't delivered.
+    Refuse(Refuse<'a>),
+    /// An incoming file is written to a file.
+    Fetch(Fetch<'a>),
+    /// What the database holds is told.
+    Report(Report<'a>),
     /// One session from the octets of a file to another file.
     Feed(Feed<'a>),
 }
@@ -48,22 +68,26 @@ pub fn line_of<'a>(alloc: Global, words: &'a [String]) -> Result<Line<'a>, LineF
     ensures bad { IfErr result (λ e. is_bad e ≡ true
         → line_of_words (map string_bytes words.entry.now) ≡ None) }
 {
-    match words.first() {
-        Some(name) => read_command(alloc, name.as_str(), words),
-        None => Err(LineFault::Bad(usage_after(alloc, "error: a command is missing")?)),
-    }
+    let Some(first) = words.first() else {
+        return Err(LineFault::Bad(usage_after(alloc, "error: a command is missing")?));
+    };
+    let Some(name) = Name::of(first.as_str()) else {
+        return Err(LineFault::Bad(unknown_command(alloc, first.as_str())?));
+    };
+    read_command(alloc, name, words)
 }
 
 /// The command of this name that the words ask for. The parser takes the first word for the name.
-fn read_command<'a>(alloc: Global, name: &str, words: &'a [String]) -> Result<Line<'a>, LineFault>
-    ensures ok { IfOk result (λ l. line_named name.now (map string_bytes words.entry.now) ≡ Some (said l)) }
+fn read_command<'a>(alloc: Global, name: Name, words: &'a [String]) -> Result<Line<'a>, LineFault>
+    ensures ok { IfOk result (λ l. line_named name (map string_bytes words.entry.now) ≡ Some (said l)) }
     ensures bad { IfErr result (λ e. is_bad e ≡ true
-        → line_named name.now (map string_bytes words.entry.now) ≡ None) }
+        → line_named name (map string_bytes words.entry.now) ≡ None) }
 {
-    match name {
-        "check" => check_line(alloc, words).map(Line::Check),
-        "feed" => feed_line(alloc, words).map(Line::Feed),
-        other => Err(LineFault::Bad(unknown_command(alloc, other)?)),
+    let command = name.command(alloc)?;
+    let matches = matched(alloc, command, words)?;
+    match name.read(&matches) {
+        Ok(line) => Ok(line),
+        Err(unlisted) => Err(LineFault::Bad(unlisted.text(alloc)?)),
     }
 }
 

@@ -1,6 +1,7 @@
 //! A station of the ODETTE File Transfer Protocol 2 (RFC 5024).
 #![tactic(auto)]
 
+mod database;
 mod line;
 mod outcome;
 mod perform;

@@ -5,6 +5,7 @@ ghost use Rattle.oftp_station.specs.Printed.{fault_line, is_refusal, outcome_lin
 
 use oftp_engine::{End, RunFault};
 use oftp_partners::BookFault;
+use oftp_schema::StoreFault;
 use std::fmt;
 
 /// Why a command failed: the line on standard error.
@@ -14,6 +15,8 @@ pub enum Fault {
     Run(RunFault),
     /// The book's text is no book.
     Book(BookFault),
+    /// The database isn't opened, or not brought to schema 2.
+    Store(StoreFault),
     /// A file that the line names can't be read or made.
     File,
 }
@@ -33,6 +36,9 @@ impl fmt::Display for Fault {
             Fault::Run(RunFault::Office) => f.write_str("fault: 3 office"),
             Fault::Run(RunFault::Memory) => f.write_str("fault: 4 memory"),
             Fault::Book(fault) => write!(f, "fault: 5 book {}", fault.number()),
+            Fault::Store(StoreFault::Store) => f.write_str("fault: 6 store 1"),
+            Fault::Store(StoreFault::Memory) => f.write_str("fault: 6 store 2"),
+            Fault::Store(StoreFault::WrongSchema) => f.write_str("fault: 6 store 3"),
             Fault::File => f.write_str("fault: 7 file"),
         }
     }
@@ -41,12 +47,20 @@ impl fmt::Display for Fault {
 /// What a command did: the line on standard output.
 #[derive(Clone, Copy, Debug, Drop, PartialEq, Eq)]
 pub enum Outcome {
+    /// The database was opened, and has its tables.
+    Initiated,
+    /// The database has schema 2.
+    Migrated,
     /// The book is a book, of so many partners.
     Checked(usize),
     /// A session was served, and ended so.
     Ended(End),
+    /// The incoming file of this number was written.
+    Fetched(u64),
     /// What the line names isn't there.
     Unknown,
+    /// The file isn't in the state that the command asks for.
+    WrongState,
 }
 
 impl Outcome {
@@ -55,8 +69,9 @@ impl Outcome {
         ensures { result ≡ is_refusal self.now }
     {
         match self {
-            Outcome::Checked(_) | Outcome::Ended(_) => false,
-            Outcome::Unknown => true,
+            Outcome::Initiated | Outcome::Migrated => false,
+            Outcome::Checked(_) | Outcome::Ended(_) | Outcome::Fetched(_) => false,
+            Outcome::Unknown | Outcome::WrongState => true,
         }
     }
 }
@@ -66,6 +81,8 @@ impl fmt::Display for Outcome {
 
     fn fmt<W: fmt::Write>(&self, f: &mut fmt::Formatter<W>) -> fmt::Result {
         match self {
+            Outcome::Initiated => f.write_str("done: init"),
+            Outcome::Migrated => f.write_str("done: migrate"),
             Outcome::Checked(count) => write!(f, "ok: {count} partners"),
             Outcome::Ended(End::Own(reason)) => {
                 let number = reason.number().get();
@@ -76,7 +93,9 @@ impl fmt::Display for Outcome {
                 write!(f, "end: partner {}{}", number / 10, number % 10)
             }
             Outcome::Ended(End::Input) => f.write_str("end: input"),
+            Outcome::Fetched(no) => write!(f, "done: fetch {no}"),
             Outcome::Unknown => f.write_str("refused: 2 unknown"),
+            Outcome::WrongState => f.write_str("refused: 3 state"),
         }
     }
 }

@@ -1,24 +1,16 @@
 //! The commands.
 
-use crate::line::{Feed, Line, LineFault, Side, line_of};
+mod fetching;
+mod files;
+mod operators;
+mod registers;
+mod replacing;
+mod sessions;
+
+use crate::line::{Check, Line, LineFault, line_of};
 use crate::outcome::{Fault, Outcome};
-use oftp_engine::{Port, Role, RunFault, serve_in_memory};
-use oftp_partners::{self as partners, Book, BookFault, Partner};
-use oftp_register::PlainOffice;
-use oftp_vfile::Limits;
-use std::fs::{self, Metadata, OpenFile};
+use oftp_engine::{RunFault, Told};
 use std::io::{self, ErrorKind, Write};
-use std::os::unix::fs::MetadataExt;
-use std::rt::Files;
-
-/// How much a register may hold.
-const LIMITS: Limits = Limits {
-    files: 1_000_000,
-    octets: 67_108_864,
-};
-
-/// How many octets are read in one session, at most.
-const LONGEST_INPUT: u64 = 1_099_511_627_776;
 
 const DONE: u8 = 0;
 
@@ -28,8 +20,8 @@ const BAD_LINE: u8 = 2;
 
 /// Carries out the command that the words after the program's name are. Its line goes to `out`, and the line of a fault or the
 /// text of a bad command line to `err`. It answers the exit status: 0 done, 1 refused or failed, 2 a bad command line.
-pub fn perform<R: Files + AllocGlobal>(
-    rt: &R,
+pub fn perform(
+    rt: &HostRuntime,
     words: &[String],
     out: &mut impl Write,
     err: &mut impl Write,
@@ -63,114 +55,40 @@ pub fn tell_unread(error: &io::Error, err: &mut impl Write) -> u8 {
     BAD_LINE
 }
 
-/// Carries out a command, writes what it did, and answers the exit status.
-fn carry_out<R: Files + AllocGlobal>(
-    rt: &R,
-    line: &Line<'_>,
-    out: &mut impl Write,
-) -> Result<u8, Fault> {
-    let outcome = match line {
-        Line::Check(check) => Outcome::Checked(read_book(rt, check.book)?.count()),
-        Line::Feed(files) => feed(rt, files)?,
-    };
+/// Carries out a command, writes what it did, and answers the exit status. A call of the operator and a report write it themselves.
+fn carry_out(rt: &HostRuntime, line: &Line<'_>, out: &mut impl Write) -> Result<u8, Fault> {
+    match line {
+        Line::Submit(submit) => operators::submit(rt, submit, out).map(status_of),
+        Line::Release(release) => operators::release(rt, release, out).map(status_of),
+        Line::Refuse(refuse) => operators::refuse(rt, refuse, out).map(status_of),
+        Line::Report(what) => {
+            registers::write_report(rt, what, out)?;
+            Ok(DONE)
+        }
+        Line::Init(init) => tell(registers::initiate(rt, init)?, out),
+        Line::Migrate(migrate) => tell(registers::migrate(rt, migrate)?, out),
+        Line::Check(what) => tell(check(rt, what)?, out),
+        Line::Fetch(fetch) => tell(fetching::fetch(rt, fetch)?, out),
+        Line::Feed(feed) => tell(sessions::feed(rt, feed)?, out),
+    }
+}
+
+/// Reads the book, and counts its partners.
+fn check(rt: &HostRuntime, what: &Check<'_>) -> Result<Outcome, Fault> {
+    let book = files::read_book(rt, what.book)?;
+    Ok(Outcome::Checked(book.count()))
+}
+
+/// Writes how a command came out, and answers the exit status.
+fn tell(outcome: Outcome, out: &mut impl Write) -> Result<u8, Fault> {
     writeln!(out, "{outcome}").map_err(|_| Fault::Run(RunFault::Write))?;
     Ok(if outcome.is_refusal() { FAILED } else { DONE })
 }
 
-/// The book of a file.
-fn read_book<R: Files + AllocGlobal>(rt: &R, path: &str) -> Result<Book, Fault> {
-    let octets = fs::read(rt, path).map_err(|error| file_fault(&error))?;
-    let Ok(text) = str::from_utf8(octets.as_slice()) else {
-        return Err(Fault::Book(BookFault::NotToml));
-    };
-    partners::read(rt.alloc(), text).map_err(book_fault)
-}
-
-/// Want of memory is no fault of the book.
-fn book_fault(fault: BookFault) -> Fault {
-    match fault {
-        BookFault::Memory => Fault::MEMORY,
-        other => Fault::Book(other),
+/// The exit status of a call of the operator, whose line is out.
+fn status_of(told: Told) -> u8 {
+    match told {
+        Told::Done => DONE,
+        Told::Refused(_) => FAILED,
     }
-}
-
-/// Want of memory is no fault of the file.
-fn file_fault(error: &io::Error) -> Fault {
-    if error.kind() == ErrorKind::OutOfMemory {
-        Fault::MEMORY
-    } else {
-        Fault::File
-    }
-}
-
-/// One session from the octets of one file to another file, with a register in memory.
-fn feed<R: Files + AllocGlobal>(rt: &R, files: &Feed<'_>) -> Result<Outcome, Fault> {
-    let book = read_book(rt, files.book)?;
-    let named = match files.partner {
-        Some(code) => match book.partner(code.as_bytes()) {
-            Some(partner) => Some(partner),
-            None => return Ok(Outcome::Unknown),
-        },
-        None => None,
-    };
-    let Some(role) = role_with(files.role, named) else {
-        return Ok(Outcome::Unknown);
-    };
-    let input = open_input(rt, files.input)?;
-    check_output(rt, files, &input)?;
-    let output = fs::create(rt, files.output).map_err(|error| file_fault(&error))?;
-    let mut office = PlainOffice::new(rt.alloc(), LIMITS);
-    let mut reader = Port::new(input, LONGEST_INPUT);
-    let mut writer = Port::new(output, 0);
-    let end = serve_in_memory(
-        rt.alloc(),
-        &mut office,
-        &book,
-        role,
-        &mut reader,
-        &mut writer,
-    )
-    .map_err(Fault::Run)?;
-    Ok(Outcome::Ended(end))
-}
-
-/// The role in a session. An initiator calls a named partner.
-fn role_with<'b>(side: Side, named: Option<&'b Partner>) -> Option<Role<'b>> {
-    match side {
-        Side::Responder => Some(Role::Responder),
-        Side::Initiator => named.map(Role::Initiator),
-    }
-}
-
-/// A file to be read, which is no folder.
-fn open_input<R: Files>(rt: &R, path: &str) -> Result<R::File, Fault> {
-    let file = fs::open(rt, path).map_err(|error| file_fault(&error))?;
-    let about = file.metadata().map_err(|error| file_fault(&error))?;
-    if about.is_dir() {
-        return Err(Fault::File);
-    }
-    Ok(file)
-}
-
-/// Whether these are of one file, by whatever names it was found.
-fn are_of_one_file(one: &Metadata, other: &Metadata) -> bool {
-    one.dev() == other.dev() && one.ino() == other.ino()
-}
-
-/// Refuses an output that is the input or the book: making it would take away their octets. A device loses none.
-fn check_output<R: Files>(rt: &R, files: &Feed<'_>, input: &R::File) -> Result<(), Fault> {
-    let output = match fs::metadata(rt, files.output) {
-        Ok(output) => output,
-        Err(error) if error.kind() == ErrorKind::NotFound => return Ok(()),
-        Err(error) => return Err(file_fault(&error)),
-    };
-    if !output.is_file() {
-        return Ok(());
-    }
-    let input = input.metadata().map_err(|error| file_fault(&error))?;
-    let book = fs::metadata(rt, files.book).map_err(|error| file_fault(&error))?;
-    if are_of_one_file(&output, &input) || are_of_one_file(&output, &book) {
-        return Err(Fault::File);
-    }
-    Ok(())
 }

@@ -2,6 +2,9 @@
 
 use super::*;
 use std::alloc::{AllocError, Global};
+use std::fs;
+use std::process::Abort;
+use std::test::Fail;
 
 mod commands;
 mod sessions;
@@ -46,4 +49,30 @@ fn frames(alloc: Global, commands: &[&str]) -> Result<Vec<u8>, AllocError> {
         add_frame(&mut octets, command.as_bytes())?;
     }
     Ok(octets)
+}
+
+/// A command's exit status, and what it wrote.
+#[derive(Drop)]
+struct Performed {
+    status: u8,
+    out: Vec<u8>,
+    err: Vec<u8>,
+}
+
+fn command(rt: &HostRuntime, words: &[&str]) -> Result<Performed, AllocError> {
+    let mut given = Vec::new(rt.alloc());
+    for word in words {
+        given.push(word.to_string(rt.alloc())?)?;
+    }
+    let mut out = Vec::new(rt.alloc());
+    let mut err = Vec::new(rt.alloc());
+    let status = perform(rt, given.as_slice(), &mut out, &mut err);
+    Ok(Performed { status, out, err })
+}
+
+/// What a command printed: its status, standard output and standard error.
+fn assert_printed(rt: &impl Abort, done: &Performed, status: u8, out: &str, err: &str) {
+    assert_eq!(rt; done.status, status);
+    assert!(rt; done.out.as_slice() == out.as_bytes());
+    assert!(rt; done.err.as_slice() == err.as_bytes());
 }

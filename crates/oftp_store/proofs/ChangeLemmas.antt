@@ -1,11 +1,10 @@
 -- What the changes of one file by its number make of a register.
-use Rattle.std.proofs.Common.{◌≡◌, ◌≤◌, ◌+◌, ℕ, zero, suc, true, false, cond, List, [], ◌∷◌, ◌++◌, length, Option, Some, None, Result, Ok, Err, refl, sym, ap, ◌∙◌, arith}
+use Rattle.std.proofs.Common.{◌≡◌, ◌≤◌, ◌+◌, ℕ, zero, suc, true, false, cond, List, [], ◌∷◌, ◌++◌, length, Option, Some, None, Result, Ok, Err, refl, sym, ap, subst, ◌∙◌, arith}
 use Rattle.oftp_register.specs.declared.change.Cause.{Cause}
 use Rattle.oftp_register.specs.declared.change.Cause.TheVariants.{Unknown, State as Unfit}
 use Rattle.oftp_register.specs.Register.{Register, Incoming, Issued, Outgoing}
-use Rattle.oftp_register.specs.Changes.{apply, at_number, closed, given_up, if_open, if_unanswered, issued, issued_on, kept, mapped, on_incoming, sent, sent_as, sent_of}
+use Rattle.oftp_register.specs.Changes.{apply, at_number, if_open, if_unanswered, issued, issued_on, mapped, on_incoming, sent, sent_as, sent_of}
 use Rattle.oftp_register.specs.declared.change.Change.TheVariants as change
-use Rattle.oftp_register.specs.declared.entries.Side.TheVariants as side
 use Rattle.oftp_register.specs.declared.entry.IncomingState.{IncomingState}
 use Rattle.oftp_register.specs.declared.entry.IncomingState.TheVariants.{Open, Whole}
 use Rattle.std.proofs.Common.{Bor}
@@ -18,12 +17,15 @@ use Rattle.oftp_store.specs.declared.looks.place.Answered.{Answered}
 use Rattle.oftp_store.specs.declared.looks.place.Place.{Place}
 use Rattle.oftp_register.specs.LookUps.{entry_at}
 use Rattle.oftp_tables.proofs.SpotLemmas.{Spot, changed_past, changed_there, past, spot, there, zeroth}
+use Rattle.oftp_store.specs.Advances.{change_of, edits_of, more_rows}
 use Rattle.oftp_store.specs.Edits.{AreEdited, IsEdited}
 use Rattle.oftp_store.specs.Reads.{IsPlaced, IsToldOf}
 use Rattle.oftp_store.specs.Places.{answered_of, dispatch_of, is_answerable, is_due_response, is_sendable, place_of, stage_of}
 use Rattle.oftp_store.specs.Steps.{change_by, is_allowed, mark_after, state_after, stepped}
 use Rattle.oftp_store.specs.declared.changes.edit.Edit.{Edit}
-use Rattle.oftp_store.specs.declared.changes.edit.Deed.TheVariants.{AddIssued, AddRows, CutRows, SetOutgoing, SetSent, SetWhole}
+use Rattle.oftp_store.specs.declared.changes.arrival.Advance.{Advance}
+use Rattle.oftp_store.specs.declared.changes.arrival.Advance.TheVariants.{Keep, Close, GiveUp}
+use Rattle.oftp_store.specs.declared.changes.edit.Deed.TheVariants.{AddIssued, CutRows, SetOutgoing, SetSent, SetWhole}
 use Rattle.oftp_store.specs.declared.changes.step.Step.{Step}
 use Rattle.oftp_store.specs.declared.changes.step.Step.TheVariants.{Mark, BeginClosing, HandOver, Refuse, Reopen}
 use Rattle.oftp_store.specs.declared.looks.place.Stage.{Stage}
@@ -116,100 +118,72 @@ open_in : (file_rows : Incoming → List (List ℕ)) (to : IncomingState) (n : �
 open_in file_rows to n r before f after placed is_open =
     in_placed (λ f. if_open f (file_rows f) to f.state) n r before f after (Ok (record f { rows = file_rows f; state = to })) placed (ap (if_open f (file_rows f) to) is_open)
 
-pub unknown_keep : (n : ℕ) (r : Register) (rows : List (List ℕ)) → IsToldOf place_of r.incoming n None → apply r (change.Keep n rows) ≡ Err Unknown
-unfolding apply
-unknown_keep n r rows none = unknown_in (kept rows) n r none
+-- what an advance makes of the rows of a file that is open, and its state then
 
-pub whole_keep : (n : ℕ) (r : Register) (rows : List (List ℕ)) (count : ℕ) → (let place : Place = record { state = Whole; rows = count } in IsToldOf place_of r.incoming n (Some place)) → apply r (change.Keep n rows) ≡ Err Unfit
-unfolding apply
-whole_keep n r rows count told = whole_in (λ f. f.rows ++ rows) Open n r count told
+abbrev rows_after : Advance → Incoming → List (List ℕ)
+rows_after (Keep rows) f = f.rows ++ rows.now
+rows_after (Close rows) f = f.rows ++ rows.now
+rows_after GiveUp f = []
 
-pub made_by_keep : (n : ℕ) (r : Register) (rows : Bor (List (List ℕ))) (count : ℕ) → (let place : Place = record { state = Open; rows = count } in IsToldOf place_of r.incoming n (Some place))
-    → (let edit : Edit = record { no = n; deed = AddRows side.Incoming count rows } in IsMadeBy (edit ∷ []) r (change.Keep n rows.now))
-unfolding apply
-made_by_keep n r rows count (before, f, after, placed, is) =
-    let is_open : f.state ≡ Open = sym (ap (λ (p : Place). p.state) is) in
-    let s : Register = record r { incoming = before ++ (record f { rows = f.rows ++ rows.now; state = Open }) ∷ after } in
-    record {
-      now = s;
-      is = open_in (λ f. f.rows ++ rows.now) Open n r before f after placed is_open;
-      limits = refl;
-      edited = (
-        s,
-        record {
-          before = before;
-          file = f;
-          after = after;
-          here = placed.here;
-          number = placed.number;
-          was = sym (ap (λ (p : Place). p.rows) is);
-          now = ap (λ st. let q : Register = record r { incoming = before ++ (record f { rows = f.rows ++ rows.now; state = st }) ∷ after } in q) (sym is_open);
-        },
-        refl,
-      );
-    }
+abbrev moved_to : Advance → IncomingState
+moved_to (Keep rows) = Open
+moved_to (Close rows) = Whole
+moved_to GiveUp = Open
 
-pub unknown_close : (n : ℕ) (r : Register) (rows : List (List ℕ)) → IsToldOf place_of r.incoming n None → apply r (change.Close n rows) ≡ Err Unknown
+advance_applies : (advance : Advance) (n : ℕ) (r : Register) → apply r (change_of n advance) ≡ on_incoming (λ f. if_open f (rows_after advance f) (moved_to advance) f.state) n r
 unfolding apply
-unknown_close n r rows none = unknown_in (closed rows) n r none
+advance_applies (Keep rows) n r = refl
+advance_applies (Close rows) n r = refl
+advance_applies GiveUp n r = refl
 
-pub whole_close : (n : ℕ) (r : Register) (rows : List (List ℕ)) (count : ℕ) → (let place : Place = record { state = Whole; rows = count } in IsToldOf place_of r.incoming n (Some place)) → apply r (change.Close n rows) ≡ Err Unfit
-unfolding apply
-whole_close n r rows count told = whole_in (λ f. f.rows ++ rows) Whole n r count told
+pub unknown_advance : (advance : Advance) (n : ℕ) (r : Register) → IsToldOf place_of r.incoming n None → apply r (change_of n advance) ≡ Err Unknown
+unknown_advance advance n r none = advance_applies advance n r ∙ unknown_in (λ f. if_open f (rows_after advance f) (moved_to advance) f.state) n r none
 
-pub made_by_close : (n : ℕ) (r : Register) (rows : Bor (List (List ℕ))) (count : ℕ) → (let place : Place = record { state = Open; rows = count } in IsToldOf place_of r.incoming n (Some place))
-    → (let first : Edit = record { no = n; deed = AddRows side.Incoming count rows } in let second : Edit = record { no = n; deed = SetWhole } in IsMadeBy (first ∷ second ∷ []) r (change.Close n rows.now))
-unfolding apply
-made_by_close n r rows count (before, f, after, placed, is) =
+pub whole_advance : (advance : Advance) (n : ℕ) (r : Register) (rows : ℕ) → (let place : Place = record { state = Whole; rows = rows } in IsToldOf place_of r.incoming n (Some place))
+    → apply r (change_of n advance) ≡ Err Unfit
+whole_advance advance n r rows told = advance_applies advance n r ∙ whole_in (rows_after advance) (moved_to advance) n r rows told
+
+-- the edits of an advance of a file that is open
+edited_by : (advance : Advance) (n : ℕ) (r : Register) (before : List Incoming) (f : Incoming) (after : List Incoming) → IsPlaced r.incoming n before f after → f.state ≡ Open
+    → AreEdited (edits_of n (length f.rows) advance) r (record r { incoming = before ++ (record f { rows = rows_after advance f; state = moved_to advance }) ∷ after })
+edited_by (Keep rows) n r before f after placed is_open =
+    edited_once (more_rows n (length f.rows) rows) r _ (record {
+      before = before;
+      file = f;
+      after = after;
+      here = placed.here;
+      number = placed.number;
+      was = refl;
+      now = ap (λ st. let q : Register = record r { incoming = before ++ (record f { rows = f.rows ++ rows.now; state = st }) ∷ after } in q) (sym is_open);
+    })
+edited_by (Close rows) n r before f after placed is_open =
     let g : Incoming = record f { rows = f.rows ++ rows.now } in
-    let mid : Register = record r { incoming = before ++ g ∷ after } in
-    let s : Register = record r { incoming = before ++ (record g { state = Whole }) ∷ after } in
-    record {
-      now = s;
-      is = open_in (λ f. f.rows ++ rows.now) Whole n r before f after placed (sym (ap (λ (p : Place). p.state) is));
-      limits = refl;
-      edited = (
-        mid,
-        record { before = before; file = f; after = after; here = placed.here; number = placed.number; was = sym (ap (λ (p : Place). p.rows) is); now = refl },
-        (
-          s,
-          record { before = before; file = g; after = after; here = refl; number = placed.number; was = tt; now = refl },
-          refl,
-        ),
-      );
-    }
+    let mid : Register = record r { incoming = before ++ g ∷ after } in (
+      mid,
+      record { before = before; file = f; after = after; here = placed.here; number = placed.number; was = refl; now = refl },
+      edited_once (record { no = n; deed = SetWhole }) mid _ (record { before = before; file = g; after = after; here = refl; number = placed.number; was = tt; now = refl }),
+    )
+edited_by GiveUp n r before f after placed is_open =
+    edited_once (record { no = n; deed = CutRows 0 }) r _ (record {
+      before = before;
+      file = f;
+      after = after;
+      here = placed.here;
+      number = placed.number;
+      was = tt;
+      now = ap (λ st. let q : Register = record r { incoming = before ++ (record f { rows = []; state = st }) ∷ after } in q) (sym is_open);
+    })
 
-pub unknown_give_up : (n : ℕ) (r : Register) → IsToldOf place_of r.incoming n None → apply r (change.GiveUp n) ≡ Err Unknown
-unfolding apply
-unknown_give_up n r none = unknown_in given_up n r none
-
-pub whole_give_up : (n : ℕ) (r : Register) (count : ℕ) → (let place : Place = record { state = Whole; rows = count } in IsToldOf place_of r.incoming n (Some place)) → apply r (change.GiveUp n) ≡ Err Unfit
-unfolding apply
-whole_give_up n r count told = whole_in (λ f. []) Open n r count told
-
-pub made_by_give_up : (n : ℕ) (r : Register) (count : ℕ) → (let place : Place = record { state = Open; rows = count } in IsToldOf place_of r.incoming n (Some place))
-    → (let edit : Edit = record { no = n; deed = CutRows 0 } in IsMadeBy (edit ∷ []) r (change.GiveUp n))
-unfolding apply
-made_by_give_up n r count (before, f, after, placed, is) =
+pub made_by_advance : (advance : Advance) (n : ℕ) (r : Register) (count : ℕ) → (let place : Place = record { state = Open; rows = count } in IsToldOf place_of r.incoming n (Some place))
+    → IsMadeBy (edits_of n count advance) r (change_of n advance)
+made_by_advance advance n r count (before, f, after, placed, is) =
     let is_open : f.state ≡ Open = sym (ap (λ (p : Place). p.state) is) in
-    let s : Register = record r { incoming = before ++ (record f { rows = []; state = Open }) ∷ after } in
+    let s : Register = record r { incoming = before ++ (record f { rows = rows_after advance f; state = moved_to advance }) ∷ after } in
     record {
       now = s;
-      is = open_in (λ f. []) Open n r before f after placed is_open;
+      is = advance_applies advance n r ∙ open_in (rows_after advance) (moved_to advance) n r before f after placed is_open;
       limits = refl;
-      edited = (
-        s,
-        record {
-          before = before;
-          file = f;
-          after = after;
-          here = placed.here;
-          number = placed.number;
-          was = tt;
-          now = ap (λ st. let q : Register = record r { incoming = before ++ (record f { rows = []; state = st }) ∷ after } in q) (sym is_open);
-        },
-        refl,
-      );
+      edited = subst (λ k. AreEdited (edits_of n k advance) r s) (sym (ap (λ (p : Place). p.rows) is)) (edited_by advance n r before f after placed is_open);
     }
 
 -- ---- the response to an incoming file

@@ -19,7 +19,7 @@ use Rattle.oftp_schema.specs.Calls.{IsSpared, IsUndone}
 use Rattle.oftp_tables.specs.Tables.{Tables, register_in}
 use Rattle.oftp_open.specs.Stands.{Holds, IsContentOf, Stands}
 use Rattle.oftp_tables.specs.Calls.{Changes, IsOurs, Looks, MayLeave}
-use Rattle.oftp_store.specs.Commits.{CommitsOn}
+use Rattle.oftp_store.specs.Commits.{CommitsOn, MakesEdits}
 use Rattle.oftp_store.specs.Edits.{AreEdited, MakesAll}
 use Rattle.oftp_store.specs.declared.changes.edit.Edit.{Edit}
 use Rattle.oftp_register.proofs.KeepLemmas.{apply_keeps}
@@ -201,10 +201,11 @@ module _ {A : Type 0} (Made : Trees → Trees → Type 0) (limits : Limits) (cha
   }
 
 -- a commit that ends with its edits
-pub commits_by : {A : Type 0} (edits : List Edit) (limits : Limits) (change : Change) (old mid new : State) (x : A) (result : Result (Unit {0}) OfficeFault) → Looks old mid (Ok x) → doubt mid.is_clean ≤ doubt new.is_clean → new.in_transaction ≡ false
-    → (HasCleanDisk mid → Stands limits old → IsMadeBy edits (register_in limits old.now.trees) change) → (IsOurs mid → Survives mid new (MayLeave (MakesAll edits) mid))
-    → (HasCleanDisk new → IsOurs mid → OnOk result (Changes (MakesAll edits) mid new)) → (HasCleanDisk new → IsOurs mid → OnErr result (IsUndone mid new)) → IfErr result IsFailure → CommitsOn limits change old new result
-commits_by edits limits change old mid new x (Ok _) looks clean mode by survives done failed failure =
-    commits_made (MakesAll edits) limits change old mid new x looks clean mode (λ k stands fit db made. is_made edits _ change _ db stands.holds.sound fit stands.holds.tables (by k stands) made) survives done
-commits_by edits limits change old mid new x (Err fault) looks clean mode by survives done failed failure =
-    commits_undone (MakesAll edits) limits change old mid new x looks clean mode (λ k stands fit db made. is_made edits _ change _ db stands.holds.sound fit stands.holds.tables (by k stands) made) survives fault failure failed
+pub commits_by : {A : Type 0} (edits : List Edit) (limits : Limits) (change : Change) (old mid new : State) (x : A) (result : Result (Unit {0}) OfficeFault) → Looks old mid (Ok x)
+    → (HasCleanDisk mid → Stands limits old → IsMadeBy edits (register_in limits old.now.trees) change) → MakesEdits edits mid new result → CommitsOn limits change old new result
+commits_by edits limits change old mid new x (Ok _) looks by makes =
+    commits_made (MakesAll edits) limits change old mid new x looks makes.clean makes.mode
+    (λ k stands fit db made. is_made edits _ change _ db stands.holds.sound fit stands.holds.tables (by k stands) made) makes.survives makes.done
+commits_by edits limits change old mid new x (Err fault) looks by makes =
+    commits_undone (MakesAll edits) limits change old mid new x looks makes.clean makes.mode
+    (λ k stands fit db made. is_made edits _ change _ db stands.holds.sound fit stands.holds.tables (by k stands) made) makes.survives fault makes.failure makes.failed

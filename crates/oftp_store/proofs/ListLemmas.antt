@@ -1,5 +1,5 @@
 -- Lists of entries grow by one entry at a time, and what is found by number.
-use Rattle.std.proofs.Common.{◌≡◌, ◌==◌, ◌+◌, ◌<◌, ◌≤◌, ◌++◌, ◌^◌, nat_lt, ℕ, Bool, true, false, cond, if◌then◌else◌, List, [], ◌∷◌, length, take, find, Option, Some, None, inl, inr, refl, sym, ap, subst, ◌∙◌, arith, take_all, append-nil}
+use Rattle.std.proofs.Common.{◌≡◌, ◌==◌, ◌+◌, ◌<◌, ◌≤◌, ◌++◌, ◌^◌, nat_lt, ℕ, zero, suc, Bool, true, false, cond, if◌then◌else◌, List, [], ◌∷◌, length, take, find, slice_get, Option, Some, None, inl, inr, refl, sym, ap, subst, ◌∙◌, arith, take_all, append-nil}
 use Rattle.std.specs.List.{filter_map}
 use Rattle.std.specs.Option.{option_map}
 use Rattle.std.proofs.Math.Seq.{take-append_seam, take-append-add}
@@ -11,12 +11,12 @@ use Rattle.oftp_register.specs.declared.entries.IssuedResponse.{IssuedResponse}
 use Rattle.oftp_register.specs.declared.entries.Item.TheVariants as item
 use Rattle.oftp_register.specs.declared.entries.OutgoingEntry.{OutgoingEntry}
 use Rattle.oftp_register.specs.Register.{Register, Incoming, Issued, Outgoing}
-use Rattle.oftp_register.specs.LookUps.{is_next_file, is_next_response, issued_entry, issued_response, item_of, next_file, next_item, next_response, numbered, outgoing_entry}
+use Rattle.oftp_register.specs.LookUps.{entry_at, is_next_file, is_next_response, issued_entry, issued_response, item_of, next_file, next_item, next_response, numbered, outgoing_entry}
 use Rattle.oftp_tables.proofs.SpotLemmas.{Spot, past, spot, there, zeroth}
 use Rattle.oftp_store.specs.Reads.{IsPlaced, IsResponseTo, IsToldOf, incoming_header_of}
 use Rattle.oftp_store.specs.Tells.{issued_by_no, listed}
 use Rattle.oftp_store.specs.declared.looks.header.IncomingHeader.{IncomingHeader}
-use Rattle.oftp_store.proofs.NumberLemmas.{entry_beyond, entry_known, entry_unknown}
+use Rattle.oftp_store.proofs.NumberLemmas.{entry_beyond, entry_known, entry_placed, entry_unknown}
 
 -- the first entries, and one more
 first_more : {X : Type 0} (k : ℕ) (before : List X) (x : X) (after : List X) → k ≡ length before → take (k + 1) (before ++ x ∷ after) ≡ take k (before ++ x ∷ after) ++ x ∷ []
@@ -29,25 +29,38 @@ length_first k before rest is = ap (λ m. length (take m (before ++ rest))) is �
 
 -- ---- entries of which each has a number
 
-module _ {X E : Type 0} (entry : ℕ → X → E) where
-  numbered_more : (n : ℕ) (xs : List X) (x : X) → numbered entry n (xs ++ x ∷ []) ≡ numbered entry n xs ++ entry (n + length xs) x ∷ []
-  numbered_more n [] x = let here : n ≡ n + 0 = omega arith in ap (λ m. entry m x ∷ []) here
-  numbered_more n (y ∷ ys) x = let here : (n + 1) + length ys ≡ n + length (y ∷ ys) = omega arith in ap (λ es. entry n y ∷ es) (numbered_more (n + 1) ys x ∙ ap (λ m. numbered entry (n + 1) ys ++ entry m x ∷ []) here)
+pub one_more : {E : Type 0} (k : ℕ) (es : List E) (e : E) → Some e ≡ slice_get es k → take (k + 1) es ≡ take k es ++ e ∷ []
+one_more k [] e found = absurd (let no_such = found in cc)
+one_more zero (x ∷ es) e found = let is : e ≡ x = cc in ap (λ y. y ∷ []) (sym is)
+one_more (suc k) (x ∷ es) e found = let next : suc k + 1 ≡ suc (k + 1) = omega arith in ap (λ m. take m (x ∷ es)) next ∙ ap (λ more. x ∷ more) (one_more k es e found)
 
-module _ {X E : Type 0} (entry : ℕ → X → E) (no : E → ℕ) (same : (n : ℕ) (x : X) → no (entry n x) ≡ n) where
-  pub one_more : (k : ℕ) (xs : List X) (e : E) → Some e ≡ find (λ e. no e == k + 1) (numbered entry 1 xs) → numbered entry 1 (take (k + 1) xs) ≡ numbered entry 1 (take k xs) ++ e ∷ []
-  one_more k xs e found = go (spot (k + 1) xs)
+module _ {X E : Type 0} (entry : ℕ → X → E) where
+  pub length-numbered : (n : ℕ) (xs : List X) → length (numbered entry n xs) ≡ length xs
+  length-numbered n [] = refl
+  length-numbered n (x ∷ xs) = ap suc (length-numbered (n + 1) xs)
+
+  numbered_at : (n k : ℕ) (xs : List X) → slice_get (numbered entry n xs) k ≡ option_map (entry (n + k)) (slice_get xs k)
+  numbered_at n k [] = refl
+  numbered_at n zero (x ∷ xs) = let here : n ≡ n + 0 = omega arith in ap (λ m. Some (entry m x)) here
+  numbered_at n (suc k) (x ∷ xs) = let here : (n + 1) + k ≡ n + suc k = omega arith in numbered_at (n + 1) k xs ∙ ap (λ m. option_map (entry m) (slice_get xs k)) here
+
+  pub found_after : (number_of : E → ℕ) → ((n : ℕ) (x : X) → number_of (entry n x) ≡ n) → (k : ℕ) (xs : List X) → find (λ e. number_of e == k + 1) (numbered entry 1 xs) ≡ slice_get (numbered entry 1 xs) k
+  found_after number_of same k xs = go (spot (k + 1) xs) ∙ ap (option_map (entry (k + 1))) by_place ∙ ap (λ m. option_map (entry m) (slice_get xs k)) next ∙ sym (numbered_at 1 k xs)
     where
-      go : Spot (k + 1) xs → numbered entry 1 (take (k + 1) xs) ≡ numbered entry 1 (take k xs) ++ e ∷ []
+      next : k + 1 ≡ 1 + k
+      next = omega arith
+
+      by_place : entry_at (k + 1) xs ≡ slice_get xs k
+      by_place = let after : k + 1 ≡ suc k = omega arith in ap (λ m. entry_at m xs) after
+
+      go : Spot (k + 1) xs → find (λ e. number_of e == k + 1) (numbered entry 1 xs) ≡ option_map (entry (k + 1)) (entry_at (k + 1) xs)
       go (zeroth is) = absurd (omega (arith, is))
-      go (past h) = absurd (let no_such = found ∙ entry_unknown entry no same (k + 1) xs (entry_beyond (k + 1) xs h) in cc)
+      go (past h) =
+          let none = entry_beyond (k + 1) xs h in
+          entry_unknown entry number_of same (k + 1) xs none ∙ ap (option_map (entry (k + 1))) (sym none)
       go (there before x after here at) =
           let placed : IsPlaced xs (k + 1) before x after = record { here = here; number = at } in
-          let is : e ≡ entry (k + 1) x = let known = found ∙ entry_known entry no same (k + 1) xs before x after placed in cc in
-          let first : k ≡ length before = omega (arith, at) in
-          let counted : 1 + length (take k xs) ≡ k + 1 = omega (arith, ap (λ ys. length (take k ys)) here ∙ length_first k before (x ∷ after) first) in
-          ap (λ ys. numbered entry 1 (take (k + 1) ys)) here ∙ ap (numbered entry 1) (first_more k before x after first) ∙ ap (λ ys. numbered entry 1 (take k ys ++ x ∷ [])) (sym here)
-          ∙ numbered_more entry 1 (take k xs) x ∙ ap (λ m. numbered entry 1 (take k xs) ++ entry m x ∷ []) counted ∙ ap (λ y. numbered entry 1 (take k xs) ++ y ∷ []) (sym is)
+          entry_known entry number_of same (k + 1) xs before x after placed ∙ ap (option_map (entry (k + 1))) (sym (entry_placed (k + 1) xs before x after placed))
 
 -- ---- issued responses, which not every file has
 

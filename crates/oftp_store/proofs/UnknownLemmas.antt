@@ -1,22 +1,31 @@
 -- The changes of files that no register has.
-use Rattle.std.proofs.Common.{◌≡◌, ◌≤◌, ◌<◌, ◌^◌, ℕ, List, length, Err, OnOk, OnErr, refl, inl, arith}
+use Rattle.std.proofs.Common.{◌≡◌, ◌≤◌, ◌<◌, ◌^◌, ℕ, List, length, None, Err, refl, inl, arith}
 use Rattle.sqlite.specs.State.{State}
 use Rattle.oftp_vfile.specs.declared.format.Limits.{Limits}
 use Rattle.oftp_register.specs.declared.change.Cause.TheVariants.{Unknown}
 use Rattle.oftp_register.specs.declared.change.Change.{Change}
 use Rattle.oftp_register.specs.declared.change.Change.TheVariants as change
 use Rattle.oftp_register.specs.declared.office.OfficeFault.TheVariants.{Refused}
-use Rattle.oftp_register.specs.Register.{Register, Outgoing}
-use Rattle.oftp_register.specs.Changes.{apply, at_number, closed, given_up, issued, kept, mapped, sent}
-use Rattle.oftp_register.specs.declared.entry.Dispatch.TheVariants.{Due}
-use Rattle.oftp_tables.specs.Tables.{Tables}
-use Rattle.oftp_open.specs.Stands.{Stands}
+use Rattle.oftp_register.specs.Register.{Register}
+use Rattle.oftp_register.specs.Changes.{apply, closed, given_up, kept}
+use Rattle.oftp_register.specs.LookUps.{entry_at}
 use Rattle.oftp_store.specs.Commits.{CommitsOn}
 use Rattle.oftp_store.specs.Numbers.{number_named}
-use Rattle.oftp_store.specs.declared.changes.step.Step.{Step}
 use Rattle.oftp_store.specs.declared.changes.step.Step.TheVariants.{Mark, BeginClosing, HandOver, Refuse, Reopen}
-use Rattle.oftp_store.proofs.ChangeLemmas.{unknown_close, unknown_give_up, unknown_issue, unknown_keep, unknown_send, unknown_step}
+use Rattle.oftp_store.proofs.ChangeLemmas.{unknown_in, unknown_issue, unknown_send, unknown_step}
 use Rattle.oftp_store.proofs.NumberLemmas.{entry_beyond}
+
+unknown_keep : (n : ℕ) (r : Register) (rows : List (List ℕ)) → entry_at n r.incoming ≡ None → apply r (change.Keep n rows) ≡ Err Unknown
+unfolding apply
+unknown_keep n r rows none = unknown_in (kept rows) n r none
+
+unknown_close : (n : ℕ) (r : Register) (rows : List (List ℕ)) → entry_at n r.incoming ≡ None → apply r (change.Close n rows) ≡ Err Unknown
+unfolding apply
+unknown_close n r rows none = unknown_in (closed rows) n r none
+
+unknown_give_up : (n : ℕ) (r : Register) → entry_at n r.incoming ≡ None → apply r (change.GiveUp n) ≡ Err Unknown
+unfolding apply
+unknown_give_up n r none = unknown_in given_up n r none
 
 -- no file has a number from 2^63 on
 pub unknown_beyond : (k : Change) (r : Register) → 2 ^ 63 ≤ number_named k → length r.incoming < 2 ^ 63 → length r.outgoing < 2 ^ 63 → apply r k ≡ Err Unknown

@@ -1,17 +1,21 @@
 -- What a change does to a connection.
-use Rattle.std.specs.Prelude.{◌≡◌, ◌≤◌, ◌⊎◌, Result, Ok, OnOk, OnErr, IsTrue, false}
+use Rattle.std.specs.Prelude.{◌≡◌, ◌≤◌, ◌⊎◌, List, Result, Ok, OnOk, OnErr, IfErr, IsTrue, false}
 use Rattle.sqlite.specs.Tree.{Trees}
 use Rattle.sqlite.specs.View.{doubt}
-use Rattle.sqlite.specs.State.{State, HasCleanDisk}
+use Rattle.sqlite.specs.State.{State, HasCleanDisk, Survives}
 use Rattle.oftp_vfile.specs.declared.format.Limits.{Limits}
 use Rattle.oftp_register.specs.declared.change.Change.{Change}
 use Rattle.oftp_register.specs.declared.office.OfficeFault.{OfficeFault}
 use Rattle.oftp_register.specs.Register.{Register}
 use Rattle.oftp_register.specs.Changes.{apply}
 use Rattle.oftp_register.specs.Soundness.{IsFit}
-use Rattle.oftp_register.specs.Offices.{IsRefused}
+use Rattle.oftp_register.specs.Offices.{IsFailure, IsRefused}
+use Rattle.oftp_schema.specs.Calls.{IsUndone}
+use Rattle.oftp_tables.specs.Calls.{Changes, IsOurs, MayLeave}
 use Rattle.oftp_tables.specs.Tables.{register_in}
 use Rattle.oftp_open.specs.Stands.{IsContentOf, Stands}
+use Rattle.oftp_store.specs.Edits.{MakesAll}
+use Rattle.oftp_store.specs.declared.changes.edit.Edit.{Edit}
 
 -- Within these limits the change is made, or it is refused for its cause, or the store failed and the register stays where the
 -- connection is open. A stop leaves it made or not made.
@@ -24,3 +28,12 @@ pub record CommitsOn {T : Type 0} (limits : Limits) (change : Change) (old new :
   pub same : HasCleanDisk new → Stands limits old → OnErr result (IsTrue new.is_open → register_in limits new.now.trees ≡ register_in limits old.now.trees)
   pub left : HasCleanDisk new → Stands limits old → IsFit (register_in limits old.now.trees) change → (db : Trees) → new.may_leave db
       → old.may_leave db ⊎ ((r : Register) × (apply (register_in limits old.now.trees) change ≡ Ok r) × IsContentOf db r)
+
+-- Edits in one transaction do this to a connection: all of them are made and committed, or none is.
+pub record MakesEdits (edits : List Edit) (old new : State) (result : Result (Unit {0}) OfficeFault) : Type 0 where
+  pub clean : doubt old.is_clean ≤ doubt new.is_clean
+  pub mode : new.in_transaction ≡ false
+  pub done : HasCleanDisk new → IsOurs old → OnOk result (Changes (MakesAll edits) old new)
+  pub failed : HasCleanDisk new → IsOurs old → OnErr result (IsUndone old new)
+  pub survives : IsOurs old → Survives old new (MayLeave (MakesAll edits) old)
+  pub failure : IfErr result IsFailure

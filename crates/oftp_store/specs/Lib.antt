@@ -4,9 +4,11 @@ pub mod Numbers
 pub mod Reads
 pub mod Commits
 pub mod Steps
+pub mod Advances
 pub mod Places
 pub mod Tells
 pub mod Views
 pub mod Opens
 pub mod Slots
 pub mod Filings
+pub mod Shown

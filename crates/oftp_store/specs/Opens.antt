@@ -11,6 +11,7 @@ use Rattle.oftp_schema.specs.declared.fault.StoreFault.TheVariants.{WrongSchema}
 use Rattle.oftp_schema.specs.Making.{HasFirst, HasOffice, IsAsBefore, IsEmpty}
 use Rattle.oftp_tables.specs.Tables.{register_in}
 use Rattle.oftp_open.specs.Stands.{IsContentOf, Stands}
+use Rattle.oftp_open.specs.Opening.{SparesUnless}
 
 -- the stores that `open` takes
 abbrev pub IsOpenable : Database → Type 0
@@ -28,16 +29,19 @@ Leaves IsOf old new = (r : Register) → IsOf r old → (db : Trees) → new.may
 abbrev pub Has : Limits → Register → State → Type 0
 Has limits r s = Stands limits s × (register_in limits s.now.trees ≡ r)
 
--- An office is opened: over a store that is taken alone, and it has the register that the store stood for.
-pub record Opens (Takes : Database → Type 0) (IsOf : Register → State → Type 0) (limits : Limits) (old new : State) : Type 0 where
+-- An office is opened: over a store that is taken alone, and it has the register that the store stood for. Only one store of those
+-- that are taken is changed.
+pub record Opens (Takes Changes : Database → Type 0) (IsOf : Register → State → Type 0) (limits : Limits) (old new : State) : Type 0 where
   pub clean : doubt old.is_clean ≤ doubt new.is_clean
   pub known : HasCleanDisk new → Takes old.now
   pub found : HasCleanDisk new → (r : Register) → r.limits ≡ limits → IsOf r old → Has limits r new
   pub left : HasCleanDisk new → Leaves IsOf old new
+  pub spared : HasCleanDisk new → SparesUnless Changes old new
 
 -- It isn't opened: for a wrong schema where the store isn't one that is taken, which is then as it was.
-pub record Refuses (Takes : Database → Type 0) (IsOf : Register → State → Type 0) (fault : StoreFault) (old new : State) : Type 0 where
+pub record Refuses (Takes Changes : Database → Type 0) (IsOf : Register → State → Type 0) (fault : StoreFault) (old new : State) : Type 0 where
   pub clean : doubt old.is_clean ≤ doubt new.is_clean
   pub autocommit : new.in_transaction ≡ false
   pub wrong : HasCleanDisk new → fault ≡ WrongSchema → ¬ Takes old.now × IsAsBefore old new
   pub left : HasCleanDisk new → Leaves IsOf old new
+  pub spared : HasCleanDisk new → SparesUnless Changes old new

@@ -1,6 +1,6 @@
 //! An office over a real file.
 
-ghost use Rattle.std.specs.Prelude.{◌≡◌, ◌≤◌, IfOk};
+ghost use Rattle.std.specs.Prelude.{◌≡◌, ◌≢◌, ◌≤◌, IfOk, IfErr};
 ghost use Rattle.sqlite.specs.Tree.{Trees};
 ghost use Rattle.sqlite.specs.State.{HasCleanDisk};
 ghost use Rattle.sqlite.specs.Files.{file_state, HoldsDatabase};
@@ -8,37 +8,88 @@ ghost use Rattle.sqlite.specs.WalFiles.{image_at};
 ghost use Rattle.oftp_register.specs.Register.{Register};
 ghost use Rattle.oftp_register.specs.Soundness.{IsSound};
 ghost use Rattle.oftp_register.specs.declared.fit.TheConstants.{MOST_FILES, MOST_OCTETS};
-ghost use Rattle.oftp_open.specs.Opening.{IsStoreOf};
+ghost use Rattle.oftp_open.specs.Opening.{IsFirstOf, IsStoreOf};
 ghost use Rattle.oftp_store.specs.Opens.{Has};
 
 use crate::office::SqlOffice;
 use oftp_schema::{StoreFault, fault_of};
 use oftp_vfile::Limits;
-use sqlite::{Connection, FileFrom, FileStore, Start};
+use sqlite::{Connection, Error, ErrorCode, FileFrom, FileStore, Start};
+
+/// Why the office at a path isn't opened.
+#[derive(Clone, Copy, Debug, PartialEq, Eq, Drop)]
+pub enum PathFault {
+    /// Another connection has the files open, and nothing was asked of them. It may be tried again.
+    Held,
+    /// As [`SqlOffice::open`] and [`SqlOffice::migrate`] tell it; a path that can't be opened is [`StoreFault::Store`].
+    Store(StoreFault),
+}
+
+// The fault of a path whose files weren't opened.
+fn path_fault_of(error: Error) -> PathFault
+    ensures { result ≢ PathFault.Store StoreFault.WrongSchema }
+{
+    match error {
+        Error::SqliteFailure(ErrorCode::DatabaseBusy) => PathFault::Held,
+        other => PathFault::Store(fault_of(other)),
+    }
+}
 
 /// Opens the office that the files at a path hold, or makes its tables where they hold no database. `S` stands for what the files
 /// hold. The limits are as [`SqlOffice::open`] wants them.
 ///
 /// # Errors
 ///
-/// As [`SqlOffice::open`]; a path that can't be opened is [`StoreFault::Store`].
+/// [`PathFault::Held`] where another connection has the files open; else as [`SqlOffice::open`], and a path that can't be opened is
+/// [`StoreFault::Store`].
 pub fn open_at<S: Start>(
     rt: &HostRuntime,
     path: &str,
     limits: Limits,
     start: S,
-) -> Result<SqlOffice<FileStore<FileFrom<S>>>, StoreFault>
+) -> Result<SqlOffice<FileStore<FileFrom<S>>>, PathFault>
     requires files { limits.files ≤ MOST_FILES }
     requires octets { limits.octets ≤ MOST_OCTETS }
+    ensures limits { IfOk result (λ o. o.limits ≡ limits) }
+    ensures faults { IfOk result (λ o. o.faults ≡ 0) }
     // The office has the register whose tables the files hold.
-    ensures { IfOk result (λ o. HasCleanDisk (file_state o.conn) → (r : Register) (db : Trees) → r.limits ≡ limits → IsSound r
+    ensures found { IfOk result (λ o. HasCleanDisk (file_state o.conn) → (r : Register) (db : Trees) → r.limits ≡ limits → IsSound r
         → HoldsDatabase (image_at S.Start) db → IsStoreOf r db → Has limits r (file_state o.conn)) }
 {
     match Connection::open_from(rt, path, false, start) {
-        Err((error, _)) => Err(fault_of(error)),
+        Err((error, _)) => Err(path_fault_of(error)),
         Ok(conn) => match SqlOffice::open(rt.alloc(), conn, limits) {
             Ok(office) => Ok(office),
-            Err(refused) => Err(refused.fault),
+            Err(refused) => Err(PathFault::Store(refused.fault)),
+        },
+    }
+}
+
+/// Brings the database that the files at a path hold to schema 2, as [`SqlOffice::migrate`], and opens its office. Where there is no
+/// file an empty one is made, which is [`StoreFault::WrongSchema`]: a caller who wants none left looks first whether one is there.
+/// `S` stands for what the files hold. The limits are as [`SqlOffice::open`] wants them.
+///
+/// # Errors
+///
+/// [`PathFault::Held`] where another connection has the files open; else as [`SqlOffice::migrate`], and a path that can't be opened
+/// is [`StoreFault::Store`].
+pub fn migrate_at<S: Start>(
+    rt: &HostRuntime,
+    path: &str,
+    limits: Limits,
+    start: S,
+) -> Result<SqlOffice<FileStore<FileFrom<S>>>, PathFault>
+    requires files { limits.files ≤ MOST_FILES }
+    requires octets { limits.octets ≤ MOST_OCTETS }
+    // The office has the register whose tables of schema 1 the files hold.
+    ensures { IfOk result (λ o. HasCleanDisk (file_state o.conn) → (r : Register) (db : Trees) → r.limits ≡ limits
+        → HoldsDatabase (image_at S.Start) db → IsFirstOf r db → Has limits r (file_state o.conn)) }
+{
+    match Connection::open_from(rt, path, false, start) {
+        Err((error, _)) => Err(path_fault_of(error)),
+        Ok(conn) => match SqlOffice::migrate(rt.alloc(), conn, limits) {
+            Ok(office) => Ok(office),
+            Err(refused) => Err(PathFault::Store(refused.fault)),
         },
     }
 }

@@ -9,7 +9,7 @@ mod open;
 #[cfg(test)]
 mod tests;
 
-pub use file::open_at;
+pub use file::{PathFault, migrate_at, open_at};
 pub use office::SqlOffice;
 pub use oftp_schema::StoreFault;
 pub use open::OpenRefused;

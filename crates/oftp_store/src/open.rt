@@ -4,7 +4,7 @@ ghost use Rattle.std.specs.Prelude.{◌≡◌, ◌≤◌, false, IfOk, MatchResu
 ghost use Rattle.sqlite.specs.Held.{state};
 ghost use Rattle.sqlite.specs.State.{HasCleanDisk};
 ghost use Rattle.oftp_register.specs.Register.{Register};
-ghost use Rattle.oftp_schema.specs.Making.{HasOffice};
+ghost use Rattle.oftp_schema.specs.Making.{HasFirst, HasOffice, IsEmpty};
 ghost use Rattle.oftp_register.specs.declared.fit.TheConstants.{MOST_FILES, MOST_OCTETS};
 ghost use Rattle.oftp_open.specs.Opening.{IsAt, IsAtFirst};
 ghost use Rattle.oftp_store.specs.Opens.{Has, IsMigratable, IsOpenable, Opens, Refuses};
@@ -44,8 +44,8 @@ impl<S: Alter> SqlOffice<S> {
         requires files { limits.files ≤ MOST_FILES }
         requires octets { limits.octets ≤ MOST_OCTETS }
         ensures { MatchResult result
-            (λ o. (o.limits ≡ limits) × (o.faults ≡ 0) × Opens IsOpenable IsAt limits (state S.Store conn) (state S.Store o.conn))
-            (λ e. Refuses IsOpenable IsAt e.fault (state S.Store conn) (state S.Store e.conn)) }
+            (λ o. (o.limits ≡ limits) × (o.faults ≡ 0) × Opens IsOpenable IsEmpty IsAt limits (state S.Store conn) (state S.Store o.conn))
+            (λ e. Refuses IsOpenable IsEmpty IsAt e.fault (state S.Store conn) (state S.Store e.conn)) }
     {
         let mut conn = conn;
         match open_tables(&mut conn) {
@@ -72,8 +72,8 @@ impl<S: Alter> SqlOffice<S> {
         requires octets { limits.octets ≤ MOST_OCTETS }
         ensures opened { MatchResult result
             (λ o. (o.limits ≡ limits) × (o.faults ≡ 0)
-            × Opens IsMigratable IsAtFirst limits (state S.Store conn) (state S.Store o.conn))
-            (λ e. Refuses IsMigratable IsAtFirst e.fault (state S.Store conn) (state S.Store e.conn)) }
+            × Opens IsMigratable HasFirst IsAtFirst limits (state S.Store conn) (state S.Store o.conn))
+            (λ e. Refuses IsMigratable HasFirst IsAtFirst e.fault (state S.Store conn) (state S.Store e.conn)) }
         ensures found { IfOk result (λ o. HasCleanDisk (state S.Store o.conn)
             → (r : Register) → r.limits ≡ limits → IsAt r (state S.Store conn)
             → HasOffice (state S.Store conn).now → Has limits r (state S.Store o.conn)) }

@@ -12,3 +12,4 @@ pub mod SplitLemmas
 pub mod StatementLemmas
 pub mod LandLemmas
 pub mod RowLemmas
+pub mod BindLemmas

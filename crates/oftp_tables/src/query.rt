@@ -2,7 +2,6 @@
 
 ghost use Rattle.std.specs.Prelude.{◌≡◌, ◌<◌, ◌^◌, pos, IfOk};
 ghost use Rattle.sqlite.specs.Held.{state};
-ghost use Rattle.sqlite.specs.Schema.{Schema};
 ghost use Rattle.sqlite.specs.Given.{IsPlain};
 ghost use Rattle.sqlite.specs.Listing.{understood};
 ghost use Rattle.sqlite.specs.Values.{bound};
@@ -45,7 +44,7 @@ pub fn ask<S: Alter>(
     sql: &str,
     params: &[ValueRef<'_>],
 ) -> Result<Vec<Row>, OfficeFault>
-    ensures looks { ((schema : Schema) → schema ≡ office_schema → IsPlain (understood schema sql.now)) → Looks (state S.Store conn.old) (state S.Store conn.new) result }
+    ensures looks { IsPlain (understood office_schema sql.now) → Looks (state S.Store conn.old) (state S.Store conn.new) result }
     ensures shown { HasCleanDisk (state S.Store conn.new) → IfOk result (λ rows. Shown sql.now (bound params.now) (state S.Store conn.old) (state S.Store conn.new) rows.items) }
 {
     match conn.query_all(sql, params) {

@@ -1,11 +1,11 @@
 //! The values that rows tell. A value that fits no part of an entry is `None`, and counts as a failure of the store.
 
 ghost use Rattle.std.specs.Prelude.{◌≡◌, ◌+◌, ◌<◌, ℕ, List, IfOk, IfSome, IfErr, pos};
-ghost use Rattle.sqlite.specs.declared.types.Value.TheVariants.{Int};
+ghost use Rattle.sqlite.specs.declared.types.Value.TheVariants as value;
 ghost use Rattle.sqlite.specs.Order.{bytes, column};
 ghost use Rattle.oftp_wire.specs.Octets.{number};
 ghost use Rattle.oftp_register.specs.Offices.{IsFailure};
-ghost use Rattle.oftp_tables.specs.Tables.{dispatch_in, format_in, identity_in, in_state_in, kind_in, number_in, out_state_in};
+ghost use Rattle.oftp_tables.specs.Tables.{dispatch_in, format_in, format_text, identity_in, in_state_in, in_state_text, kind_in, kind_text, number_in, out_state_in, out_state_text, sent_number};
 
 use oftp_register::{
     DigitString, Dispatch, Identity, IncomingState, Name, Note, OfficeFault, OutgoingState,
@@ -19,7 +19,8 @@ use std::alloc::Global;
 
 /// The name that a row tells at a place.
 pub fn name_at<const N: usize>(row: &Row, at: usize) -> Option<Name<N>>
-    ensures { IfSome result (λ name. name ≡ bytes (column row.now at)) }
+    ensures told { IfSome result (λ name. name ≡ bytes (column row.now at)) }
+    ensures fits { IfSome result (λ name. column row.now at ≡ value.Text name) }
 {
     match row.get_ref(at) {
         Ok(ValueRef::Text(text)) => match X::new(text) {
@@ -32,7 +33,8 @@ pub fn name_at<const N: usize>(row: &Row, at: usize) -> Option<Name<N>>
 
 /// The digits that a row tells at a place.
 pub fn digits_at<const N: usize>(row: &Row, at: usize) -> Option<DigitString<N>>
-    ensures { IfSome result (λ digits. digits ≡ bytes (column row.now at)) }
+    ensures told { IfSome result (λ digits. digits ≡ bytes (column row.now at)) }
+    ensures fits { IfSome result (λ digits. column row.now at ≡ value.Text digits) }
 {
     match row.get_ref(at) {
         Ok(ValueRef::Text(text)) => match Digits::new(text) {
@@ -59,7 +61,8 @@ pub fn identity_at(row: &Row, at: usize) -> Option<Identity>
 
 /// The format that a row tells at a place.
 pub fn format_at(row: &Row, at: usize) -> Option<Format>
-    ensures { IfSome result (λ format. format ≡ format_in (bytes (column row.now at))) }
+    ensures told { IfSome result (λ format. format ≡ format_in (bytes (column row.now at))) }
+    ensures fits { IfSome result (λ format. column row.now at ≡ value.Text (format_text format)) }
 {
     match row.get_ref(at) {
         Ok(ValueRef::Text(text)) => {
@@ -81,7 +84,8 @@ pub fn format_at(row: &Row, at: usize) -> Option<Format>
 
 /// The number of octets or rows that a row tells at a place.
 pub fn number_at(row: &Row, at: usize) -> Option<u32>
-    ensures { IfSome result (λ n. n ≡ number_in (column row.now at)) }
+    ensures told { IfSome result (λ n. n ≡ number_in (column row.now at)) }
+    ensures fits { IfSome result (λ n. column row.now at ≡ value.Int (pos n)) }
 {
     match row.get_ref(at) {
         Ok(ValueRef::Int(n)) => match u32::try_from(n) {
@@ -94,7 +98,7 @@ pub fn number_at(row: &Row, at: usize) -> Option<u32>
 
 /// The number of an entry that a row tells at a place.
 pub fn no_at(row: &Row, at: usize) -> Option<u64>
-    ensures { IfSome result (λ n. column row.now at ≡ Int (pos n)) }
+    ensures { IfSome result (λ n. column row.now at ≡ value.Int (pos n)) }
 {
     match row.get_ref(at) {
         Ok(ValueRef::Int(n)) => match u64::try_from(n) {
@@ -112,6 +116,7 @@ pub fn no_at(row: &Row, at: usize) -> Option<u64>
 /// [`OfficeFault::Store`] where there is none that fits, and [`OfficeFault::Memory`].
 pub fn text_at(alloc: Global, row: &Row, at: usize) -> Result<Note, OfficeFault>
     ensures told { IfOk result (λ note. note ≡ bytes (column row.now at)) }
+    ensures fits { IfOk result (λ note. column row.now at ≡ value.Text note) }
     ensures fails { IfErr result IsFailure }
 {
     match row.get_ref(at) {
@@ -131,7 +136,8 @@ pub fn text_at(alloc: Global, row: &Row, at: usize) -> Result<Note, OfficeFault>
 
 /// The state of an incoming file that a row tells at a place.
 pub fn incoming_state_at(row: &Row, at: usize) -> Option<IncomingState>
-    ensures { IfSome result (λ state. state ≡ in_state_in (bytes (column row.now at))) }
+    ensures told { IfSome result (λ state. state ≡ in_state_in (bytes (column row.now at))) }
+    ensures fits { IfSome result (λ state. column row.now at ≡ value.Text (in_state_text state)) }
 {
     match row.get_ref(at) {
         Ok(ValueRef::Text(text)) => {
@@ -149,7 +155,8 @@ pub fn incoming_state_at(row: &Row, at: usize) -> Option<IncomingState>
 
 // The state of an outgoing file that isn't refused.
 fn unrefused_state_of(text: &[u8]) -> Option<OutgoingState>
-    ensures { IfSome result (λ state. (reason : List ℕ) → state ≡ out_state_in text.now reason) }
+    ensures told { IfSome result (λ state. (reason : List ℕ) → state ≡ out_state_in text.now reason) }
+    ensures fits { IfSome result (λ state. text.now ≡ out_state_text state) }
 {
     if text == b"waiting".as_slice() {
         Some(OutgoingState::Waiting)
@@ -169,7 +176,8 @@ fn unrefused_state_of(text: &[u8]) -> Option<OutgoingState>
 /// The state of an outgoing file that a row tells at a place, with the reason of a refusal at the next.
 pub fn outgoing_state_at(row: &Row, at: usize) -> Option<OutgoingState>
     requires { at < 100 }
-    ensures { IfSome result (λ state. state ≡ out_state_in (bytes (column row.now at)) (bytes (column row.now (at + 1)))) }
+    ensures told { IfSome result (λ state. state ≡ out_state_in (bytes (column row.now at)) (bytes (column row.now (at + 1)))) }
+    ensures fits { IfSome result (λ state. column row.now at ≡ value.Text (out_state_text state)) }
 {
     match row.get_ref(at) {
         Ok(ValueRef::Text(text)) => {
@@ -188,7 +196,8 @@ pub fn outgoing_state_at(row: &Row, at: usize) -> Option<OutgoingState>
 
 /// The kind of response that a row tells at a place.
 pub fn kind_at(row: &Row, at: usize) -> Option<ResponseKind>
-    ensures { IfSome result (λ kind. kind ≡ kind_in (bytes (column row.now at))) }
+    ensures told { IfSome result (λ kind. kind ≡ kind_in (bytes (column row.now at))) }
+    ensures fits { IfSome result (λ kind. column row.now at ≡ value.Text (kind_text kind)) }
 {
     match row.get_ref(at) {
         Ok(ValueRef::Text(text)) => {
@@ -235,7 +244,8 @@ pub fn reason_at(row: &Row, at: usize) -> Option<Count<2>>
 
 /// Whether a response was sent, as a row tells it at a place.
 pub fn dispatch_at(row: &Row, at: usize) -> Option<Dispatch>
-    ensures { IfSome result (λ dispatch. dispatch ≡ dispatch_in (number_in (column row.now at))) }
+    ensures told { IfSome result (λ dispatch. dispatch ≡ dispatch_in (number_in (column row.now at))) }
+    ensures fits { IfSome result (λ dispatch. column row.now at ≡ value.Int (pos (sent_number dispatch))) }
 {
     match number_at(row, at) {
         Some(0) => Some(Dispatch::Due),
@@ -251,6 +261,7 @@ pub fn dispatch_at(row: &Row, at: usize) -> Option<Dispatch>
 /// [`OfficeFault::Store`] where there is none, and [`OfficeFault::Memory`].
 pub fn body_at(alloc: Global, row: &Row, at: usize) -> Result<oftp_vfile::Row, OfficeFault>
     ensures told { IfOk result (λ body. body ≡ bytes (column row.now at)) }
+    ensures fits { IfOk result (λ body. column row.now at ≡ value.Blob body) }
     ensures fails { IfErr result IsFailure }
 {
     match row.get_ref(at) {

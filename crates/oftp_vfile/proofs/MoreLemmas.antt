@@ -79,7 +79,9 @@ stream_few f size rows false e d h a p =
     let n : weight (left_of f all) ≡ weight (drop f.offset (octets_in all) ∷ []) = ap weight (left_stream f all e d) in
     let some = left_some rows f.offset a h in
     let one = least_some f.format e in
-    omega (arith, w, n, some, length-drop f.offset (octets_in all), ap length (flat_map-append (λ r. r) rows (least f.format ∷ [])), length-append (octets_in rows) (octets_in (least f.format ∷ [])), one)
+    let joined = ap length (flat_map-append (λ r. r) rows (least f.format ∷ [])) in
+    let both = length-append (octets_in rows) (octets_in (least f.format ∷ [])) in
+    omega (arith, w, n, some, length-drop f.offset (octets_in all), joined, both, one)
 
 -- more rows are asked for only where fewer were lent than the payload has octets
 pub more_few : (f : Filling) (size : ℕ) (rows : List (List ℕ)) → IsInRows f rows → (is_stream f.format ≡ true → All (λ (r : List ℕ). 0 < length r) rows)

@@ -1,37 +1,23 @@
-//! Files that come to a responder, spelled by hand from RFC 5024.
+//! A file that comes to a responder, spelled by hand from RFC 5024. The sessions that a command line can play are rows/.
 
+use super::talk::Line::{Answers, Comes, Says};
+use super::talk::{CALL, CHANGE, CREDIT, HAS_IT, Line, READY, unmet};
 use super::*;
-use oftp_register::{IncomingState, Office, Side};
+use oftp_register::{IncomingState, Office, OfficeFault, Side};
 use oftp_wire::SessionReason;
 
 /// A file of records of at most 10 octets.
 const OFFER: &[u8] =
     b"HASN.0001                     202401311015300001        O0013SUPPLIER            O0177CARMAKER            V000100000000000000000000000000000000000000000000000000N000";
 
-/// The same file, offered from row 3 on.
-const OFFER_FROM_3: &[u8] =
-    b"HASN.0001                     202401311015300001        O0013SUPPLIER            O0177CARMAKER            V000100000000000000000000000000000000000000000300000000N000";
-
 /// SFPA from row 0 on, and from row 2 on.
-const TAKEN: &[u8] = b"\x10\0\0\x16200000000000000000";
+const TAKEN: &[u8] = b"200000000000000000";
 
-const TAKEN_FROM_2: &[u8] = b"\x10\0\0\x16200000000000000002";
+/// How a session opens, before a file comes.
+const OPENING: &[Line] = &[Says(READY), Answers(PARTNER, CALL)];
 
-const CREDIT: &[u8] = b"\x10\0\0\x07C  ";
-
-/// Whether nothing is to be sent.
-fn is_silent(out: Result<Out<'_>, SessionFault>) -> bool {
-    match out {
-        Ok(Out::Nothing) => true,
-        Ok(Out::Send(_)) | Err(_) => false,
-    }
-}
-
-/// Opens a session with the partner.
-fn opens(session: &mut Session<'_>, office: &mut PlainOffice) -> bool {
-    sends(session.turn(office), b"\x10\0\0\x17IODETTE FTP READY \r")
-        && sends(take(session, office, PARTNER), STATION)
-}
+/// What is said, and then the state of the file and its rows.
+type Part = (&'static [Line], IncomingState, &'static [&'static [u8]]);
 
 /// Whether these are the rows of the first file, which is in this state.
 fn holds(office: &mut PlainOffice, state: IncomingState, rows: &[&[u8]]) -> bool {
@@ -50,115 +36,42 @@ fn holds(office: &mut PlainOffice, state: IncomingState, rows: &[&[u8]]) -> bool
             .all(|(row, octets)| row.octets() == *octets)
 }
 
+/// A file in one session. Its second DATA uses the credit up: the rows are kept before CDT. It is taken once.
+const IN_ONE_SESSION: [Part; 3] = [
+    (
+        &[Answers(OFFER, TAKEN), Comes(b"D\x83abc")],
+        IncomingState::Open,
+        &[],
+    ),
+    (
+        &[Answers(b"D\x82de\x01f", CREDIT)],
+        IncomingState::Open,
+        &[b"abc", b"de"],
+    ),
+    (
+        &[
+            Comes(b"D\x81g"),
+            Answers(b"T0000000000000000300000000000000007", HAS_IT),
+            Answers(OFFER, b"313N000"),
+        ],
+        IncomingState::Whole,
+        &[b"abc", b"de", b"fg"],
+    ),
+];
+
 #[test]
 fn file_in_one_session(rt: HostRuntime) -> Result<(), Fail> {
     let book = read(rt.alloc(), BOOK)?;
     let mut office = PlainOffice::new(rt.alloc(), LIMITS);
     let mut session = Session::responder(rt.alloc(), &book);
-    assert!(rt; opens(&mut session, &mut office));
-    assert!(rt; sends(take(&mut session, &mut office, OFFER), TAKEN));
-    assert!(rt; is_silent(take(&mut session, &mut office, b"D\x83abc")));
-    assert!(rt; holds(&mut office, IncomingState::Open, &[]));
-    // The second DATA uses the credit up: its rows are kept before CDT.
-    assert!(rt; sends(take(&mut session, &mut office, b"D\x82de\x01f"), CREDIT));
-    assert!(rt; holds(&mut office, IncomingState::Open, &[b"abc", b"de"]));
-    assert!(rt; is_silent(take(&mut session, &mut office, b"D\x81g")));
-    assert!(rt;
-        sends(
-            take(
-                &mut session,
-                &mut office,
-                b"T0000000000000000300000000000000007"
-            ),
-            b"\x10\0\0\x064N"
-        )
-    );
-    assert!(rt; holds(&mut office, IncomingState::Whole, &[b"abc", b"de", b"fg"]));
-    // It is taken once.
-    assert!(rt;
-        sends(
-            take(&mut session, &mut office, OFFER),
-            b"\x10\0\0\x0b313N000"
-        )
-    );
-    Ok(())
-}
-
-#[test]
-fn file_broken_and_taken_up_again(rt: HostRuntime) -> Result<(), Fail> {
-    let book = read(rt.alloc(), BOOK)?;
-    let mut office = PlainOffice::new(rt.alloc(), LIMITS);
-    let mut session = Session::responder(rt.alloc(), &book);
-    assert!(rt; opens(&mut session, &mut office));
-    assert!(rt; sends(take(&mut session, &mut office, OFFER), TAKEN));
-    assert!(rt; is_silent(take(&mut session, &mut office, b"D\x83abc")));
-    assert!(rt; sends(take(&mut session, &mut office, b"D\x82de\x01f"), CREDIT));
-    assert!(rt; is_silent(take(&mut session, &mut office, b"D\x81x")));
-    // The partner breaks off. What came since the last credit is lost, and so is the open record.
-    let mut again = Session::responder(rt.alloc(), &book);
-    assert!(rt; opens(&mut again, &mut office));
-    assert!(rt; sends(take(&mut again, &mut office, OFFER_FROM_3), TAKEN_FROM_2));
-    assert!(rt; is_silent(take(&mut again, &mut office, b"D\x82fg")));
-    assert!(rt;
-        sends(
-            take(
-                &mut again,
-                &mut office,
-                b"T0000000000000000300000000000000007"
-            ),
-            b"\x10\0\0\x064N"
-        )
-    );
-    assert!(rt; holds(&mut office, IncomingState::Whole, &[b"abc", b"de", b"fg"]));
-    Ok(())
-}
-
-#[test]
-fn end_with_other_counts(rt: HostRuntime) -> Result<(), Fail> {
-    let book = read(rt.alloc(), BOOK)?;
-    let mut office = PlainOffice::new(rt.alloc(), LIMITS);
-    let mut session = Session::responder(rt.alloc(), &book);
-    assert!(rt; opens(&mut session, &mut office));
-    assert!(rt; sends(take(&mut session, &mut office, OFFER), TAKEN));
-    assert!(rt; is_silent(take(&mut session, &mut office, b"D\x83abc")));
-    assert!(rt; sends(take(&mut session, &mut office, b"D\x82de"), CREDIT));
-    assert!(rt;
-        sends(
-            take(
-                &mut session,
-                &mut office,
-                b"T0000000000000000200000000000000006"
-            ),
-            b"\x10\0\0\x0a511000"
-        )
-    );
-    assert!(rt; holds(&mut office, IncomingState::Open, &[]));
-    assert_eq!(rt; session.ended(), None);
-    Ok(())
-}
-
-#[test]
-fn end_of_an_open_record(rt: HostRuntime) -> Result<(), Fail> {
-    let book = read(rt.alloc(), BOOK)?;
-    let mut office = PlainOffice::new(rt.alloc(), LIMITS);
-    let mut session = Session::responder(rt.alloc(), &book);
-    assert!(rt; opens(&mut session, &mut office));
-    assert!(rt; sends(take(&mut session, &mut office, OFFER), TAKEN));
-    assert!(rt; is_silent(take(&mut session, &mut office, b"D\x03abc")));
-    assert!(rt;
-        sends(
-            take(
-                &mut session,
-                &mut office,
-                b"T0000000000000000100000000000000003"
-            ),
-            b"\x10\0\0\x0bF02000\r"
-        )
-    );
     assert_eq!(rt;
-        session.ended(),
-        Some(Ending::Own(SessionReason::ProtocolViolation))
+        unmet(rt.alloc(), &mut session, &mut office, OPENING)?,
+        None
     );
+    for (lines, state, rows) in IN_ONE_SESSION {
+        assert_eq!(rt; unmet(rt.alloc(), &mut session, &mut office, lines)?, None);
+        assert!(rt; holds(&mut office, state, rows));
+    }
     Ok(())
 }
 
@@ -167,12 +80,18 @@ fn data_over_the_buffer(rt: HostRuntime) -> Result<(), Fail> {
     let book = read(rt.alloc(), BOOK)?;
     let mut office = PlainOffice::new(rt.alloc(), LIMITS);
     let mut session = Session::responder(rt.alloc(), &book);
-    assert!(rt; opens(&mut session, &mut office));
-    assert!(rt; sends(take(&mut session, &mut office, OFFER), TAKEN));
+    for lines in [OPENING, &[Answers(OFFER, TAKEN)]] {
+        assert_eq!(rt; unmet(rt.alloc(), &mut session, &mut office, lines)?, None);
+    }
     // 128 octets, the command's counted, hold; 129 don't.
     let mut octets = [0x80u8; 129];
     octets[0] = b'D';
-    assert!(rt; is_silent(take(&mut session, &mut office, &octets[..128])));
+    assert!(rt;
+        matches!(
+            take(&mut session, &mut office, &octets[..128]),
+            Ok(Out::Nothing)
+        )
+    );
     assert!(rt;
         sends(
             take(&mut session, &mut office, &octets),

@@ -25,9 +25,6 @@ pub(super) const CREDIT: &[u8] = b"C  ";
 
 pub(super) const END: &[u8] = b"F00000\r";
 
-/// The subrecords of a full DATA, each its header and its number of octets: 125 octets in a buffer of 128.
-pub(super) const FULL: &[(u8, usize)] = &[(0x3f, 63), (0x3e, 62)];
-
 /// A line of a conversation, without the headers of its frames.
 #[derive(Clone, Copy, Debug)]
 pub(super) enum Line {
@@ -124,7 +121,7 @@ pub(super) fn calling(alloc: Global, book: &Book) -> Result<Session<'_>, OfficeF
     Ok(Session::initiator(alloc, book, partner))
 }
 
-/// Plays a session from its beginning. It answers the number of the first line that isn't met, behind the opening.
+/// Plays a session behind its opening. It answers the number of the first of these lines that isn't met.
 pub(super) fn play<O: Office>(
     alloc: Global,
     office: &mut O,

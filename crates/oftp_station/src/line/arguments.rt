@@ -1,17 +1,27 @@
 //! The arguments of a command, and what the parser makes of the words.
-ghost use Rattle.std.specs.Prelude.{◌≡◌, ◌∷◌, [], IfErr, IfOk, IsSome, None, Some, false, map, option_map, true};
+ghost use Rattle.std.specs.Prelude.{◌≡◌, ◌∷◌, ℕ, [], IfErr, IfOk, IsSome, None, Some, false, map, option_map, true};
 ghost use Rattle.std.specs.String.{string_bytes};
 ghost use Rattle.clap.specs.Words.{app_of, first_of, found_of, is_simple_and_free, items_of, kind_of};
 ghost use Rattle.clap.specs.Words.{new_app, rows_of, rule_of};
 ghost use Rattle.clap.specs.declared.builder.command.Command.TheViews.{out-Command as fields_of};
 ghost use Rattle.oftp_station.specs.Arguments as spec;
-ghost use Rattle.oftp_station.specs.Arguments.{HasValues, taken};
+ghost use Rattle.oftp_station.specs.Arguments.{HasValues, IsNumber, taken};
 ghost use Rattle.oftp_station.specs.Fault.{is_bad};
 
 use super::LineFault;
+use clap::builder::ValueParser;
 use clap::error::ErrorKind;
 use clap::{Arg, ArgAction, ArgMatches, Command, Error};
 use std::alloc::{AllocError, Global};
+
+/// The greatest number of an incoming file that can be asked for.
+const MOST_NO: u64 = 9_999_999;
+
+/// What the option for the database is, in texts.
+pub(super) const DATABASE: &str = "The file that holds the database";
+
+/// What the option for the book is, in texts.
+pub(super) const BOOK: &str = "The file that holds the book";
 
 /// A command with no arguments yet. `usage` is how it is called, and `about` what it does.
 pub(super) fn command<'a>(
@@ -77,6 +87,29 @@ pub(super) fn defaulted<'a>(
     optional(alloc, id, shown, help).default_value(value)
 }
 
+/// The argument, which takes the numbers from `low` to `high`.
+pub(super) fn numbered<'a>(argument: Arg<'a>, low: u64, high: u64) -> Arg<'a>
+    ensures rule { rule_of result ≡ spec.numbered low high (rule_of argument.entry) }
+    ensures local { result.global ≡ argument.entry.global }
+    ensures texts { (result.val_names ≡ argument.entry.val_names) × (result.help ≡ argument.entry.help) }
+{
+    argument.value_parser(ValueParser::unsigned(low, high))
+}
+
+/// The word that is an incoming file's number.
+pub(super) fn file_number<'a>(alloc: Global) -> Arg<'a>
+    ensures rule { rule_of result ≡ spec.file_number }
+    ensures local { result.global ≡ false }
+{
+    let no = word(
+        alloc,
+        "no",
+        "NO",
+        "The incoming file's number, 1 to 9999999",
+    );
+    numbered(no, 1, MOST_NO)
+}
+
 /// The fault for an error of the parser.
 fn fault_from(alloc: Global, error: &Error) -> LineFault
     ensures { is_bad result ≡ true → kind_of error.now ≡ ErrorKind.OutOfMemory → ⊥ }
@@ -124,15 +157,36 @@ pub(super) fn given<'a>(matches: &ArgMatches<'a>, id: &str) -> &'a str
     value_of(matches, id).unwrap()
 }
 
-/// The text for a value that is none of those that its argument takes.
-pub(super) fn invalid_value(
-    alloc: Global,
-    value: &str,
-    argument: &str,
-    possible: &str,
-) -> Result<String, AllocError> {
-    let mut text = format!(in alloc; "error: invalid value '{value}' for '{argument}'\n")?;
-    write!(text, "  [possible values: {possible}]\n\n")?;
-    text.push_str("For more information, try '--help'.\n")?;
-    Ok(text)
+/// The number that is the value of an argument which takes numbers, and must be given or has a default.
+pub(super) fn number(matches: &ArgMatches<'_>, id: &str) -> u64
+    requires { (low : ℕ) × ((high : ℕ) × IsNumber low high id.now (rows_of (found_of matches.now))) }
+    ensures { result ≡ spec.number id.now (rows_of (found_of matches.now)) }
+{
+    matches.get_one::<u64>(id).unwrap()
+}
+
+/// A value that is none of those that its argument has names for.
+#[derive(Debug, Clone, Copy, PartialEq, Eq)]
+pub(super) struct Unlisted<'a> {
+    /// The value.
+    pub(super) value: &'a str,
+    /// The argument, as texts show it.
+    pub(super) argument: &'static str,
+    /// The values that it has names for.
+    pub(super) listed: &'static str,
+}
+
+impl Unlisted<'_> {
+    /// The text that says so.
+    pub(super) fn text(&self, alloc: Global) -> Result<String, AllocError> {
+        let Unlisted {
+            value,
+            argument,
+            listed,
+        } = self;
+        let mut text = format!(in alloc; "error: invalid value '{value}' for '{argument}'\n")?;
+        write!(text, "  [possible values: {listed}]\n\n")?;
+        text.push_str("For more information, try '--help'.\n")?;
+        Ok(text)
+    }
 }

@@ -1,5 +1,8 @@
 //! Command lines, and what they are read as.
 use super::*;
+use oftp_listing::ReportKind;
+use oftp_vfile::Format;
+use std::process::Abort;
 use std::test::Fail;
 
 fn words_of(alloc: Global, line: &str) -> Result<Vec<String>, AllocError> {
@@ -10,19 +13,157 @@ fn words_of(alloc: Global, line: &str) -> Result<Vec<String>, AllocError> {
     Ok(words)
 }
 
-#[test]
-fn reads_check(rt: HostRuntime) -> Result<(), Fail> {
-    for line in ["check --book b", "check --book=b", "check --book b --"] {
+/// That each line is read as the command beside it.
+fn are_read(rt: &(impl Abort + AllocGlobal), lines: &[(&str, Line<'_>)]) -> Result<(), Fail> {
+    for (line, wanted) in lines {
         let words = words_of(rt.alloc(), line)?;
         let read = line_of(rt.alloc(), words.as_slice())?;
-        assert!(rt; read == Line::Check(Check { book: "b" }), "{line}");
+        assert!(rt; read == *wanted, "{line}");
     }
     Ok(())
 }
 
 #[test]
+fn reads_the_short_commands(rt: HostRuntime) -> Result<(), Fail> {
+    let check = Line::Check(Check { book: "b" });
+    are_read(
+        &rt,
+        &[
+            ("init --db d", Line::Init(Init { database: "d" })),
+            ("migrate --db=d", Line::Migrate(Migrate { database: "d" })),
+            ("check --book b", check),
+            ("check --book=b", check),
+            ("check --book b --", check),
+        ],
+    )
+}
+
+const SUBMIT: Submit<'static> = Submit {
+    database: "d",
+    book: "b",
+    dataset: "n",
+    date: "20240131",
+    time: "1015300001",
+    to: "p",
+    format: Format::Unstructured,
+    longest: 0,
+    description: "",
+    file: "f",
+};
+
+fn submitted(format: Format, longest: u32) -> Line<'static> {
+    Line::Submit(Submit {
+        format,
+        longest,
+        ..SUBMIT
+    })
+}
+
+#[test]
+fn reads_submit(rt: HostRuntime) -> Result<(), Fail> {
+    let described = Submit {
+        description: "x",
+        file: "-",
+        ..SUBMIT
+    };
+    are_read(
+        &rt,
+        &[
+            (
+                "submit --db d --book b --dataset n --date 20240131 --time 1015300001 --to p --format U f",
+                Line::Submit(SUBMIT),
+            ),
+            (
+                "submit --format=U --to=p --time=1015300001 --date=20240131 --dataset=n --book=b --description=x --db=d -",
+                Line::Submit(described),
+            ),
+            (
+                "submit f --db=d --book=b --dataset=n --date=20240131 --time=1015300001 --to=p --format=F --longest=99999",
+                submitted(Format::Fixed, 99_999),
+            ),
+            (
+                "submit f --db=d --book=b --dataset=n --date=20240131 --time=1015300001 --to=p --format=V --longest 1",
+                submitted(Format::Variable, 1),
+            ),
+            (
+                "submit f --db=d --book=b --dataset=n --date=20240131 --time=1015300001 --to=p --format=T --longest +00",
+                submitted(Format::Text, 0),
+            ),
+        ],
+    )
+}
+
+fn released(no: u64) -> Line<'static> {
+    Line::Release(Release {
+        database: "d",
+        book: "b",
+        no,
+    })
+}
+
+fn refused(reason: u64, text: &str) -> Line<'_> {
+    Line::Refuse(Refuse {
+        database: "d",
+        book: "b",
+        no: 7,
+        reason,
+        text,
+    })
+}
+
+fn fetched(no: u64) -> Line<'static> {
+    Line::Fetch(Fetch {
+        database: "d",
+        no,
+        file: "8",
+    })
+}
+
+#[test]
+fn reads_commands_of_an_incoming_file(rt: HostRuntime) -> Result<(), Fail> {
+    are_read(
+        &rt,
+        &[
+            ("release --db d --book b 1", released(1)),
+            ("release 9999999 --db d --book b", released(9_999_999)),
+            ("release --db d 0000000010 --book b", released(10)),
+            ("release --db=d --book=b -- +7", released(7)),
+            ("refuse --db d --book b 7 0 x", refused(0, "x")),
+            ("refuse 7 --db=d 99 --book=b 3", refused(99, "3")),
+            (
+                "refuse --db=d --book=b +07 007 -- --text",
+                refused(7, "--text"),
+            ),
+            ("fetch --db d 1 8", fetched(1)),
+            ("fetch 9999999 8 --db=d", fetched(9_999_999)),
+        ],
+    )
+}
+
+fn reported(kind: ReportKind) -> Line<'static> {
+    Line::Report(Report {
+        database: "d",
+        kind,
+    })
+}
+
+#[test]
+fn reads_report(rt: HostRuntime) -> Result<(), Fail> {
+    are_read(
+        &rt,
+        &[
+            ("report --db d in", reported(ReportKind::Incoming)),
+            ("report out --db=d", reported(ReportKind::Outgoing)),
+            ("report --db=d issued", reported(ReportKind::Issued)),
+            ("report --db=d -- received", reported(ReportKind::Received)),
+        ],
+    )
+}
+
+#[test]
 fn reads_feed(rt: HostRuntime) -> Result<(), Fail> {
     let plain = Feed {
+        database: None,
         book: "b",
         role: Side::Responder,
         partner: None,
@@ -37,59 +178,85 @@ fn reads_feed(rt: HostRuntime) -> Result<(), Fail> {
         role: Side::Initiator,
         ..with_partner
     };
-    let lines = [
-        ("feed --book b i o", plain),
-        ("feed i o --book=b", plain),
-        ("feed i --role=responder --book b -- o", plain),
-        ("feed --book b --partner p i o", with_partner),
-        ("feed --partner=p --role initiator --book b i o", initiator),
-        (
-            "feed --book=-- -- -i --book",
-            Feed {
-                book: "--",
-                input: "-i",
-                output: "--book",
-                ..plain
-            },
-        ),
-        (
-            "feed --book=--role i -",
-            Feed {
-                book: "--role",
-                output: "-",
-                ..plain
-            },
-        ),
-    ];
-    for (line, wanted) in lines {
-        let words = words_of(rt.alloc(), line)?;
-        let read = line_of(rt.alloc(), words.as_slice())?;
-        assert!(rt; read == Line::Feed(wanted), "{line}");
-    }
-    Ok(())
+    let stored = Feed {
+        database: Some("d"),
+        ..initiator
+    };
+    let minus = Feed {
+        book: "--",
+        input: "-i",
+        output: "--book",
+        ..plain
+    };
+    let role_as_book = Feed {
+        book: "--role",
+        output: "-",
+        ..plain
+    };
+    are_read(
+        &rt,
+        &[
+            ("feed --book b i o", Line::Feed(plain)),
+            ("feed i o --book=b", Line::Feed(plain)),
+            ("feed i --role=responder --book b -- o", Line::Feed(plain)),
+            ("feed --book b --partner p i o", Line::Feed(with_partner)),
+            (
+                "feed --partner=p --role initiator --book b i o",
+                Line::Feed(initiator),
+            ),
+            (
+                "feed --partner=p --role initiator --book b i o --db d",
+                Line::Feed(stored),
+            ),
+            ("feed --book=-- -- -i --book", Line::Feed(minus)),
+            ("feed --book=--role i -", Line::Feed(role_as_book)),
+        ],
+    )
 }
 
 /// The text for words that are no command line, or the line that they are.
 fn refusal(alloc: Global, words: &[String]) -> Result<String, LineFault> {
     match line_of(alloc, words) {
-        Ok(line) => Ok(format!(in alloc; "{line:?}")?),
+        Ok(line) => Ok(format!(in alloc; "read: {line:?}")?),
         Err(LineFault::Bad(text)) => Ok(text),
         Err(LineFault::Memory) => Err(LineFault::Memory),
     }
 }
 
+const READ: &str = "read: ";
+
+const MISSING: &str = "error: the following required arguments were not provided:";
+
+const TWICE: &str = "error: the argument '--";
+
+const UNEXPECTED: &str = "error: unexpected argument '";
+
 const NO_COMMAND: &str = "error: a command is missing
 
 Usage:
+  oftp_station init --db <DATABASE>
+  oftp_station migrate --db <DATABASE>
   oftp_station check --book <BOOK>
-  oftp_station feed --book <BOOK> [--role <ROLE>] [--partner <CODE>] <IN> <OUT>
+  oftp_station submit --db <DATABASE> --book <BOOK> --dataset <NAME> --date <DATE> --time <TIME> --to <CODE> --format <FORMAT> [--longest <OCTETS>] [--description <TEXT>] <FILE>
+  oftp_station release --db <DATABASE> --book <BOOK> <NO>
+  oftp_station refuse --db <DATABASE> --book <BOOK> <NO> <REASON> <TEXT>
+  oftp_station fetch --db <DATABASE> <NO> <FILE>
+  oftp_station report --db <DATABASE> <KIND>
+  oftp_station feed [--db <DATABASE>] --book <BOOK> [--role <ROLE>] [--partner <CODE>] <IN> <OUT>
 ";
 
 const UNKNOWN_COMMAND: &str = "error: unknown command '--help'
 
 Usage:
+  oftp_station init --db <DATABASE>
+  oftp_station migrate --db <DATABASE>
   oftp_station check --book <BOOK>
-  oftp_station feed --book <BOOK> [--role <ROLE>] [--partner <CODE>] <IN> <OUT>
+  oftp_station submit --db <DATABASE> --book <BOOK> --dataset <NAME> --date <DATE> --time <TIME> --to <CODE> --format <FORMAT> [--longest <OCTETS>] [--description <TEXT>] <FILE>
+  oftp_station release --db <DATABASE> --book <BOOK> <NO>
+  oftp_station refuse --db <DATABASE> --book <BOOK> <NO> <REASON> <TEXT>
+  oftp_station fetch --db <DATABASE> <NO> <FILE>
+  oftp_station report --db <DATABASE> <KIND>
+  oftp_station feed [--db <DATABASE>] --book <BOOK> [--role <ROLE>] [--partner <CODE>] <IN> <OUT>
 ";
 
 const NO_BOOK: &str = "error: the following required arguments were not provided:
@@ -104,14 +271,14 @@ const NO_WORDS: &str = "error: the following required arguments were not provide
   <IN>
   <OUT>
 
-Usage: oftp_station feed --book <BOOK> [--role <ROLE>] [--partner <CODE>] <IN> <OUT>
+Usage: oftp_station feed [--db <DATABASE>] --book <BOOK> [--role <ROLE>] [--partner <CODE>] <IN> <OUT>
 
 For more information, try '--help'.
 ";
 
 const THIRD_WORD: &str = "error: unexpected argument 'x' found
 
-Usage: oftp_station feed --book <BOOK> [--role <ROLE>] [--partner <CODE>] <IN> <OUT>
+Usage: oftp_station feed [--db <DATABASE>] --book <BOOK> [--role <ROLE>] [--partner <CODE>] <IN> <OUT>
 
 For more information, try '--help'.
 ";
@@ -124,17 +291,76 @@ For more information, try '--help'.
 
 const FEED_HELP: &str = "Plays one session from the octets of file IN to file OUT
 
-Usage: oftp_station feed --book <BOOK> [--role <ROLE>] [--partner <CODE>] <IN> <OUT>
+Usage: oftp_station feed [--db <DATABASE>] --book <BOOK> [--role <ROLE>] [--partner <CODE>] <IN> <OUT>
 
 Arguments:
   <IN>   The file that holds what the partner sends
   <OUT>  The file that is given what the station sends
 
 Options:
+      --db <DATABASE>   The file that holds the database
       --book <BOOK>     The file that holds the book
       --role <ROLE>     The side that the station plays: responder or initiator [default: responder]
       --partner <CODE>  The code of the partner that an initiator calls
   -h, --help            Print help
+";
+
+const WRONG_FORMAT: &str = "error: invalid value 'f' for '--format <FORMAT>'
+  [possible values: F, V, U, T]
+
+For more information, try '--help'.
+";
+
+const WRONG_KIND: &str = "error: invalid value 'all' for '<KIND>'
+  [possible values: in, out, issued, received]
+
+For more information, try '--help'.
+";
+
+const NO_FILE_ZERO: &str = "error: invalid value '0' for '<NO>': 0 is not in 1..=9999999
+
+For more information, try '--help'.
+";
+
+const TOO_LONG: &str =
+    "error: invalid value '100000' for '--longest <OCTETS>': 100000 is not in 0..=99999
+
+For more information, try '--help'.
+";
+
+const REFUSE_HELP: &str = "Says that an incoming file wasn't delivered
+
+Usage: oftp_station refuse --db <DATABASE> --book <BOOK> <NO> <REASON> <TEXT>
+
+Arguments:
+  <NO>      The incoming file's number, 1 to 9999999
+  <REASON>  Why it wasn't, 0 to 99
+  <TEXT>    The reason in words
+
+Options:
+      --db <DATABASE>  The file that holds the database
+      --book <BOOK>    The file that holds the book
+  -h, --help           Print help
+";
+
+const SUBMIT_HELP: &str = "Hands over file FILE, which is to be sent to a partner
+
+Usage: oftp_station submit --db <DATABASE> --book <BOOK> --dataset <NAME> --date <DATE> --time <TIME> --to <CODE> --format <FORMAT> [--longest <OCTETS>] [--description <TEXT>] <FILE>
+
+Arguments:
+  <FILE>  The file that holds it in its local form
+
+Options:
+      --db <DATABASE>       The file that holds the database
+      --book <BOOK>         The file that holds the book
+      --dataset <NAME>      The virtual file's dataset name
+      --date <DATE>         Its date stamp, as 20240131
+      --time <TIME>         Its time stamp, as 1015300001
+      --to <CODE>           The code of the partner that it goes to
+      --format <FORMAT>     The format of its records: F, V, U or T
+      --longest <OCTETS>    Its longest record in octets, 0 to 99999 [default: 0]
+      --description <TEXT>  What it is, in words [default: \"\"]
+  -h, --help                Print help
 ";
 
 #[test]
@@ -147,11 +373,107 @@ fn says_what_is_wrong(rt: HostRuntime) -> Result<(), Fail> {
         ("feed --book b i o x", THIRD_WORD),
         ("feed --book b --role listener i o", WRONG_ROLE),
         ("feed i --help", FEED_HELP),
+        (
+            "submit --db d --book b --dataset n --date e --time t --to p --format f f",
+            WRONG_FORMAT,
+        ),
+        ("submit --longest 100000", TOO_LONG),
+        ("submit --help", SUBMIT_HELP),
+        ("release --db d --book b 0", NO_FILE_ZERO),
+        ("refuse --help", REFUSE_HELP),
+        ("report --db d all", WRONG_KIND),
     ];
     for (line, wanted) in lines {
         let words = words_of(rt.alloc(), line)?;
         let text = refusal(rt.alloc(), words.as_slice())?;
         assert_eq!(rt; text.as_str(), wanted, "{line}");
+    }
+    Ok(())
+}
+
+/// Each command, with what must be given and what may be missing.
+const COMMANDS: [(&str, &[&str], &[&str]); 9] = [
+    ("init", &["--db=d"], &[]),
+    ("migrate", &["--db=d"], &[]),
+    ("check", &["--book=b"], &[]),
+    (
+        "submit",
+        &[
+            "--db=d",
+            "--book=b",
+            "--dataset=n",
+            "--date=e",
+            "--time=t",
+            "--to=p",
+            "--format=F",
+            "f",
+        ],
+        &["--longest=1", "--description=x"],
+    ),
+    ("release", &["--db=d", "--book=b", "7"], &[]),
+    ("refuse", &["--db=d", "--book=b", "7", "12", "13"], &[]),
+    ("fetch", &["--db=d", "7", "8"], &[]),
+    ("report", &["--db=d", "in"], &[]),
+    (
+        "feed",
+        &["--book=b", "i", "o"],
+        &["--db=d", "--role=responder", "--partner=p"],
+    ),
+];
+
+/// The place of no word.
+const ALL: usize = 99;
+
+/// The command with each of the words but the one at a place, and with one more.
+fn varied(
+    alloc: Global,
+    name: &str,
+    words: &[&str],
+    left_out: usize,
+    more: &str,
+) -> Result<String, AllocError> {
+    let mut line = name.to_string(alloc)?;
+    for (place, word) in words.iter().enumerate() {
+        if place != left_out {
+            write!(line, " {word}")?;
+        }
+    }
+    write!(line, " {more}")?;
+    Ok(line)
+}
+
+/// That the text for the line begins so.
+fn is_answered(rt: &(impl Abort + AllocGlobal), line: &str, wanted: &str) -> Result<(), Fail> {
+    let words = words_of(rt.alloc(), line)?;
+    let text = refusal(rt.alloc(), words.as_slice())?;
+    assert!(rt; text.starts_with(wanted), "{line}: {text}");
+    Ok(())
+}
+
+#[test]
+fn asks_for_each_argument_once(rt: HostRuntime) -> Result<(), Fail> {
+    for (name, needed, optional) in COMMANDS {
+        let whole = varied(rt.alloc(), name, needed, ALL, "")?;
+        is_answered(&rt, whole.as_str(), READ)?;
+        for (place, word) in needed.iter().enumerate() {
+            let without = varied(rt.alloc(), name, needed, place, "")?;
+            is_answered(&rt, without.as_str(), MISSING)?;
+            let again = if word.starts_with("--") {
+                TWICE
+            } else {
+                UNEXPECTED
+            };
+            let twice = varied(rt.alloc(), name, needed, ALL, *word)?;
+            is_answered(&rt, twice.as_str(), again)?;
+        }
+        for option in optional.iter() {
+            let once = varied(rt.alloc(), name, needed, ALL, *option)?;
+            is_answered(&rt, once.as_str(), READ)?;
+            let twice = varied(rt.alloc(), once.as_str(), &[], ALL, *option)?;
+            is_answered(&rt, twice.as_str(), TWICE)?;
+        }
+        let unknown = varied(rt.alloc(), name, needed, ALL, "--port=1")?;
+        is_answered(&rt, unknown.as_str(), UNEXPECTED)?;
     }
     Ok(())
 }
@@ -173,6 +495,29 @@ fn refuses_what_is_no_command_line(rt: HostRuntime) -> Result<(), Fail> {
         "feed --boo b i o",
         "feed -b b i o",
         "feed --book b -i o",
+        "feed --book b --db= --db d i o",
+        "submit --db d --book b --dataset n --date e --time t --to p --format u f",
+        "submit --db d --book b --dataset n --date e --time t --to p --format FV f",
+        "submit --db d --book b --dataset n --date e --time t --to p --format= f",
+        "submit --db d --book b --dataset n --date e --time t --to p --format U --longest=-1 f",
+        "submit --db d --book b --dataset n --date e --time t --to p --format U --longest= f",
+        "submit --db d --book b --dataset n --date e --time t --to p --format U --longest 18446744073709551616 f",
+        "release --db d --book b 10000000",
+        "release --db d --book b 18446744073709551617",
+        "release --db d --book b ++7",
+        "release --db d --book b -- -7",
+        "release --db d --book b 0x7",
+        "release --db d --book b 7.0",
+        "refuse --db d --book b 0 12 x",
+        "refuse --db d --book b 10000000 12 x",
+        "refuse --db d --book b 7 100 x",
+        "refuse --db d --book b 7 x 12",
+        "fetch --db d 0 f",
+        "fetch --db d 10000000 f",
+        "fetch --db d f 7",
+        "report --db d In",
+        "report --db d in out",
+        "listens --db d",
     ];
     for line in lines {
         let words = words_of(rt.alloc(), line)?;

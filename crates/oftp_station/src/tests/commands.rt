@@ -5,37 +5,9 @@ use crate::outcome::{Fault, Outcome};
 use crate::perform::tell_unread;
 use oftp_engine::{End, RunFault};
 use oftp_partners::BookFault;
+use oftp_store::StoreFault;
 use oftp_wire::{Count, SessionReason};
-use std::fs;
 use std::io::{self, ErrorKind, Write};
-use std::process::Abort;
-use std::test::Fail;
-
-/// A command's exit status, and what it wrote.
-#[derive(Drop)]
-struct Performed {
-    status: u8,
-    out: Vec<u8>,
-    err: Vec<u8>,
-}
-
-fn command(rt: &HostRuntime, words: &[&str]) -> Result<Performed, AllocError> {
-    let mut given = Vec::new(rt.alloc());
-    for word in words {
-        given.push(word.to_string(rt.alloc())?)?;
-    }
-    let mut out = Vec::new(rt.alloc());
-    let mut err = Vec::new(rt.alloc());
-    let status = perform(rt, given.as_slice(), &mut out, &mut err);
-    Ok(Performed { status, out, err })
-}
-
-/// What a command printed: its status, standard output and standard error.
-fn assert_printed(rt: &impl Abort, done: &Performed, status: u8, out: &str, err: &str) {
-    assert_eq!(rt; done.status, status);
-    assert!(rt; done.out.as_slice() == out.as_bytes());
-    assert!(rt; done.err.as_slice() == err.as_bytes());
-}
 
 /// The words of `feed`.
 fn feed<'a>(
@@ -183,6 +155,9 @@ fn lines_of_faults(rt: HostRuntime) -> Result<(), Fail> {
         (Fault::Run(RunFault::Office), "fault: 3 office"),
         (Fault::Run(RunFault::Memory), "fault: 4 memory"),
         (Fault::Book(BookFault::TooMany), "fault: 5 book 7"),
+        (Fault::Store(StoreFault::Store), "fault: 6 store 1"),
+        (Fault::Store(StoreFault::Memory), "fault: 6 store 2"),
+        (Fault::Store(StoreFault::WrongSchema), "fault: 6 store 3"),
         (Fault::File, "fault: 7 file"),
     ] {
         assert_eq!(rt; fault.to_string(rt.alloc())?.as_str(), line);
@@ -193,7 +168,10 @@ fn lines_of_faults(rt: HostRuntime) -> Result<(), Fail> {
 #[test]
 fn lines_of_outcomes(rt: HostRuntime) -> Result<(), Fail> {
     for (outcome, line) in [
+        (Outcome::Initiated, "done: init"),
+        (Outcome::Migrated, "done: migrate"),
         (Outcome::Checked(12), "ok: 12 partners"),
+        (Outcome::Fetched(9_999_999), "done: fetch 9999999"),
         (
             Outcome::Ended(End::Own(SessionReason::AuthenticationIncompatible)),
             "end: own 12",
@@ -204,6 +182,7 @@ fn lines_of_outcomes(rt: HostRuntime) -> Result<(), Fail> {
         ),
         (Outcome::Ended(End::Input), "end: input"),
         (Outcome::Unknown, "refused: 2 unknown"),
+        (Outcome::WrongState, "refused: 3 state"),
     ] {
         assert_eq!(rt; outcome.to_string(rt.alloc())?.as_str(), line);
     }

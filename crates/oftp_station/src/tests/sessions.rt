@@ -7,8 +7,6 @@ use oftp_register::{Identity, PlainOffice, ResponseKind};
 use oftp_vfile::Limits;
 use oftp_wire::SessionReason;
 use std::io::{self, ErrorKind, Read, Write};
-use std::process::Abort;
-use std::test::Fail;
 
 const REFUSAL: &str =
     "NINV.7                           202402010800000001O0013SUPPLIER            O0177CARMAKER            O0177CARMAKER            09008NO PLANT\0\0\0\0";

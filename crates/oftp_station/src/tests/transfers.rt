@@ -6,8 +6,6 @@ use oftp_partners::{Book, read};
 use oftp_register::{IncomingState, Office, OfficeFault, PlainOffice, Side};
 use oftp_vfile::{Limits, Rows};
 use oftp_wire::SessionReason;
-use std::process::Abort;
-use std::test::Fail;
 
 /// The book of one partner, with a credit of 1.
 const BOOK_OF_ONE_CREDIT: &str =
@@ -22,7 +20,7 @@ const LIMITS: Limits = Limits {
 };
 
 /// The octets of the file from one place to another.
-fn octets_of(alloc: Global, from: u32, to: u32) -> Result<Vec<u8>, AllocError> {
+pub(super) fn octets_of(alloc: Global, from: u32, to: u32) -> Result<Vec<u8>, AllocError> {
     let mut octets = Vec::new(alloc);
     for place in from..to {
         octets.push((place % 251) as u8)?;
@@ -48,10 +46,10 @@ fn data_of(alloc: Global, octets: &[u8], last: bool) -> Result<Vec<u8>, AllocErr
 
 /// A session: what the partner sends in it, and what the station is to send.
 #[derive(Drop)]
-struct Call {
+pub(super) struct Call {
     alloc: Global,
-    input: Vec<u8>,
-    output: Vec<u8>,
+    pub(super) input: Vec<u8>,
+    pub(super) output: Vec<u8>,
 }
 
 impl Call {
@@ -173,7 +171,7 @@ fn assert_kept(
 }
 
 /// The first session of a transfer that breaks: 18 DATA come, of which two rows are kept.
-fn breaking(alloc: Global) -> Result<Call, AllocError> {
+pub(super) fn breaking(alloc: Global) -> Result<Call, AllocError> {
     let mut call = Call::new(alloc, STATION)?;
     call.offer(1, 3, 0)?;
     call.stretch(0, 2250)?;
@@ -183,7 +181,7 @@ fn breaking(alloc: Global) -> Result<Call, AllocError> {
 }
 
 /// The session that takes it up from its third row on.
-fn going_on(alloc: Global) -> Result<Call, AllocError> {
+pub(super) fn going_on(alloc: Global) -> Result<Call, AllocError> {
     let mut call = Call::new(alloc, STATION)?;
     call.offer(1, 3, 2)?;
     call.rest(2048, 2500)?;
@@ -191,69 +189,6 @@ fn going_on(alloc: Global) -> Result<Call, AllocError> {
     call.credits(2)?;
     call.goes("4N")?;
     Ok(call)
-}
-
-/// What came before the line broke is kept as far as credit was given for it, and the file is then that of an unbroken transfer.
-#[test]
-fn broken_transfer(rt: HostRuntime) -> Result<(), Fail> {
-    let alloc = rt.alloc();
-    let book = read(alloc, BOOK)?;
-    let mut office = PlainOffice::new(alloc, LIMITS);
-    let first = breaking(alloc)?;
-    assert_eq!(rt; first.output.len(), 173);
-    first.assert_played(&rt, &mut office, &book, End::Input);
-    assert_kept(&rt, alloc, &mut office, 2048)?;
-
-    let second = going_on(alloc)?;
-    assert_eq!(rt; second.output.len(), 130);
-    second.assert_played(&rt, &mut office, &book, partner_ends());
-    assert_kept(&rt, alloc, &mut office, 2500)
-}
-
-/// A file that breaks at its last row is closed by a payload of no octet.
-#[test]
-fn broken_at_the_mark(rt: HostRuntime) -> Result<(), Fail> {
-    let alloc = rt.alloc();
-    let book = read(alloc, BOOK_OF_ONE_CREDIT)?;
-    let mut office = PlainOffice::new(alloc, LIMITS);
-    let mut first = Call::new(alloc, STATION_OF_ONE_CREDIT)?;
-    first.offer(1, 2, 0)?;
-    first.stretch(0, 2048)?;
-    first.accept(0)?;
-    first.credits(17)?;
-    first.assert_played(&rt, &mut office, &book, End::Input);
-    assert_kept(&rt, alloc, &mut office, 2048)?;
-
-    let mut second = Call::new(alloc, STATION_OF_ONE_CREDIT)?;
-    second.offer(1, 2, 2)?;
-    second.rest(2048, 2048)?;
-    second.accept(2)?;
-    second.credits(1)?;
-    second.goes("4N")?;
-    second.assert_played(&rt, &mut office, &book, partner_ends());
-    assert_kept(&rt, alloc, &mut office, 2048)
-}
-
-/// The station goes on where it stands, whatever more is offered, and cuts what lies behind a lower offer.
-#[test]
-fn offered_above_and_below(rt: HostRuntime) -> Result<(), Fail> {
-    let alloc = rt.alloc();
-    let book = read(alloc, BOOK_OF_ONE_CREDIT)?;
-    let mut office = PlainOffice::new(alloc, LIMITS);
-    let mut first = Call::new(alloc, STATION_OF_ONE_CREDIT)?;
-    first.offer(1, 4, 0)?;
-    first.stretch(0, 3125)?;
-    first.accept(0)?;
-    first.credits(25)?;
-    first.assert_played(&rt, &mut office, &book, End::Input);
-    for (offered, answered) in [(5, 3), (3, 3), (2, 2)] {
-        let mut next = Call::new(alloc, STATION_OF_ONE_CREDIT)?;
-        next.offer(1, 4, offered)?;
-        next.accept(answered)?;
-        next.assert_played(&rt, &mut office, &book, End::Input);
-        assert_kept(&rt, alloc, &mut office, answered as u32 * 1024)?;
-    }
-    Ok(())
 }
 
 /// A file that passes the limit of octets ends the session, and is left open with the rows for which credit was given.

@@ -5,7 +5,7 @@ ghost use Rattle.sqlite.specs.Held.{state};
 ghost use Rattle.oftp_store.specs.Commits.{CommitsOn};
 ghost use Rattle.oftp_store.specs.Numbers.{number_named};
 
-use super::arrival::{close, give_up, keep};
+use super::arrival::{Advance, make_advance};
 use super::beginning::start;
 use super::filing::file;
 use super::response::{issue, send};
@@ -85,9 +85,14 @@ pub(crate) fn commit_change<S: Alter>(
             &description,
             count,
         ),
-        Change::Keep { no, rows } => keep(alloc, conn, no, rows.as_slice()),
-        Change::Close { no, rows } => close(alloc, conn, no, rows.as_slice()),
-        Change::GiveUp { no } => give_up(alloc, conn, no),
+        Change::Keep { no, rows } => make_advance(alloc, conn, no, Advance::Keep(rows.as_slice())),
+        Change::Close { no, rows } => make_advance(
+            alloc,
+            conn,
+            no,
+            Advance::Close(rows.as_slice()),
+        ),
+        Change::GiveUp { no } => make_advance(alloc, conn, no, Advance::GiveUp),
         Change::File {
             kind,
             identity,

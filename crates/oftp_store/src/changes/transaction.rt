@@ -1,12 +1,12 @@
 //! The transaction of a change.
 
-ghost use Rattle.std.specs.Prelude.{◌≡◌, ◌≤◌, ◌<◌, ◌^◌, IfErr, OnOk, OnErr, false};
+ghost use Rattle.std.specs.Prelude.{◌≡◌, ◌≤◌, ◌<◌, ◌^◌, OnOk, OnErr, false};
 ghost use Rattle.sqlite.specs.Held.{state};
 ghost use Rattle.sqlite.specs.View.{doubt};
 ghost use Rattle.sqlite.specs.State.{HasCleanDisk, Survives};
-ghost use Rattle.oftp_register.specs.Offices.{IsFailure};
 ghost use Rattle.oftp_schema.specs.Calls.{IsUndone, KeepsCommit};
 ghost use Rattle.oftp_tables.specs.Calls.{Changes, IsInside, IsOurs, MayLeave, Moves};
+ghost use Rattle.oftp_store.specs.Commits.{MakesEdits};
 ghost use Rattle.oftp_store.specs.Edits.{Makes, MakesAll};
 
 use super::edit::{Deed, Edit};
@@ -134,12 +134,7 @@ pub(crate) fn make_edits<S: Alter>(
     edits: &[Edit<'_>],
 ) -> Result<(), OfficeFault>
     requires { conn.old.in_transaction ≡ false }
-    ensures mode { conn.new.in_transaction ≡ false }
-    ensures clean { doubt (state S.Store conn.old).is_clean ≤ doubt (state S.Store conn.new).is_clean }
-    ensures done { HasCleanDisk (state S.Store conn.new) → IsOurs (state S.Store conn.old) → OnOk result (Changes (MakesAll edits.now) (state S.Store conn.old) (state S.Store conn.new)) }
-    ensures failed { HasCleanDisk (state S.Store conn.new) → IsOurs (state S.Store conn.old) → OnErr result (IsUndone (state S.Store conn.old) (state S.Store conn.new)) }
-    ensures survives { IsOurs (state S.Store conn.old) → Survives (state S.Store conn.old) (state S.Store conn.new) (MayLeave (MakesAll edits.now) (state S.Store conn.old)) }
-    ensures failure { IfErr result IsFailure }
+    ensures { MakesEdits edits.now (state S.Store conn.old) (state S.Store conn.new) result }
 {
     match carry_out(conn, edits) {
         Ok(()) => Ok(()),

@@ -1,10 +1,12 @@
 //! All files and responses, in order of number. One entry is read at a time.
 
-ghost use Rattle.std.specs.Prelude.{◌≡◌, ◌++◌, OnOk, IfErr};
+ghost use Rattle.std.specs.Prelude.{◌≡◌, ◌+◌, ◌<◌, ◌^◌, ◌++◌, List, length, slice_get, OnOk, IfErr};
 ghost use Rattle.sqlite.specs.Held.{state};
+ghost use Rattle.oftp_register.specs.Register.{Register};
 ghost use Rattle.oftp_register.specs.LookUps.{list_in, list_issued, list_out, list_received};
 ghost use Rattle.oftp_register.specs.Offices.{IsFailure};
 ghost use Rattle.oftp_tables.specs.Calls.{Looks};
+ghost use Rattle.oftp_store.specs.Numbers.{entries_in};
 ghost use Rattle.oftp_store.specs.Tells.{Tells, listed};
 
 use super::entry::{find_incoming, find_outgoing};
@@ -15,44 +17,88 @@ use oftp_register::{IncomingEntry, IssuedEntry, OfficeFault, OutgoingEntry, Rece
 use sqlite::{Alter, Connection};
 use std::alloc::Global;
 
-/// All incoming files.
-pub(crate) fn list_in<S: Alter>(
-    alloc: Global,
-    conn: &mut Connection<S>,
-) -> Result<Vec<IncomingEntry>, OfficeFault>
-    ensures looks { Looks (state S.Store conn.old) (state S.Store conn.new) result }
-    ensures answer { Tells (λ r entries. entries.items ≡ list_in r) (state S.Store conn.old) (state S.Store conn.new) result }
-{
-    let last = match last_no(conn, Table::IncomingFiles) {
-        Ok(last) => last,
-        Err(fault) => return Err(fault),
-    };
-    let mut entries = Vec::new(alloc);
-    'files: for before in 0..last {
-        match find_incoming(alloc, conn, before + 1) {
-            Err(fault) => return Err(fault),
-            Ok(None) => return Err(OfficeFault::Store),
-            Ok(Some(entry)) => entries.push(entry)?,
-        }
-    }
-    Ok(entries)
+/// Entries of one kind, which have numbers from 1 on, without gaps.
+pub(crate) trait Listed: Sized {
+    ghost entries: { Register → List Self };
+
+    /// The table that has an entry for each of them.
+    fn table() -> Table
+        ensures { (r : Register) → entries_in r result ≡ length (entries r) };
+
+    /// The entry that has so many before it, if there is one.
+    fn find_after<S: Alter>(
+        alloc: Global,
+        conn: &mut Connection<S>,
+        before: u64,
+    ) -> Result<Option<Self>, OfficeFault>
+        requires { before + 1 < 2 ^ 63 }
+        ensures looks { Looks (state S.Store conn.old) (state S.Store conn.new) result }
+        ensures answer { Tells (λ r found. found ≡ slice_get (entries r) before) (state S.Store conn.old) (state S.Store conn.new) result };
 }
 
-/// All outgoing files.
-pub(crate) fn list_out<S: Alter>(
+impl Listed for IncomingEntry {
+    ghost entries = { list_in };
+
+    fn table() -> Table {
+        Table::IncomingFiles
+    }
+
+    fn find_after<S: Alter>(
+        alloc: Global,
+        conn: &mut Connection<S>,
+        before: u64,
+    ) -> Result<Option<IncomingEntry>, OfficeFault> {
+        find_incoming(alloc, conn, before + 1)
+    }
+}
+
+impl Listed for OutgoingEntry {
+    ghost entries = { list_out };
+
+    fn table() -> Table {
+        Table::OutgoingFiles
+    }
+
+    fn find_after<S: Alter>(
+        alloc: Global,
+        conn: &mut Connection<S>,
+        before: u64,
+    ) -> Result<Option<OutgoingEntry>, OfficeFault> {
+        find_outgoing(alloc, conn, before + 1)
+    }
+}
+
+impl Listed for ReceivedEntry {
+    ghost entries = { list_received };
+
+    fn table() -> Table {
+        Table::ReceivedResponses
+    }
+
+    fn find_after<S: Alter>(
+        alloc: Global,
+        conn: &mut Connection<S>,
+        before: u64,
+    ) -> Result<Option<ReceivedEntry>, OfficeFault> {
+        find_received(alloc, conn, before + 1)
+    }
+}
+
+/// All entries of a kind.
+pub(crate) fn list<E: Listed + Drop, S: Alter>(
     alloc: Global,
     conn: &mut Connection<S>,
-) -> Result<Vec<OutgoingEntry>, OfficeFault>
+) -> Result<Vec<E>, OfficeFault>
     ensures looks { Looks (state S.Store conn.old) (state S.Store conn.new) result }
-    ensures answer { Tells (λ r entries. entries.items ≡ list_out r) (state S.Store conn.old) (state S.Store conn.new) result }
+    ensures answer { Tells (λ r entries. entries.items ≡ E.entries r) (state S.Store conn.old) (state S.Store conn.new) result }
 {
-    let last = match last_no(conn, Table::OutgoingFiles) {
+    let last = match last_no(conn, E::table()) {
         Ok(last) => last,
         Err(fault) => return Err(fault),
     };
     let mut entries = Vec::new(alloc);
-    'files: for before in 0..last {
-        match find_outgoing(alloc, conn, before + 1) {
+    'entries: for before in 0..last {
+        match E::find_after(alloc, conn, before) {
             Err(fault) => return Err(fault),
             Ok(None) => return Err(OfficeFault::Store),
             Ok(Some(entry)) => entries.push(entry)?,
@@ -92,29 +138,6 @@ pub(crate) fn list_issued<S: Alter>(
                 Err(fault) => return Err(fault),
                 Ok(()) => {}
             },
-        }
-    }
-    Ok(entries)
-}
-
-/// All responses that came.
-pub(crate) fn list_received<S: Alter>(
-    alloc: Global,
-    conn: &mut Connection<S>,
-) -> Result<Vec<ReceivedEntry>, OfficeFault>
-    ensures looks { Looks (state S.Store conn.old) (state S.Store conn.new) result }
-    ensures answer { Tells (λ r entries. entries.items ≡ list_received r) (state S.Store conn.old) (state S.Store conn.new) result }
-{
-    let last = match last_no(conn, Table::ReceivedResponses) {
-        Ok(last) => last,
-        Err(fault) => return Err(fault),
-    };
-    let mut entries = Vec::new(alloc);
-    'responses: for before in 0..last {
-        match find_received(alloc, conn, before + 1) {
-            Err(fault) => return Err(fault),
-            Ok(None) => return Err(OfficeFault::Store),
-            Ok(Some(entry)) => entries.push(entry)?,
         }
     }
     Ok(entries)

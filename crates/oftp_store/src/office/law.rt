@@ -120,12 +120,12 @@ impl<S: Alter> Office for SqlOffice<S> {
     }
 
     fn list_in(&mut self) -> Result<Vec<IncomingEntry>, OfficeFault> {
-        let entries = lists::list_in(self.alloc, &mut self.conn);
+        let entries = lists::list(self.alloc, &mut self.conn);
         counted(&mut self.faults, entries)
     }
 
     fn list_out(&mut self) -> Result<Vec<OutgoingEntry>, OfficeFault> {
-        let entries = lists::list_out(self.alloc, &mut self.conn);
+        let entries = lists::list(self.alloc, &mut self.conn);
         counted(&mut self.faults, entries)
     }
 
@@ -135,7 +135,7 @@ impl<S: Alter> Office for SqlOffice<S> {
     }
 
     fn list_received(&mut self) -> Result<Vec<ReceivedEntry>, OfficeFault> {
-        let entries = lists::list_received(self.alloc, &mut self.conn);
+        let entries = lists::list(self.alloc, &mut self.conn);
         counted(&mut self.faults, entries)
     }
 

@@ -1,12 +1,10 @@
-use Rattle.std.proofs.Common.{◌≡◌, Result, subst, sym}
-use Rattle.std.specs.Result.{OnErr, OnOk}
+use Rattle.std.proofs.Common.{Result, subst, sym}
+use Rattle.std.specs.Result.{OnOk}
 use Rattle.oftp_session.specs.declared.session.Out.{Out}
 use Rattle.oftp_session.specs.declared.session.SessionFault.{SessionFault}
 use Rattle.oftp_session.specs.Steps.{came, Holds}
-use Rattle.oftp_session.proofs.Phases.{stands_open}
 use Rattle.oftp_session.proofs.Proceeding.{came_proceeds}
 use Rattle.oftp_session.specs.Calls.{Stands}
-use Rattle.oftp_session.specs.Standings.{Broken}
 use Rattle.oftp_engine.specs.declared.serving.RunFault.{RunFault}
 use Rattle.oftp_engine.specs.Serving.{StepFails, scene}
 use Rattle.oftp_engine.proofs.Stepping.{called_ok, called_err}
@@ -28,9 +26,6 @@ returns-in-Err-clause-steps g c = λ clean stood k live at.
     let old = scene g.W.Write.contents (g.O.Office.view c.args.office.now) c.args.writer.now in
     let new = scene g.W.Write.contents (g.O.Office.view c.on_command.new.office) c.break_off.new.port in
     let held = subst (Holds k.phase) (sym at.register) at.suits.holds in
-    let done = c.on_command.follows.holds-at-none in
-    let breaks = done.2 (stands_open k.phase c.args.session.now.standing at.stands live) in
-    let broken = subst (λ (x : Result Out SessionFault). OnErr x (c.on_command.follows.lender-at-none.standing ≡ Broken)) c.in-Err.is breaks in
     subst (λ (x : RunFault). StepFails k (came k.setting k.phase k.register c.args.command.now) old new x) (sym c.break_off.ensures.fault)
     (called_err g.W.Write.contents c.args.writer.now c.break_off.new.port _ _ k c.args.session.now (λ setting r. came setting k.phase r c.args.command.now) at c.in-Err.fault
-    (c.in-Err.ensures.does clean stood k.phase held live at.stands) (c.break_off.ensures.broke broken))
+    (c.in-Err.ensures.does clean stood k.phase held live at.stands) c.break_off.ensures.broke)

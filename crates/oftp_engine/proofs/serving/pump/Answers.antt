@@ -10,6 +10,7 @@ pub frames-init : goal.frames-init
 frames-init g c = record {
   out = puts_none g.W.Write.contents c.args.writer.now;
   told = refl;
+  unbroken = c.requires;
   clean = λ h. h;
   pumps = λ clean stood k lim told at.
       let first = scene g.W.Write.contents (g.O.Office.view c.args.office.now) c.args.writer.now in
@@ -26,6 +27,7 @@ frames-preserved g c =
     record {
       out = puts_on contents c.args.writer.now c.take_turns.new.writer c.take_command.new.writer turned c.take_command.ensures.out;
       told = c.in_ok-take_command-in-Ok-Some.ensures.told ∙ c.in_ok-take_turns.ensures.told ∙ c.frames.invariant.told;
+      unbroken = c.in_ok-take_command-in-Ok-Some.ensures.unbroken;
       clean = λ h. c.frames.invariant.clean (c.take_turns.ensures.clean (c.take_command.ensures.clean h));
       pumps = λ clean stood k lim told at.
           let before = c.take_command.ensures.clean clean in

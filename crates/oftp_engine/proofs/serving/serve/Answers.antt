@@ -5,7 +5,7 @@ use Rattle.oftp_engine.specs.Runs.{started}
 use Rattle.oftp_engine.specs.Served.{setting_of, Serves}
 use Rattle.oftp_engine.specs.Serving.{IsAt, scene}
 use Rattle.oftp_engine.proofs.Bytes.{consumes_none}
-use Rattle.oftp_engine.proofs.Ending.{IsLawful}
+use Rattle.oftp_engine.proofs.Ending.{lawful}
 use Rattle.oftp_engine.proofs.Progress.{went_none}
 use Rattle.oftp_engine.proofs.Pumping.{IsPumping}
 use Rattle.oftp_engine.proofs.Puts.{handed_on, puts_none, puts_on, told_err}
@@ -21,6 +21,7 @@ pieces-init g c =
     record {
       out = puts_none g.W.Write.contents c.args.writer.now;
       told = refl;
+      unbroken = c.opened-session.ensures.unbroken;
       clean = λ h. h;
       reads = record {
         given = [];
@@ -48,12 +49,9 @@ returns-in_err-ending-clause-serves g c =
       h.given,
       h.gave,
       λ clean stood.
-          let law : IsLawful (g.O.Office.view c.args.office.now) (g.O.Office.view c.pump.new.office) = record {
-            stood = stood;
-            sound = g.met.O.Office.sound c.args.office.now (c.pieces.invariant.clean (c.pump.ensures.clean clean)) stood;
-            alone = λ fine. g.met.O.Office.alone c.pump.new.office clean fine;
-          } in
-          let p = h.pumping (c.pump.ensures.clean clean) stood in
+          let before = c.pump.ensures.clean clean in
+          let law = lawful g.O.Office.view g.met.O.Office.sound g.met.O.Office.alone c.args.office.now c.pump.new.office (c.pieces.invariant.clean before) clean stood in
+          let p = h.pumping before stood in
           subst (Serves (setting_of c.args.book.now c.args.role) h.given first new) (sym (handed_on _ _ c.from_residual.ensures.1))
           (fails_over _ _ _ c.pump.new.stream _ c.pump.new.session _ _ _ p law _
           (c.in_err-ending.ensures.steps clean (p.come.went.stands stood) p.come.at p.limit p.told p.come.now)),
@@ -65,13 +63,10 @@ returns-in-Some-clause-serves g c =
       h.given,
       h.gave,
       λ clean stood.
-          let law : IsLawful (g.O.Office.view c.args.office.now) (g.O.Office.view c.pump.new.office) = record {
-            stood = stood;
-            sound = g.met.O.Office.sound c.args.office.now (c.pieces.invariant.clean (c.pump.ensures.clean clean)) stood;
-            alone = λ fine. g.met.O.Office.alone c.pump.new.office clean fine;
-          } in
-          let p = h.pumping (c.pump.ensures.clean clean) stood in
-          served_over _ _ _ _ _ _ _ _ _ p law _ _ _ (h.needed (c.pump.ensures.clean clean) stood)
+          let before = c.pump.ensures.clean clean in
+          let law = lawful g.O.Office.view g.met.O.Office.sound g.met.O.Office.alone c.args.office.now c.pump.new.office (c.pieces.invariant.clean before) clean stood in
+          let p = h.pumping before stood in
+          served_over _ _ _ _ _ _ _ _ _ p law _ _ _ (h.needed before stood)
           (c.in_ok-ending.ensures.steps clean (p.come.went.stands stood) p.come.at p.limit p.told p.come.now) c.in-Some.is c.from.ensures,
     )
 
@@ -81,12 +76,9 @@ returns-in-None-clause-serves g c =
       h.given,
       gave_kept g.R.Read.remaining c.args.reader.now c.pieces.reader c.read.new.port h.given h.gave c.in-None.ensures,
       λ clean stood.
-          let law : IsLawful (g.O.Office.view c.args.office.now) (g.O.Office.view c.pump.new.office) = record {
-            stood = stood;
-            sound = g.met.O.Office.sound c.args.office.now (c.pieces.invariant.clean (c.pump.ensures.clean clean)) stood;
-            alone = λ fine. g.met.O.Office.alone c.pump.new.office clean fine;
-          } in
-          let p = h.pumping (c.pump.ensures.clean clean) stood in
+          let before = c.pump.ensures.clean clean in
+          let law = lawful g.O.Office.view g.met.O.Office.sound g.met.O.Office.alone c.args.office.now c.pump.new.office (c.pieces.invariant.clean before) clean stood in
+          let p = h.pumping before stood in
           let w = waits_on _ _ _ _ _ _ _ _ _ p _ (c.in_ok-ending.ensures.steps clean (p.come.went.stands stood) p.come.at p.limit p.told p.come.now) c.in_default.is in
           cut_short _ _ _ _ _ _ w law,
     )
@@ -97,14 +89,11 @@ returns-in-Some-eq0-clause-serves g c =
       h.given,
       gave_zero g.R.Read.remaining c.args.reader.now c.pieces.reader c.read.new.port h.given c.read.new.piece c.in-Some-eq0.field-0 h.gave c.in-Some-eq0.ensures (search rules),
       λ clean stood.
-          let law : IsLawful (g.O.Office.view c.args.office.now) (g.O.Office.view c.pump.new.office) = record {
-            stood = stood;
-            sound = g.met.O.Office.sound c.args.office.now (c.pieces.invariant.clean (c.pump.ensures.clean clean)) stood;
-            alone = λ fine. g.met.O.Office.alone c.pump.new.office clean fine;
-          } in
-          let p = h.pumping (c.pump.ensures.clean clean) stood in
+          let before = c.pump.ensures.clean clean in
+          let law = lawful g.O.Office.view g.met.O.Office.sound g.met.O.Office.alone c.args.office.now c.pump.new.office (c.pieces.invariant.clean before) clean stood in
+          let p = h.pumping before stood in
           let w = waits_on _ _ _ _ _ _ _ _ _ p _ (c.in_ok-ending.ensures.steps clean (p.come.went.stands stood) p.come.at p.limit p.told p.come.now) c.in_default.is in
-          served_input _ _ _ _ _ _ w law (h.needed (c.pump.ensures.clean clean) stood),
+          served_input _ _ _ _ _ _ w law (h.needed before stood),
     )
 
 pub returns-then-is_err-clause-serves : goal.returns-then-is_err-clause-serves
@@ -113,12 +102,9 @@ returns-then-is_err-clause-serves g c =
       h.given ++ take c.in-Some-read.n c.read.new.piece,
       gave_on g.R.Read.remaining c.args.reader.now c.pieces.reader c.read.new.port h.given c.read.new.piece c.in-Some-read.n h.gave c.in-Some-read.ensures,
       λ clean stood.
-          let law : IsLawful (g.O.Office.view c.args.office.now) (g.O.Office.view c.pump.new.office) = record {
-            stood = stood;
-            sound = g.met.O.Office.sound c.args.office.now (c.pieces.invariant.clean (c.pump.ensures.clean clean)) stood;
-            alone = λ fine. g.met.O.Office.alone c.pump.new.office clean fine;
-          } in
-          let p = h.pumping (c.pump.ensures.clean clean) stood in
+          let before = c.pump.ensures.clean clean in
+          let law = lawful g.O.Office.view g.met.O.Office.sound g.met.O.Office.alone c.args.office.now c.pump.new.office (c.pieces.invariant.clean before) clean stood in
+          let p = h.pumping before stood in
           let w = waits_on _ _ _ _ _ _ _ _ _ p _ (c.in_ok-ending.ensures.steps clean (p.come.went.stands stood) p.come.at p.limit p.told p.come.now) c.in_default.is in
           out_of_room _ _ _ _ _ _ w law (take c.in-Some-read.n c.read.new.piece),
     )
@@ -132,6 +118,7 @@ pieces-preserved g c =
     record {
       out = puts_on _ _ _ _ c.pieces.invariant.out c.pump.ensures.out;
       told = c.in_ok-ending.ensures.told ∙ c.pieces.invariant.told;
+      unbroken = c.in_ok-ending.ensures.unbroken;
       clean = λ h. c.pieces.invariant.clean (c.pump.ensures.clean h);
       reads = read_on g.R.Read.remaining c.args.reader.now c.pieces.reader c.read.new.port h.given c.read.new.piece c.in-Some-read.n
           ((g.O.Office.view c.pump.new.office).clean) ((g.O.Office.view c.args.office.now).stands) setting c.pump.new.stream c.feed.new.self c.pump.new.session first new

@@ -17,4 +17,4 @@ returns-in-Some-clause-steps g c = λ clean stood k live at.
     subst (λ (p : Result Command WireFault). steps (step_on k.setting k.phase k.register p)) c.in-Err.ensures.value
     (subst (λ (o : Option SessionReason). steps (refusal o)) {x = Some c.in-Some.reason} (sym c.in-Some.is ∙ c.reason.ensures)
     (stepped_refuse g.W.Write.contents c.args.writer.now c.refuse.new.port before c.args.session.now c.refuse.new.session c.in-Some.reason c.refuse.result
-    c.refuse.ensures.setting c.refuse.ensures.over c.refuse.ensures.sent c.refuse.ensures.err k live at))
+    c.refuse.ensures.setting c.refuse.ensures.over c.refuse.ensures.sent c.refuse.ensures.err k at))

@@ -1,12 +1,11 @@
-use Rattle.std.proofs.Common.{◌≡◌, Result, subst, sym}
-use Rattle.std.specs.Result.{OnErr, OnOk}
+use Rattle.std.proofs.Common.{Result, subst, sym}
+use Rattle.std.specs.Result.{OnOk}
 use Rattle.oftp_session.specs.declared.session.Out.{Out}
 use Rattle.oftp_session.specs.declared.session.SessionFault.{SessionFault}
 use Rattle.oftp_session.specs.Steps.{turned, Holds}
-use Rattle.oftp_session.proofs.Phases.{stands_open, turn_live}
+use Rattle.oftp_session.proofs.Phases.{turn_live}
 use Rattle.oftp_session.proofs.Proceeding.{turned_proceeds}
 use Rattle.oftp_session.specs.Calls.{Stands}
-use Rattle.oftp_session.specs.Standings.{Broken}
 use Rattle.oftp_engine.specs.declared.serving.RunFault.{RunFault}
 use Rattle.oftp_engine.specs.Serving.{StepFails, scene}
 use Rattle.oftp_engine.proofs.Stepping.{called_ok, called_err}
@@ -29,9 +28,6 @@ returns-in-Err-clause-steps g c = λ clean stood k turn at.
     let new = scene g.W.Write.contents (g.O.Office.view c.turn.new.office) c.break_off.new.port in
     let held = subst (Holds k.phase) (sym at.register) at.suits.holds in
     let live = turn_live k.phase turn in
-    let done = c.turn.follows.holds-at-none in
-    let breaks = done.2 (stands_open k.phase c.args.session.now.standing at.stands live) in
-    let broken = subst (λ (x : Result Out SessionFault). OnErr x (c.turn.follows.lender-at-none.standing ≡ Broken)) c.in-Err.is breaks in
     subst (λ (x : RunFault). StepFails k (turned k.setting k.phase k.register) old new x) (sym c.break_off.ensures.fault)
     (called_err g.W.Write.contents c.args.writer.now c.break_off.new.port _ _ k c.args.session.now (λ setting r. turned setting k.phase r) at c.in-Err.fault
-    (c.in-Err.ensures.does clean stood k.phase held live at.stands) (c.break_off.ensures.broke broken))
+    (c.in-Err.ensures.does clean stood k.phase held live at.stands) c.break_off.ensures.broke)

@@ -11,6 +11,7 @@ pub turns-init : goal.turns-init
 turns-init g c = record {
   out = puts_none g.W.Write.contents c.args.writer.now;
   told = refl;
+  unbroken = c.requires;
   clean = λ h. h;
   comes = λ clean stood k at.
       record { at = k; went = went_none k [] (scene g.W.Write.contents (g.O.Office.view c.args.office.now) c.args.writer.now); now = at };
@@ -20,6 +21,7 @@ pub turns-preserved : goal.turns-preserved
 turns-preserved g c = record {
   out = puts_on g.W.Write.contents c.args.writer.now c.turns.writer c.take_turn.new.writer c.turns.invariant.out c.take_turn.ensures.out;
   told = c.in_ok-take_turn.ensures.told ∙ c.turns.invariant.told;
+  unbroken = c.in_ok-take_turn.ensures.unbroken;
   clean = λ h. c.turns.invariant.clean (c.take_turn.ensures.clean h);
   comes = λ clean stood k at.
       let first = scene g.W.Write.contents (g.O.Office.view c.args.office.now) c.args.writer.now in

@@ -1,5 +1,5 @@
-use Rattle.std.proofs.Common.{◌≡◌, []}
-use Rattle.oftp_session.specs.Standings.{turns_left}
+use Rattle.std.proofs.Common.{◌≡◌, ◌≢◌, []}
+use Rattle.oftp_session.specs.Standings.{Broken, turns_left}
 use Rattle.oftp_engine.specs.Ports.{Puts}
 use Rattle.oftp_engine.specs.Runs.{Course}
 use Rattle.oftp_engine.specs.Serving.{scene, IsAt, Comes}
@@ -12,6 +12,7 @@ invariant-turns g l =
     record {
       out : Puts g.W.Write.contents l.fn.writer l.writer;
       told : l.writer.faults ≡ l.fn.writer.faults;
+      unbroken : l.session.standing ≢ Broken;
       clean : (g.O.Office.view l.office).clean → (g.O.Office.view l.fn.office).clean;
       comes : (g.O.Office.view l.office).clean → (g.O.Office.view l.fn.office).stands → (c : Course)
           → IsAt c l.fn.session first → Comes c [] [] l.session first now;

@@ -10,3 +10,6 @@ returns-clause-migrated g c clean r at = migrates r _ _ c.bring.result at (c.bri
 
 pub returns-clause-left : goal.returns-clause-left
 returns-clause-left g c clean r at db h = elim (c.bring.ensures.left clean at.is_open db h) [ inl before ↦ inl before | inr made ↦ inr (migrated_content r _ db at made) ]
+
+pub returns-clause-spared : goal.returns-clause-spared
+returns-clause-spared g c clean is_open other db h = elim (c.bring.ensures.left clean is_open db h) [ inl before ↦ before | inr made ↦ absurd (other made.0) ]

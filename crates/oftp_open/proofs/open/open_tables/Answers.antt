@@ -7,3 +7,6 @@ returns-clause-found g c clean r at = opens r _ _ c.prepare.result c.requires at
 
 pub returns-clause-left : goal.returns-clause-left
 returns-clause-left g c clean r at db h = elim (c.prepare.ensures.left clean at.is_open db h) [ inl before ↦ inl before | inr made ↦ inr (new_content r _ db at made) ]
+
+pub returns-clause-spared : goal.returns-clause-spared
+returns-clause-spared g c clean is_open other db h = elim (c.prepare.ensures.left clean is_open db h) [ inl before ↦ before | inr made ↦ absurd (other made.0) ]

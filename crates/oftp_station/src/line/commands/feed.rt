@@ -1,25 +1,24 @@
 //! The command `feed`.
-ghost use Rattle.std.specs.Prelude.{◌≡◌, IfErr, IfOk, None, Some, map, true};
-ghost use Rattle.std.specs.String.{string_bytes};
+ghost use Rattle.std.specs.Prelude.{◌≡◌, IfOk, None, OnErr, Some};
 ghost use Rattle.clap.specs.Words.{app_of, found_of, rows_of};
 ghost use Rattle.oftp_station.specs.Arguments.{HasValues};
-ghost use Rattle.oftp_station.specs.Fault.{is_bad};
-ghost use Rattle.oftp_station.specs.FeedLine.{feed_app, feed_of, feed_said, feed_with, side_of};
+ghost use Rattle.oftp_station.specs.FeedLine.{feed_app, feed_in, feed_said, feed_with, side_of};
 
-use crate::line::LineFault;
 use crate::line::arguments::{
-    command, defaulted, given, invalid_value, matched, needed, optional, value_of, word,
+    BOOK, DATABASE, Unlisted, command, defaulted, given, needed, optional, value_of, word,
 };
 use clap::{ArgMatches, Command};
 use std::alloc::{AllocError, Global};
 
 /// How `feed` is called.
 pub(in crate::line) const USAGE: &str =
-    "oftp_station feed --book <BOOK> [--role <ROLE>] [--partner <CODE>] <IN> <OUT>";
+    "oftp_station feed [--db <DATABASE>] --book <BOOK> [--role <ROLE>] [--partner <CODE>] <IN> <OUT>";
 
 /// The command `feed`, which plays one session from the octets of a file to another file.
 #[derive(Debug, Clone, Copy, PartialEq, Eq)]
 pub struct Feed<'a> {
+    /// The file that holds the database. Without one the register is in memory.
+    pub database: Option<&'a str>,
     /// The file that holds the book.
     pub book: &'a str,
     /// Which side of the session the station plays.
@@ -41,28 +40,22 @@ pub enum Side {
     Initiator,
 }
 
-fn feed_command<'a>(alloc: Global) -> Result<Command<'a>, AllocError>
+/// `feed`, as the parser is told of it.
+pub(super) fn feed_command<'a>(alloc: Global) -> Result<Command<'a>, AllocError>
     ensures { IfOk result (λ c. app_of c ≡ feed_app) }
 {
     let about = "Plays one session from the octets of file IN to file OUT";
     let role = "The side that the station plays: responder or initiator";
     let partner = "The code of the partner that an initiator calls";
+    let input = "The file that holds what the partner sends";
+    let output = "The file that is given what the station sends";
     command(alloc, "feed", USAGE, about)
-        .arg(needed(alloc, "book", "BOOK", "The file that holds the book"))?
+        .arg(optional(alloc, "db", "DATABASE", DATABASE))?
+        .arg(needed(alloc, "book", "BOOK", BOOK))?
         .arg(defaulted(alloc, "role", "responder", "ROLE", role))?
         .arg(optional(alloc, "partner", "CODE", partner))?
-        .arg(word(
-            alloc,
-            "in",
-            "IN",
-            "The file that holds what the partner sends",
-        ))?
-        .arg(word(
-            alloc,
-            "out",
-            "OUT",
-            "The file that is given what the station sends",
-        ))
+        .arg(word(alloc, "in", "IN", input))?
+        .arg(word(alloc, "out", "OUT", output))
 }
 
 fn side_named(name: &str) -> Option<Side>
@@ -75,11 +68,13 @@ fn side_named(name: &str) -> Option<Side>
     }
 }
 
-fn feed_read<'a>(matches: &ArgMatches<'a>, role: Side) -> Feed<'a>
+// What `feed` is asked for by the values, in a role.
+fn feed_read_in<'a>(matches: &ArgMatches<'a>, role: Side) -> Feed<'a>
     requires { HasValues feed_app (rows_of (found_of matches.now)) }
     ensures { feed_said result ≡ feed_with role (rows_of (found_of matches.now)) }
 {
     Feed {
+        database: value_of(matches, "db"),
         book: given(matches, "book"),
         role,
         partner: value_of(matches, "partner"),
@@ -88,23 +83,19 @@ fn feed_read<'a>(matches: &ArgMatches<'a>, role: Side) -> Feed<'a>
     }
 }
 
-/// The words as the command `feed`, of which the first is its name.
-pub(in crate::line) fn feed_line<'a>(
-    alloc: Global,
-    words: &'a [String],
-) -> Result<Feed<'a>, LineFault>
-    ensures ok { IfOk result (λ f. feed_of (map string_bytes words.entry.now) ≡ Some (feed_said f)) }
-    ensures bad { IfErr result (λ e. is_bad e ≡ true
-        → feed_of (map string_bytes words.entry.now) ≡ None) }
+/// What `feed` is asked for by the values of its options and words.
+pub(super) fn feed_read<'a>(matches: &ArgMatches<'a>) -> Result<Feed<'a>, Unlisted<'a>>
+    requires { HasValues feed_app (rows_of (found_of matches.now)) }
+    ensures ok { IfOk result (λ f. feed_in (rows_of (found_of matches.now)) ≡ Some (feed_said f)) }
+    ensures err { OnErr result (feed_in (rows_of (found_of matches.now)) ≡ None) }
 {
-    let command = feed_command(alloc)?;
-    let matches = matched(alloc, command, words)?;
-    let name = given(&matches, "role");
+    let name = given(matches, "role");
     match side_named(name) {
-        Some(role) => Ok(feed_read(&matches, role)),
-        None => {
-            let text = invalid_value(alloc, name, "--role <ROLE>", "responder, initiator")?;
-            Err(LineFault::Bad(text))
-        }
+        Some(role) => Ok(feed_read_in(matches, role)),
+        None => Err(Unlisted {
+            value: name,
+            argument: "--role <ROLE>",
+            listed: "responder, initiator",
+        }),
     }
 }

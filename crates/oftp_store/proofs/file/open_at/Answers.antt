@@ -5,8 +5,8 @@ use Rattle.sqlite.specs.Files.{file_state}
 use Rattle.oftp_open.specs.Opening.{IsStoreOf}
 use Rattle.oftp_store.proofs.file.open_at.Goals as goal
 
-pub returns-in-Ok-open : goal.returns-in-Ok-open
-returns-in-Ok-open g c clean r db is sound holds stands =
+pub returns-in-Ok-open-clause-found : goal.returns-in-Ok-open-clause-found
+returns-in-Ok-open-clause-found g c clean r db is sound holds stands =
     let conn = c.in-Ok.conn in
     let opened = c.in-Ok-open.ensures.2 in
     let early : HasCleanDisk (file_state conn) = omega (arith, opened.clean, clean) in

@@ -1,4 +1,4 @@
-use Rattle.oftp_station.proofs.CertainValues.{has_values}
+use Rattle.oftp_station.proofs.CertainNumbers.{has_values}
 use Rattle.oftp_station.proofs.TakenWords.{taken_some, taken_none}
 use Rattle.oftp_station.proofs.line.arguments.matched.Goals as goal
 

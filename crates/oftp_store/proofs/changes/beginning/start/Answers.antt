@@ -31,9 +31,8 @@ returns-else-count-gt0-2 g c =
     let a = c.args in
     let edit : Edit = record { no = c.in-Ok-New.no; deed = AddIncoming a.identity a.format a.longest a.description } in
     commits_by (edit ∷ []) a.limits (Start a.identity.now a.format a.longest a.description.now a.count) (state g.S.Store a.conn.now) (state g.S.Store c.find_arrival.new.conn)
-    (state g.S.Store c.make_edits.new.conn) _ c.make_edits.result c.in-Ok-New.ensures.looks c.make_edits.ensures.clean c.make_edits.ensures.mode
-    (λ k stands. made_by_begin _ a.identity a.format a.longest a.description a.count c.in-Ok-New.no ((rw c.in-Ok-New.field-0-is at c.in-Ok-New.ensures.answer) k stands.holds.schema _ refl stands.holds.tables) c.if-count-gt0-2.false)
-    c.make_edits.ensures.survives c.make_edits.ensures.done c.make_edits.ensures.failed c.make_edits.ensures.failure
+    (state g.S.Store c.make_edits.new.conn) _ c.make_edits.result c.in-Ok-New.ensures.looks
+    (λ k stands. made_by_begin _ a.identity a.format a.longest a.description a.count c.in-Ok-New.no ((rw c.in-Ok-New.field-0-is at c.in-Ok-New.ensures.answer) k stands.holds.schema _ refl stands.holds.tables) c.if-count-gt0-2.false) c.make_edits.ensures
 
 pub returns-then-not-goes_on : goal.returns-then-not-goes_on
 returns-then-not-goes_on g c =
@@ -48,7 +47,6 @@ returns-else-not-goes_on g c =
     let header : Edit = record { no = c.in-Ok-Known.no; deed = SetHeader a.format a.longest a.description } in
     let rest : Edit = record { no = c.in-Ok-Known.no; deed = CutRows a.count } in
     commits_by (header ∷ rest ∷ []) a.limits (Start a.identity.now a.format a.longest a.description.now a.count) (state g.S.Store a.conn.now) (state g.S.Store c.find_arrival.new.conn)
-    (state g.S.Store c.make_edits-in-Ok-Known.new.conn) _ c.make_edits-in-Ok-Known.result c.in-Ok-Known.ensures.looks c.make_edits-in-Ok-Known.ensures.clean c.make_edits-in-Ok-Known.ensures.mode
+    (state g.S.Store c.make_edits-in-Ok-Known.new.conn) _ c.make_edits-in-Ok-Known.result c.in-Ok-Known.ensures.looks
     (λ k stands. made_by_go_on _ a.identity a.format a.longest a.description a.count c.in-Ok-Known.no c.in-Ok-Known.place
-    ((rw c.in-Ok-Known.field-0-is at c.in-Ok-Known.ensures.answer) k stands.holds.schema _ refl stands.holds.tables) (sym c.goes_on.ensures ∙ c.if-not-goes_on.false))
-    c.make_edits-in-Ok-Known.ensures.survives c.make_edits-in-Ok-Known.ensures.done c.make_edits-in-Ok-Known.ensures.failed c.make_edits-in-Ok-Known.ensures.failure
+    ((rw c.in-Ok-Known.field-0-is at c.in-Ok-Known.ensures.answer) k stands.holds.schema _ refl stands.holds.tables) (sym c.goes_on.ensures ∙ c.if-not-goes_on.false)) c.make_edits-in-Ok-Known.ensures

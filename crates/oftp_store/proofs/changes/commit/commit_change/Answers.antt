@@ -7,13 +7,13 @@ pub returns-then-number_named : goal.returns-then-number_named
 returns-then-number_named g c = commits_beyond c.args.limits c.args.change (state g.S.Store c.args.conn.now) (omega (arith, c.number_named.ensures, c.if-number_named.true))
 
 pub returns-in-Keep : goal.returns-in-Keep
-returns-in-Keep g c = rw c.in-Keep.is (rw c.as_slice-in-Keep.ensures at (c.keep.ensures c.args.limits))
+returns-in-Keep g c = rw c.in-Keep.is (rw c.as_slice-in-Keep.ensures at (c.make_advance.ensures c.args.limits))
 
 pub returns-in-Close : goal.returns-in-Close
-returns-in-Close g c = rw c.in-Close.is (rw c.as_slice-in-Close.ensures at (c.close.ensures c.args.limits))
+returns-in-Close g c = rw c.in-Close.is (rw c.as_slice-in-Close.ensures at (c.make_advance-in-Close.ensures c.args.limits))
 
 pub returns-in-GiveUp : goal.returns-in-GiveUp
-returns-in-GiveUp g c = rw c.in-GiveUp.is (c.give_up.ensures c.args.limits)
+returns-in-GiveUp g c = rw c.in-GiveUp.is (c.make_advance-in-GiveUp.ensures c.args.limits)
 
 pub returns-in-File : goal.returns-in-File
 returns-in-File g c = rw c.in-File.is (c.file.ensures c.args.limits)

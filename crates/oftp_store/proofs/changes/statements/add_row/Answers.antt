@@ -1,7 +1,7 @@
-use Rattle.std.proofs.Common.{◌≡◌, refl, IsTrue, arith, pos, w64, to_z, of_z}
-use Rattle.std.proofs.lemmas.Int.{ints, to_z-of_z}
+use Rattle.std.proofs.Common.{refl, IsTrue}
 use Rattle.sqlite.specs.Held.{state}
 use Rattle.sqlite.specs.State.{ExecutesInside}
+use Rattle.oftp_tables.proofs.BindLemmas.{number_bound}
 use Rattle.oftp_tables.specs.Tables.{body_row}
 use Rattle.oftp_schema.proofs.TxLemmas.{ran_on, keeps_on}
 use Rattle.oftp_store.specs.Texts.{add_row_text}
@@ -13,7 +13,7 @@ returns-clause-done g c clean inside =
     let params = body_row c.args.no c.args.at c.args.body.now in
     let old = state g.S.Store c.args.tx.now.conn.now in
     let new = state g.S.Store c.execute.new.self.conn.now in
-    let back : to_z w64 (of_z w64 c.number.result) ≡ pos c.args.no = grind (arith, ints, to_z-of_z, c.number.ensures, c.requires) in
+    let back = number_bound c.args.no c.number.result c.number.ensures c.requires in
     let runs : IsTrue old.in_transaction → ExecutesInside 0 (add_row_text c.args.side) params old new c.execute.result = simp (c.add_row_text.ensures, c.params-to_sql.ensures, c.params-to_sql-2.ensures, c.params-to_sql-3.ensures, back, c.octets.ensures) at (c.execute.ensures.runs clean) in
     ran_on (add_row_text c.args.side) params old new _ _ _ (λ past. (c.execute.ensures.ended past).0) runs (λ count h. row_added c.args.side old new c.args.no c.args.at c.args.body.now count inside.schema h)
 

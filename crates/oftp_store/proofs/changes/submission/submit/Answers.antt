@@ -27,6 +27,5 @@ returns-in-Ok-Free g c =
     let header : Edit = record { no = c.in-Ok-Free.no; deed = AddOutgoing a.identity a.format a.longest a.description } in
     let all : Edit = record { no = c.in-Ok-Free.no; deed = AddRows side.Outgoing 0 a.rows } in
     commits_by (header ∷ all ∷ []) a.limits (Submit a.identity.now a.format a.longest a.description.now a.rows.now) (state g.S.Store a.conn.now) (state g.S.Store c.find_slot.new.conn)
-    (state g.S.Store c.make_edits.new.conn) _ c.make_edits.result c.in-Ok-Free.ensures.looks c.make_edits.ensures.clean c.make_edits.ensures.mode
-    (λ k stands. made_by_submit _ a.identity a.format a.longest a.description a.rows c.in-Ok-Free.no ((rw c.in-Ok-Free.field-0-is at c.in-Ok-Free.ensures.answer) k stands.holds.schema _ refl stands.holds.tables))
-    c.make_edits.ensures.survives c.make_edits.ensures.done c.make_edits.ensures.failed c.make_edits.ensures.failure
+    (state g.S.Store c.make_edits.new.conn) _ c.make_edits.result c.in-Ok-Free.ensures.looks
+    (λ k stands. made_by_submit _ a.identity a.format a.longest a.description a.rows c.in-Ok-Free.no ((rw c.in-Ok-Free.field-0-is at c.in-Ok-Free.ensures.answer) k stands.holds.schema _ refl stands.holds.tables)) c.make_edits.ensures

@@ -1,22 +1,14 @@
-use Rattle.std.proofs.Common.{◌≡◌, ◌∙◌, subst, sym}
-use Rattle.sqlite.specs.Schema.{Schema}
-use Rattle.sqlite.specs.Given.{IsPlain}
-use Rattle.sqlite.specs.Listing.{understood}
-use Rattle.oftp_register.specs.declared.entry.ResponseKind.{ResponseKind}
-use Rattle.oftp_schema.specs.Schema.{office_schema}
+use Rattle.std.proofs.Common.{◌∙◌}
 use Rattle.oftp_store.specs.Numbers.{has_filed_text}
 use Rattle.oftp_tables.proofs.CallLemmas.{looks_as, looks_then}
 use Rattle.oftp_store.proofs.IdentityLemmas.{filed_plain, finds_filed}
 use Rattle.oftp_store.proofs.looks.identity.has_filed.Goals as goal
 
-plain : (kind : ResponseKind) (schema : Schema) → schema ≡ office_schema → IsPlain (understood schema (has_filed_text kind))
-plain kind schema is = subst (λ s. IsPlain (understood s (has_filed_text kind))) (sym is) (filed_plain kind)
-
 pub returns-in-Ok-clause-looks : goal.returns-in-Ok-clause-looks
-returns-in-Ok-clause-looks g c = looks_then _ _ _ _ (rw c.has_filed_text.ensures at c.in-Ok.ensures.looks (plain c.args.kind)) tt
+returns-in-Ok-clause-looks g c = looks_then _ _ _ _ (rw c.has_filed_text.ensures at c.in-Ok.ensures.looks (filed_plain c.args.kind)) tt
 
 pub returns-in-Err-clause-looks : goal.returns-in-Err-clause-looks
-returns-in-Err-clause-looks g c = looks_as _ _ _ (rw c.has_filed_text.ensures at c.in-Err.ensures.looks (plain c.args.kind))
+returns-in-Err-clause-looks g c = looks_as _ _ _ (rw c.has_filed_text.ensures at c.in-Err.ensures.looks (filed_plain c.args.kind))
 
 pub returns-in-Ok-clause-answer : goal.returns-in-Ok-clause-answer
 returns-in-Ok-clause-answer g c clean has r kept =

@@ -1,23 +1,14 @@
-use Rattle.std.proofs.Common.{◌≡◌, subst, sym}
 use Rattle.std.proofs.lemmas.Result.{IfOk-weaker}
-use Rattle.sqlite.specs.Schema.{Schema}
-use Rattle.sqlite.specs.Given.{IsPlain}
-use Rattle.sqlite.specs.Listing.{understood}
-use Rattle.oftp_register.specs.declared.entries.Side.{Side}
-use Rattle.oftp_schema.specs.Schema.{office_schema}
 use Rattle.oftp_store.specs.Numbers.{no_of_text}
 use Rattle.oftp_tables.proofs.CallLemmas.{looks_as, looks_then}
 use Rattle.oftp_store.proofs.IdentityLemmas.{finds_no, no_of_plain}
 use Rattle.oftp_store.proofs.looks.identity.no_of.Goals as goal
 
-plain : (which : Side) (schema : Schema) → schema ≡ office_schema → IsPlain (understood schema (no_of_text which))
-plain which schema is = subst (λ s. IsPlain (understood s (no_of_text which))) (sym is) (no_of_plain which)
-
 pub returns-in-Ok-clause-looks : goal.returns-in-Ok-clause-looks
-returns-in-Ok-clause-looks g c = looks_then _ _ _ c.no_told.result (rw c.no_of_text.ensures at c.in-Ok.ensures.looks (plain c.args.side)) c.no_told.ensures.fails
+returns-in-Ok-clause-looks g c = looks_then _ _ _ c.no_told.result (rw c.no_of_text.ensures at c.in-Ok.ensures.looks (no_of_plain c.args.side)) c.no_told.ensures.fails
 
 pub returns-in-Err-clause-looks : goal.returns-in-Err-clause-looks
-returns-in-Err-clause-looks g c = looks_as _ _ _ (rw c.no_of_text.ensures at c.in-Err.ensures.looks (plain c.args.side))
+returns-in-Err-clause-looks g c = looks_as _ _ _ (rw c.no_of_text.ensures at c.in-Err.ensures.looks (no_of_plain c.args.side))
 
 pub returns-in-Ok-clause-answer : goal.returns-in-Ok-clause-answer
 returns-in-Ok-clause-answer g c clean has =

@@ -1,11 +1,7 @@
-use Rattle.std.proofs.Common.{◌≡◌, arith, pos, w64, to_z, of_z, subst, sym, Result, Ok, Err, IfOk}
-use Rattle.std.proofs.lemmas.Int.{ints, to_z-of_z}
-use Rattle.sqlite.specs.Schema.{Schema}
+use Rattle.std.proofs.Common.{Result, Ok, Err, IfOk}
 use Rattle.oftp_register.specs.declared.entries.Side.{Side}
-use Rattle.sqlite.specs.Given.{IsPlain}
-use Rattle.sqlite.specs.Listing.{understood}
-use Rattle.oftp_schema.specs.Schema.{office_schema}
 use Rattle.oftp_store.specs.Texts.{last_row_text}
+use Rattle.oftp_tables.proofs.BindLemmas.{number_bound}
 use Rattle.oftp_tables.proofs.CallLemmas.{looks_as, looks_then}
 use Rattle.oftp_store.proofs.RowLookLemmas.{last_plain, finds_last, count_is_told}
 use Rattle.oftp_store.proofs.looks.rows.count_rows.Goals as goal
@@ -14,17 +10,14 @@ IfOk_then : {A E : Type 0} {P Q : A → Type 0} (r : Result A E) → IfOk r P �
 IfOk_then (Ok x) p f = f x p
 IfOk_then (Err e) p f = tt
 
-plain : (which : Side) (schema : Schema) → schema ≡ office_schema → IsPlain (understood schema (last_row_text which))
-plain which schema is = subst (λ s. IsPlain (understood s (last_row_text which))) (sym is) (last_plain which)
-
 pub returns-in-Ok-clause-looks : goal.returns-in-Ok-clause-looks
-returns-in-Ok-clause-looks g c = looks_then _ _ _ c.count_told.result (rw c.last_row_text.ensures at c.in-Ok.ensures.looks (plain c.args.side)) c.count_told.ensures.fails
+returns-in-Ok-clause-looks g c = looks_then _ _ _ c.count_told.result (rw c.last_row_text.ensures at c.in-Ok.ensures.looks (last_plain c.args.side)) c.count_told.ensures.fails
 
 pub returns-in-Err-clause-looks : goal.returns-in-Err-clause-looks
-returns-in-Err-clause-looks g c = looks_as _ _ _ (rw c.last_row_text.ensures at c.in-Err.ensures.looks (plain c.args.side))
+returns-in-Err-clause-looks g c = looks_as _ _ _ (rw c.last_row_text.ensures at c.in-Err.ensures.looks (last_plain c.args.side))
 
 pub returns-in-Ok-clause-answer : goal.returns-in-Ok-clause-answer
 returns-in-Ok-clause-answer g c clean has =
-    let back : to_z w64 (of_z w64 c.number.result) ≡ pos c.args.no = grind (arith, ints, to_z-of_z, c.number.ensures, c.requires) in
+    let back = number_bound c.args.no c.number.result c.number.ensures c.requires in
     let shown = rw (c.last_row_text.ensures, c.params-to_sql.ensures, back) at (c.in-Ok.ensures.shown clean) in
     IfOk_then c.count_told.result c.count_told.ensures.told (λ told tells r kept. count_is_told _ told _ (finds_last c.args.side _ _ c.args.no _ has shown r kept) (rw c.as_slice.ensures.value at tells))

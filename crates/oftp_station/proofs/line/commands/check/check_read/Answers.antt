@@ -4,4 +4,4 @@ use Rattle.oftp_station.proofs.line.commands.check.check_read.Goals as goal
 
 pub given-requires : goal.given-requires
 unfolding check_app
-given-requires c = c.requires (codes "book") refl
+given-requires c = c.requires.texts (codes "book") refl

@@ -7,8 +7,9 @@ use Rattle.oftp_station.proofs.line.commands.feed.feed_command.Goals as goal
 pub returns : goal.returns
 unfolding feed_app
 returns c =
-    let book = c.in_ok-arg.ensures.shape c.needed.ensures.local ∙ ap₂ with_rule c.command.ensures.app c.needed.ensures.rule in
-    let role = c.in_ok-arg-2.ensures.shape c.defaulted.ensures.local ∙ ap₂ with_rule book c.defaulted.ensures.rule in
-    let partner = c.in_ok-arg-3.ensures.shape c.optional.ensures.local ∙ ap₂ with_rule role c.optional.ensures.rule in
-    let input = c.in_ok-arg-4.ensures.shape c.word.ensures.local ∙ ap₂ with_rule partner c.word.ensures.rule in
-    IfOk-weaker c.arg-5.result _ _ (λ d h. h.shape c.word-2.ensures.local ∙ ap₂ with_rule input c.word-2.ensures.rule) c.arg-5.ensures
+    let database = c.in_ok-arg.ensures.shape c.optional.ensures.local ∙ ap₂ with_rule c.command.ensures.app c.optional.ensures.rule in
+    let book = c.in_ok-arg-2.ensures.shape c.needed.ensures.local ∙ ap₂ with_rule database c.needed.ensures.rule in
+    let role = c.in_ok-arg-3.ensures.shape c.defaulted.ensures.local ∙ ap₂ with_rule book c.defaulted.ensures.rule in
+    let partner = c.in_ok-arg-4.ensures.shape c.optional-2.ensures.local ∙ ap₂ with_rule role c.optional-2.ensures.rule in
+    let input = c.in_ok-arg-5.ensures.shape c.word.ensures.local ∙ ap₂ with_rule partner c.word.ensures.rule in
+    IfOk-weaker c.arg-6.result _ _ (λ d h. h.shape c.word-2.ensures.local ∙ ap₂ with_rule input c.word-2.ensures.rule) c.arg-6.ensures

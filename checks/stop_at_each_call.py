@@ -1,0 +1,239 @@
+#!/usr/bin/env python3
+"""Stops each command of a day at each of its calls on the database, and refuses its allocations in turn.
+
+    checks/stop_at_each_call.py [--allocations N] [--every N]      as many allocations of each command, 25 where there is no number,
+                                                                   spread over all; and each Nth call, where a number is given
+
+The commands are those of rows/day/a_day.row, each over the database that the ones before it left. At each call that changes a file of
+the database the program is killed before it; killed behind half of a write; or told a failure, then and at each later call. Each time,
+what came out has to be a beginning of the whole answer, but for the ESID 08 behind it, and the tables, read by stock sqlite3 and told
+by the program, have to hold all that it answers, and no more than the next change. The command is then given again, and ends. It wants
+a C compiler. The last line is `N passed, M failed`.
+"""
+
+import argparse
+import os
+import shutil
+import subprocess
+import sys
+import tempfile
+from concurrent.futures import ThreadPoolExecutor
+from pathlib import Path
+
+import oftp
+import play_rows
+import tables
+from row_files import ROOT, ROWS, Call, Row, Session
+
+CHECKS = ROOT / "checks"
+NO_RESOURCES = oftp.frame(oftp.spell("ESID", {"reason": "08"}))
+# What the program may tell where the disk fails, which is also that of the file that is fetched, and where memory is refused.
+FAULTS = {
+    "fail": ["fault: 6 store 1\n", "fault: 3 office\n", "fault: 7 file\n"],
+    "refuse": ["fault: 4 memory\n", "fault: 3 office\n", "fault: 6 store 2\n"],
+}
+
+
+class Wrong(Exception):
+    """What is left or what came out isn't what it should be."""
+
+
+def given(words, room, environment):
+    """Gives the program these words in a folder."""
+    return subprocess.run(words, cwd=room, capture_output=True, env={**os.environ, **environment}, check=False, timeout=60)
+
+
+def stopping(how, number, library, reached):
+    """The environment in which the call of this number is stopped; the file `reached` is made then."""
+    if how == "refuse":
+        named = {"FAIL_ALLOC": number, "FAIL_ALLOC_REACHED": reached}
+    else:
+        named = {"STOP_AT": number, "STOP_HOW": how, "STOP_REACHED": reached}
+    return {"LD_PRELOAD": str(library), **{name: str(value) for name, value in named.items()}}
+
+
+class Command:
+    """A command of the day, with the folder that it is given in, what it tells, and what it may leave: the tables after each part of
+    its input, with the octets that are out by then."""
+
+    def __init__(self, act, base):
+        self.act = act
+        self.base = base
+        self.name = act.words[0] if isinstance(act, Call) else f"session {len(act.joined('in'))}"
+        with tempfile.TemporaryDirectory() as room:
+            self.line, self.whole, _, self.left = self.run(Path(room), {})
+            self.states = self.all_states()
+
+    def all_states(self):
+        before = (b"", tables.read(self.base / "database"))
+        if isinstance(self.act, Call):
+            return [before, (b"", self.left)]
+        states = []
+        octets = self.act.joined("in")
+        ends = [0]
+        for spelled in oftp.frames_of(octets):
+            ends.append(ends[-1] + len(spelled))
+        for end in ends:
+            with tempfile.TemporaryDirectory() as room:
+                _, out, _, left = self.run(Path(room), {}, octets[:end])
+                states.append((out, left))
+        return states
+
+    def run(self, room, environment, octets=None):
+        """Gives the command in a copy of its folder. It answers what it told, the octets out, how it ended, and the tables left."""
+        shutil.copytree(self.base, room, dirs_exist_ok=True)
+        done = given(self.words(room, octets), room, environment)
+        out = play_rows.octets_in(room / "answer") if isinstance(self.act, Session) else b""
+        return done.stdout, out, (done.returncode, done.stderr.decode()), tables.read(room / "database")
+
+    def words(self, room, octets=None):
+        if isinstance(self.act, Session):
+            source = room / "given"
+            source.write_bytes(self.act.joined("in") if octets is None else octets)
+            return play_rows.words_of(self.act, room / "database", source, room / "answer")
+        options = {"--db": room / "database", "--book": self.act.book}
+        taken = [word for option in play_rows.OPTIONS[self.act.words[0]] for word in (option, options[option])]
+        return [play_rows.PROGRAM, self.act.words[0], *taken, *self.act.words[1:]]
+
+    def stop(self, how, number, library):
+        """Stops the command at this call. It answers whether there is such a call."""
+        with tempfile.TemporaryDirectory() as path:
+            room = Path(path) / "room"
+            reached = Path(path) / "reached"
+            line, out, ended, left = self.run(room, stopping(how, number, library, reached))
+            if not reached.exists():
+                return False
+            self.judge(how, line, out, ended, left)
+            self.judge_next(room, left)
+        return True
+
+    def judge(self, how, line, out, ended, left):
+        status, told = ended
+        if status == 0 or (status, line) == (1, self.line):
+            if (line, out, left) != (self.line, self.whole, self.left):
+                raise Wrong("it ended as always, and left something else")
+            return
+        if how in FAULTS and (status != 1 or told not in FAULTS[how]):
+            raise Wrong(f"status {status}, {told!r}")
+        if how not in FAULTS and status != -9:
+            raise Wrong(f"status {status}, {told!r}")
+        if told == "fault: 7 file\n" and self.name != "fetch":
+            raise Wrong("no file is made")
+        if told == "fault: 3 office\n" and isinstance(self.act, Session):
+            out = without_end(out, self.whole)
+        if not self.whole.startswith(out) or not self.line.startswith(line):
+            raise Wrong(f"what came out begins no whole answer: {len(out)} octets, {line!r}")
+        if left not in self.allowed(line, out):
+            raise Wrong(f"{len(out)} octets and {line!r} are out, and the tables don't fit them")
+
+    def allowed(self, line, out):
+        """The tables that may be left: all that is answered, and what comes next."""
+        if isinstance(self.act, Call):
+            return [left for _, left in self.states[1 if line else 0 :]]
+        first = next(at for at, (there, _) in enumerate(self.states) if len(there) >= len(out))
+        longer = [at for at, (there, _) in enumerate(self.states) if len(there) > len(out)]
+        return [left for _, left in self.states[first : (longer[0] if longer else len(self.states)) + 1]]
+
+    def judge_next(self, room, left):
+        """The program opens what is left, changes nothing of it, and does what it is asked again."""
+        database = room / "database"
+        if left["about"]:
+            done = given([play_rows.PROGRAM, "report", "--db", database, "in"], room, {})
+            if done.returncode != 0 or len(done.stdout.splitlines()) != 1 + len(left["in_file"]) or tables.read(database) != left:
+                raise Wrong(f"the program tells other tables: status {done.returncode}, {done.stdout!r}, {done.stderr!r}")
+        done = given(self.words(room), room, {})
+        if done.stderr or (isinstance(self.act, Call) and tables.read(database) != self.left):
+            raise Wrong(f"given again, it doesn't end as always: {done.stdout!r}, {done.stderr!r}")
+
+
+def without_end(out, whole):
+    """The octets before an ESID 08, or before a beginning of one."""
+    for size in range(len(NO_RESOURCES), 0, -1):
+        if out.endswith(NO_RESOURCES[:size]) and whole.startswith(out[:-size]):
+            return out[:-size]
+    return out
+
+
+def commands_of_a_day(room):
+    """Each command of the day but reports, with the folder as the ones before it left it."""
+    now = room / "now"
+    now.mkdir()
+    for number, act in enumerate(Row(ROWS / "day/a_day.row").acts):
+        base = room / f"before_{number}"
+        shutil.copytree(now, base)
+        if isinstance(act, Session) or (isinstance(act, Call) and act.words[0] != "report"):
+            yield Command(act, base)
+        why = play_rows.play_act(play_rows.in_one_piece, act, now, now / "database")
+        if why:
+            raise SystemExit(f"the day goes otherwise: {why}")
+        for name in ("given", "answer"):
+            (now / name).unlink(missing_ok=True)
+
+
+def compile_library(room, name):
+    library = room / f"{name}.so"
+    subprocess.run(["cc", "-shared", "-fPIC", "-O1", "-o", library, CHECKS / f"{name}.c", "-ldl"], check=True)
+    return library
+
+
+def numbers_of(command, library, how, most, every):
+    """The numbers of the calls at which a command is stopped: each of them, or some that are spread over all."""
+    count = 1
+    while is_there(command, library, how, 2 * count):
+        count *= 2
+    low, high = count, 2 * count
+    while high - low > 1:
+        middle = (low + high) // 2
+        low, high = (middle, high) if is_there(command, library, how, middle) else (low, middle)
+    step = every if most is None else max(low // most, 1)
+    return range(1, low + 1, step)
+
+
+def is_there(command, library, how, number):
+    with tempfile.TemporaryDirectory() as path:
+        reached = Path(path) / "reached"
+        room = Path(path) / "room"
+        shutil.copytree(command.base, room)
+        given(command.words(room), room, stopping(how, number, library, reached))
+        return reached.exists()
+
+
+def stop_each(command, how, numbers, library, runners):
+    """Stops a command at each of these calls. It answers how many went well, and what went ill."""
+
+    def one(number):
+        try:
+            return None if command.stop(how, number, library) else "there is no such call"
+        except (Wrong, tables.Damaged, subprocess.SubprocessError) as why:
+            return str(why)
+
+    return [f"{command.name}, {how} at {number}: {why}" for number, why in zip(numbers, runners.map(one, numbers)) if why]
+
+
+def main():
+    parser = argparse.ArgumentParser(description=__doc__.splitlines()[0])
+    parser.add_argument("--allocations", type=int, default=25)
+    parser.add_argument("--every", type=int, default=1)
+    taken = parser.parse_args()
+    passed, failed = 0, 0
+    with tempfile.TemporaryDirectory() as path, ThreadPoolExecutor(max_workers=os.cpu_count()) as runners:
+        room = Path(path)
+        libraries = {how: compile_library(room, name) for how, name in (("fail", "stop_calls"), ("refuse", "refuse_allocation"))}
+        for command in commands_of_a_day(room):
+            tried = []
+            for how in ("kill", "tear", "fail", "refuse"):
+                library = libraries.get(how, libraries["fail"])
+                most = taken.allocations if how == "refuse" else None
+                numbers = numbers_of(command, library, how if how == "refuse" else "fail", most, taken.every)
+                faults = stop_each(command, how, numbers, library, runners)
+                print("\n".join(faults[:5]), end="\n" if faults else "")
+                failed += len(faults)
+                passed += len(numbers) - len(faults)
+                tried.append(f"{len(numbers)} {how}")
+            print(f"{command.name}: {', '.join(tried)}", flush=True)
+    print(f"{passed} passed, {failed} failed")
+    return 1 if failed else 0
+
+
+if __name__ == "__main__":
+    sys.exit(main())

@@ -1,0 +1,4 @@
+mod Counts
+mod Leaving
+mod Limits
+mod Lists

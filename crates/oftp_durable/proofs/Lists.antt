@@ -1,0 +1,184 @@
+-- What a list of jobs over a database leaves, from what the engine says of it.
+use Rattle.std.proofs.Common.{◌≡◌, ◌∙◌, sym, ap, subst, refl, arith, ℕ, ◌+◌, ◌-◌, ◌≤◌, List, [], ◌∷◌, ◌++◌, length, take, Option, None, Result, Ok, Err, inl, inr, length-append}
+use Rattle.std.proofs.lemmas.List.{take_all}
+use Rattle.sqlite.specs.State.{State}
+use Rattle.oftp_vfile.specs.declared.format.Limits.{Limits}
+use Rattle.oftp_partners.specs.Book.{BookData}
+use Rattle.oftp_register.specs.declared.change.Change.{Change}
+use Rattle.oftp_register.specs.declared.entry.Identity.{Identity}
+use Rattle.oftp_register.specs.Changes.{apply_all}
+use Rattle.oftp_register.specs.Offices.{View}
+use Rattle.oftp_register.specs.Register.{Register}
+use Rattle.oftp_register.specs.Soundness.{IsSound}
+use Rattle.oftp_open.specs.Stands.{IsContentOf}
+use Rattle.oftp_session.specs.Phases.{register_after}
+use Rattle.oftp_tables.specs.Tables.{register_in}
+use Rattle.oftp_store.specs.Views.{view_of}
+use Rattle.oftp_engine.specs.declared.running.Job.{Job}
+use Rattle.oftp_engine.specs.declared.running.Job.TheVariants as job
+use Rattle.oftp_engine.specs.declared.serving.RunFault.{RunFault}
+use Rattle.oftp_engine.specs.declared.serving.RunFault.TheVariants as fault
+use Rattle.oftp_engine.specs.Jobs.{Call, EndsWith, Entry, JobStops, JobsDone, Runs, Session, Stop, after_jobs, changes_of, share_of}
+use Rattle.oftp_engine.specs.Parts.{BringsParts, File, IsLeft, Leaves, Operates, Serves, course_of}
+use Rattle.oftp_engine.specs.Runs.{run, started}
+use Rattle.oftp_engine.specs.declared.serving.Role.{Role}
+use Rattle.oftp_engine.specs.Served.{IsPrefix, setting_of}
+use Rattle.oftp_engine.proofs.Ending.{replay_all, take_past}
+use Rattle.oftp_engine.proofs.Jobs.{replay_on, replay_one}
+use Rattle.oftp_engine.proofs.PartRuns.{IsSoIn, job_leaves}
+use Rattle.oftp_durable.specs.Headline.{ButForOffice, LeavesAlone, session_of}
+use Rattle.oftp_durable.specs.Lists.{BringAll, BringsLast, ListLeaves, beginning}
+use Rattle.oftp_durable.proofs.Leaving.{one_left, prefix_all, prefix_of}
+
+ends_from : (old new : View) (f : RunFault) → EndsWith old new f → EndsWith (beginning old.register old.told) new f
+ends_from old new fault.Read h = h
+ends_from old new fault.Write h = h
+ends_from old new fault.Office h = record { faults = h.faults }
+ends_from old new fault.Memory h = record { faults = h.faults; stands = h.stands; left = h.left }
+
+-- the first register counts alone, of what an office shows before a list
+pub runs_from : {R W T : Type 0} (remaining : R → Option (List ℕ)) (contents : W → Option (List ℕ)) (book : BookData) (old new : View) (olds news : List (Job R W))
+    (result : Result T RunFault) → Runs remaining contents book old new olds news result → Runs remaining contents book (beginning old.register old.told) new olds news result
+runs_from remaining contents book old new olds news (Ok x) h = record {
+  entries = h.entries;
+  done = h.done;
+  register = h.register;
+  replay = h.replay;
+  stands = h.stands;
+  left = h.left;
+  faults = h.faults;
+}
+runs_from remaining contents book old new olds news (Err f) h = record {
+  entries = h.entries;
+  before = h.before;
+  after = h.after;
+  was = h.was;
+  now = h.now;
+  behind = h.behind;
+  olds_are = h.olds_are;
+  news_are = h.news_are;
+  done = h.done;
+  stop = h.stop;
+  stops = h.stops;
+  leaves = record { kept = h.leaves.kept; few = h.leaves.few; register = h.leaves.register; left = h.leaves.left };
+  ends = ends_from old new f h.ends;
+}
+
+-- the changes up to here are made, and the file is as it may be
+record IsSoAfter (file : File) (identity : Identity) (r : Register) (changes : List Change) (after : Register) : Type 0 where
+  so : IsSoIn file identity after
+  made : apply_all r changes ≡ Ok after
+
+module _ {R W : Type 0} (remaining : R → Option (List ℕ)) (contents : W → Option (List ℕ)) (book : BookData) (file : File) (identity : Identity) where
+  -- one job, and those behind it
+  then_so : (r : Register) (e : Entry) (es : List Entry) → apply_all r (share_of r e).changes ≡ Ok (share_of r e).register
+      → IsSoAfter file identity (share_of r e).register (changes_of (share_of r e).register es) (after_jobs (share_of r e).register es)
+      → IsSoAfter file identity r (changes_of r (e ∷ es)) (after_jobs r (e ∷ es))
+  then_so r e es here h = record {
+    so = h.so;
+    made = replay_on remaining contents book r (share_of r e).register (share_of r e).changes (changes_of (share_of r e).register es) here ∙ h.made;
+  }
+
+  jobs_so : (r : Register) (es : List Entry) (olds news : List (Job R W)) → JobsDone remaining contents book r es olds news → BringAll file identity r es → IsSoIn file identity r
+      → IsSoAfter file identity r (changes_of r es) (after_jobs r es)
+  jobs_so r [] [] [] done brings so = record { so = so; made = refl }
+  jobs_so r [] [] (new ∷ news) done brings so = absurd done
+  jobs_so r [] (old ∷ olds) news done brings so = absurd done
+  jobs_so r (e ∷ es) [] news done brings so = absurd done
+  jobs_so r (e ∷ es) (old ∷ olds) [] done brings so = absurd done
+  jobs_so r (Session setting given stop ∷ es) (old ∷ olds) (new ∷ news) (d, done) (here, brings) so =
+      let c = run stop given (started setting r) in
+      let made = replay_all stop setting given r c.register so.sound refl in
+      let all : IsLeft c r c.register = record {
+        count = length c.changes;
+        most = omega arith;
+        replay = ap (apply_all r) (take_all (length c.changes) c.changes (omega arith)) ∙ made;
+      } in
+      then_so r (Session setting given stop) es made
+      (jobs_so c.register es olds news done brings (job_leaves file identity (Serves (session_of setting given stop)) r c.register so here all))
+  jobs_so r (Call deed stop ∷ es) (job.Session old ∷ olds) (new ∷ news) (d, done) brings so = absurd d
+  jobs_so r (Call deed stop ∷ es) (job.Call old ∷ olds) (job.Session new ∷ news) (d, done) brings so = absurd d
+  jobs_so r (Call deed stop ∷ es) (job.Call old ∷ olds) (job.Call new ∷ news) (d, done) brings so =
+      let after = register_after r deed.change in
+      then_so r (Call deed stop) es (replay_one deed.change r after d.made)
+      (jobs_so after es olds news done brings (job_leaves file identity (Operates book old.call) r after so tt (inr (deed, d.is, d.made))))
+
+  -- a session or a call that was broken off
+  session_so : (r s : Register) (role : Role) (given : List ℕ) (changes : List Change) (m : ℕ) → changes ≡ (course_of (session_of (setting_of book role) given None) r).changes
+      → BringsParts file identity (session_of (setting_of book role) given None) r → m ≤ length changes → apply_all r (take m changes) ≡ Ok s → IsSoIn file identity r → IsSoIn file identity s
+  session_so r s role given changes m is brings most made so =
+      job_leaves file identity (Serves (session_of (setting_of book role) given None)) r s so brings (record {
+        count = m;
+        most = subst (λ (ks : List Change). m ≤ length ks) is most;
+        replay = subst (λ (ks : List Change). apply_all r (take m ks) ≡ Ok s) is made;
+      })
+
+  last_so : (r s : Register) (was now : Job R W) (stop : Stop) (fault : RunFault) (h : JobStops remaining contents book r was now stop fault)
+      → BringsLast remaining contents book file identity r was now stop fault h → (m : ℕ) → m ≤ length stop.changes → apply_all r (take m stop.changes) ≡ Ok s
+      → IsSoIn file identity r → IsSoIn file identity s
+  last_so r s (job.Session was) (job.Session now) stop fault.Read h brings m most made so = absurd h
+  last_so r s (job.Session was) (job.Session now) stop fault.Write h brings m most made so = absurd h
+  last_so r s (job.Session was) (job.Session now) stop fault.Office h brings m most made so = session_so r s was.role h.given stop.changes m h.changes brings most made so
+  last_so r s (job.Session was) (job.Session now) stop fault.Memory h brings m most made so = session_so r s was.role h.given stop.changes m h.changes brings most made so
+  last_so r s (job.Session was) (job.Call now) stop fault h brings m most made so = absurd h
+  last_so r s (job.Call was) (job.Session now) stop fault h brings m most made so = absurd h
+  last_so r s (job.Call was) (job.Call now) stop fault.Read h brings m most made so = absurd h
+  last_so r s (job.Call was) (job.Call now) stop fault.Write h brings m most made so = absurd h
+  last_so r s (job.Call was) (job.Call now) stop fault.Office h brings m most made so =
+      let left = one_left h.deed.change r s m (subst (λ (ks : List Change). apply_all r (take m ks) ≡ Ok s) h.changes made) in
+      let leaves : Leaves (Operates book was.call) r s = elim left [ inl same ↦ inl same | inr done ↦ inr (h.deed, h.is, done) ] in
+      job_leaves file identity (Operates book was.call) r s so tt leaves
+  last_so r s (job.Call was) (job.Call now) stop fault.Memory h brings m most made so =
+      let left = one_left None r s m (subst (λ (ks : List Change). apply_all r (take m ks) ≡ Ok s) h.changes made) in
+      let same : s ≡ r = elim left [ inl same ↦ same | inr same ↦ same ] in
+      subst (IsSoIn file identity) (sym same) so
+
+  -- the register after some of all the changes, those of the jobs that were done at least
+  within : (r s : Register) (es : List Entry) (more : List Change) (least count : ℕ) → IsSoAfter file identity r (changes_of r es) (after_jobs r es)
+      → length (changes_of r es) + least ≤ count → apply_all r (take count (changes_of r es ++ more)) ≡ Ok s
+      → apply_all (after_jobs r es) (take (count - length (changes_of r es)) more) ≡ Ok s
+  within r s es more least count done le made =
+      let before = changes_of r es in
+      let m = count - length before in
+      let at : length before + m ≡ count = omega (arith, le) in
+      let split : take count (before ++ more) ≡ before ++ take m more = ap (λ (n : ℕ). take n (before ++ more)) (sym at) ∙ take_past before more m in
+      sym (replay_on remaining contents book r (after_jobs r es) before (take m more) done.made) ∙ sym (ap (apply_all r) split) ∙ made
+
+module _ {R W : Type 0} (remaining : R → Option (List ℕ)) (contents : W → Option (List ℕ)) (book : BookData) (r : Register) (sound : IsSound r) (told : ℕ) (limits : Limits)
+    (faults : ℕ) (s : State) (olds news : List (Job R W)) where
+  abbrev now : View
+  now = view_of limits faults s
+
+  pub list_leaves : {T : Type 0} (result : Result T RunFault) → Runs remaining contents book (beginning r told) now olds news result
+      → ListLeaves remaining contents book r told now olds news limits s result
+  list_leaves (Ok x) run = record {
+    run = run;
+    left = prefix_all (beginning r told) limits faults s (changes_of r run.entries) (length (changes_of r run.entries)) (omega arith) run.replay run.left;
+    parts = λ file identity so brings db may.
+        let done = jobs_so remaining contents book file identity r run.entries olds news run.done brings (record { sound = sound; so_far = so }) in
+        (now.register, run.left db may, (subst (IsSoIn file identity) (sym run.register) done.so).so_far);
+  }
+  list_leaves (Err fault) run =
+      let before = changes_of r run.entries in
+      let more = run.stop.changes in
+      let left = prefix_of (beginning r told) limits faults s (before ++ more) (length before + run.stop.answered) (length before + run.stop.made) run.leaves in
+      record {
+        run = run;
+        left = left;
+        parts = λ file identity so brings db may.
+            let q : IsPrefix IsContentOf (before ++ more) r (length before + run.stop.answered) left.made db = left.left db may in
+            let done = jobs_so remaining contents book file identity r run.entries run.before run.after run.done brings.0 (record { sound = sound; so_far = so }) in
+            let m = q.count - length before in
+            let few : m ≤ length more = omega (arith, q.least, q.most, length-append before more) in
+            let made = within remaining contents book file identity r q.register run.entries more run.stop.answered q.count done q.least q.replay in
+            let last = last_so remaining contents book file identity (after_jobs r run.entries) q.register run.was run.now run.stop fault run.stops brings.1 m few made done.so in
+            (q.register, q.holds, last.so_far);
+      }
+
+  pub list_alone : {T : Type 0} (result : Result T RunFault) → Runs remaining contents book (beginning r told) now olds news result
+      → ButForOffice result (LeavesAlone limits s (register_in limits s.now.trees))
+  list_alone (Ok x) run = record { has = (run.stands, refl); left = run.left }
+  list_alone (Err fault.Read) run = absurd run.ends
+  list_alone (Err fault.Write) run = absurd run.ends
+  list_alone (Err fault.Office) run = tt
+  list_alone (Err fault.Memory) run = record { has = (run.ends.stands, refl); left = run.ends.left }

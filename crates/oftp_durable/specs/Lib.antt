@@ -1,0 +1,4 @@
+pub mod Counts
+pub mod Headline
+pub mod Lists
+pub mod Reopening

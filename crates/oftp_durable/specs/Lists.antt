@@ -1,0 +1,76 @@
+-- The headline for a list of jobs, one after another.
+use Rattle.std.specs.Prelude.{◌≡◌, ℕ, ◌+◌, ⊤, List, [], ◌∷◌, ◌++◌, length, Option, None, Result, Ok, Err}
+use Rattle.sqlite.specs.State.{State}
+use Rattle.oftp_vfile.specs.declared.format.Limits.{Limits}
+use Rattle.oftp_partners.specs.Book.{BookData}
+use Rattle.oftp_register.specs.declared.change.Change.{Change}
+use Rattle.oftp_register.specs.declared.entry.Identity.{Identity}
+use Rattle.oftp_register.specs.ByIdentity.{in_at}
+use Rattle.oftp_register.specs.Offices.{View}
+use Rattle.oftp_register.specs.Register.{Register}
+use Rattle.oftp_engine.specs.declared.running.Job.{Job}
+use Rattle.oftp_engine.specs.declared.running.Job.TheVariants as job
+use Rattle.oftp_engine.specs.declared.serving.RunFault.{RunFault}
+use Rattle.oftp_engine.specs.declared.serving.RunFault.TheVariants as fault
+use Rattle.oftp_engine.specs.Jobs.{Call, Entry, JobStops, Runs, Session, Stop, after_jobs, changes_of, share_of}
+use Rattle.oftp_engine.specs.Parts.{BringsParts, File, IsSoFar}
+use Rattle.oftp_engine.specs.Served.{setting_of}
+use Rattle.oftp_durable.specs.Headline.{LeavesPrefix, LeavesSoFar, session_of}
+
+-- a station that begins with this register and has told so many faults
+abbrev pub beginning : Register → ℕ → View
+beginning r faults = record {
+  register = r;
+  told = faults;
+  clean = ⊤;
+  stands = ⊤;
+  Content = Register;
+  may_leave = λ content. content ≡ r;
+  holds = λ content register. content ≡ register;
+}
+
+-- the sessions among jobs that were done bring parts of the file
+abbrev pub BringAll : File → Identity → Register → List Entry → Type 0
+BringAll file identity r [] = ⊤
+BringAll file identity r (Session setting given stop ∷ es) =
+    BringsParts file identity (session_of setting given stop) r × BringAll file identity (share_of r (Session setting given stop)).register es
+BringAll file identity r (Call deed stop ∷ es) = BringAll file identity (share_of r (Call deed stop)).register es
+
+module _ {R W : Type 0} (remaining : R → Option (List ℕ)) (contents : W → Option (List ℕ)) (book : BookData) where
+  -- so does a session that was broken off
+  abbrev pub BringsLast : File → Identity → (r : Register) (was now : Job R W) (stop : Stop) (fault : RunFault) → JobStops remaining contents book r was now stop fault → Type 0
+  BringsLast file identity r (job.Session was) (job.Session now) stop fault.Read h = ⊤
+  BringsLast file identity r (job.Session was) (job.Session now) stop fault.Write h = ⊤
+  BringsLast file identity r (job.Session was) (job.Session now) stop fault.Office h = BringsParts file identity (session_of (setting_of book was.role) h.given None) r
+  BringsLast file identity r (job.Session was) (job.Session now) stop fault.Memory h = BringsParts file identity (session_of (setting_of book was.role) h.given None) r
+  BringsLast file identity r (job.Session was) (job.Call now) stop fault h = ⊤
+  BringsLast file identity r (job.Call was) (job.Session now) stop fault h = ⊤
+  BringsLast file identity r (job.Call was) (job.Call now) stop fault h = ⊤
+
+  module _ (r : Register) (faults : ℕ) (new : View) (olds news : List (Job R W)) where
+    -- a list of jobs was run from the register on, and came to this
+    abbrev pub RunsFrom : {T : Type 0} → Result T RunFault → Type 0
+    RunsFrom result = Runs remaining contents book (beginning r faults) new olds news result
+
+    -- all its changes: those of the jobs that were done, and of the one in which it ended
+    abbrev pub changes_in : {T : Type 0} (result : Result T RunFault) → RunsFrom result → List Change
+    changes_in (Ok x) run = changes_of r run.entries
+    changes_in (Err fault) run = changes_of r run.entries ++ run.stop.changes
+
+    -- how many of them stand before the last answer of which an octet is out, at least
+    abbrev pub answered_in : {T : Type 0} (result : Result T RunFault) → RunsFrom result → ℕ
+    answered_in (Ok x) run = length (changes_of r run.entries)
+    answered_in (Err fault) run = length (changes_of r run.entries) + run.stop.answered
+
+    -- its sessions bring parts of the file
+    abbrev pub BringsIn : File → Identity → {T : Type 0} (result : Result T RunFault) → RunsFrom result → Type 0
+    BringsIn file identity (Ok x) run = BringAll file identity r run.entries
+    BringsIn file identity (Err fault) run =
+        BringAll file identity r run.entries × BringsLast file identity (after_jobs r run.entries) run.was run.now run.stop fault run.stops
+
+    -- A list of jobs over the database of r. What a stop leaves is r after the first of all the jobs' changes, with each that was answered.
+    -- Where its sessions bring parts of a file, nothing of it is left, a beginning, or the file whole.
+    pub record ListLeaves (limits : Limits) (s : State) {T : Type 0} (result : Result T RunFault) : Type 0 where
+      pub run : RunsFrom result
+      pub left : LeavesPrefix limits s r (changes_in result run) (answered_in result run)
+      pub parts : (file : File) (identity : Identity) → IsSoFar file (in_at r identity) → BringsIn file identity result run → LeavesSoFar file identity s

@@ -1,0 +1,51 @@
+//! An operator's call on a database.
+
+ghost use Rattle.sqlite.specs.State.{HasCleanDisk};
+ghost use Rattle.oftp_register.specs.Register.{Register};
+ghost use Rattle.oftp_tables.specs.Tables.{register_in};
+ghost use Rattle.oftp_store.specs.Opens.{Has};
+ghost use Rattle.oftp_store.specs.Shown.{database_of, limits_of, shown};
+ghost use Rattle.oftp_engine.specs.Operated.{Operates};
+ghost use Rattle.oftp_engine.specs.Ports.{Puts};
+ghost use Rattle.oftp_engine.specs.Served.{WriterTold};
+ghost use Rattle.oftp_engine.specs.Serving.{scene};
+ghost use Rattle.oftp_durable.specs.Headline.{ButForOffice, CallLeaves, LeavesAlone};
+
+use oftp_engine::{Operator, Port, RunFault, Told, operate};
+use oftp_partners::Book;
+use oftp_store::SqlOffice;
+use sqlite::Alter;
+use std::alloc::Global;
+use std::io::Write;
+
+/// Does what an operator wants by the office over a database, as [`operate`] says it.
+///
+/// At every exit, error exits too, what a stop leaves is the tables of the register with the call's change or without, and with it where
+/// one octet of its line is out. But for a fault of the office it is the tables of the office's register alone. The premise is a disk
+/// that keeps what it synced and that nobody else writes.
+///
+/// # Errors
+///
+/// As [`operate`].
+pub fn operate_durable<S: Alter, W: Write>(
+    alloc: Global,
+    office: &mut SqlOffice<S>,
+    book: &Book,
+    call: &Operator<'_>,
+    writer: &mut Port<W>,
+) -> Result<Told, RunFault>
+    // The call over this database is what it is over any office.
+    ensures operates { HasCleanDisk (database_of S.Store office.new) → (r : Register) → Has (limits_of office.old) r (database_of S.Store office.old)
+        → Operates book.now call.now (scene W.contents (shown S.Store office.old) writer.old) (scene W.contents (shown S.Store office.new) writer.new) result }
+    // The headline.
+    ensures leaves { HasCleanDisk (database_of S.Store office.new) → (r : Register) → Has (limits_of office.old) r (database_of S.Store office.old)
+        → CallLeaves W.contents book.now call.now r writer.old writer.new (limits_of office.new) (database_of S.Store office.new) result }
+    ensures alone { HasCleanDisk (database_of S.Store office.new) → (r : Register) → Has (limits_of office.old) r (database_of S.Store office.old)
+        → ButForOffice result (LeavesAlone (limits_of office.new) (database_of S.Store office.new)
+        (register_in (limits_of office.new) (database_of S.Store office.new).now.trees)) }
+    ensures clean { HasCleanDisk (database_of S.Store office.new) → HasCleanDisk (database_of S.Store office.old) }
+    ensures out { Puts W.contents writer.old writer.new }
+    ensures writer_told { WriterTold writer.old writer.new result }
+{
+    operate(alloc, office, book, call, writer)
+}

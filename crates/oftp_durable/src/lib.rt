@@ -1,0 +1,17 @@
+//! The engine over a database: what a stop leaves of sessions and of operator's calls, in the terms of the tables.
+#![tactic(auto)]
+
+mod calling;
+mod laws;
+mod listing;
+mod opening;
+mod serving;
+
+pub use calling::operate_durable;
+pub use laws::no_answer_passes;
+pub use listing::{Ran, run_at, run_durable};
+pub use opening::open_durable;
+pub use serving::serve_durable;
+
+#[cfg(test)]
+mod tests;

@@ -1,0 +1,61 @@
+//! The opening of the office that the files at a path hold.
+
+ghost use Rattle.std.specs.Prelude.{◌≡◌, ◌≤◌, ℕ, IfOk, List};
+ghost use Rattle.sqlite.specs.Files.{HoldsDatabase, over_files};
+ghost use Rattle.sqlite.specs.State.{HasCleanDisk};
+ghost use Rattle.sqlite.specs.Tree.{Trees};
+ghost use Rattle.sqlite.specs.WalFiles.{image_at};
+ghost use Rattle.oftp_register.specs.declared.change.Change.{Change};
+ghost use Rattle.oftp_register.specs.declared.fit.TheConstants.{MOST_FILES, MOST_OCTETS};
+ghost use Rattle.oftp_register.specs.Register.{Register};
+ghost use Rattle.oftp_register.specs.Soundness.{IsSound};
+ghost use Rattle.oftp_open.specs.Opening.{IsStoreOf};
+ghost use Rattle.oftp_open.specs.Stands.{IsContentOf};
+ghost use Rattle.oftp_store.specs.Opens.{Has};
+ghost use Rattle.oftp_store.specs.Shown.{database_of, faults_of, limits_of};
+ghost use Rattle.oftp_engine.specs.Served.{IsPrefix};
+ghost use Rattle.oftp_durable.specs.Headline.{LeavesAlone};
+ghost use Rattle.oftp_durable.specs.Reopening.{IsReopened};
+
+use oftp_store::{PathFault, SqlOffice, open_at};
+use oftp_vfile::Limits;
+use sqlite::{Alter, FileFrom, FileStore, Start};
+
+// An office that has a register leaves its tables alone.
+fn leaves_alone<S: Alter>(office: &SqlOffice<S>)
+    ensures { (r : Register) → Has (limits_of office.now) r (database_of S.Store office.now) → LeavesAlone (limits_of office.now) (database_of S.Store office.now) r }
+{
+    let _ = office;
+}
+
+/// Opens the office that the files at a path hold, or makes its tables where they hold no database, as [`open_at`] says it. `S` stands for
+/// what the files hold.
+///
+/// Where a stop left the tables of a register after the first of some changes, the office has that register, and a stop leaves its
+/// tables alone. The limits are those of the register, at most 1,000,000 files and 1,024,000,000 octets of a file.
+///
+/// # Errors
+///
+/// As [`open_at`].
+pub fn open_durable<S: Start>(
+    rt: &HostRuntime,
+    path: &str,
+    limits: Limits,
+    start: S,
+) -> Result<SqlOffice<FileStore<FileFrom<S>>>, PathFault>
+    requires files { limits.files ≤ MOST_FILES }
+    requires octets { limits.octets ≤ MOST_OCTETS }
+    ensures limits { IfOk result (λ o. limits_of o ≡ limits) }
+    ensures faults { IfOk result (λ o. faults_of o ≡ 0) }
+    // The office has the register whose tables the files hold.
+    ensures found { IfOk result (λ o. HasCleanDisk (database_of over_files o) → (r : Register) (db : Trees) → r.limits ≡ limits → IsSound r
+        → HoldsDatabase (image_at S.Start) db → IsStoreOf r db → LeavesAlone limits (database_of over_files o) r) }
+    // So it has one after a prefix of the changes of a run that was stopped, where the files hold what that stop left.
+    ensures reopened { IfOk result (λ o. HasCleanDisk (database_of over_files o) → (r : Register) (changes : List Change) (least made : ℕ) (db : Trees)
+        → r.limits ≡ limits → IsPrefix IsContentOf changes r least made db
+        → HoldsDatabase (image_at S.Start) db → IsReopened limits (database_of over_files o) r changes least) }
+{
+    let office = open_at(rt, path, limits, start)?;
+    leaves_alone(&office);
+    Ok(office)
+}

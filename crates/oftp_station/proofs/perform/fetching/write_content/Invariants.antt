@@ -1,0 +1,11 @@
+use Rattle.std.proofs.Common.{◌-◌}
+use Rattle.oftp_station.proofs.Fetching.{IsFetched}
+use Rattle.oftp_station.proofs.perform.fetching.write_content.Given as goal
+
+-- the rows so far are written
+abbrev pub invariant-rows : goal.invariant-rows
+invariant-rows g l =
+    IsFetched l.entry l.from (g.O.Office.view l.fn.office) (g.O.Office.view l.office) (g.W.Write.contents l.fn.out) (g.W.Write.contents l.out)
+
+abbrev pub decreases-rows : goal.decreases-rows
+decreases-rows g l = l.entry.rows - l.from

@@ -1,0 +1,83 @@
+//! The office over the database that a line names.
+
+use crate::outcome::Fault;
+use oftp_durable::open_durable;
+use oftp_store::{PathFault, SqlOffice, StoreFault, migrate_at};
+use oftp_vfile::Limits;
+use sqlite::{FileFrom, FileStore, Unknown};
+use std::fs;
+use std::io::ErrorKind;
+use std::time::{Clock, Duration};
+
+/// The office over a database's files, in which a torn write is supposed to leave each octet old or new.
+pub type DatabaseOffice = SqlOffice<FileStore<FileFrom<Unknown>>>;
+
+/// How much a register may hold.
+pub const LIMITS: Limits = Limits {
+    files: 1_000_000,
+    octets: 67_108_864,
+};
+
+/// How often a database that another program has open is tried again: ten seconds long.
+pub const PATIENCE: u32 = 200;
+
+/// How many milliseconds it is waited before a database is tried again.
+const PAUSE: u64 = 50;
+
+/// What is made of the database.
+#[derive(Clone, Copy)]
+enum Opening {
+    /// Its tables are made where it has none.
+    Open,
+    /// It is brought to schema 2.
+    Migrate,
+}
+
+/// Opens the office that a database holds, and makes its tables where it is empty or isn't there. Where another program has it open,
+/// it is tried again as often as `patience` says.
+pub fn open(rt: &HostRuntime, path: &str, patience: u32) -> Result<DatabaseOffice, Fault> {
+    patiently(rt, path, Opening::Open, patience)
+}
+
+/// Brings a database to schema 2, with the same patience. One that isn't there isn't made.
+pub fn migrate(rt: &HostRuntime, path: &str, patience: u32) -> Result<DatabaseOffice, Fault> {
+    match fs::metadata(rt, path) {
+        Err(error) if error.kind() == ErrorKind::NotFound => {
+            Err(Fault::Store(StoreFault::WrongSchema))
+        }
+        _ => patiently(rt, path, Opening::Migrate, patience),
+    }
+}
+
+/// Tries until the database isn't held, or the patience ends.
+fn patiently(
+    rt: &HostRuntime,
+    path: &str,
+    how: Opening,
+    patience: u32,
+) -> Result<DatabaseOffice, Fault> {
+    for _ in 0..patience {
+        match attempt(rt, path, how) {
+            Err(PathFault::Held) => rt.sleep(Duration::from_millis(PAUSE)),
+            Err(PathFault::Store(fault)) => return Err(Fault::Store(fault)),
+            Ok(office) => return Ok(office),
+        }
+    }
+    attempt(rt, path, how).map_err(store_fault)
+}
+
+/// Tries once.
+fn attempt(rt: &HostRuntime, path: &str, how: Opening) -> Result<DatabaseOffice, PathFault> {
+    match how {
+        Opening::Open => open_durable(rt, path, LIMITS, Unknown),
+        Opening::Migrate => migrate_at(rt, path, LIMITS, Unknown),
+    }
+}
+
+/// A database that is still held is a store that failed.
+fn store_fault(fault: PathFault) -> Fault {
+    match fault {
+        PathFault::Held => Fault::Store(StoreFault::Store),
+        PathFault::Store(fault) => Fault::Store(fault),
+    }
+}

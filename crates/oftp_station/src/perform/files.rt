@@ -1,0 +1,83 @@
+//! The files that a line names.
+
+use crate::outcome::Fault;
+use oftp_partners::{self as partners, Book, BookFault};
+use std::fs::{self, Metadata, OpenFile};
+use std::io::{self, ErrorKind, Read};
+use std::os::unix::fs::MetadataExt;
+use std::rt::Files;
+
+/// The book of a file.
+pub(super) fn read_book<R: Files + AllocGlobal>(rt: &R, path: &str) -> Result<Book, Fault> {
+    let octets = fs::read(rt, path).map_err(|error| file_fault(&error))?;
+    let Ok(text) = str::from_utf8(octets.as_slice()) else {
+        return Err(Fault::Book(BookFault::NotToml));
+    };
+    partners::read(rt.alloc(), text).map_err(book_fault)
+}
+
+/// Want of memory is no fault of the book.
+fn book_fault(fault: BookFault) -> Fault {
+    match fault {
+        BookFault::Memory => Fault::MEMORY,
+        other => Fault::Book(other),
+    }
+}
+
+/// Want of memory is no fault of the file.
+pub(super) fn file_fault(error: &io::Error) -> Fault {
+    if error.kind() == ErrorKind::OutOfMemory {
+        Fault::MEMORY
+    } else {
+        Fault::File
+    }
+}
+
+/// A file to be read, which is no folder.
+pub(super) fn open_input<R: Files>(rt: &R, path: &str) -> Result<R::File, Fault> {
+    let file = fs::open(rt, path).map_err(|error| file_fault(&error))?;
+    let about = file.metadata().map_err(|error| file_fault(&error))?;
+    if about.is_dir() {
+        return Err(Fault::File);
+    }
+    Ok(file)
+}
+
+/// The first octets of a file, at most so many.
+pub(super) fn read_beginning<R: Files + AllocGlobal>(
+    rt: &R,
+    path: &str,
+    most: u64,
+) -> Result<Vec<u8>, Fault> {
+    let mut octets = Vec::new(rt.alloc());
+    let mut beginning = open_input(rt, path)?.take(most);
+    match beginning.read_to_end(&mut octets) {
+        Ok(_) => Ok(octets),
+        Err(error) => Err(file_fault(&error)),
+    }
+}
+
+/// Whether these are of one file, by whatever names it was found.
+pub(super) fn are_of_one_file(one: &Metadata, other: &Metadata) -> bool {
+    one.dev() == other.dev() && one.ino() == other.ino()
+}
+
+/// Whether this is of the file at a path. Where there is none it isn't.
+pub(super) fn is_at<R: Files>(rt: &R, about: &Metadata, path: &str) -> Result<bool, Fault> {
+    match fs::metadata(rt, path) {
+        Ok(other) => Ok(are_of_one_file(about, &other)),
+        Err(error) if error.kind() == ErrorKind::NotFound => Ok(false),
+        Err(error) => Err(file_fault(&error)),
+    }
+}
+
+/// Whether this is of a database's own files: the database, or the log beside it.
+pub(super) fn is_of_database<R: Files + AllocGlobal>(
+    rt: &R,
+    about: &Metadata,
+    database: &str,
+) -> Result<bool, Fault> {
+    let real = fs::canonicalize(rt, database).map_err(|error| file_fault(&error))?;
+    let log = format!(in rt.alloc(); "{}-wal", real.as_str()).map_err(|_| Fault::MEMORY)?;
+    Ok(is_at(rt, about, real.as_str())? || is_at(rt, about, log.as_str())?)
+}

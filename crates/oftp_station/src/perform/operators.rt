@@ -1,0 +1,86 @@
+//! The commands `submit`, `release` and `refuse`, which are calls of the operator.
+
+use crate::database::{self, DatabaseOffice, LIMITS, PATIENCE};
+use crate::line::{Refuse, Release, Submit};
+use crate::outcome::Fault;
+use crate::perform::files::{read_beginning, read_book};
+use oftp_durable::operate_durable;
+use oftp_engine::{Operator, Port, Submission, Told};
+use oftp_partners::Book;
+use oftp_vfile::{Format, MOST_ROWS};
+use std::io::Write;
+
+/// How many octets the local form of a file that is kept has at most: the file's, and five digits for each of its records.
+const MOST_CONTENT: u64 = LIMITS.octets + 5 * MOST_ROWS as u64;
+
+/// Does what an operator wants, and writes the line that tells it.
+fn call(
+    rt: &HostRuntime,
+    office: &mut DatabaseOffice,
+    book: &Book,
+    operator: &Operator<'_>,
+    out: &mut impl Write,
+) -> Result<Told, Fault> {
+    operate_durable(rt.alloc(), office, book, operator, &mut Port::new(out, 0)).map_err(Fault::Run)
+}
+
+/// The format and the longest record of content. Content that is longer than any that is kept was read as far as that shows, and no
+/// more than its length counts.
+fn layout_of(submit: &Submit<'_>, content: &[u8]) -> (Format, u32) {
+    if content.len() as u64 > MOST_CONTENT && submit.format.allows_longest(submit.longest) {
+        (Format::Unstructured, 0)
+    } else {
+        (submit.format, submit.longest)
+    }
+}
+
+/// Registers a file that is to be sent to a partner.
+pub(super) fn submit(
+    rt: &HostRuntime,
+    submit: &Submit<'_>,
+    out: &mut impl Write,
+) -> Result<Told, Fault> {
+    let book = read_book(rt, submit.book)?;
+    let mut office = database::open(rt, submit.database, PATIENCE)?;
+    let content = read_beginning(rt, submit.file, MOST_CONTENT + 1)?;
+    let (format, longest) = layout_of(submit, content.as_slice());
+    let operator = Operator::Submit(Submission {
+        dataset: submit.dataset,
+        date: submit.date,
+        time: submit.time,
+        to: submit.to,
+        format,
+        longest,
+        description: submit.description,
+        content: content.as_slice(),
+    });
+    call(rt, &mut office, &book, &operator, out)
+}
+
+/// Issues the end response of an incoming file.
+pub(super) fn release(
+    rt: &HostRuntime,
+    release: &Release<'_>,
+    out: &mut impl Write,
+) -> Result<Told, Fault> {
+    let book = read_book(rt, release.book)?;
+    let mut office = database::open(rt, release.database, PATIENCE)?;
+    let operator = Operator::Release { no: release.no };
+    call(rt, &mut office, &book, &operator, out)
+}
+
+/// Issues the negative end response of an incoming file.
+pub(super) fn refuse(
+    rt: &HostRuntime,
+    refuse: &Refuse<'_>,
+    out: &mut impl Write,
+) -> Result<Told, Fault> {
+    let book = read_book(rt, refuse.book)?;
+    let mut office = database::open(rt, refuse.database, PATIENCE)?;
+    let operator = Operator::Refuse {
+        no: refuse.no,
+        reason: refuse.reason,
+        text: refuse.text,
+    };
+    call(rt, &mut office, &book, &operator, out)
+}

@@ -1,0 +1,39 @@
+//! The commands `init`, `migrate` and `report`, which look at a database alone.
+
+use crate::database::{self, PATIENCE};
+use crate::line::{Init, Migrate, Report};
+use crate::outcome::{Fault, Outcome};
+use oftp_engine::RunFault;
+use oftp_listing::{ListFault, report};
+use std::io::Write;
+
+/// Opens a database, making its tables.
+pub(super) fn initiate(rt: &HostRuntime, init: &Init<'_>) -> Result<Outcome, Fault> {
+    database::open(rt, init.database, PATIENCE)?;
+    Ok(Outcome::Initiated)
+}
+
+/// Brings a database of schema 1 to schema 2.
+pub(super) fn migrate(rt: &HostRuntime, migrate: &Migrate<'_>) -> Result<Outcome, Fault> {
+    database::migrate(rt, migrate.database, PATIENCE)?;
+    Ok(Outcome::Migrated)
+}
+
+/// Writes a report of what a database keeps.
+pub(super) fn write_report(
+    rt: &HostRuntime,
+    what: &Report<'_>,
+    out: &mut impl Write,
+) -> Result<(), Fault> {
+    let mut office = database::open(rt, what.database, PATIENCE)?;
+    report(rt.alloc(), what.kind, &mut office, out).map_err(list_fault)
+}
+
+/// The fault of a report. One of a request that isn't whole never comes.
+fn list_fault(fault: ListFault) -> Fault {
+    Fault::Run(match fault {
+        ListFault::Incomplete | ListFault::Memory => RunFault::Memory,
+        ListFault::Office => RunFault::Office,
+        ListFault::Write => RunFault::Write,
+    })
+}

@@ -1,0 +1,122 @@
+//! The command `feed`, one session from file to file.
+
+use crate::database::{self, LIMITS, PATIENCE};
+use crate::line::{Feed, Side};
+use crate::outcome::{Fault, Outcome};
+use crate::perform::files::{
+    are_of_one_file, file_fault, is_at, is_of_database, open_input, read_book,
+};
+use oftp_durable::serve_durable;
+use oftp_engine::{End, Port, Role, RunFault, serve_in_memory};
+use oftp_partners::{Book, Partner};
+use oftp_register::PlainOffice;
+use std::fs::{self, Metadata, OpenFile};
+use std::io::ErrorKind;
+use std::rt::Files;
+
+/// How many octets are read in one session, at most.
+const LONGEST_INPUT: u64 = 1_099_511_627_776;
+
+/// One session from the octets of one file to another file, with a register in memory where the line names no database.
+pub(super) fn feed(rt: &HostRuntime, line: &Feed<'_>) -> Result<Outcome, Fault> {
+    let book = read_book(rt, line.book)?;
+    let Some(role) = role_of(&book, line) else {
+        return Ok(Outcome::Unknown);
+    };
+    match line.database {
+        Some(path) => {
+            let mut office = database::open(rt, path, PATIENCE)?;
+            let (mut reader, mut writer) = ports(rt, line)?;
+            outcome_of(serve_durable(
+                rt.alloc(),
+                &mut office,
+                &book,
+                role,
+                &mut reader,
+                &mut writer,
+            ))
+        }
+        None => {
+            let mut office = PlainOffice::new(rt.alloc(), LIMITS);
+            let (mut reader, mut writer) = ports(rt, line)?;
+            outcome_of(serve_in_memory(
+                rt.alloc(),
+                &mut office,
+                &book,
+                role,
+                &mut reader,
+                &mut writer,
+            ))
+        }
+    }
+}
+
+/// What a session comes to.
+fn outcome_of(ended: Result<End, RunFault>) -> Result<Outcome, Fault> {
+    match ended {
+        Ok(end) => Ok(Outcome::Ended(end)),
+        Err(fault) => Err(Fault::Run(fault)),
+    }
+}
+
+/// The role in the session. An initiator calls a named partner, and a partner that is named is in the book.
+fn role_of<'b>(book: &'b Book, line: &Feed<'_>) -> Option<Role<'b>> {
+    let named = match line.partner {
+        Some(code) => Some(book.partner(code.as_bytes())?),
+        None => None,
+    };
+    role_with(line.role, named)
+}
+
+/// The role on a side of the session, with the partner that is named.
+fn role_with<'b>(side: Side, named: Option<&'b Partner>) -> Option<Role<'b>> {
+    match side {
+        Side::Responder => Some(Role::Responder),
+        Side::Initiator => named.map(Role::Initiator),
+    }
+}
+
+/// The ports of the files that the line names: what the partner sends, and what it is sent.
+fn ports<R: Files + AllocGlobal>(
+    rt: &R,
+    line: &Feed<'_>,
+) -> Result<(Port<R::File>, Port<R::File>), Fault> {
+    let input = open_input(rt, line.input)?;
+    check_output(rt, line, &input)?;
+    let output = fs::create(rt, line.output).map_err(|error| file_fault(&error))?;
+    Ok((Port::new(input, LONGEST_INPUT), Port::new(output, 0)))
+}
+
+/// Refuses an output that the session needs: making it would take away its octets. A device loses none.
+fn check_output<R: Files + AllocGlobal>(
+    rt: &R,
+    line: &Feed<'_>,
+    input: &R::File,
+) -> Result<(), Fault> {
+    let output = match fs::metadata(rt, line.output) {
+        Ok(output) => output,
+        Err(error) if error.kind() == ErrorKind::NotFound => return Ok(()),
+        Err(error) => return Err(file_fault(&error)),
+    };
+    let input = input.metadata().map_err(|error| file_fault(&error))?;
+    if output.is_file() && is_needed(rt, line, &output, &input)? {
+        return Err(Fault::File);
+    }
+    Ok(())
+}
+
+/// Whether this is of the input, the book or a file of the database.
+fn is_needed<R: Files + AllocGlobal>(
+    rt: &R,
+    line: &Feed<'_>,
+    output: &Metadata,
+    input: &Metadata,
+) -> Result<bool, Fault> {
+    if are_of_one_file(output, input) || is_at(rt, output, line.book)? {
+        return Ok(true);
+    }
+    match line.database {
+        Some(path) => is_of_database(rt, output, path),
+        None => Ok(false),
+    }
+}

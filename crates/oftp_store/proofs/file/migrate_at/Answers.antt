@@ -1,0 +1,21 @@
+use Rattle.std.proofs.Common.{◌≡◌, ◌∙◌, sym, ap, subst, arith}
+use Rattle.sqlite.specs.Effect.{Database}
+use Rattle.sqlite.specs.State.{HasCleanDisk}
+use Rattle.sqlite.specs.Files.{file_state}
+use Rattle.oftp_open.specs.Opening.{IsFirstOf}
+use Rattle.oftp_store.proofs.file.migrate_at.Goals as goal
+
+pub returns-in-Ok-migrate : goal.returns-in-Ok-migrate
+returns-in-Ok-migrate g c clean r db is holds stands =
+    let conn = c.in-Ok.conn in
+    let opened = c.in-Ok-migrate.ensures.opened.2 in
+    let early : HasCleanDisk (file_state conn) = omega (arith, opened.clean, clean) in
+    let at = c.in-Ok.ensures.opened early in
+    let trees = (c.in-Ok.ensures.found early).holds db holds in
+    let now = ap (λ (d : Database). d.trees) at.0.clean in
+    opened.found clean r is (record {
+      is_open = at.0.is_open;
+      settled = at.0.clean;
+      sound = (at.1 at.0.is_open).0;
+      content = subst (IsFirstOf r) (sym (now ∙ trees)) stands;
+    })
