@@ -5,8 +5,6 @@ mod database;
 mod line;
 mod outcome;
 mod perform;
-#[cfg(test)]
-mod tests;
 
 use perform::{perform, tell_unread};
 use std::process::ExitCode;
