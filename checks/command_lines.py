@@ -12,7 +12,6 @@ commands.lines the words are varied: each is left out, is given twice, and has o
 import os
 import resource
 import shlex
-import sqlite3
 import subprocess
 import sys
 import tempfile
@@ -198,13 +197,6 @@ def set_mode(folder, name, mode):
     (folder / name).chmod(int(mode, 8))
 
 
-def change_database(folder, *words):
-    connection = sqlite3.connect(folder / "db")
-    with connection:
-        connection.executescript(" ".join(words))
-    connection.close()
-
-
 # What stands before the words of a line.
 DONE_BEFORE = {
     "file": make_file,
@@ -215,7 +207,6 @@ DONE_BEFORE = {
     "same": make_name,
     "link": make_link,
     "mode": set_mode,
-    "statement": change_database,
 }
 
 
@@ -229,8 +220,19 @@ def bad_line(name, words, *text):
     return line
 
 
+class Argument:
+    """An argument of a command: as texts show it, the words that give it, and whether it is needed."""
+
+    def __init__(self, words, is_needed):
+        # `--db <DATABASE> db` is an option with its value, `<FILE> content` a word.
+        self.is_option = words[0].startswith("--")
+        self.shown = " ".join(words[:-1])
+        self.words = [words[0], words[-1]] if self.is_option else [words[-1]]
+        self.is_needed = is_needed
+
+
 class Command:
-    """A command with its arguments in the order of its usage: each as texts show it, the words that give it, and whether it is needed."""
+    """A command with its arguments in the order of its usage."""
 
     def __init__(self, name):
         self.name = name
@@ -239,18 +241,15 @@ class Command:
     def take(self, first, rest):
         if first not in ("needs", "may"):
             raise ValueError("no line begins so")
-        # `--db <DATABASE> db` is an option with its value, `<FILE> content` a word.
-        shown_words = rest[:2] if rest[0].startswith("--") else rest[:1]
-        words = rest[:1] + rest[2:] if len(shown_words) == 2 else rest[1:]
-        self.arguments.append((" ".join(shown_words), words, first == "needs"))
+        self.arguments.append(Argument(rest, first == "needs"))
 
     def usage(self):
-        parts = [argument if is_needed else f"[{argument}]" for argument, _, is_needed in self.arguments]
+        parts = [each.shown if each.is_needed else f"[{each.shown}]" for each in self.arguments]
         return " ".join(["oftp_station", self.name, *parts])
 
     def words(self, left_out=None):
         """The words that give each argument that is needed, but for one."""
-        given = [words for argument, words, is_needed in self.arguments if is_needed and argument != left_out]
+        given = [each.words for each in self.arguments if each.is_needed and each is not left_out]
         return [self.name, *(word for words in given for word in words)]
 
     def bad(self, what, words, *error):
@@ -264,19 +263,24 @@ class Command:
         line.take("err", [], "error: unexpected argument '--nothing' found")
         return line
 
+    def without(self, argument):
+        """The bad line in which an argument is left out. Where it is a word the others take its place, so the last one is missing."""
+        missing = argument if argument.is_option else self.arguments[-1]
+        error = "error: the following required arguments were not provided:"
+        return self.bad(f"without {argument.shown}", self.words(argument), error, f"  {missing.shown}")
+
+    def twice(self, argument):
+        """The bad line in which an argument is given twice."""
+        words = [*self.words(), *argument.words, *([] if argument.is_needed else argument.words)]
+        error = f"unexpected argument '{argument.words[0]}' found"
+        if argument.is_option:
+            error = f"the argument '{argument.shown}' cannot be used multiple times"
+        return self.bad(f"with {argument.shown} twice", words, f"error: {error}")
+
     def lines(self):
         """The bad lines that its arguments make."""
-        lines = [self.unknown()]
-        for argument, words, is_needed in self.arguments:
-            if is_needed:
-                # Where a word is left out the others take its place, so the last one is missing.
-                missing = argument if words[1:] else self.arguments[-1][0]
-                error = "error: the following required arguments were not provided:"
-                lines.append(self.bad(f"without {argument}", self.words(argument), error, f"  {missing}"))
-            twice = [*self.words(), *words] if is_needed else [*self.words(), *words, *words]
-            error = f"the argument '{argument}' cannot be used multiple times" if words[1:] else f"unexpected argument '{words[0]}' found"
-            lines.append(self.bad(f"with {argument} twice", twice, f"error: {error}"))
-        return lines
+        missing = [self.without(argument) for argument in self.arguments if argument.is_needed]
+        return [self.unknown(), *missing, *(self.twice(argument) for argument in self.arguments)]
 
 
 def read(path):
@@ -326,7 +330,7 @@ def main():
         for line in all_lines(path):
             try:
                 why = line.run()
-            except (OSError, subprocess.TimeoutExpired, tables.Damaged, sqlite3.Error) as fault:
+            except (OSError, subprocess.TimeoutExpired, tables.Damaged) as fault:
                 why = fault
             passed += not why
             failed += bool(why)

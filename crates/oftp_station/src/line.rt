@@ -22,7 +22,7 @@ use commands::{Name, USAGES};
 use std::alloc::{AllocError, Global};
 
 /// A command with its options and words, borrowed from the words of the command line.
-#[derive(Debug, Clone, Copy, PartialEq, Eq)]
+#[derive(Clone, Copy)]
 pub enum Line<'a> {
     /// The database is opened, and its tables are made.
     Init(Init<'a>),
@@ -45,7 +45,7 @@ pub enum Line<'a> {
 }
 
 /// Why the words are read as no command.
-#[derive(Debug, Drop)]
+#[derive(Drop)]
 pub enum LineFault {
     /// They are no command line. The text says why, for standard error, and ends its last line.
     Bad(String),

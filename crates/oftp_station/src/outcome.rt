@@ -9,7 +9,7 @@ use oftp_schema::StoreFault;
 use std::fmt;
 
 /// Why a command failed: the line on standard error.
-#[derive(Clone, Copy, Debug, Drop, PartialEq, Eq)]
+#[derive(Clone, Copy, Drop)]
 pub enum Fault {
     /// A session was broken off.
     Run(RunFault),
@@ -45,7 +45,7 @@ impl fmt::Display for Fault {
 }
 
 /// What a command did: the line on standard output.
-#[derive(Clone, Copy, Debug, Drop, PartialEq, Eq)]
+#[derive(Clone, Copy, Drop)]
 pub enum Outcome {
     /// The database was opened, and has its tables.
     Initiated,
