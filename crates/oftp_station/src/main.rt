@@ -5,6 +5,8 @@ mod database;
 mod line;
 mod outcome;
 mod perform;
+mod ports;
+mod sockets;
 #[cfg(test)]
 mod tests;
 
