@@ -8,6 +8,7 @@ use std::test::Fail;
 
 mod commands;
 mod sessions;
+mod sockets;
 mod transfers;
 
 /// A book of one partner.

@@ -151,11 +151,8 @@ pub(super) fn own_patience<'a>(alloc: Global) -> Arg<'a>
     ensures local { result.global ≡ false }
 {
     let help = "How many seconds the partner may keep still, 0 to 86400, 0 for ever";
-    numbered(
-        defaulted(alloc, "patience", "300", "SECONDS", help),
-        0,
-        MOST_PATIENCE,
-    )
+    let patience = defaulted(alloc, "patience", "300", "SECONDS", help);
+    numbered(patience, 0, MOST_PATIENCE)
 }
 
 /// The fault for an error of the parser.

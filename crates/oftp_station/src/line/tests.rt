@@ -214,6 +214,67 @@ fn reads_feed(rt: HostRuntime) -> Result<(), Fail> {
     )
 }
 
+#[test]
+fn reads_services(rt: HostRuntime) -> Result<(), Fail> {
+    let listen = Listen {
+        database: "d",
+        book: "b",
+        port: 3305,
+        address: "127.0.0.1",
+        sessions: 1,
+        patience: 300,
+    };
+    let patient = Listen {
+        port: 65_535,
+        address: "::1",
+        sessions: 1_000_000,
+        patience: 0,
+        ..listen
+    };
+    let call = Call {
+        database: "d",
+        book: "b",
+        partner: "p",
+        patience: 300,
+    };
+    let hurried = Call {
+        patience: 1,
+        ..call
+    };
+    let http = Http {
+        database: "d",
+        port: 8080,
+        address: "127.0.0.1",
+        requests: 1,
+    };
+    let often = Http {
+        port: 1,
+        address: "a",
+        requests: 1_000_000,
+        ..http
+    };
+    are_read(
+        &rt,
+        &[
+            ("listen --db d --book b", Line::Listen(listen)),
+            (
+                "listen --patience 0 --port=65535 --sessions 1000000 --address ::1 --db=d --book=b",
+                Line::Listen(patient),
+            ),
+            ("call --db d --book b --partner p", Line::Call(call)),
+            (
+                "call --patience 1 --db d --book b --partner p",
+                Line::Call(hurried),
+            ),
+            ("http --db d", Line::Http(http)),
+            (
+                "http --requests=1000000 --address=a --port=1 --db=d",
+                Line::Http(often),
+            ),
+        ],
+    )
+}
+
 /// The text for words that are no command line, or the line that they are.
 fn refusal(alloc: Global, words: &[String]) -> Result<String, LineFault> {
     match line_of(alloc, words) {
@@ -243,6 +304,9 @@ Usage:
   oftp_station fetch --db <DATABASE> <NO> <FILE>
   oftp_station report --db <DATABASE> <KIND>
   oftp_station feed [--db <DATABASE>] --book <BOOK> [--role <ROLE>] [--partner <CODE>] <IN> <OUT>
+  oftp_station listen --db <DATABASE> --book <BOOK> [--port <PORT>] [--address <ADDRESS>] [--sessions <COUNT>] [--patience <SECONDS>]
+  oftp_station call --db <DATABASE> --book <BOOK> --partner <CODE> [--patience <SECONDS>]
+  oftp_station http --db <DATABASE> [--port <PORT>] [--address <ADDRESS>] [--requests <COUNT>]
 ";
 
 const UNKNOWN_COMMAND: &str = "error: unknown command '--help'
@@ -257,6 +321,9 @@ Usage:
   oftp_station fetch --db <DATABASE> <NO> <FILE>
   oftp_station report --db <DATABASE> <KIND>
   oftp_station feed [--db <DATABASE>] --book <BOOK> [--role <ROLE>] [--partner <CODE>] <IN> <OUT>
+  oftp_station listen --db <DATABASE> --book <BOOK> [--port <PORT>] [--address <ADDRESS>] [--sessions <COUNT>] [--patience <SECONDS>]
+  oftp_station call --db <DATABASE> --book <BOOK> --partner <CODE> [--patience <SECONDS>]
+  oftp_station http --db <DATABASE> [--port <PORT>] [--address <ADDRESS>] [--requests <COUNT>]
 ";
 
 const NO_BOOK: &str = "error: the following required arguments were not provided:
@@ -303,6 +370,20 @@ Options:
       --role <ROLE>     The side that the station plays: responder or initiator [default: responder]
       --partner <CODE>  The code of the partner that an initiator calls
   -h, --help            Print help
+";
+
+const LISTEN_HELP: &str = "Serves sessions of partners who call, one after another
+
+Usage: oftp_station listen --db <DATABASE> --book <BOOK> [--port <PORT>] [--address <ADDRESS>] [--sessions <COUNT>] [--patience <SECONDS>]
+
+Options:
+      --db <DATABASE>       The file that holds the database
+      --book <BOOK>         The file that holds the book
+      --port <PORT>         The port where callers are awaited, 1 to 65535 [default: 3305]
+      --address <ADDRESS>   The machine's address where callers are awaited [default: 127.0.0.1]
+      --sessions <COUNT>    How many sessions are served, 1 to 1000000 [default: 1]
+      --patience <SECONDS>  How many seconds the partner may keep still, 0 to 86400, 0 for ever [default: 300]
+  -h, --help                Print help
 ";
 
 const WRONG_FORMAT: &str = "error: invalid value 'f' for '--format <FORMAT>'
@@ -373,6 +454,7 @@ fn says_what_is_wrong(rt: HostRuntime) -> Result<(), Fail> {
         ("feed --book b i o x", THIRD_WORD),
         ("feed --book b --role listener i o", WRONG_ROLE),
         ("feed i --help", FEED_HELP),
+        ("listen --help", LISTEN_HELP),
         (
             "submit --db d --book b --dataset n --date e --time t --to p --format f f",
             WRONG_FORMAT,
@@ -392,7 +474,7 @@ fn says_what_is_wrong(rt: HostRuntime) -> Result<(), Fail> {
 }
 
 /// Each command, with what must be given and what may be missing.
-const COMMANDS: [(&str, &[&str], &[&str]); 9] = [
+const COMMANDS: [(&str, &[&str], &[&str]); 12] = [
     ("init", &["--db=d"], &[]),
     ("migrate", &["--db=d"], &[]),
     ("check", &["--book=b"], &[]),
@@ -418,6 +500,21 @@ const COMMANDS: [(&str, &[&str], &[&str]); 9] = [
         "feed",
         &["--book=b", "i", "o"],
         &["--db=d", "--role=responder", "--partner=p"],
+    ),
+    (
+        "listen",
+        &["--db=d", "--book=b"],
+        &["--port=1", "--address=a", "--sessions=1", "--patience=1"],
+    ),
+    (
+        "call",
+        &["--db=d", "--book=b", "--partner=p"],
+        &["--patience=1"],
+    ),
+    (
+        "http",
+        &["--db=d"],
+        &["--port=1", "--address=a", "--requests=1"],
     ),
 ];
 
@@ -472,7 +569,7 @@ fn asks_for_each_argument_once(rt: HostRuntime) -> Result<(), Fail> {
             let twice = varied(rt.alloc(), once.as_str(), &[], ALL, *option)?;
             is_answered(&rt, twice.as_str(), TWICE)?;
         }
-        let unknown = varied(rt.alloc(), name, needed, ALL, "--port=1")?;
+        let unknown = varied(rt.alloc(), name, needed, ALL, "--colour=1")?;
         is_answered(&rt, unknown.as_str(), UNEXPECTED)?;
     }
     Ok(())
@@ -518,6 +615,15 @@ fn refuses_what_is_no_command_line(rt: HostRuntime) -> Result<(), Fail> {
         "report --db d In",
         "report --db d in out",
         "listens --db d",
+        "listen --db d --book b --port 0",
+        "listen --db d --book b --port 65536",
+        "listen --db d --book b --sessions 0",
+        "listen --db d --book b --patience 86401",
+        "listen --db d --book b --partner p",
+        "call --db d --book b",
+        "call --db d --book b --partner p --port 3305",
+        "http --db d --book b",
+        "http --db d --requests 0",
     ];
     for line in lines {
         let words = words_of(rt.alloc(), line)?;

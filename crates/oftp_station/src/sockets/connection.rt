@@ -11,8 +11,8 @@ const MOST_CALLS: u32 = 1_000;
 /// How many octets are dropped before a connection is closed, at most.
 const MOST_DROPPED: u64 = 16_777_216;
 
-/// How long they are waited for, at most.
-const FAREWELL: Duration = Duration::from_secs(5);
+/// How many seconds they are waited for, at most.
+const FAREWELL: u64 = 5;
 
 /// A connection. Each read and each write fails where the partner keeps still for longer than the limit.
 #[derive(Drop)]
@@ -39,7 +39,7 @@ impl Connection {
     /// Says that all is written, and drops what the partner still sends, so that no reset takes away what it hasn't read yet.
     pub(super) fn part(&self, rt: &HostRuntime) -> io::Result<()> {
         self.stream.shutdown(Shutdown::Write)?;
-        let mut rest = Timed::new(rt, self, FAREWELL)?.take(MOST_DROPPED);
+        let mut rest = Timed::new(rt, self, Duration::from_secs(FAREWELL))?.take(MOST_DROPPED);
         io::copy(&mut rest, &mut io::sink())?;
         Ok(())
     }

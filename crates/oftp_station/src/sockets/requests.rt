@@ -16,8 +16,8 @@ use std::time::Duration;
 /// How many octets of a request are read: one more than a head may have.
 const MOST_OCTETS: usize = 8_193;
 
-/// How long a request may take to come, and its reply to go.
-const LIMIT: Duration = Duration::from_secs(10);
+/// How many seconds a request may take to come, and its reply to go.
+const LIMIT: u64 = 10;
 
 /// Answers so many requests for what a database holds, one connection each. Where another program holds the database, the connection
 /// is closed without a reply, and a line says so.
@@ -40,7 +40,7 @@ pub fn http_on(
 
 /// Answers one request. A connection that fails, or ends before the head is whole, is closed without a reply.
 fn serve(rt: &HostRuntime, stream: TcpStream, database: &str) -> Result<(), Trouble> {
-    let Ok(connection) = Connection::new(stream, Some(LIMIT)) else {
+    let Ok(connection) = Connection::new(stream, None) else {
         return Ok(());
     };
     let mut octets = [0; MOST_OCTETS];
@@ -58,7 +58,7 @@ fn hear(
     connection: &Connection,
     octets: &mut [u8],
 ) -> Result<Option<usize>, Fault> {
-    let Ok(mut reader) = Timed::new(rt, connection, LIMIT) else {
+    let Ok(mut reader) = timed(rt, connection) else {
         return Ok(None);
     };
     let mut count = 0;
@@ -90,8 +90,13 @@ fn reply_to(rt: &HostRuntime, request: &[u8], database: &str) -> Result<Reply, T
     answer(rt.alloc(), request, &mut office).map_err(|fault| Trouble::from(Fault::from(fault)))
 }
 
+/// The connection for as long as a request may take to come, or its reply to go.
+fn timed<'a>(rt: &'a HostRuntime, connection: &'a Connection) -> io::Result<Timed<'a>> {
+    Timed::new(rt, connection, Duration::from_secs(LIMIT))
+}
+
 /// Sends a reply, and leaves the caller the time to read it.
 fn send(rt: &HostRuntime, connection: &Connection, reply: &Reply) -> io::Result<()> {
-    Timed::new(rt, connection, LIMIT)?.write_all(reply.octets())?;
+    timed(rt, connection)?.write_all(reply.octets())?;
     connection.part(rt)
 }

@@ -159,6 +159,7 @@ fn lines_of_faults(rt: HostRuntime) -> Result<(), Fail> {
         (Fault::Store(StoreFault::Memory), "fault: 6 store 2"),
         (Fault::Store(StoreFault::WrongSchema), "fault: 6 store 3"),
         (Fault::File, "fault: 7 file"),
+        (Fault::Socket, "fault: 8 socket"),
     ] {
         assert_eq!(rt; fault.to_string(rt.alloc())?.as_str(), line);
     }
