@@ -62,12 +62,11 @@ fn hear(
         return Ok(None);
     };
     let mut count = 0;
-    while count < octets.len() {
-        let more = reader.read(&mut octets[count..]).unwrap_or(0);
-        if more == 0 {
-            return Ok(None);
+    'octets: while count < octets.len() {
+        match reader.read(&mut octets[count..]) {
+            Ok(more) if more > 0 => count += more,
+            _ => return Ok(None),
         }
-        count += more;
         if is_whole(rt.alloc(), &octets[..count])? {
             return Ok(Some(count));
         }
