@@ -4,11 +4,14 @@ use Rattle.clap.proofs.OnLiterals.{clap_on_literals}
 use Rattle.oftp_listing.specs.declared.reports.ReportKind.TheVariants.{Incoming, Issued, Outgoing, Received}
 use Rattle.oftp_vfile.specs.declared.format.Format.TheVariants.{Fixed, Text, Unstructured, Variable}
 use Rattle.oftp_station.specs.Arguments.{taken}
+use Rattle.oftp_station.specs.CallLine.{call_app}
 use Rattle.oftp_station.specs.CheckLine.{check_app}
 use Rattle.oftp_station.specs.FeedLine.{feed_app}
 use Rattle.oftp_station.specs.FetchLine.{fetch_app}
+use Rattle.oftp_station.specs.HttpLine.{http_app}
 use Rattle.oftp_station.specs.InitLine.{init_app}
-use Rattle.oftp_station.specs.Line.{line_named, line_of_words, said_check, said_feed, said_fetch, said_init, said_migrate, said_refuse, said_release, said_report, said_submit}
+use Rattle.oftp_station.specs.Line.{line_named, line_of_words, said_call, said_check, said_feed, said_fetch, said_http, said_init, said_listen, said_migrate, said_refuse, said_release, said_report, said_submit}
+use Rattle.oftp_station.specs.ListenLine.{listen_app}
 use Rattle.oftp_station.specs.MigrateLine.{migrate_app}
 use Rattle.oftp_station.specs.RefuseLine.{refuse_app}
 use Rattle.oftp_station.specs.ReleaseLine.{release_app}
@@ -310,6 +313,97 @@ feed_long = refl
 feed_help : line_of_words (codes "feed" ∷ codes "--help" ∷ []) ≡ None
 unfolding clap_on_literals feed_app line_named taken
 feed_help = refl
+
+-- `listen` serves one session on port 3305 of the loopback address, where no more is said
+listen_plain : line_of_words (codes "listen" ∷ codes "--db=d" ∷ codes "--book=b" ∷ [])
+    ≡ Some (said_listen (record { database = codes "d"; book = codes "b"; port = 3305; address = codes "127.0.0.1"; sessions = 1; patience = 300 }))
+unfolding clap_on_literals listen_app line_named taken
+listen_plain = refl
+
+-- options come in any order
+listen_whole : line_of_words (codes "listen" ∷ codes "--patience" ∷ codes "0" ∷ codes "--sessions=1000000" ∷ codes "--book=b" ∷ codes "--address" ∷ codes "::1"
+    ∷ codes "--db=d" ∷ codes "--port=65535" ∷ [])
+    ≡ Some (said_listen (record { database = codes "d"; book = codes "b"; port = 65535; address = codes "::1"; sessions = 1000000; patience = 0 }))
+unfolding clap_on_literals listen_app line_named taken
+listen_whole = refl
+
+-- no port is 0
+listen_zero : line_of_words (codes "listen" ∷ codes "--db=d" ∷ codes "--book=b" ∷ codes "--port=0" ∷ []) ≡ None
+unfolding clap_on_literals listen_app line_named taken
+listen_zero = refl
+
+-- nor after the last
+listen_after : line_of_words (codes "listen" ∷ codes "--db=d" ∷ codes "--book=b" ∷ codes "--port=65536" ∷ []) ≡ None
+unfolding clap_on_literals listen_app line_named taken
+listen_after = refl
+
+-- some session is served
+listen_none : line_of_words (codes "listen" ∷ codes "--db=d" ∷ codes "--book=b" ∷ codes "--sessions=0" ∷ []) ≡ None
+unfolding clap_on_literals listen_app line_named taken
+listen_none = refl
+
+-- and no more than a million
+listen_more : line_of_words (codes "listen" ∷ codes "--db=d" ∷ codes "--book=b" ∷ codes "--sessions=1000001" ∷ []) ≡ None
+unfolding clap_on_literals listen_app line_named taken
+listen_more = refl
+
+-- patience ends with a day
+listen_patient : line_of_words (codes "listen" ∷ codes "--db=d" ∷ codes "--book=b" ∷ codes "--patience=86401" ∷ []) ≡ None
+unfolding clap_on_literals listen_app line_named taken
+listen_patient = refl
+
+-- it takes no word
+listen_word : line_of_words (codes "listen" ∷ codes "--db=d" ∷ codes "--book=b" ∷ codes "w" ∷ []) ≡ None
+unfolding clap_on_literals listen_app line_named taken
+listen_word = refl
+
+-- and calls no partner
+listen_partner : line_of_words (codes "listen" ∷ codes "--db=d" ∷ codes "--book=b" ∷ codes "--partner=p" ∷ []) ≡ None
+unfolding clap_on_literals listen_app line_named taken
+listen_partner = refl
+
+-- `call` takes a partner
+call_partner : line_of_words (codes "call" ∷ codes "--db=d" ∷ codes "--book=b" ∷ codes "--partner=p" ∷ [])
+    ≡ Some (said_call (record { database = codes "d"; book = codes "b"; partner = codes "p"; patience = 300 }))
+unfolding clap_on_literals call_app line_named taken
+call_partner = refl
+
+-- and a patience
+call_patient : line_of_words (codes "call" ∷ codes "--db=d" ∷ codes "--book=b" ∷ codes "--patience" ∷ codes "86400" ∷ codes "--partner" ∷ codes "p" ∷ [])
+    ≡ Some (said_call (record { database = codes "d"; book = codes "b"; partner = codes "p"; patience = 86400 }))
+unfolding clap_on_literals call_app line_named taken
+call_patient = refl
+
+-- it does without no partner
+call_bare : line_of_words (codes "call" ∷ codes "--db=d" ∷ codes "--book=b" ∷ []) ≡ None
+unfolding clap_on_literals call_app line_named taken
+call_bare = refl
+
+-- and its port is the book's
+call_port : line_of_words (codes "call" ∷ codes "--db=d" ∷ codes "--book=b" ∷ codes "--partner=p" ∷ codes "--port=3305" ∷ []) ≡ None
+unfolding clap_on_literals call_app line_named taken
+call_port = refl
+
+-- `http` answers one request on port 8080 of the loopback address, where no more is said
+http_plain : line_of_words (codes "http" ∷ codes "--db=d" ∷ []) ≡ Some (said_http (record { database = codes "d"; port = 8080; address = codes "127.0.0.1"; requests = 1 }))
+unfolding clap_on_literals http_app line_named taken
+http_plain = refl
+
+-- options come in any order
+http_whole : line_of_words (codes "http" ∷ codes "--requests=1000000" ∷ codes "--address=a" ∷ codes "--db=d" ∷ codes "--port" ∷ codes "1" ∷ [])
+    ≡ Some (said_http (record { database = codes "d"; port = 1; address = codes "a"; requests = 1000000 }))
+unfolding clap_on_literals http_app line_named taken
+http_whole = refl
+
+-- some request is answered
+http_none : line_of_words (codes "http" ∷ codes "--db=d" ∷ codes "--requests=0" ∷ []) ≡ None
+unfolding clap_on_literals http_app line_named taken
+http_none = refl
+
+-- it needs no book
+http_book : line_of_words (codes "http" ∷ codes "--db=d" ∷ codes "--book=b" ∷ []) ≡ None
+unfolding clap_on_literals http_app line_named taken
+http_book = refl
 
 -- no command has this name
 unknown : line_of_words (codes "feeds" ∷ codes "--book=b" ∷ codes "i" ∷ codes "o" ∷ []) ≡ None

@@ -2,10 +2,13 @@
 use Rattle.std.proofs.Common.{◌≡◌, refl, true}
 use Rattle.clap.specs.Words.{is_simple_and_free}
 use Rattle.clap.proofs.OnLiterals.{clap_on_literals}
+use Rattle.oftp_station.specs.CallLine.{call_app}
 use Rattle.oftp_station.specs.CheckLine.{check_app}
 use Rattle.oftp_station.specs.FeedLine.{feed_app}
 use Rattle.oftp_station.specs.FetchLine.{fetch_app}
+use Rattle.oftp_station.specs.HttpLine.{http_app}
 use Rattle.oftp_station.specs.InitLine.{init_app}
+use Rattle.oftp_station.specs.ListenLine.{listen_app}
 use Rattle.oftp_station.specs.MigrateLine.{migrate_app}
 use Rattle.oftp_station.specs.RefuseLine.{refuse_app}
 use Rattle.oftp_station.specs.ReleaseLine.{release_app}
@@ -13,10 +16,10 @@ use Rattle.oftp_station.specs.ReportLine.{report_app}
 use Rattle.oftp_station.specs.SubmitLine.{submit_app}
 use Rattle.oftp_station.specs.Line.{app_named}
 use Rattle.oftp_station.specs.declared.line.commands.Name.{Name}
-use Rattle.oftp_station.specs.declared.line.commands.Name.TheVariants.{Check, Feed, Fetch, Init, Migrate, Refuse, Release, Report, Submit}
+use Rattle.oftp_station.specs.declared.line.commands.Name.TheVariants.{Call, Check, Feed, Fetch, Http, Init, Listen, Migrate, Refuse, Release, Report, Submit}
 
 pub is_simple_named : (name : Name) → is_simple_and_free (app_named name) ≡ true
-unfolding clap_on_literals check_app feed_app fetch_app init_app migrate_app refuse_app release_app report_app submit_app
+unfolding clap_on_literals call_app check_app feed_app fetch_app http_app init_app listen_app migrate_app refuse_app release_app report_app submit_app
 is_simple_named Init = refl
 is_simple_named Migrate = refl
 is_simple_named Check = refl
@@ -26,3 +29,6 @@ is_simple_named Refuse = refl
 is_simple_named Fetch = refl
 is_simple_named Report = refl
 is_simple_named Feed = refl
+is_simple_named Listen = refl
+is_simple_named Call = refl
+is_simple_named Http = refl

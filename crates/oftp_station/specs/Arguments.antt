@@ -9,7 +9,7 @@ use Rattle.clap.specs.declared.builder.ArgAction.{ArgAction}
 use Rattle.clap.specs.declared.builder.ArgAction.TheVariants.{Set}
 use Rattle.clap.specs.declared.builder.value_parser.ValueParser.{ValueParser}
 use Rattle.clap.specs.declared.builder.value_parser.ValueParser.TheVariants.{Unsigned}
-use Rattle.oftp_station.specs.declared.line.arguments.TheConstants.{MOST_NO}
+use Rattle.oftp_station.specs.declared.line.arguments.TheConstants.{MOST_CALLERS, MOST_NO, MOST_PATIENCE, MOST_PORT}
 
 -- ---- the kinds of argument
 
@@ -36,6 +36,22 @@ numbered low high r = record r { parser = Some (Unsigned low high) }
 -- the word that is the number of an incoming file
 abbrev pub file_number : Rule
 file_number = numbered 1 MOST_NO (word (codes "no"))
+
+-- the option for the port where callers are awaited, with this default
+abbrev pub own_port : Text → Rule
+own_port port = numbered 1 MOST_PORT (defaulted (codes "port") port)
+
+-- the option for the address where callers are awaited
+abbrev pub own_address : Rule
+own_address = defaulted (codes "address") (codes "127.0.0.1")
+
+-- the option for how many callers are served
+abbrev pub callers : Text → Rule
+callers id = numbered 1 MOST_CALLERS (defaulted id (codes "1"))
+
+-- the option for how many seconds a partner may keep still
+abbrev pub own_patience : Rule
+own_patience = numbered 0 MOST_PATIENCE (defaulted (codes "patience") (codes "300"))
 
 -- ---- what the parser makes of the words
 

@@ -2,10 +2,13 @@
 use Rattle.std.specs.Prelude.{List, [], ◌∷◌, None, Option, Some, codes, option_and_then, option_map}
 use Rattle.clap.specs.Words.{App, Row, Text}
 use Rattle.oftp_station.specs.Arguments.{named, taken}
+use Rattle.oftp_station.specs.CallLine.{CallSaid, call_app, call_said, call_with}
 use Rattle.oftp_station.specs.CheckLine.{CheckSaid, check_app, check_said, check_with}
 use Rattle.oftp_station.specs.FeedLine.{FeedSaid, feed_app, feed_in, feed_said}
 use Rattle.oftp_station.specs.FetchLine.{FetchSaid, fetch_app, fetch_said, fetch_with}
+use Rattle.oftp_station.specs.HttpLine.{HttpSaid, http_app, http_said, http_with}
 use Rattle.oftp_station.specs.InitLine.{InitSaid, init_app, init_said, init_with}
+use Rattle.oftp_station.specs.ListenLine.{ListenSaid, listen_app, listen_said, listen_with}
 use Rattle.oftp_station.specs.MigrateLine.{MigrateSaid, migrate_app, migrate_said, migrate_with}
 use Rattle.oftp_station.specs.RefuseLine.{RefuseSaid, refuse_app, refuse_said, refuse_with}
 use Rattle.oftp_station.specs.ReleaseLine.{ReleaseSaid, release_app, release_said, release_with}
@@ -27,6 +30,9 @@ pub data Said : Type 0 where
   said_fetch : FetchSaid → Said
   said_report : ReportSaid → Said
   said_feed : FeedSaid → Said
+  said_listen : ListenSaid → Said
+  said_call : CallSaid → Said
+  said_http : HttpSaid → Said
 
 -- the same, of the command that was read
 abbrev pub said : Line → Said
@@ -39,6 +45,9 @@ said (line.Refuse r) = said_refuse (refuse_said r)
 said (line.Fetch f) = said_fetch (fetch_said f)
 said (line.Report r) = said_report (report_said r)
 said (line.Feed f) = said_feed (feed_said f)
+said (line.Listen l) = said_listen (listen_said l)
+said (line.Call c) = said_call (call_said c)
+said (line.Http h) = said_http (http_said h)
 
 -- the command's name that a text is
 abbrev pub name_of : Text → Option Name
@@ -46,7 +55,8 @@ name_of = named ((codes "init", name.Init) ∷ (codes "migrate", name.Migrate)
     ∷ (codes "check", name.Check) ∷ (codes "submit", name.Submit)
     ∷ (codes "release", name.Release) ∷ (codes "refuse", name.Refuse)
     ∷ (codes "fetch", name.Fetch) ∷ (codes "report", name.Report)
-    ∷ (codes "feed", name.Feed) ∷ [])
+    ∷ (codes "feed", name.Feed) ∷ (codes "listen", name.Listen)
+    ∷ (codes "call", name.Call) ∷ (codes "http", name.Http) ∷ [])
 
 -- the command of this name, as the parser is told of it
 abbrev pub app_named : Name → App
@@ -59,6 +69,9 @@ app_named name.Refuse = refuse_app
 app_named name.Fetch = fetch_app
 app_named name.Report = report_app
 app_named name.Feed = feed_app
+app_named name.Listen = listen_app
+app_named name.Call = call_app
+app_named name.Http = http_app
 
 -- what the command of this name is asked for by these values: none where one of them is not among
 -- those that its argument has names for
@@ -72,6 +85,9 @@ said_by name.Refuse rows = Some (said_refuse (refuse_with rows))
 said_by name.Fetch rows = Some (said_fetch (fetch_with rows))
 said_by name.Report rows = option_map said_report (report_in rows)
 said_by name.Feed rows = option_map said_feed (feed_in rows)
+said_by name.Listen rows = Some (said_listen (listen_with rows))
+said_by name.Call rows = Some (said_call (call_with rows))
+said_by name.Http rows = Some (said_http (http_with rows))
 
 -- the command of this name, with what the words ask of it; the parser skips their first
 unfoldable pub line_named : Name → List Text → Option Said

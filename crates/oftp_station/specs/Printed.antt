@@ -7,7 +7,7 @@ use Rattle.oftp_schema.specs.declared.fault.StoreFault.TheVariants as store
 use Rattle.oftp_engine.specs.declared.serving.End.TheVariants.{Own, Partner, Input}
 use Rattle.oftp_engine.specs.declared.serving.RunFault.TheVariants.{Read, Write, Office, Memory}
 use Rattle.oftp_station.specs.declared.outcome.Fault.{Fault}
-use Rattle.oftp_station.specs.declared.outcome.Fault.TheVariants.{Run, Book, Store, File}
+use Rattle.oftp_station.specs.declared.outcome.Fault.TheVariants.{Run, Book, Store, File, Socket}
 use Rattle.oftp_station.specs.declared.outcome.Outcome.{Outcome}
 use Rattle.oftp_station.specs.declared.outcome.Outcome.TheVariants.{Initiated, Migrated, Checked, Ended, Fetched, Unknown, WrongState}
 
@@ -22,6 +22,7 @@ fault_line (Store store.Store) = codes "fault: 6 store 1"
 fault_line (Store store.Memory) = codes "fault: 6 store 2"
 fault_line (Store store.WrongSchema) = codes "fault: 6 store 3"
 fault_line File = codes "fault: 7 file"
+fault_line Socket = codes "fault: 8 socket"
 
 -- the line on standard output
 abbrev pub outcome_line : Outcome → List ℕ

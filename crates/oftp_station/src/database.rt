@@ -36,6 +36,15 @@ enum Opening {
 /// Opens the office that a database holds, and makes its tables where it is empty or isn't there. Where another program has it open,
 /// it is tried again as often as `patience` says.
 pub fn open(rt: &HostRuntime, path: &str, patience: u32) -> Result<DatabaseOffice, Fault> {
+    open_if_free(rt, path, patience).map_err(store_fault)
+}
+
+/// Opens it as [`open`] does, and tells a database that is still held apart from one that fails.
+pub fn open_if_free(
+    rt: &HostRuntime,
+    path: &str,
+    patience: u32,
+) -> Result<DatabaseOffice, PathFault> {
     patiently(rt, path, Opening::Open, patience)
 }
 
@@ -45,7 +54,7 @@ pub fn migrate(rt: &HostRuntime, path: &str, patience: u32) -> Result<DatabaseOf
         Err(error) if error.kind() == ErrorKind::NotFound => {
             Err(Fault::Store(StoreFault::WrongSchema))
         }
-        _ => patiently(rt, path, Opening::Migrate, patience),
+        _ => patiently(rt, path, Opening::Migrate, patience).map_err(store_fault),
     }
 }
 
@@ -55,15 +64,14 @@ fn patiently(
     path: &str,
     how: Opening,
     patience: u32,
-) -> Result<DatabaseOffice, Fault> {
+) -> Result<DatabaseOffice, PathFault> {
     for _ in 0..patience {
         match attempt(rt, path, how) {
             Err(PathFault::Held) => rt.sleep(Duration::from_millis(PAUSE)),
-            Err(PathFault::Store(fault)) => return Err(Fault::Store(fault)),
-            Ok(office) => return Ok(office),
+            done => return done,
         }
     }
-    attempt(rt, path, how).map_err(store_fault)
+    attempt(rt, path, how)
 }
 
 /// Tries once.

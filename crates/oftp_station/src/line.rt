@@ -9,10 +9,13 @@ mod arguments;
 mod commands;
 
 use arguments::matched;
+pub use commands::call::Call;
 pub use commands::check::Check;
 pub use commands::feed::{Feed, Side};
 pub use commands::fetch::Fetch;
+pub use commands::http::Http;
 pub use commands::init::Init;
+pub use commands::listen::Listen;
 pub use commands::migrate::Migrate;
 pub use commands::refuse::Refuse;
 pub use commands::release::Release;
@@ -42,6 +45,12 @@ pub enum Line<'a> {
     Report(Report<'a>),
     /// One session from the octets of a file to another file.
     Feed(Feed<'a>),
+    /// Sessions of partners who call.
+    Listen(Listen<'a>),
+    /// One session with a partner who is called.
+    Call(Call<'a>),
+    /// Requests for what the database holds.
+    Http(Http<'a>),
 }
 
 /// Why the words are read as no command.

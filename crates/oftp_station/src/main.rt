@@ -5,6 +5,8 @@ mod database;
 mod line;
 mod outcome;
 mod perform;
+mod ports;
+mod sockets;
 
 use perform::{perform, tell_unread};
 use std::process::ExitCode;

@@ -4,9 +4,11 @@ ghost use Rattle.std.specs.Prelude.{◌≡◌, Some};
 ghost use Rattle.oftp_station.specs.Printed.{fault_line, is_refusal, outcome_line};
 
 use oftp_engine::{End, RunFault};
+use oftp_listing::ListFault;
 use oftp_partners::BookFault;
 use oftp_schema::StoreFault;
 use std::fmt;
+use std::io::{self, Write};
 
 /// Why a command failed: the line on standard error.
 #[derive(Clone, Copy, Drop)]
@@ -19,11 +21,24 @@ pub enum Fault {
     Store(StoreFault),
     /// A file that the line names can't be read or made.
     File,
+    /// An address can't be bound or connected to, or no caller be accepted.
+    Socket,
 }
 
 impl Fault {
     /// Memory ran out.
     pub const MEMORY: Fault = Fault::Run(RunFault::Memory);
+}
+
+impl From<ListFault> for Fault {
+    // That a request isn't whole is no fault of a report or of a whole request.
+    fn from(fault: ListFault) -> Fault {
+        Fault::Run(match fault {
+            ListFault::Incomplete | ListFault::Memory => RunFault::Memory,
+            ListFault::Office => RunFault::Office,
+            ListFault::Write => RunFault::Write,
+        })
+    }
 }
 
 impl fmt::Display for Fault {
@@ -40,6 +55,7 @@ impl fmt::Display for Fault {
             Fault::Store(StoreFault::Memory) => f.write_str("fault: 6 store 2"),
             Fault::Store(StoreFault::WrongSchema) => f.write_str("fault: 6 store 3"),
             Fault::File => f.write_str("fault: 7 file"),
+            Fault::Socket => f.write_str("fault: 8 socket"),
         }
     }
 }
@@ -98,4 +114,18 @@ impl fmt::Display for Outcome {
             Outcome::WrongState => f.write_str("refused: 3 state"),
         }
     }
+}
+
+/// Writes a line so that whoever reads the output has it at once.
+pub fn write_line<L: fmt::Display>(out: &mut impl Write, line: &L) -> Result<(), Fault> {
+    match put_line(out, line) {
+        Ok(()) => Ok(()),
+        Err(_) => Err(Fault::Run(RunFault::Write)),
+    }
+}
+
+/// Writes a line and flushes the output.
+fn put_line<L: fmt::Display>(out: &mut impl Write, line: &L) -> io::Result<()> {
+    writeln!(out, "{line}")?;
+    out.flush()
 }

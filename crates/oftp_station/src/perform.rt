@@ -5,11 +5,12 @@ mod files;
 mod operators;
 mod registers;
 mod replacing;
+mod services;
 mod sessions;
 
 use crate::line::{Check, Line, LineFault, line_of};
-use crate::outcome::{Fault, Outcome};
-use oftp_engine::{RunFault, Told};
+use crate::outcome::{Fault, Outcome, write_line};
+use oftp_engine::Told;
 use std::io::{self, ErrorKind, Write};
 
 const DONE: u8 = 0;
@@ -55,7 +56,8 @@ pub fn tell_unread(error: &io::Error, err: &mut impl Write) -> u8 {
     BAD_LINE
 }
 
-/// Carries out a command, writes what it did, and answers the exit status. A call of the operator and a report write it themselves.
+/// Carries out a command, writes what it did, and answers the exit status. A call of the operator, a report and a
+/// service write it themselves.
 fn carry_out(rt: &HostRuntime, line: &Line<'_>, out: &mut impl Write) -> Result<u8, Fault> {
     match line {
         Line::Submit(submit) => operators::submit(rt, submit, out).map(status_of),
@@ -70,6 +72,15 @@ fn carry_out(rt: &HostRuntime, line: &Line<'_>, out: &mut impl Write) -> Result<
         Line::Check(what) => tell(check(rt, what)?, out),
         Line::Fetch(fetch) => tell(fetching::fetch(rt, fetch)?, out),
         Line::Feed(feed) => tell(sessions::feed(rt, feed)?, out),
+        Line::Call(call) => tell(services::call(rt, call)?, out),
+        Line::Listen(listen) => {
+            services::listen(rt, listen, out)?;
+            Ok(DONE)
+        }
+        Line::Http(http) => {
+            services::http(rt, http, out)?;
+            Ok(DONE)
+        }
     }
 }
 
@@ -81,7 +92,7 @@ fn check(rt: &HostRuntime, what: &Check<'_>) -> Result<Outcome, Fault> {
 
 /// Writes how a command came out, and answers the exit status.
 fn tell(outcome: Outcome, out: &mut impl Write) -> Result<u8, Fault> {
-    writeln!(out, "{outcome}").map_err(|_| Fault::Run(RunFault::Write))?;
+    write_line(out, &outcome)?;
     Ok(if outcome.is_refusal() { FAILED } else { DONE })
 }
 

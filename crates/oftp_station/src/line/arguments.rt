@@ -17,6 +17,15 @@ use std::alloc::{AllocError, Global};
 /// The greatest number of an incoming file that can be asked for.
 const MOST_NO: u64 = 9_999_999;
 
+/// The greatest port.
+const MOST_PORT: u64 = 65_535;
+
+/// How many callers can be asked for, at most.
+const MOST_CALLERS: u64 = 1_000_000;
+
+/// The greatest patience with a partner that can be asked for, in seconds: a day.
+const MOST_PATIENCE: u64 = 86_400;
+
 /// What the option for the database is, in texts.
 pub(super) const DATABASE: &str = "The file that holds the database";
 
@@ -108,6 +117,42 @@ pub(super) fn file_number<'a>(alloc: Global) -> Arg<'a>
         "The incoming file's number, 1 to 9999999",
     );
     numbered(no, 1, MOST_NO)
+}
+
+/// The option for the port where callers are awaited, which is `port` where it is missing.
+pub(super) fn own_port<'a>(alloc: Global, port: &'a str) -> Arg<'a>
+    ensures rule { rule_of result ≡ spec.own_port port.entry.now }
+    ensures local { result.global ≡ false }
+{
+    let help = "The port where callers are awaited, 1 to 65535";
+    numbered(defaulted(alloc, "port", port, "PORT", help), 1, MOST_PORT)
+}
+
+/// The option for the address where callers are awaited.
+pub(super) fn own_address<'a>(alloc: Global) -> Arg<'a>
+    ensures rule { rule_of result ≡ spec.own_address }
+    ensures local { result.global ≡ false }
+{
+    let help = "The machine's address where callers are awaited";
+    defaulted(alloc, "address", "127.0.0.1", "ADDRESS", help)
+}
+
+/// The option for how many callers are served.
+pub(super) fn callers<'a>(alloc: Global, id: &'a str, help: &'a str) -> Arg<'a>
+    ensures rule { rule_of result ≡ spec.callers id.entry.now }
+    ensures local { result.global ≡ false }
+{
+    numbered(defaulted(alloc, id, "1", "COUNT", help), 1, MOST_CALLERS)
+}
+
+/// The option for how many seconds a partner may keep still.
+pub(super) fn own_patience<'a>(alloc: Global) -> Arg<'a>
+    ensures rule { rule_of result ≡ spec.own_patience }
+    ensures local { result.global ≡ false }
+{
+    let help = "How many seconds the partner may keep still, 0 to 86400, 0 for ever";
+    let patience = defaulted(alloc, "patience", "300", "SECONDS", help);
+    numbered(patience, 0, MOST_PATIENCE)
 }
 
 /// The fault for an error of the parser.

@@ -4,10 +4,13 @@ ghost use Rattle.clap.specs.Words.{app_of, found_of, rows_of};
 ghost use Rattle.oftp_station.specs.Arguments.{HasValues};
 ghost use Rattle.oftp_station.specs.Line.{app_named, name_of, said, said_by};
 
+pub(super) mod call;
 pub(super) mod check;
 pub(super) mod feed;
 pub(super) mod fetch;
+pub(super) mod http;
 pub(super) mod init;
+pub(super) mod listen;
 pub(super) mod migrate;
 pub(super) mod refuse;
 pub(super) mod release;
@@ -16,11 +19,14 @@ pub(super) mod submit;
 
 use super::Line;
 use super::arguments::Unlisted;
+use call::{call_command, call_read};
 use check::{check_command, check_read};
 use clap::{ArgMatches, Command};
 use feed::{feed_command, feed_read};
 use fetch::{fetch_command, fetch_read};
+use http::{http_command, http_read};
 use init::{init_command, init_read};
+use listen::{listen_command, listen_read};
 use migrate::{migrate_command, migrate_read};
 use refuse::{refuse_command, refuse_read};
 use release::{release_command, release_read};
@@ -29,7 +35,7 @@ use std::alloc::{AllocError, Global};
 use submit::{submit_command, submit_read};
 
 /// How each command is called.
-pub(super) const USAGES: [&str; 9] = [
+pub(super) const USAGES: [&str; 12] = [
     init::USAGE,
     migrate::USAGE,
     check::USAGE,
@@ -39,6 +45,9 @@ pub(super) const USAGES: [&str; 9] = [
     fetch::USAGE,
     report::USAGE,
     feed::USAGE,
+    listen::USAGE,
+    call::USAGE,
+    http::USAGE,
 ];
 
 /// The name of a command.
@@ -53,6 +62,9 @@ pub(super) enum Name {
     Fetch,
     Report,
     Feed,
+    Listen,
+    Call,
+    Http,
 }
 
 impl Name {
@@ -70,6 +82,9 @@ impl Name {
             "fetch" => Some(Name::Fetch),
             "report" => Some(Name::Report),
             "feed" => Some(Name::Feed),
+            "listen" => Some(Name::Listen),
+            "call" => Some(Name::Call),
+            "http" => Some(Name::Http),
             _ => None,
         }
     }
@@ -88,6 +103,9 @@ impl Name {
             Name::Fetch => fetch_command(alloc),
             Name::Report => report_command(alloc),
             Name::Feed => feed_command(alloc),
+            Name::Listen => listen_command(alloc),
+            Name::Call => call_command(alloc),
+            Name::Http => http_command(alloc),
         }
     }
 
@@ -107,6 +125,9 @@ impl Name {
             Name::Fetch => Ok(Line::Fetch(fetch_read(matches))),
             Name::Report => report_read(matches).map(Line::Report),
             Name::Feed => feed_read(matches).map(Line::Feed),
+            Name::Listen => Ok(Line::Listen(listen_read(matches))),
+            Name::Call => Ok(Line::Call(call_read(matches))),
+            Name::Http => Ok(Line::Http(http_read(matches))),
         }
     }
 }

@@ -3,8 +3,7 @@
 use crate::database::{self, PATIENCE};
 use crate::line::{Init, Migrate, Report};
 use crate::outcome::{Fault, Outcome};
-use oftp_engine::RunFault;
-use oftp_listing::{ListFault, report};
+use oftp_listing::report;
 use std::io::Write;
 
 /// Opens a database, making its tables.
@@ -26,14 +25,6 @@ pub(super) fn write_report(
     out: &mut impl Write,
 ) -> Result<(), Fault> {
     let mut office = database::open(rt, what.database, PATIENCE)?;
-    report(rt.alloc(), what.kind, &mut office, out).map_err(list_fault)
-}
-
-/// The fault of a report. One of a request that isn't whole never comes.
-fn list_fault(fault: ListFault) -> Fault {
-    Fault::Run(match fault {
-        ListFault::Incomplete | ListFault::Memory => RunFault::Memory,
-        ListFault::Office => RunFault::Office,
-        ListFault::Write => RunFault::Write,
-    })
+    report(rt.alloc(), what.kind, &mut office, out)?;
+    Ok(())
 }

@@ -6,6 +6,7 @@ use crate::outcome::{Fault, Outcome};
 use crate::perform::files::{
     are_of_one_file, file_fault, is_at, is_of_database, open_input, read_book,
 };
+use crate::ports::ports_of;
 use oftp_durable::serve_durable;
 use oftp_engine::{End, Port, Role, RunFault, serve_in_memory};
 use oftp_partners::{Book, Partner};
@@ -13,9 +14,6 @@ use oftp_register::PlainOffice;
 use std::fs::{self, Metadata, OpenFile};
 use std::io::ErrorKind;
 use std::rt::Files;
-
-/// How many octets are read in one session, at most.
-const LONGEST_INPUT: u64 = 1_099_511_627_776;
 
 /// One session from the octets of one file to another file, with a register in memory where the line names no database.
 pub(super) fn feed(rt: &HostRuntime, line: &Feed<'_>) -> Result<Outcome, Fault> {
@@ -84,7 +82,7 @@ fn ports<R: Files + AllocGlobal>(
     let input = open_input(rt, line.input)?;
     check_output(rt, line, &input)?;
     let output = fs::create(rt, line.output).map_err(|error| file_fault(&error))?;
-    Ok((Port::new(input, LONGEST_INPUT), Port::new(output, 0)))
+    Ok(ports_of(input, output))
 }
 
 /// Refuses an output that the session needs: making it would take away its octets. A device loses none.

@@ -1,0 +1,63 @@
+//! The commands `listen`, `call` and `http`, over sockets.
+
+use crate::database::{self, PATIENCE};
+use crate::line::{Call, Http, Listen};
+use crate::outcome::{Fault, Outcome};
+use crate::perform::files::read_book;
+use crate::sockets::{Station, bound, connected, dial, http_on, listen_on};
+use std::io::Write;
+use std::time::Duration;
+
+/// How long a partner may keep still. Zero seconds are no limit.
+fn patience_of(seconds: u64) -> Option<Duration> {
+    match seconds {
+        0 => None,
+        _ => Some(Duration::from_secs(seconds)),
+    }
+}
+
+/// Opens a database, making its tables, and gives it up: its faults come before those of the socket.
+fn try_database(rt: &HostRuntime, path: &str) -> Result<(), Fault> {
+    database::open(rt, path, PATIENCE)?;
+    Ok(())
+}
+
+/// Serves the sessions of partners who call, and writes a line for each.
+pub(super) fn listen(
+    rt: &HostRuntime,
+    line: &Listen<'_>,
+    out: &mut impl Write,
+) -> Result<(), Fault> {
+    let book = read_book(rt, line.book)?;
+    try_database(rt, line.database)?;
+    let listener = bound(rt, line.address, line.port)?;
+    let station = Station {
+        book: &book,
+        database: line.database,
+        patience: patience_of(line.patience),
+    };
+    listen_on(rt, &listener, line.sessions, &station, out)
+}
+
+/// Calls a partner for one session.
+pub(super) fn call(rt: &HostRuntime, line: &Call<'_>) -> Result<Outcome, Fault> {
+    let book = read_book(rt, line.book)?;
+    let Some(partner) = book.partner(line.partner.as_bytes()) else {
+        return Ok(Outcome::Unknown);
+    };
+    try_database(rt, line.database)?;
+    let stream = connected(rt, partner.address.as_str())?;
+    let station = Station {
+        book: &book,
+        database: line.database,
+        patience: patience_of(line.patience),
+    };
+    dial(rt, stream, partner, &station).map(Outcome::Ended)
+}
+
+/// Answers requests for what a database holds.
+pub(super) fn http(rt: &HostRuntime, line: &Http<'_>, out: &mut impl Write) -> Result<(), Fault> {
+    try_database(rt, line.database)?;
+    let listener = bound(rt, line.address, line.port)?;
+    http_on(rt, &listener, line.requests, line.database, out)
+}

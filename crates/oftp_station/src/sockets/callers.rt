@@ -1,0 +1,63 @@
+//! What goes wrong with one caller, and what ends the service.
+
+use crate::outcome::{Fault, write_line};
+use oftp_engine::RunFault;
+use oftp_store::{PathFault, StoreFault};
+use std::io::Write;
+
+/// Why a caller wasn't served to the end.
+#[derive(Clone, Copy, Drop)]
+pub(super) enum Trouble {
+    /// It is this caller's alone: its line says so, and the service goes on.
+    OfCaller(Fault),
+    /// It ends the service.
+    OfService(Fault),
+}
+
+impl Trouble {
+    /// The fault, whoever has it.
+    pub(super) fn fault(self) -> Fault {
+        match self {
+            Trouble::OfCaller(fault) | Trouble::OfService(fault) => fault,
+        }
+    }
+}
+
+impl From<Fault> for Trouble {
+    fn from(fault: Fault) -> Trouble {
+        Trouble::OfService(fault)
+    }
+}
+
+impl From<RunFault> for Trouble {
+    fn from(fault: RunFault) -> Trouble {
+        match fault {
+            RunFault::Read | RunFault::Write => Trouble::OfCaller(Fault::Run(fault)),
+            RunFault::Office | RunFault::Memory => Trouble::OfService(Fault::Run(fault)),
+        }
+    }
+}
+
+impl From<PathFault> for Trouble {
+    fn from(fault: PathFault) -> Trouble {
+        match fault {
+            PathFault::Held => Trouble::OfCaller(Fault::Store(StoreFault::Store)),
+            PathFault::Store(fault) => Trouble::OfService(Fault::Store(fault)),
+        }
+    }
+}
+
+/// What came of serving a caller, or nothing where its trouble was its own, which has its line then.
+pub(super) fn settled<T: Drop>(
+    served: Result<T, Trouble>,
+    out: &mut impl Write,
+) -> Result<Option<T>, Fault> {
+    match served {
+        Ok(value) => Ok(Some(value)),
+        Err(Trouble::OfCaller(fault)) => {
+            write_line(out, &fault)?;
+            Ok(None)
+        }
+        Err(Trouble::OfService(fault)) => Err(fault),
+    }
+}

@@ -1,0 +1,101 @@
+//! Requests over sockets.
+
+use crate::database::{self, LIMITS, PATIENCE};
+use crate::outcome::Fault;
+use crate::sockets::addresses::accepted;
+use crate::sockets::callers::{Trouble, settled};
+use crate::sockets::connection::Connection;
+use crate::sockets::moments::Timed;
+use oftp_listing::{ListFault, Reply, answer};
+use oftp_register::PlainOffice;
+use std::alloc::Global;
+use std::io::{self, Read, Write};
+use std::net::{TcpListener, TcpStream};
+use std::time::Duration;
+
+/// How many octets of a request are read: one more than a head may have.
+const MOST_OCTETS: usize = 8_193;
+
+/// How many seconds a request may take to come, and its reply to go.
+const LIMIT: u64 = 10;
+
+/// Answers so many requests for what a database holds, one connection each. Where another program holds the database, the connection
+/// is closed without a reply, and a line says so.
+///
+/// # Errors
+/// Any other fault: of the database, of memory, of the listener or of `out`.
+pub fn http_on(
+    rt: &HostRuntime,
+    listener: &TcpListener,
+    requests: u64,
+    database: &str,
+    out: &mut impl Write,
+) -> Result<(), Fault> {
+    for _ in 0..requests {
+        let stream = accepted(listener)?;
+        settled(serve(rt, stream, database), out)?;
+    }
+    Ok(())
+}
+
+/// Answers one request. A connection that fails, or ends before the head is whole, is closed without a reply.
+fn serve(rt: &HostRuntime, stream: TcpStream, database: &str) -> Result<(), Trouble> {
+    let Ok(connection) = Connection::new(stream, None) else {
+        return Ok(());
+    };
+    let mut octets = [0; MOST_OCTETS];
+    let Some(count) = hear(rt, &connection, &mut octets)? else {
+        return Ok(());
+    };
+    let reply = reply_to(rt, &octets[..count], database)?;
+    let _ = send(rt, &connection, &reply);
+    Ok(())
+}
+
+/// Reads a request into the room for it, and answers how many octets it has. There is none where the input ends before its head is whole.
+fn hear(
+    rt: &HostRuntime,
+    connection: &Connection,
+    octets: &mut [u8],
+) -> Result<Option<usize>, Fault> {
+    let Ok(mut reader) = timed(rt, connection) else {
+        return Ok(None);
+    };
+    let mut count = 0;
+    'octets: while count < octets.len() {
+        match reader.read(&mut octets[count..]) {
+            Ok(more) if more > 0 => count += more,
+            _ => return Ok(None),
+        }
+        if is_whole(rt.alloc(), &octets[..count])? {
+            return Ok(Some(count));
+        }
+    }
+    Ok(Some(count))
+}
+
+/// Whether a request can be answered. What the answer is doesn't count yet, so the database isn't opened for it.
+fn is_whole(alloc: Global, request: &[u8]) -> Result<bool, Fault> {
+    match answer(alloc, request, &mut PlainOffice::new(alloc, LIMITS)) {
+        Ok(_) => Ok(true),
+        Err(ListFault::Incomplete) => Ok(false),
+        Err(fault) => Err(Fault::from(fault)),
+    }
+}
+
+/// The reply to a request from what the database holds, which is opened for this alone.
+fn reply_to(rt: &HostRuntime, request: &[u8], database: &str) -> Result<Reply, Trouble> {
+    let mut office = database::open_if_free(rt, database, PATIENCE)?;
+    answer(rt.alloc(), request, &mut office).map_err(|fault| Trouble::from(Fault::from(fault)))
+}
+
+/// The connection for as long as a request may take to come, or its reply to go.
+fn timed<'a>(rt: &'a HostRuntime, connection: &'a Connection) -> io::Result<Timed<'a>> {
+    Timed::new(rt, connection, Duration::from_secs(LIMIT))
+}
+
+/// Sends a reply, and leaves the caller the time to read it.
+fn send(rt: &HostRuntime, connection: &Connection, reply: &Reply) -> io::Result<()> {
+    timed(rt, connection)?.write_all(reply.octets())?;
+    connection.part(rt)
+}
