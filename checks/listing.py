@@ -9,7 +9,6 @@ text of what stock sqlite3 reads of the database, octet for octet, and each repo
 The last line is `N passed, M failed`; before it stand the time and the memory of a listing of 10,000 files, which are bound by nothing.
 """
 
-import contextlib
 import csv
 import io
 import json
@@ -171,20 +170,6 @@ def ask(service, pieces, is_over=False):
         return rest_of(caller)
 
 
-class Spoilt:
-    """Octets of the database's file that other octets take the place of, wherever they stand."""
-
-    def __init__(self, old, new):
-        self.old = old
-        self.new = new
-
-    def play(self, service):
-        octets = service.database.read_bytes()
-        if self.old not in octets:
-            raise Wrong("the octets aren't in the database's file")
-        service.database.write_bytes(octets.replace(self.old, self.new))
-
-
 # ---- files of rows/listing
 
 
@@ -197,8 +182,6 @@ class Listing(Row):
             self.acts.append(Request(text.encode() + END, True))
         elif first == "request":
             self.acts.append(Request(octets_of(rest), False))
-        elif first == "spoilt":
-            self.acts.append(Spoilt(*(bytes.fromhex(word) for word in rest)))
         elif self.acts and isinstance(self.acts[-1], Request) and (first in PHRASES or first in REQUEST_LINES):
             self.acts[-1].take(first, rest, text)
         else:
@@ -208,7 +191,7 @@ class Listing(Row):
         asked = sum(act.count() for act in self.acts if isinstance(act, Request))
         with Service(room, "http", "--requests", str(asked or 1)) as service:
             for number, act in enumerate(self.acts, 1):
-                if isinstance(act, (Request, Spoilt)):
+                if isinstance(act, Request):
                     act.play(service)
                     continue
                 expect(play_act(in_one_piece, act, room, service.database), None, f"act {number}")
