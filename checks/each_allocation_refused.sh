@@ -133,4 +133,3 @@ each_of_program feed --book "$book" "$root/examples/one_file.octets" answer
 none_behind_reservation oftp_wire deframer::tests::no_memory_within_room
 each_of_test oftp_vfile tests::refused_and_taken_again
 each_of_test oftp_register tests::memory::each_allocation_refused
-each_of_test oftp_listing tests::memory::each_allocation_refused

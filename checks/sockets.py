@@ -59,12 +59,12 @@ def free_port(host="127.0.0.1"):
 class Service:
     """A service of the program in a room of its own, with its database and port."""
 
-    def __init__(self, room, command, *words, book=BOOK, port=None):
+    def __init__(self, room, command, *words, book=BOOK, port=None, environment=None):
         self.port = port or free_port()
         self.database = room / "database"
         of_book = ["--book", book] if command == "listen" else []
         words = [PROGRAM, command, "--db", self.database, *of_book, "--port", str(self.port), *words]
-        self.program = subprocess.Popen(words, stdout=subprocess.PIPE, stderr=subprocess.PIPE)
+        self.program = subprocess.Popen(words, stdout=subprocess.PIPE, stderr=subprocess.PIPE, env={**os.environ, **(environment or {})})
         self.text = b""
 
     def __enter__(self):

@@ -16,6 +16,3 @@ pub use laws::content_is_hidden;
 pub use listing::answer;
 pub use reply::Reply;
 pub use reports::{ReportKind, report};
-
-#[cfg(test)]
-mod tests;
