@@ -114,6 +114,3 @@ fn usage_after(alloc: Global, error: &str) -> Result<String, AllocError> {
     }
     Ok(text)
 }
-
-#[cfg(test)]
-mod tests;
