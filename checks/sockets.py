@@ -59,12 +59,13 @@ def free_port(host="127.0.0.1"):
 class Service:
     """A service of the program in a room of its own, with its database and port."""
 
-    def __init__(self, room, command, *words, book=BOOK, port=None, environment=None):
+    def __init__(self, room, command, *words, book=BOOK, port=None, output=subprocess.PIPE, environment=None):
         self.port = port or free_port()
         self.database = room / "database"
         of_book = ["--book", book] if command == "listen" else []
         words = [PROGRAM, command, "--db", self.database, *of_book, "--port", str(self.port), *words]
-        self.program = subprocess.Popen(words, stdout=subprocess.PIPE, stderr=subprocess.PIPE, env={**os.environ, **(environment or {})})
+        environment = {**os.environ, **(environment or {})}
+        self.program = subprocess.Popen(words, stdout=output, stderr=subprocess.PIPE, env=environment)
         self.text = b""
 
     def __enter__(self):
@@ -109,7 +110,7 @@ class Service:
     def ends(self, status=0, err=b""):
         """It ends by itself, and no line is left."""
         out, told = self.program.communicate(timeout=LONG)
-        expect((self.program.returncode, self.text + out, told), (status, b"", err), "the service ended")
+        expect((self.program.returncode, self.text + (out or b""), told), (status, b"", err), "the service ended")
 
     def give(self, command, *words):
         """An operator's command over the database of the service."""
@@ -291,6 +292,15 @@ def stopped_within_a_session(room):
         caller.close()
         files = [(entry["dataset"], entry["state"]) for entry in tables.read(service.database)["in_file"]]
         expect(files, [("ASN.0001", "whole"), ("ASN.0002", "whole")], "the files")
+
+
+def nothing_to_print_to(room):
+    """A service whose line can't be written ends, and what was answered stands."""
+    steps, _ = steps_of("receiving/one_octet")
+    with open("/dev/full", "wb") as output, Service(room, "listen", "--sessions", "2", output=output) as service:
+        converse(service.caller(), steps)
+        service.ends(1, b"fault: 2 write\n")
+        expect(tables.read(service.database)["in_file"][0]["state"], "whole", "the file")
 
 
 def operator_while_it_listens(room):
@@ -507,6 +517,7 @@ CASES = [
     octets_after_the_end,
     partner_who_stays_after_the_end,
     stopped_within_a_session,
+    nothing_to_print_to,
     operator_while_it_listens,
     database_held,
     other_addresses,
