@@ -24,6 +24,11 @@ verify() {
     ! grep -q 'Unknown\|Failed to parse\|not executable\|Invalid' "$room/said"
 }
 
+# It binds free ports, and goes on until it is ended.
+starts() {
+    timeout 2 stunnel "$room/conf" || [ "$?" = 124 ]
+}
+
 if command -v systemd-analyze > /dev/null; then
     for unit in oftp-listen.service oftp-call@.service oftp-call@.timer oftp-http.service; do
         count verify "$unit"
@@ -35,9 +40,8 @@ if command -v stunnel > /dev/null; then
     openssl req -x509 -newkey rsa:2048 -nodes -days 1 -subj /CN=station -keyout "$room/key" -out "$room/cert" 2> /dev/null
     sed -e "s|/etc/oftp/station.key|$room/key|; s|/etc/oftp/.*pem|$room/cert|; s|^setuid.*||; s|^setgid.*||; s|^pid.*|pid = $room/pid|" \
         -e 's/^accept = .*/accept = 127.0.0.1:0/' "$root/examples/service/stunnel.conf" > "$room/conf"
-    # It binds free ports, goes to the background, and is ended there.
-    count stunnel "$room/conf"
-    kill "$(cat "$room/pid")" 2> /dev/null || true
+    sed -i '1i foreground = yes' "$room/conf"
+    count starts
 else
     echo 'NOT TRIED for want of stunnel: examples/service/stunnel.conf'
 fi
