@@ -281,8 +281,10 @@ def ten_thousand_files(room):
         memory = most_memory(service.program.pid)
         size = service.database.stat().st_size
         print(f"GET /in over {MANY} files: {seconds:.2f} s, {worked:.2f} s of them a processor's, over a database of {size} octets")
-        print(f"its body: {len(body)} octets, in {memory} octets of memory, {memory / len(body):.1f} times the body ({before} for an empty list)")
-        expect(get(service, f"/in/{MANY}").partition(END + END)[2], body_of(service.database, f"/in/{MANY}"), "the last file")
+        times = memory / len(body)
+        print(f"its body: {len(body)} octets, in {memory} octets of memory, {times:.1f} times the body ({before} for an empty list)")
+        last = get(service, f"/in/{MANY}").partition(END + END)[2]
+        expect(last, body_of(service.database, f"/in/{MANY}"), "the last file")
         service.ends()
 
 
