@@ -118,7 +118,8 @@ def write_octets(sink, octets):
 
 
 def as_conversation(session, _room, database):
-    """The partner sends on only once it has read each answer before: the program must not read ahead of what it owes."""
+    """The partner sends on only once it has read each answer before, and after an ESID it waits until the program ends: the program must
+    not read ahead of what it owes, nor after the end."""
     source, sink = os.pipe()
     answers, answer = os.pipe()
     with subprocess.Popen(
@@ -131,18 +132,18 @@ def as_conversation(session, _room, database):
         os.close(answer)
         stopper = threading.Timer(SECONDS, program.kill)
         stopper.start()
-        octets = converse(session.steps, sink, answers)
+        octets = converse(session, sink, answers)
         told = program.communicate()
         stopper.cancel()
     done = subprocess.CompletedProcess([], program.returncode, *told)
     return check_out(session, octets) or check_lines(session.end, done)
 
 
-def converse(steps, sink, answers):
+def converse(session, sink, answers):
     """Writes what goes in and reads what comes out, step by step, and closes both. It answers all that came out."""
     octets = b""
     is_read = True
-    for side, wanted in steps:
+    for side, wanted in session.steps:
         if side == "closes":
             os.close(answers)
             is_read = False
@@ -153,11 +154,14 @@ def converse(steps, sink, answers):
                 break
         else:
             octets += read_octets(answers, len(wanted))
-    os.close(sink)
+    if not session.is_ended():
+        os.close(sink)
     if is_read:
         while piece := os.read(answers, 4096):
             octets += piece
         os.close(answers)
+    if session.is_ended():
+        os.close(sink)
     return octets
 
 

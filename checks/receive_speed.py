@@ -3,7 +3,8 @@
 a plain copy of the same octets.
 
     checks/receive_speed.py [--assert]      with `--assert` it fails where the largest file needs more than one and a half times its
-                                            size in memory, or costs per octet three times what a file of a thousandth does
+                                            size in memory, or costs per octet three times what a file of a thousandth does, or where
+                                            a file that turns out an octet longer doesn't end the session
 
 It takes the program as it was last built. The last line is then `N passed, M failed`.
 """
@@ -21,6 +22,8 @@ import oftp
 ROOT = Path(__file__).resolve().parent.parent
 PROGRAM = ROOT / "crates/oftp_station/out/oftp_station"
 MEBI = 1024 * 1024
+# The greatest file that is taken.
+MOST = 64 * MEBI
 FILE = {
     "dataset": "ASN.0001",
     "date": "20240131",
@@ -69,7 +72,7 @@ def session(size, buffer, credit):
     """The octets of a session with one file."""
     frames = data_frames(size, buffer)
     opening = frame_of("SSID", code="O0177CARMAKER", password="CARPW", buffer=str(buffer), credit=str(credit), mode="B")
-    offer = frame_of("SFID", size=str((size + 1023) // 1024), **FILE)
+    offer = frame_of("SFID", size=str((min(size, MOST) + 1023) // 1024), **FILE)
     end = frame_of("EFID", records="0", units=str(size))
     return b"".join([opening, offer, *frames, end, frame_of("ESID", reason="00")])
 
@@ -85,18 +88,30 @@ def run(words):
     return time.monotonic() - begin, used.ru_maxrss
 
 
-def measure(room, size, buffer, credit):
-    """Receives one file. It answers the seconds, the KiB, and the seconds of a plain copy."""
+def receive(room, size, buffer, credit):
+    """Gives `feed` one file. It answers the seconds, the KiB, and the octets that come out."""
     given, answer, book = room / "given", room / "answer", room / "book.toml"
     # In a process of its own, since the memory that is told of a program is at least that of the script that starts it.
     subprocess.run([sys.executable, __file__, "--make", str(size), str(buffer), str(credit), given], check=True)
     book.write_text(BOOK.format(buffer=buffer, credit=credit))
     seconds, memory = run([str(PROGRAM), "feed", "--book", str(book), str(given), str(answer)])
-    if answer.read_bytes()[-6:] != frame_of("EFPA", change="N"):
+    return seconds, memory, answer.read_bytes()
+
+
+def measure(room, size, buffer, credit):
+    """Receives one file. It answers the seconds, the KiB, and the seconds of a plain copy."""
+    seconds, memory, answer = receive(room, size, buffer, credit)
+    if not answer.endswith(frame_of("EFPA", change="N")):
         raise SystemExit("the file wasn't taken")
     begin = time.monotonic()
-    shutil.copyfile(given, room / "copy")
+    shutil.copyfile(room / "given", room / "copy")
     return seconds, memory, time.monotonic() - begin
+
+
+def ends_at_the_limit(room):
+    """Whether a file that is offered within the limit and passes it by an octet ends the session by ESID 06."""
+    _, _, answer = receive(room, MOST + 1, 16384, 99)
+    return answer.endswith(frame_of("ESID", reason="06"))
 
 
 def make(size, buffer, credit, path):
@@ -108,7 +123,7 @@ def main():
     if sys.argv[1:2] == ["--make"]:
         make(*sys.argv[2:])
         return 0
-    cases = [(64 * MEBI, 16384, 99), (64 * 1024, 16384, 99), (64 * MEBI, 128, 1), (64 * 1024, 128, 1)]
+    cases = [(MOST, 16384, 99), (64 * 1024, 16384, 99), (MOST, 128, 1), (64 * 1024, 128, 1)]
     print("octets      buffer credit  seconds   MB/s  memory/KiB  plain copy/s")
     taken = {}
     with tempfile.TemporaryDirectory() as room:
@@ -116,13 +131,15 @@ def main():
             seconds, memory, plain = min(measure(Path(room), size, buffer, credit) for _ in range(3))
             taken[size, buffer] = (seconds, memory)
             print(f"{size:<11} {buffer:<6} {credit:<6} {seconds:8.3f} {size / seconds / 1e6:6.0f} {memory:11} {plain:13.3f}")
+        is_ended = ends_at_the_limit(Path(room))
+        print(f"a file of an octet more {'ends' if is_ended else 'does not end'} the session")
     failed = 0
     if "--assert" in sys.argv[1:]:
-        seconds, memory = taken[64 * MEBI, 16384]
+        seconds, memory = taken[MOST, 16384]
         failed += memory > 64 * 1024 * 3 // 2
-        slower = {buffer: taken[64 * MEBI, buffer][0] / 1024 > 3 * max(taken[64 * 1024, buffer][0], 0.001) for buffer in (16384, 128)}
-        failed += sum(slower.values())
-        print(f"{3 - failed} passed, {failed} failed")
+        slower = {buffer: taken[MOST, buffer][0] / 1024 > 3 * max(taken[64 * 1024, buffer][0], 0.001) for buffer in (16384, 128)}
+        failed += sum(slower.values()) + (not is_ended)
+        print(f"{4 - failed} passed, {failed} failed")
     return 1 if failed else 0
 
 

@@ -40,6 +40,10 @@ class Session:
         """Whether the partner stops reading within the session."""
         return any(which == "closes" for which, _ in self.steps)
 
+    def is_ended(self):
+        """Whether it ends by an ESID."""
+        return self.end[1].startswith(("end: own", "end: partner"))
+
     def fault(self):
         """Why this is no whole session, or None."""
         if self.end is None:
@@ -73,15 +77,38 @@ class Statement:
         self.text = text
 
 
-class Row:
-    """A row: its acts in order, and what is left, where it says so: a list of fields for each table, or that it is no database."""
+class Remains:
+    """What is left, where it is said: a list of fields for each table, or that it is no database."""
+
+    def __init__(self):
+        self.left = None
+        self.is_damaged = False
+
+    def take_left(self, words):
+        self.left = self.left or {}
+        if words == ["no", "database"]:
+            self.is_damaged = True
+            return
+        if words == ["nothing"]:
+            return
+        table, fields = words[0], dict(word.split("=", 1) for word in words[1:])
+        known = ["id", "schema"] if table == "about" else tables.TABLES[table] + SAID_OF.get(table, [])
+        for name in fields:
+            if name not in known:
+                raise ValueError(f"{table} has no {name}")
+        if table in tables.ROWS_OF and "rows" not in fields:
+            raise ValueError("how many rows the file has isn't said")
+        self.left.setdefault(table, []).append(fields)
+
+
+class Row(Remains):
+    """A row: its acts in order, and what is left."""
 
     def __init__(self, path):
+        super().__init__()
         self.name = path.stem
         self.book = None
         self.acts = []
-        self.left = None
-        self.is_damaged = False
         self.read(path)
         if self.book is None or not self.acts:
             raise Bad(f"{path}: a row has a book, and something is done")
@@ -163,22 +190,6 @@ class Row:
             session.octets = int(rest[0])
         else:
             raise ValueError("no line begins so")
-
-    def take_left(self, words):
-        self.left = self.left or {}
-        if words == ["no", "database"]:
-            self.is_damaged = True
-            return
-        if words == ["nothing"]:
-            return
-        table, fields = words[0], dict(word.split("=", 1) for word in words[1:])
-        known = ["id", "schema"] if table == "about" else tables.TABLES[table] + SAID_OF.get(table, [])
-        for name in fields:
-            if name not in known:
-                raise ValueError(f"{table} has no {name}")
-        if table in tables.ROWS_OF and "rows" not in fields:
-            raise ValueError("how many rows the file has isn't said")
-        self.left.setdefault(table, []).append(fields)
 
 
 def stream_of(words):

@@ -13,6 +13,7 @@ use oftp_register::{
 use oftp_vfile::{Limits, Rows};
 use std::test::Fail;
 
+mod asking;
 mod lists;
 mod operators;
 

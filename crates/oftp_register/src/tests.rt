@@ -1,4 +1,4 @@
-//! Registers written by hand from the table of changes.
+//! What stands on registers written by hand: verdicts, and which changes are fit.
 
 use super::*;
 use oftp_vfile::{Format, LONGEST_RECORD, Limits, Row, Rows};
@@ -6,8 +6,7 @@ use oftp_wire::{Count, Digits, Text, X};
 use std::alloc::{AllocError, Global};
 use std::test::Fail;
 
-mod changes;
-mod lookups;
+mod fits;
 mod memory;
 mod verdicts;
 
@@ -16,7 +15,7 @@ const LIMITS: Limits = Limits {
     octets: 67_108_864,
 };
 
-/// A change in short. Files go by a letter, in V with a longest record of 3: A to M from O1 to O2, N to Z back.
+/// A change in short. Files go by a letter, in V with a longest record of 3, from O1 to O2.
 #[derive(Clone, Copy, Debug)]
 enum Act {
     Submit(&'static [u8], &'static [&'static [u8]]),
@@ -45,21 +44,13 @@ fn code(letters: &'static [u8]) -> Result<Name<25>, OfficeFault> {
     Ok(Name::of(&X::new(letters).ok_or(BAD)?))
 }
 
-fn way_of(dataset: &[u8]) -> (&'static [u8], &'static [u8]) {
-    match dataset.first() {
-        Some(b'N'..=b'Z') => (b"O2", b"O1"),
-        _ => (b"O1", b"O2"),
-    }
-}
-
 fn file(dataset: &'static [u8]) -> Result<Identity, OfficeFault> {
-    let (originator, destination) = way_of(dataset);
     Ok(Identity {
         dataset: Name::of(&X::new(dataset).ok_or(BAD)?),
         date: DigitString::of(&Digits::new(b"20240131").ok_or(BAD)?),
         time: DigitString::of(&Digits::new(b"1015300001").ok_or(BAD)?),
-        originator: code(originator)?,
-        destination: code(destination)?,
+        originator: code(b"O1")?,
+        destination: code(b"O2")?,
     })
 }
 
@@ -233,23 +224,5 @@ fn shown(alloc: Global, office: &mut PlainOffice) -> Result<String, OfficeFault>
     add_incoming(&mut all, office)?;
     add_outgoing(&mut all, office)?;
     add_received(&mut all, office)?;
-    Ok(all)
-}
-
-// The octets of some rows of the first file of a side, each row ended by a bar.
-fn rows_from(
-    office: &mut PlainOffice,
-    side: Side,
-    from: u64,
-    most: u64,
-    alloc: Global,
-) -> Result<String, OfficeFault> {
-    let mut all = String::new(alloc);
-    for row in office.rows_of(side, 1, from, most)?.as_slice() {
-        for octet in row.octets() {
-            all.push(char::from(*octet))?;
-        }
-        all.push('|')?;
-    }
     Ok(all)
 }

@@ -44,16 +44,16 @@ pub record IsAllSent (size : ℕ) (old new : Filling) (rows : List (List ℕ)) (
   pub all : (from : ℕ) (file payloads : List (List ℕ)) → Sent old size from file payloads → AreLent old from file rows last
       → payloads ≡ payloads_of old.format size file
 
--- what a filler made that answered this, with the frame that it left
+-- what a filler made that answered this, with the frame that it left: nothing where no payload was made
 abbrev pub Fills : ℕ → Filling → Filling → List (List ℕ) → Bool → List ℕ → Filled → Type 0
 Fills size old new rows last frame (Buffer n) = IsNextData size old new rows last frame
-Fills size old new rows last frame Done = IsAllSent size old new rows last
-Fills size old new rows last frame More = AsksForMore size old new rows last
+Fills size old new rows last frame Done = IsAllSent size old new rows last × (frame ≡ [])
+Fills size old new rows last frame More = AsksForMore size old new rows last × (frame ≡ [])
 
--- the same, or memory was refused
+-- the same, or memory was refused, and then nothing was done
 abbrev pub FillsOrNot : ℕ → Filling → Filling → List (List ℕ) → Bool → List ℕ → Result Filled SessionFault → Type 0
 FillsOrNot size old new rows last frame (Ok filled) = Fills size old new rows last frame filled
-FillsOrNot size old new rows last frame (Err fault) = fault ≡ Memory
+FillsOrNot size old new rows last frame (Err fault) = (fault ≡ Memory) × (new ≡ old) × (frame ≡ [])
 
 -- the same in a buffer, at whose front the frame stands: so many octets before a payload
 abbrev pub FillsInto : ℕ → Filling → Filling → List (List ℕ) → Bool → List ℕ → Filled → Type 0

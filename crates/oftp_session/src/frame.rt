@@ -85,7 +85,7 @@ impl Frame {
     ///
     /// # Errors
     ///
-    /// [`SessionFault::Memory`] where there is no buffer for payloads of this size. The filler is as it was.
+    /// [`SessionFault::Memory`] where there is no buffer for payloads of this size. The filler is as it was, and nothing is said.
     pub(crate) fn fill(
         &mut self,
         filler: &mut Filler,
@@ -100,14 +100,15 @@ impl Frame {
         requires some { is_stream filler.old.format ≡ true → All (λ r. 0 < length r) rows.now }
         ensures { FillsOrNot size filler.old filler.new rows.now last self.new result }
     {
-        self.hush();
         if self.buffer.len() < size + DATA_HEAD {
+            self.hush();
             return Err(SessionFault::Memory);
         }
         let filled = fill_data(filler, rows, last, size, self.buffer.as_mut_slice());
-        if let Filled::Buffer(count) = filled {
-            self.said = Said::Data(count + DATA_HEAD);
-        }
+        self.said = match filled {
+            Filled::Buffer(count) => Said::Data(count + DATA_HEAD),
+            Filled::Done | Filled::More => Said::Command(0),
+        };
         Ok(filled)
     }
 

@@ -16,8 +16,6 @@ mod sending;
 mod session;
 mod speaker;
 mod state;
-#[cfg(test)]
-mod tests;
 
 pub use link::{Link, WhenDone};
 pub use session::{Ending, Out, Session, SessionFault};

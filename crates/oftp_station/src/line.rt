@@ -25,7 +25,7 @@ use commands::{Name, USAGES};
 use std::alloc::{AllocError, Global};
 
 /// A command with its options and words, borrowed from the words of the command line.
-#[derive(Debug, Clone, Copy, PartialEq, Eq)]
+#[derive(Clone, Copy)]
 pub enum Line<'a> {
     /// The database is opened, and its tables are made.
     Init(Init<'a>),
@@ -54,7 +54,7 @@ pub enum Line<'a> {
 }
 
 /// Why the words are read as no command.
-#[derive(Debug, Drop)]
+#[derive(Drop)]
 pub enum LineFault {
     /// They are no command line. The text says why, for standard error, and ends its last line.
     Bad(String),
@@ -114,6 +114,3 @@ fn usage_after(alloc: Global, error: &str) -> Result<String, AllocError> {
     }
     Ok(text)
 }
-
-#[cfg(test)]
-mod tests;

@@ -7,8 +7,6 @@ mod outcome;
 mod perform;
 mod ports;
 mod sockets;
-#[cfg(test)]
-mod tests;
 
 use perform::{perform, tell_unread};
 use std::process::ExitCode;

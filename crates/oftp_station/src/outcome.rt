@@ -11,7 +11,7 @@ use std::fmt;
 use std::io::{self, Write};
 
 /// Why a command failed: the line on standard error.
-#[derive(Clone, Copy, Debug, Drop, PartialEq, Eq)]
+#[derive(Clone, Copy, Drop)]
 pub enum Fault {
     /// A session was broken off.
     Run(RunFault),
@@ -61,7 +61,7 @@ impl fmt::Display for Fault {
 }
 
 /// What a command did: the line on standard output.
-#[derive(Clone, Copy, Debug, Drop, PartialEq, Eq)]
+#[derive(Clone, Copy, Drop)]
 pub enum Outcome {
     /// The database was opened, and has its tables.
     Initiated,

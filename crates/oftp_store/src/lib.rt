@@ -6,8 +6,6 @@ mod file;
 mod looks;
 mod office;
 mod open;
-#[cfg(test)]
-mod tests;
 
 pub use file::{PathFault, migrate_at, open_at};
 pub use office::SqlOffice;

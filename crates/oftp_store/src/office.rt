@@ -4,8 +4,6 @@ ghost use Rattle.std.specs.Prelude.{◌≡◌, ◌≤◌, false};
 ghost use Rattle.oftp_register.specs.declared.fit.TheConstants.{MOST_FILES, MOST_OCTETS};
 
 mod law;
-#[cfg(test)]
-mod tests;
 
 use oftp_vfile::Limits;
 use sqlite::{Alter, Connection};

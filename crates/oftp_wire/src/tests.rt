@@ -7,190 +7,66 @@ use std::test::Fail;
 
 mod by_hand;
 
-/// What an operator reads, and the fields of the spelling.
-type Spelled = (&'static [u8], &'static [&'static [u8]]);
-
-/// Each kind with short values.
-const SHORT: [Spelled; 15] = [
-    (b"SSRM", &[b"I", b"ODETTE FTP READY ", b"\r"]),
+/// Each kind with short values: what an operator reads, and the octets.
+const SHORT: [(&'static [u8], &'static [u8]); 15] = [
+    (b"SSRM", b"IODETTE FTP READY \r"),
     (
         b"SSID from ",
-        &[
-            b"X",
-            b"0",
-            b"                         ",
-            b"        ",
-            b"00000",
-            b"S",
-            b"N",
-            b"Y",
-            b"N",
-            b"000",
-            b"N",
-            b"    ",
-            b"        ",
-            b"\r",
-        ],
+        b"X0                                 00000SNYN000N            \r",
     ),
     (
         b"SFID A 20240131 1015300001 from O1 to O2",
-        &[
-            b"H",
-            b"A                         ",
-            b"   ",
-            b"20240131",
-            b"1015300001",
-            b"        ",
-            b"O2                       ",
-            b"O1                       ",
-            b"U",
-            b"00000",
-            b"0000000000000",
-            b"0000000000000",
-            b"00000000000000000",
-            b"00",
-            b"00",
-            b"0",
-            b"0",
-            b"N",
-            b"000",
-            b"",
-        ],
+        b"HA                            202401311015300001        O2                       O1                       U000000000000000000000000000000000000000000000000000000N000",
     ),
-    (b"SFPA from position 0", &[b"2", b"00000000000000000"]),
-    (b"SFNA 99 unspecified", &[b"3", b"99", b"N", b"000", b""]),
-    (b"DATA of 0 octets", &[b"D", b""]),
-    (b"CDT", &[b"C", b"  "]),
+    (b"SFPA from position 0", b"200000000000000000"),
+    (b"SFNA 99 unspecified", b"399N000"),
+    (b"DATA of 0 octets", b"D"),
+    (b"CDT", b"C  "),
     (
         b"EFID of 0 records and 0 octets",
-        &[b"T", b"00000000000000000", b"00000000000000000"],
+        b"T0000000000000000000000000000000000",
     ),
-    (b"EFPA", &[b"4", b"N"]),
-    (b"EFNA 12", &[b"5", b"12", b"000", b""]),
-    (b"ESID 00 normal", &[b"F", b"00", b"000", b"", b"\r"]),
-    (b"CD", &[b"R"]),
+    (b"EFPA", b"4N"),
+    (b"EFNA 12", b"512000"),
+    (b"ESID 00 normal", b"F00000\r"),
+    (b"CD", b"R"),
     (
         b"EERP  00000000 0000000000 to ",
-        &[
-            b"E",
-            b"                          ",
-            b"   ",
-            b"00000000",
-            b"0000000000",
-            b"        ",
-            b"                         ",
-            b"                         ",
-            b"\0\0",
-            b"\0\0",
-        ],
+        b"E                             000000000000000000                                                          \0\0\0\0",
     ),
     (
         b"NERP A 20240131 1015300001 to O1, reason 03",
-        &[
-            b"N",
-            b"A                         ",
-            b"      ",
-            b"20240131",
-            b"1015300001",
-            b"O1                       ",
-            b"O2                       ",
-            b"O3                       ",
-            b"03",
-            b"000",
-            b"",
-            b"\0\0",
-            b"\0\0",
-        ],
+        b"NA                               202401311015300001O1                       O2                       O3                       03000\0\0\0\0",
     ),
-    (b"RTR", &[b"P"]),
+    (b"RTR", b"P"),
 ];
 
-/// A text of the most octets.
-const LONG: [u8; 999] = [b'x'; 999];
-
-/// Each kind with fields at its longest: its octets, and the fields.
-const LONGEST: [(usize, &'static [&'static [u8]]); 9] = [
+/// Each kind with fields at its longest: the octets before the text, how many its text has, and the octets behind it.
+const LONGEST: [(&'static [u8], usize, &'static [u8]); 9] = [
     (
-        61,
-        &[
-            b"X",
-            b"5",
-            b"0123456789ABCDEFGHIJKLMNO",
-            b"P/-.&()Z",
-            b"99999",
-            b"B",
-            b"Y",
-            b"Y",
-            b"Y",
-            b"999",
-            b"Y",
-            b"    ",
-            b"ABCDEFGH",
-            b"\r",
-        ],
+        b"X50123456789ABCDEFGHIJKLMNOP/-.&()Z99999BYYY999Y    ABCDEFGH",
+        0,
+        b"\r",
     ),
     (
-        1164,
-        &[
-            b"H",
-            b"ABCDEFGHIJKLMNOPQRSTUVWXYZ",
-            b"   ",
-            b"99999999",
-            b"9999999999",
-            b"ABCDEFGH",
-            b"0123456789ABCDEFGHIJKLMNO",
-            b"0123456789ABCDEFGHIJKLMNO",
-            b"V",
-            b"99999",
-            b"9999999999999",
-            b"9999999999999",
-            b"99999999999999999",
-            b"03",
-            b"99",
-            b"9",
-            b"9",
-            b"Y",
-            b"999",
-            &LONG,
-        ],
+        b"HABCDEFGHIJKLMNOPQRSTUVWXYZ   999999999999999999ABCDEFGH0123456789ABCDEFGHIJKLMNO0123456789ABCDEFGHIJKLMNOV999999999999999999999999999999999999999999999999039999Y999",
+        999,
+        b"",
     ),
-    (18, &[b"2", b"99999999999999999"]),
-    (1006, &[b"3", b"13", b"Y", b"999", &LONG]),
-    (35, &[b"T", b"99999999999999999", b"99999999999999999"]),
-    (1005, &[b"5", b"11", b"999", &LONG]),
-    (1006, &[b"F", b"99", b"999", &LONG, b"\r"]),
+    (b"299999999999999999", 0, b""),
+    (b"313Y999", 999, b""),
+    (b"T9999999999999999999999999999999999", 0, b""),
+    (b"511999", 999, b""),
+    (b"F99999", 999, b"\r"),
     (
-        110,
-        &[
-            b"E",
-            b"ABCDEFGHIJKLMNOPQRSTUVWXYZ",
-            b"   ",
-            b"99999999",
-            b"9999999999",
-            b"ABCDEFGH",
-            b"0123456789ABCDEFGHIJKLMNO",
-            b"0123456789ABCDEFGHIJKLMNO",
-            b"\0\0",
-            b"\0\0",
-        ],
+        b"EABCDEFGHIJKLMNOPQRSTUVWXYZ   999999999999999999ABCDEFGH0123456789ABCDEFGHIJKLMNO0123456789ABCDEFGHIJKLMNO\0\0\0\0",
+        0,
+        b"",
     ),
     (
-        1134,
-        &[
-            b"N",
-            b"ABCDEFGHIJKLMNOPQRSTUVWXYZ",
-            b"      ",
-            b"99999999",
-            b"9999999999",
-            b"0123456789ABCDEFGHIJKLMNO",
-            b"0123456789ABCDEFGHIJKLMNO",
-            b"0123456789ABCDEFGHIJKLMNO",
-            b"99",
-            b"999",
-            &LONG,
-            b"\0\0",
-            b"\0\0",
-        ],
+        b"NABCDEFGHIJKLMNOPQRSTUVWXYZ      9999999999999999990123456789ABCDEFGHIJKLMNO0123456789ABCDEFGHIJKLMNO0123456789ABCDEFGHIJKLMNO99999",
+        999,
+        b"\0\0\0\0",
     ),
 ];
 
@@ -216,26 +92,27 @@ fn fault_of_fields(alloc: Global, fields: &[&[u8]]) -> Result<Option<WireFault>,
 
 #[test]
 fn each_kind_short(rt: HostRuntime) -> Result<(), Fail> {
-    for (words, fields) in SHORT {
-        let octets = joined(rt.alloc(), fields)?;
-        let command = parse(octets.as_slice())?;
+    for (words, octets) in SHORT {
+        let command = parse(octets)?;
         assert_eq!(rt; command.to_string(rt.alloc())?.as_bytes(), words);
-        let mut out = [0xffu8; 1164];
+        let mut out = [0xffu8; 165];
         assert_eq!(rt; encode(&command, &mut out), Ok(octets.len()), "{command}");
-        assert!(rt; out.starts_with(octets.as_slice()), "{command}");
+        assert!(rt; out.starts_with(octets), "{command}");
     }
     Ok(())
 }
 
 #[test]
 fn each_kind_longest(rt: HostRuntime) -> Result<(), Fail> {
-    for (len, fields) in LONGEST {
-        let octets = joined(rt.alloc(), fields)?;
-        assert_eq!(rt; octets.len(), len);
+    for (front, count, back) in LONGEST {
+        let mut octets = Vec::from_slice(rt.alloc(), front)?;
+        octets.resize(front.len() + count, b'x')?;
+        octets.extend_from_slice(back)?;
         let command = parse(octets.as_slice())?;
-        let mut out = [0xffu8; 1164];
-        assert_eq!(rt; encode(&command, &mut out), Ok(len));
-        assert!(rt; out.starts_with(octets.as_slice()), "{command}");
+        let mut out = Vec::new(rt.alloc());
+        out.resize(octets.len(), 0xff)?;
+        assert_eq!(rt; encode(&command, &mut out), Ok(octets.len()));
+        assert!(rt; out.as_slice() == octets.as_slice(), "{command}");
     }
     Ok(())
 }

@@ -51,5 +51,6 @@ fn each_allocation_refused(rt: HostRuntime) -> Result<(), Fail> {
     let all =
         "in D Whole 1/1 EERP Sent; out A returned 2/3 mark 0; out B refused 1/1 mark 0; got A NERP; ";
     assert_eq!(rt; shown_again(alloc, &mut office)?.as_str(), all);
+    assert_eq!(rt; office.received().len(), 1);
     Ok(())
 }

@@ -211,7 +211,7 @@ pub(super) fn number(matches: &ArgMatches<'_>, id: &str) -> u64
 }
 
 /// A value that is none of those that its argument has names for.
-#[derive(Debug, Clone, Copy, PartialEq, Eq)]
+#[derive(Clone, Copy)]
 pub(super) struct Unlisted<'a> {
     /// The value.
     pub(super) value: &'a str,

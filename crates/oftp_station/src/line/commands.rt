@@ -51,7 +51,7 @@ pub(super) const USAGES: [&str; 12] = [
 ];
 
 /// The name of a command.
-#[derive(Debug, Clone, Copy, PartialEq, Eq)]
+#[derive(Clone, Copy)]
 pub(super) enum Name {
     Init,
     Migrate,

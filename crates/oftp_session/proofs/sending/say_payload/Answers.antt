@@ -28,7 +28,7 @@ returns-in-Done-clause-says g c = λ clean stands contact t holds at room.
     says_none contact t c.args.shipment.now c.loop-rows.shipment c.fill.new.filler c.args.size c.loop-rows.most c.in_ok-rows.rows c.as_slice.result.now _
     (view c.args.office.now) (view c.loop-rows.office) (view c.rows_to_lend.new.office) i sound was holds at room
     (λ u sent ships. c.in_ok-rows.ensures.finds clean was.stands i.some contact u sent ships) c.as_slice.ensures
-    (told_last _ _ _ _ _ _ c.row.ensures c.len.ensures c.get.ensures.value) none
+    (told_last _ _ _ _ _ _ c.row.ensures c.len.ensures c.get.ensures.value) none.0
 
 pub loop-rows-smaller : goal.loop-rows-smaller
 loop-rows-smaller g c =
@@ -36,7 +36,7 @@ loop-rows-smaller g c =
     let more = rw c.in-More.is at c.in_ok-fill.ensures in
     let asks = asks_more (view c.args.office.now) (view c.loop-rows.office) (view c.rows_to_lend.new.office) c.args.shipment.now c.loop-rows.shipment c.fill.new.filler c.args.size c.loop-rows.most
     c.min-most-in-More.result c.in_ok-rows.rows c.as_slice.result.now _ c.loop-rows.invariant c.rows_to_lend.ensures.clean c.in_ok-rows.ensures.stays c.in_ok-rows.ensures.may
-    c.as_slice.ensures (told_last _ _ _ _ _ _ c.row.ensures c.len.ensures c.get.ensures.value) more c.min-most-in-More.ensures in
+    c.as_slice.ensures (told_last _ _ _ _ _ _ c.row.ensures c.len.ensures c.get.ensures.value) more.0 c.min-most-in-More.ensures in
     asks.1
 
 pub loop-rows-preserved : goal.loop-rows-preserved
@@ -45,5 +45,5 @@ loop-rows-preserved g c =
     let more = rw c.in-More.is at c.in_ok-fill.ensures in
     let asks = asks_more (view c.args.office.now) (view c.loop-rows.office) (view c.rows_to_lend.new.office) c.args.shipment.now c.loop-rows.shipment c.fill.new.filler c.args.size c.loop-rows.most
     c.min-most-in-More.result c.in_ok-rows.rows c.as_slice.result.now _ c.loop-rows.invariant c.rows_to_lend.ensures.clean c.in_ok-rows.ensures.stays c.in_ok-rows.ensures.may
-    c.as_slice.ensures (told_last _ _ _ _ _ _ c.row.ensures c.len.ensures c.get.ensures.value) more c.min-most-in-More.ensures in
+    c.as_slice.ensures (told_last _ _ _ _ _ _ c.row.ensures c.len.ensures c.get.ensures.value) more.0 c.min-most-in-More.ensures in
     asks.0

@@ -12,7 +12,7 @@ use std::alloc::{AllocError, Global};
 pub(in crate::line) const USAGE: &str = "oftp_station check --book <BOOK>";
 
 /// The command `check`, which reads the book and counts its partners.
-#[derive(Debug, Clone, Copy, PartialEq, Eq)]
+#[derive(Clone, Copy)]
 pub struct Check<'a> {
     /// The file that holds the book.
     pub book: &'a str,

@@ -15,7 +15,7 @@ pub(in crate::line) const USAGE: &str =
     "oftp_station feed [--db <DATABASE>] --book <BOOK> [--role <ROLE>] [--partner <CODE>] <IN> <OUT>";
 
 /// The command `feed`, which plays one session from the octets of a file to another file.
-#[derive(Debug, Clone, Copy, PartialEq, Eq)]
+#[derive(Clone, Copy)]
 pub struct Feed<'a> {
     /// The file that holds the database. Without one the register is in memory.
     pub database: Option<&'a str>,
@@ -32,7 +32,7 @@ pub struct Feed<'a> {
 }
 
 /// A side of a session (RFC 5024, 4.2.1).
-#[derive(Debug, Clone, Copy, PartialEq, Eq)]
+#[derive(Clone, Copy)]
 pub enum Side {
     /// The side that was connected to.
     Responder,

@@ -12,7 +12,7 @@ use std::alloc::{AllocError, Global};
 pub(in crate::line) const USAGE: &str = "oftp_station fetch --db <DATABASE> <NO> <FILE>";
 
 /// The command `fetch`, which writes an incoming file to a file.
-#[derive(Debug, Clone, Copy, PartialEq, Eq)]
+#[derive(Clone, Copy)]
 pub struct Fetch<'a> {
     /// The file that holds the database.
     pub database: &'a str,

@@ -12,7 +12,7 @@ use std::alloc::{AllocError, Global};
 pub(in crate::line) const USAGE: &str = "oftp_station init --db <DATABASE>";
 
 /// The command `init`, which opens the database and makes its tables.
-#[derive(Debug, Clone, Copy, PartialEq, Eq)]
+#[derive(Clone, Copy)]
 pub struct Init<'a> {
     /// The file that holds the database.
     pub database: &'a str,

@@ -12,7 +12,7 @@ use std::alloc::{AllocError, Global};
 pub(in crate::line) const USAGE: &str = "oftp_station migrate --db <DATABASE>";
 
 /// The command `migrate`, which brings a database of schema 1 to schema 2.
-#[derive(Debug, Clone, Copy, PartialEq, Eq)]
+#[derive(Clone, Copy)]
 pub struct Migrate<'a> {
     /// The file that holds the database.
     pub database: &'a str,

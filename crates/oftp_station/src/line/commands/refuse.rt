@@ -18,7 +18,7 @@ pub(in crate::line) const USAGE: &str =
 const MOST_REASON: u64 = 99;
 
 /// The command `refuse`, which says that an incoming file wasn't delivered.
-#[derive(Debug, Clone, Copy, PartialEq, Eq)]
+#[derive(Clone, Copy)]
 pub struct Refuse<'a> {
     /// The file that holds the database.
     pub database: &'a str,

@@ -12,7 +12,7 @@ use std::alloc::{AllocError, Global};
 pub(in crate::line) const USAGE: &str = "oftp_station release --db <DATABASE> --book <BOOK> <NO>";
 
 /// The command `release`, which says that an incoming file was delivered.
-#[derive(Debug, Clone, Copy, PartialEq, Eq)]
+#[derive(Clone, Copy)]
 pub struct Release<'a> {
     /// The file that holds the database.
     pub database: &'a str,

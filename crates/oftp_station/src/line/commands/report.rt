@@ -13,7 +13,7 @@ use std::alloc::{AllocError, Global};
 pub(in crate::line) const USAGE: &str = "oftp_station report --db <DATABASE> <KIND>";
 
 /// The command `report`, which tells what the database holds.
-#[derive(Debug, Clone, Copy, PartialEq, Eq)]
+#[derive(Clone, Copy)]
 pub struct Report<'a> {
     /// The file that holds the database.
     pub database: &'a str,

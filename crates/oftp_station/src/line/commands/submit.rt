@@ -19,7 +19,7 @@ pub(in crate::line) const USAGE: &str =
 const MOST_LONGEST: u64 = 99_999;
 
 /// The command `submit`, which hands over a file that is to be sent to a partner.
-#[derive(Debug, Clone, Copy, PartialEq, Eq)]
+#[derive(Clone, Copy)]
 pub struct Submit<'a> {
     /// The file that holds the database.
     pub database: &'a str,

@@ -1,0 +1,8 @@
+//! One list of changes in each office: each makes or refuses the same, and tells the same afterwards.
+
+mod act;
+mod answers;
+mod offices;
+mod stories;
+mod telling;
+mod two_thousand;

@@ -1,0 +1,327 @@
+//! Each change and each refusal, the register after it as the table of changes gives it by hand, and what both offices tell of it.
+
+use super::act::Act;
+use super::offices::{FEW, opened, reopened};
+use super::telling::{kept, told};
+use Act::{
+    BeginClosing, Close, File, GiveUp, HandOver, Issue, Keep, Mark, Refuse, Reopen, Send, Start,
+    Submit,
+};
+use Cause::{Duplicate, Full, State, Unknown};
+use Format::{Fixed, Text, Unstructured, Variable};
+use ResponseKind::{EndResponse, NegativeEndResponse};
+use oftp_register::{Cause, Office, OfficeFault, PlainOffice, ResponseKind};
+use oftp_store::SqlOffice;
+use oftp_vfile::Format;
+use sqlite::{Alter, Connection};
+use std::alloc::Global;
+use std::process::Abort;
+use std::test::Fail;
+
+// A change, why it is refused if it is, and the register after it.
+type Step = (Act, Option<Cause>, &'static str);
+
+const BEYOND: u64 = 1 << 63;
+
+const A: &str = "out 1 A V3 plan Waiting mark 0 2/3 abc||; ";
+
+const AB: &str =
+    "out 1 A V3 plan Waiting mark 0 2/3 abc||; out 2 B F3 Maße Waiting mark 0 2/6 abc|def|; ";
+
+const ABN: &str =
+    "out 1 A V3 plan Waiting mark 0 2/3 abc||; out 2 B F3 Maße Waiting mark 0 2/6 abc|def|; out 3 N T0 a note Waiting mark 0 1/4 text|; ";
+
+// A file is submitted whole, and once.
+const SUBMITTED: &[Step] = &[
+    (Mark(1, 0), Some(Unknown), ""),
+    (Submit(b"A", Variable, &[b"abc", b""]), None, A),
+    (Submit(b"A", Fixed, &[]), Some(Duplicate), A),
+    (Submit(b"B", Fixed, &[b"abc", b"def"]), None, AB),
+    (Submit(b"N", Text, &[b"text"]), None, ABN),
+    (Submit(b"P", Unstructured, &[]), Some(Full), ABN),
+    // Both causes fit: the one that stands first is told.
+    (Submit(b"B", Fixed, &[]), Some(Duplicate), ABN),
+    (Mark(0, 0), Some(Unknown), ABN),
+    (Mark(4, 0), Some(Unknown), ABN),
+    (Mark(BEYOND, 0), Some(Unknown), ABN),
+    (BeginClosing(4), Some(Unknown), ABN),
+    (HandOver(4), Some(Unknown), ABN),
+    (Refuse(4), Some(Unknown), ABN),
+    (Reopen(4), Some(Unknown), ABN),
+];
+
+const CLOSING: &str =
+    "out 1 A V3 plan Closing mark 2 2/3 abc||; out 2 B F3 Maße Waiting mark 0 2/6 abc|def|; ";
+
+const HANDED: &str =
+    "out 1 A V3 plan Handed mark 0 2/3 abc||; out 2 B F3 Maße Waiting mark 0 2/6 abc|def|; ";
+
+const REFUSED: &str =
+    "out 1 A V3 plan Handed mark 0 2/3 abc||; out 2 B F3 Maße Refused 13 mark 0 2/6 abc|def|; ";
+
+const SENT: &[Step] = &[
+    (Submit(b"A", Variable, &[b"abc", b""]), None, A),
+    (Submit(b"B", Fixed, &[b"abc", b"def"]), None, AB),
+    (Mark(1, 3), Some(State), AB),
+    (HandOver(1), Some(State), AB),
+    (Reopen(1), Some(State), AB),
+    (
+        Mark(1, 2),
+        None,
+        "out 1 A V3 plan Waiting mark 2 2/3 abc||; out 2 B F3 Maße Waiting mark 0 2/6 abc|def|; ",
+    ),
+    (BeginClosing(1), None, CLOSING),
+    (BeginClosing(1), Some(State), CLOSING),
+    (Mark(1, 1), Some(State), CLOSING),
+    (Reopen(1), None, AB),
+    (
+        BeginClosing(1),
+        None,
+        "out 1 A V3 plan Closing mark 0 2/3 abc||; out 2 B F3 Maße Waiting mark 0 2/6 abc|def|; ",
+    ),
+    (HandOver(1), None, HANDED),
+    (HandOver(1), Some(State), HANDED),
+    (BeginClosing(1), Some(State), HANDED),
+    (Reopen(1), Some(State), HANDED),
+    (Mark(1, 1), Some(State), HANDED),
+    (Refuse(1), Some(State), HANDED),
+    (Refuse(2), None, REFUSED),
+    (Refuse(2), Some(State), REFUSED),
+    (Reopen(2), Some(State), REFUSED),
+];
+
+const EMPTY: &str = "out 1 N V3 plan Waiting mark 0 0/0 ; ";
+
+const EMPTY_CLOSING: &str = "out 1 N V3 plan Closing mark 0 0/0 ; ";
+
+const EMPTY_REFUSED: &str = "out 1 N V3 plan Refused 13 mark 0 0/0 ; ";
+
+// A file whose end was sent may be refused yet, and stays so.
+const REFUSED_AT_THE_END: &[Step] = &[
+    (Submit(b"N", Variable, &[]), None, EMPTY),
+    (BeginClosing(1), None, EMPTY_CLOSING),
+    (Refuse(1), None, EMPTY_REFUSED),
+    (Mark(1, 0), Some(State), EMPTY_REFUSED),
+    (BeginClosing(1), Some(State), EMPTY_REFUSED),
+    (HandOver(1), Some(State), EMPTY_REFUSED),
+    (Reopen(1), Some(State), EMPTY_REFUSED),
+    (
+        File(b"N", EndResponse, ""),
+        None,
+        "out 1 N V3 plan Refused 13 mark 0 0/0 ; got 1 N EERP 0  ; ",
+    ),
+];
+
+const UNASKED: &str = "out 1 N V3 plan Waiting mark 0 0/0 ; got 1 Z EERP 0  ; got 2 N EERP 0  ; ";
+
+const RETURNED: &str =
+    "out 1 N V3 plan Returned mark 0 0/0 ; got 1 Z EERP 0  ; got 2 N EERP 0  ; got 3 N NERP 9 O3 NO PLANT; ";
+
+const ANSWERED: &[Step] = &[
+    (Submit(b"N", Variable, &[]), None, EMPTY),
+    // It answers no file, or one that waits: these stay as they are.
+    (
+        File(b"Z", EndResponse, ""),
+        None,
+        "out 1 N V3 plan Waiting mark 0 0/0 ; got 1 Z EERP 0  ; ",
+    ),
+    (File(b"N", EndResponse, ""), None, UNASKED),
+    (File(b"N", EndResponse, ""), Some(Duplicate), UNASKED),
+    (
+        BeginClosing(1),
+        None,
+        "out 1 N V3 plan Closing mark 0 0/0 ; got 1 Z EERP 0  ; got 2 N EERP 0  ; ",
+    ),
+    (File(b"N", NegativeEndResponse, "NO PLANT"), None, RETURNED),
+    // The first text stays.
+    (
+        File(b"N", NegativeEndResponse, "LATER"),
+        Some(Duplicate),
+        RETURNED,
+    ),
+    (Mark(1, 0), Some(State), RETURNED),
+    (BeginClosing(1), Some(State), RETURNED),
+    (HandOver(1), Some(State), RETURNED),
+    (Refuse(1), Some(State), RETURNED),
+    (Reopen(1), Some(State), RETURNED),
+];
+
+const DELIVERED: &str = "out 1 N V3 plan Delivered mark 0 0/0 ; got 1 N EERP 0  ; ";
+
+const ANSWERED_WHEN_HANDED: &[Step] = &[
+    (Submit(b"N", Variable, &[]), None, EMPTY),
+    (BeginClosing(1), None, EMPTY_CLOSING),
+    (HandOver(1), None, "out 1 N V3 plan Handed mark 0 0/0 ; "),
+    (File(b"N", EndResponse, ""), None, DELIVERED),
+    (Mark(1, 0), Some(State), DELIVERED),
+    (BeginClosing(1), Some(State), DELIVERED),
+    (HandOver(1), Some(State), DELIVERED),
+    (Refuse(1), Some(State), DELIVERED),
+    (Reopen(1), Some(State), DELIVERED),
+    // The first response of a file decides.
+    (
+        File(b"N", NegativeEndResponse, "LATE"),
+        None,
+        "out 1 N V3 plan Delivered mark 0 0/0 ; got 1 N EERP 0  ; got 2 N NERP 9 O3 LATE; ",
+    ),
+];
+
+// An end response may come before the answer to the end of the file.
+const ANSWERED_WHEN_CLOSING: &[Step] = &[
+    (Submit(b"N", Variable, &[]), None, EMPTY),
+    (BeginClosing(1), None, EMPTY_CLOSING),
+    (File(b"N", EndResponse, ""), None, DELIVERED),
+];
+
+const RETURNED_WHEN_HANDED: &[Step] = &[
+    (Submit(b"N", Variable, &[]), None, EMPTY),
+    (BeginClosing(1), None, EMPTY_CLOSING),
+    (HandOver(1), None, "out 1 N V3 plan Handed mark 0 0/0 ; "),
+    (
+        File(b"N", NegativeEndResponse, "NO PLANT"),
+        None,
+        "out 1 N V3 plan Returned mark 0 0/0 ; got 1 N NERP 9 O3 NO PLANT; ",
+    ),
+    (
+        File(b"N", EndResponse, ""),
+        None,
+        "out 1 N V3 plan Returned mark 0 0/0 ; got 1 N NERP 9 O3 NO PLANT; got 2 N EERP 0  ; ",
+    ),
+];
+
+const THREE_ROWS: &str = "in 1 D V3 plan Open 3/5 abc||de|; ";
+
+const FIXED: &str = "in 1 D F3 Maße Open 1/3 abc|; ";
+
+const WHOLE: &str = "in 1 D F3 Maße Whole 2/6 abc|def|; ";
+
+const TWO: &str = "in 1 D F3 Maße Whole 2/6 abc|def|; in 2 E V3 plan Open 1/1 x|; ";
+
+const THREE: &str =
+    "in 1 D F3 Maße Whole 2/6 abc|def|; in 2 E V3 plan Open 1/1 x|; in 3 F U0  Open 0/0 ; ";
+
+const COMING: &[Step] = &[
+    (Start(b"D", Variable, 1), Some(State), ""),
+    (Keep(1, &[]), Some(Unknown), ""),
+    (Close(1, &[]), Some(Unknown), ""),
+    (GiveUp(1), Some(Unknown), ""),
+    (Start(b"D", Variable, 0), None, "in 1 D V3 plan Open 0/0 ; "),
+    (Keep(1, &[b"abc", b"", b"de"]), None, THREE_ROWS),
+    (Keep(0, &[]), Some(Unknown), THREE_ROWS),
+    (Close(2, &[]), Some(Unknown), THREE_ROWS),
+    (GiveUp(BEYOND), Some(Unknown), THREE_ROWS),
+    (Start(b"D", Variable, 4), Some(State), THREE_ROWS),
+    (Start(b"D", Variable, 3), None, THREE_ROWS),
+    (
+        Start(b"D", Variable, 2),
+        None,
+        "in 1 D V3 plan Open 2/3 abc||; ",
+    ),
+    // The header is that of the last start.
+    (Start(b"D", Fixed, 1), None, FIXED),
+    (GiveUp(1), None, "in 1 D F3 Maße Open 0/0 ; "),
+    (Keep(1, &[b"abc"]), None, FIXED),
+    (Close(1, &[b"def"]), None, WHOLE),
+    (Keep(1, &[]), Some(State), WHOLE),
+    (Close(1, &[]), Some(State), WHOLE),
+    (GiveUp(1), Some(State), WHOLE),
+    (Start(b"D", Fixed, 0), Some(State), WHOLE),
+    (
+        Start(b"E", Variable, 0),
+        None,
+        "in 1 D F3 Maße Whole 2/6 abc|def|; in 2 E V3 plan Open 0/0 ; ",
+    ),
+    (Keep(2, &[b"x"]), None, TWO),
+    (Start(b"F", Unstructured, 0), None, THREE),
+    (Start(b"A", Variable, 0), Some(Full), THREE),
+    // Both causes fit: the one that stands first is told.
+    (Start(b"A", Variable, 1), Some(State), THREE),
+    // The rows of another file stay.
+    (
+        GiveUp(2),
+        None,
+        "in 1 D F3 Maße Whole 2/6 abc|def|; in 2 E V3 plan Open 0/0 ; in 3 F U0  Open 0/0 ; ",
+    ),
+];
+
+const OPEN: &str = "in 1 D V3 plan Open 0/0 ; ";
+
+const UNANSWERED: &str = "in 1 D V3 plan Whole 1/2 ab|; ";
+
+const DUE: &str = "in 1 D V3 plan Whole NERP 9 NO ROOM Due 1/2 ab|; ";
+
+const GONE: &str = "in 1 D V3 plan Whole NERP 9 NO ROOM Sent 1/2 ab|; ";
+
+const ISSUED: &[Step] = &[
+    (Issue(1, EndResponse, ""), Some(Unknown), ""),
+    (Send(1), Some(Unknown), ""),
+    (Start(b"D", Variable, 0), None, OPEN),
+    (Issue(1, EndResponse, ""), Some(State), OPEN),
+    (Send(1), Some(State), OPEN),
+    (Close(1, &[b"ab"]), None, UNANSWERED),
+    (Send(1), Some(State), UNANSWERED),
+    (Issue(2, EndResponse, ""), Some(Unknown), UNANSWERED),
+    (Send(0), Some(Unknown), UNANSWERED),
+    (Issue(1, NegativeEndResponse, "NO ROOM"), None, DUE),
+    (Issue(1, EndResponse, ""), Some(State), DUE),
+    (Send(1), None, GONE),
+    (Send(1), Some(State), GONE),
+    (Issue(1, EndResponse, ""), Some(State), GONE),
+];
+
+const STORIES: [&[Step]; 9] = [
+    SUBMITTED,
+    SENT,
+    REFUSED_AT_THE_END,
+    ANSWERED,
+    ANSWERED_WHEN_HANDED,
+    ANSWERED_WHEN_CLOSING,
+    RETURNED_WHEN_HANDED,
+    COMING,
+    ISSUED,
+];
+
+// Makes a step, and answers what is told then.
+fn take<O: Office>(
+    alloc: Global,
+    rt: &impl Abort,
+    office: &mut O,
+    step: &Step,
+) -> Result<String, OfficeFault> {
+    let (act, cause, register) = step;
+    let answer = match cause {
+        Some(cause) => Err(OfficeFault::Refused(*cause)),
+        None => Ok(()),
+    };
+    assert_eq!(rt; office.commit(act.change(alloc)?), answer, "at {act:?}");
+    assert_eq!(rt; kept(alloc, office)?.as_str(), *register, "after {act:?}");
+    told(alloc, office)
+}
+
+// Both take the steps of a story alike. The one over a database is opened again after each.
+fn take_all<S: Alter + Drop>(
+    alloc: Global,
+    rt: &impl Abort,
+    story: &[Step],
+    office: SqlOffice<S>,
+) -> Result<(), Fail> {
+    let mut plain = PlainOffice::new(alloc, FEW);
+    let mut office = office;
+    for step in story {
+        let wanted = take(alloc, rt, &mut plain, step)?;
+        let found = take(alloc, rt, &mut office, step)?;
+        assert_eq!(rt; found.as_str(), wanted.as_str(), "after {:?}", step.0);
+        office = reopened(alloc, office)?;
+    }
+    Ok(())
+}
+
+#[test]
+fn each_change_and_each_refusal(rt: HostRuntime) -> Result<(), Fail> {
+    let alloc = rt.alloc();
+    for story in STORIES {
+        let conn = Connection::open_in_memory(alloc)?;
+        take_all(alloc, &rt, story, opened(alloc, conn, FEW)?)?;
+    }
+    Ok(())
+}

@@ -1,0 +1,239 @@
+//! What an office tells, as a text.
+
+use super::act::{code, identity};
+use oftp_register::{
+    Cursor, Identity, IncomingEntry, IssuedEntry, IssuedResponse, Item, Name, Office, OfficeFault,
+    OutgoingEntry, OutgoingState, ReceivedEntry, ResponseKind, Side,
+};
+use oftp_vfile::{Format, Rows};
+use std::alloc::{AllocError, Global};
+
+// More rows than a file has.
+const ALL: u64 = 1 << 40;
+
+// A number that a database hasn't.
+const BEYOND: u64 = 1 << 63;
+
+const KINDS: [ResponseKind; 2] = [ResponseKind::EndResponse, ResponseKind::NegativeEndResponse];
+
+const SIDES: [Side; 2] = [Side::Incoming, Side::Outgoing];
+
+const DATASETS: [&[u8]; 8] = [b"A", b"B", b"D", b"E", b"F", b"N", b"P", b"Z"];
+
+fn letter(identity: &Identity) -> char {
+    char::from(identity.dataset.octets().first().copied().unwrap_or(b'-'))
+}
+
+fn format_letter(format: Format) -> char {
+    match format {
+        Format::Fixed => 'F',
+        Format::Variable => 'V',
+        Format::Unstructured => 'U',
+        Format::Text => 'T',
+    }
+}
+
+fn kind_name(kind: ResponseKind) -> &'static str {
+    match kind {
+        ResponseKind::EndResponse => "EERP",
+        ResponseKind::NegativeEndResponse => "NERP",
+    }
+}
+
+fn add_octets(all: &mut String, octets: &[u8]) -> Result<(), AllocError> {
+    for octet in octets {
+        all.push(char::from(*octet))?;
+    }
+    Ok(())
+}
+
+fn add_rows(all: &mut String, rows: &Rows) -> Result<(), AllocError> {
+    for row in rows.as_slice() {
+        add_octets(all, row.octets())?;
+        all.push('|')?;
+    }
+    Ok(())
+}
+
+fn add_response(all: &mut String, response: &IssuedResponse) -> Result<(), AllocError> {
+    let (kind, reason) = (kind_name(response.kind), response.reason.get());
+    let (note, dispatch) = (response.text.as_str(), response.dispatch);
+    write!(all, " {kind} {reason} {note} {dispatch:?}")
+}
+
+fn add_incoming(all: &mut String, entry: &IncomingEntry) -> Result<(), AllocError> {
+    let (letter, format) = (letter(&entry.identity), format_letter(entry.format));
+    let about = entry.description.as_str();
+    let IncomingEntry {
+        no,
+        longest,
+        state,
+        rows,
+        ..
+    } = entry;
+    write!(all, "in {no} {letter} {format}{longest} {about} {state:?}")?;
+    if let Some(response) = &entry.response {
+        add_response(all, response)?;
+    }
+    write!(all, " {rows}")
+}
+
+fn add_state(all: &mut String, state: OutgoingState) -> Result<(), AllocError> {
+    match state {
+        OutgoingState::Refused(reason) => {
+            let reason = reason.get();
+            write!(all, "Refused {reason}")
+        }
+        other => write!(all, "{other:?}"),
+    }
+}
+
+fn add_outgoing(all: &mut String, entry: &OutgoingEntry) -> Result<(), AllocError> {
+    let (letter, format) = (letter(&entry.identity), format_letter(entry.format));
+    let about = entry.description.as_str();
+    let OutgoingEntry {
+        no,
+        longest,
+        rows,
+        mark,
+        ..
+    } = entry;
+    write!(all, "out {no} {letter} {format}{longest} {about} ")?;
+    add_state(all, entry.state)?;
+    write!(all, " mark {mark} {rows}")
+}
+
+fn add_issued(all: &mut String, entry: &IssuedEntry) -> Result<(), AllocError> {
+    let letter = letter(&entry.identity);
+    let no = entry.no;
+    write!(all, "answered {no} {letter}")?;
+    add_response(all, &entry.response)?;
+    write!(all, "; ")
+}
+
+fn add_received(all: &mut String, entry: &ReceivedEntry) -> Result<(), AllocError> {
+    let (no, response) = (entry.no, &entry.response);
+    let (letter, kind) = (letter(&response.identity), kind_name(response.kind));
+    let reason = response.reason.get();
+    write!(all, "got {no} {letter} {kind} {reason} ")?;
+    add_octets(all, response.creator.octets())?;
+    let note = response.text.as_str();
+    write!(all, " {note}; ")
+}
+
+// The octets of a file.
+fn add_content<O: Office>(
+    all: &mut String,
+    office: &mut O,
+    side: Side,
+    no: u64,
+) -> Result<(), OfficeFault> {
+    let units = office.units_of(side, no)?;
+    write!(all, "/{units} ")?;
+    add_rows(all, &office.rows_of(side, no, 0, ALL)?)?;
+    write!(all, "; ")?;
+    Ok(())
+}
+
+/// What an office keeps: the files with their rows, and the responses that came.
+pub(super) fn kept<O: Office>(alloc: Global, office: &mut O) -> Result<String, OfficeFault> {
+    let mut all = String::new(alloc);
+    for entry in office.list_in()? {
+        add_incoming(&mut all, &entry)?;
+        add_content(&mut all, office, Side::Incoming, entry.no)?;
+    }
+    for entry in office.list_out()? {
+        add_outgoing(&mut all, &entry)?;
+        add_content(&mut all, office, Side::Outgoing, entry.no)?;
+    }
+    for entry in office.list_received()? {
+        add_received(&mut all, &entry)?;
+    }
+    Ok(all)
+}
+
+// What is told of a number.
+fn add_number<O: Office>(all: &mut String, office: &mut O, no: u64) -> Result<(), OfficeFault> {
+    if let Some(entry) = office.in_by_no(no)? {
+        add_incoming(all, &entry)?;
+    }
+    if let Some(entry) = office.out_by_no(no)? {
+        add_outgoing(all, &entry)?;
+    }
+    for side in SIDES {
+        add_content(all, office, side, no)?;
+        for (from, most) in [(1, 1), (ALL, ALL)] {
+            add_rows(all, &office.rows_of(side, no, from, most)?)?;
+        }
+    }
+    Ok(())
+}
+
+// What is told of a file.
+fn add_file<O: Office>(
+    all: &mut String,
+    office: &mut O,
+    identity: &Identity,
+) -> Result<(), OfficeFault> {
+    if let Some(entry) = office.look_in(identity)? {
+        let same = entry.identity.is(identity);
+        write!(all, "{same} ")?;
+        add_incoming(all, &entry)?;
+    }
+    if let Some(entry) = office.look_out(identity)? {
+        let same = entry.identity.is(identity);
+        write!(all, "{same} ")?;
+        add_outgoing(all, &entry)?;
+    }
+    for kind in KINDS {
+        write!(all, " {}; ", office.has_received(kind, identity)?)?;
+    }
+    Ok(())
+}
+
+// What is next for a partner.
+fn add_next<O: Office>(
+    all: &mut String,
+    office: &mut O,
+    partner: &Name<25>,
+) -> Result<(), OfficeFault> {
+    for (response, file, files) in [
+        (0, 0, true),
+        (1, 0, true),
+        (2, 1, true),
+        (2, 0, false),
+        (BEYOND, 0, true),
+        (BEYOND, BEYOND, true),
+    ] {
+        match office.next_item(partner, Cursor { response, file }, files)? {
+            Some(Item::Response(entry)) => add_issued(all, &entry)?,
+            Some(Item::File(entry)) => add_outgoing(all, &entry)?,
+            None => write!(all, "nothing; ")?,
+        }
+    }
+    Ok(())
+}
+
+/// All that an office tells, by each of its look-ups.
+pub(super) fn told<O: Office>(alloc: Global, office: &mut O) -> Result<String, OfficeFault> {
+    let mut all = kept(alloc, office)?;
+    for entry in office.list_issued()? {
+        add_issued(&mut all, &entry)?;
+    }
+    let limits = office.limits();
+    for no in 0..limits.files + 2 {
+        add_number(&mut all, office, no)?;
+    }
+    add_number(&mut all, office, BEYOND)?;
+    for dataset in DATASETS {
+        add_file(&mut all, office, &identity(dataset)?)?;
+    }
+    for partner in [b"O1", b"O2", b"O3"] {
+        add_next(&mut all, office, &code(partner)?)?;
+    }
+    for side in SIDES {
+        write!(all, "full {} ", office.files_full(side)?)?;
+    }
+    write!(all, "{limits:?}")?;
+    Ok(all)
+}

@@ -1,0 +1,120 @@
+#!/bin/bash
+# A supplier and a car maker as two stations on this machine, each a service of its own with its own database. A dispatch note goes one
+# way and a schedule the other; within the schedule the supplier's station is killed, and the next call goes on where it stopped; end
+# responses go back both ways, and the register is shown by http. It prints each command and what the program says.
+set -euo pipefail
+root=$(cd "$(dirname "$0")/.." && pwd)
+program=${OFTP_STATION:-$root/oftp_station}
+room=$(mktemp -d)
+services=()
+trap 'kill -9 "${services[@]}" 2> /dev/null || true; rm -rf "$room"' EXIT
+cd "$room"
+
+say() {
+    printf '\n# %s\n' "$*"
+}
+
+# Prints a command and runs it. What is refused, or fails in a session, ends the example no more than what is done.
+give() {
+    local status=0
+    echo "\$ oftp_station $*"
+    "$program" "$@" || status=$?
+    if [ "$status" -gt 1 ]; then exit "$status"; fi
+}
+
+# Fails where a report of a register doesn't have this text.
+has() {
+    "$program" report --db "$1" "$2" | grep -qF -- "$3" || { echo "the report $2 of $1 doesn't say $3"; exit 1; }
+}
+
+# So many ports that nothing listens on.
+free_ports() {
+    python3 -c 'import socket, sys
+probes = [socket.create_server(("127.0.0.1", 0)) for _ in range(int(sys.argv[1]))]
+print(*(it.getsockname()[1] for it in probes))' "$1"
+}
+
+# Waits until a port is listened on.
+await() {
+    local entry
+    entry=$(printf ':%04X 00000000:0000 0A' "$1")
+    until grep -q "$entry" /proc/net/tcp; do sleep 0.02; done
+}
+
+# Starts a station's service, whose lines go to a file.
+serve() {
+    echo "\$ oftp_station listen --db $1.db --book $1.toml --port $2 --sessions 1000000 &"
+    "$program" listen --db "$1.db" --book "$1.toml" --port "$2" --sessions 1000000 >> "$1.lines" &
+    service=$!
+    services+=("$service")
+    disown
+    await "$2"
+}
+
+# How many octets the files of the supplier's database have.
+size() {
+    cat supplier.db* | wc -c
+}
+
+# Kills the service once half a megabyte of the schedule is in its database.
+kill_within() {
+    until [ "$(size)" -gt 700000 ]; do sleep 0.02; done
+    kill -9 "$service"
+}
+
+read -r supplier_port carmaker_port http_port < <(free_ports 3)
+for name in supplier carmaker; do
+    sed -e "s/127.0.0.1:3305/127.0.0.1:$carmaker_port/; s/127.0.0.1:3306/127.0.0.1:$supplier_port/" \
+        -e 's/^buffer = 128/buffer = 1024/; s/^credit = 2/credit = 8/' "$root/examples/$name/book.toml" > "$name.toml"
+done
+printf 'DESADV %05d\r\n' {1..400} > dispatch_note
+seq -f 'DELFOR %09.0f' 1 120000 > schedule
+
+say 'Both stations listen. Their operators hand files in meanwhile, a dispatch note and a schedule of 2 MB.'
+serve carmaker "$carmaker_port"
+serve supplier "$supplier_port"
+give submit --db supplier.db --book supplier.toml --dataset DISPATCH.1 --date 20240201 --time 0700000001 --to O0177CARMAKER --format U dispatch_note
+give submit --db carmaker.db --book carmaker.toml --dataset SCHEDULE.1 --date 20240201 --time 0600000001 --to O0013SUPPLIER --format U schedule
+
+say "The car maker calls. While the schedule comes, the supplier's station is killed by SIGKILL."
+kill_within &
+killer=$!
+give call --db carmaker.db --book carmaker.toml --partner O0013SUPPLIER
+wait "$killer"
+has supplier.db in ',open,'
+give report --db supplier.db in
+give release --db supplier.db --book supplier.toml 1
+
+say 'The service starts again, and the car maker calls again: the schedule goes on behind the rows that were kept, and then the note comes.'
+serve supplier "$supplier_port"
+give call --db carmaker.db --book carmaker.toml --partner O0013SUPPLIER
+give report --db supplier.db in
+give fetch --db supplier.db 1 fetched
+cmp fetched schedule
+
+say 'Each operator looks at the file that came, and releases it: two end responses are due.'
+give fetch --db carmaker.db 1 note
+cmp note dispatch_note
+give release --db supplier.db --book supplier.toml 1
+give release --db carmaker.db --book carmaker.toml 1
+
+say 'The supplier calls. Both end responses go, and all is delivered.'
+give call --db supplier.db --book supplier.toml --partner O0177CARMAKER
+give report --db supplier.db out
+give report --db carmaker.db out
+has supplier.db out ',delivered,'
+has carmaker.db out ',delivered,'
+
+say 'What a browser on the local network would show.'
+echo "\$ oftp_station http --db supplier.db --port $http_port &"
+"$program" http --db supplier.db --port "$http_port" &
+services+=("$!")
+await "$http_port"
+echo "\$ GET http://127.0.0.1:$http_port/in"
+python3 -c 'import sys, urllib.request
+print(urllib.request.urlopen(sys.argv[1]).read().decode())' "http://127.0.0.1:$http_port/in"
+
+say "What the services said: of the supplier's, and of the car maker's."
+cat supplier.lines
+echo --
+cat carmaker.lines
