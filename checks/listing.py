@@ -31,6 +31,8 @@ from sockets import PROGRAM, Service, Wrong, expect, rest_of
 FILES = ROWS / "listing"
 END = b"\r\n"
 PHRASES = {"200": "OK", "400": "Bad Request", "404": "Not Found", "405": "Method Not Allowed", "503": "Service Unavailable"}
+# The lines that say more of a request.
+MORE = ("fields", "field_up_to", "behind", "behind_up_to", "unfinished", "in_pieces", "cut", "whole", *PHRASES)
 
 
 # ---- what a database holds, as it is shown
@@ -42,9 +44,10 @@ def shown(database):
     kinds = {row["no"]: row["kind"] for row in left["issued"]}
     numbers = {identity_of(file): file["no"] for file in left["out_file"]}
     notes = {note["no"]: note for note in left["received_note"]}
+    came, went = sizes_of(left, "in_file"), sizes_of(left, "out_file")
     return {
-        "in": [{**shown_file(left, "in_file", file), "response": kinds.get(file["no"], "none")} for file in left["in_file"]],
-        "out": [{**shown_file(left, "out_file", file), **of(file, "mark reason")} for file in left["out_file"]],
+        "in": [{**shown_file(file, came), "response": kinds.get(file["no"], "none")} for file in left["in_file"]],
+        "out": [{**shown_file(file, went), **of(file, "mark reason")} for file in left["out_file"]],
         "issued": [{**of(row, "kind no reason"), "sent": row["sent"] == 1} for row in left["issued"]],
         "received": [
             {
@@ -67,10 +70,17 @@ def identity_of(row):
     return tuple(of(row, "dataset date time originator destination").values())
 
 
-def shown_file(left, table, file):
-    found = tables.bodies(left, table, file["no"])
+def sizes_of(left, table):
+    """The sizes of the rows of each file, by its number."""
+    sizes = {file["no"]: [] for file in left[table]}
+    for row in left[tables.ROWS_OF[table]]:
+        sizes[row["no"]].append(len(row["body"]))
+    return sizes
+
+
+def shown_file(file, sizes):
     named = of(file, "dataset date description destination format no originator state time")
-    return {**named, "rows": len(found), "units": sum(map(len, found))}
+    return {**named, "rows": len(sizes[file["no"]]), "units": sum(sizes[file["no"]])}
 
 
 def body_of(database, target):
@@ -87,11 +97,14 @@ def body_of(database, target):
 
 def check_report(database, kind, text):
     """The report, read by another reader, says what the database holds."""
-    rows = list(csv.DictReader(io.StringIO(text, newline="")))
-    names = rows[0].keys() if rows else ()
-    said = {True: "yes", False: "no"}
-    wanted = [{name: str(said.get(entry[name], entry[name])) if name == "sent" else str(entry[name]) for name in names} for entry in shown(database)[kind]]
+    heading, *rows = csv.reader(io.StringIO(text, newline=""))
+    wanted = [[said(entry[name]) for name in heading] for entry in shown(database)[kind]]
     expect(rows, wanted, f"the report of {kind}, read by csv")
+
+
+def said(value):
+    """A value as a report says it."""
+    return {True: "yes", False: "no"}[value] if isinstance(value, bool) else str(value)
 
 
 # ---- requests
@@ -121,10 +134,8 @@ class Request:
             self.way = first
         elif first == "whole":
             self.reply += (END if self.reply else b"") + text.encode()
-        elif first in PHRASES:
-            self.reply = reply_of(first, text)
         else:
-            raise ValueError("no line begins so")
+            self.reply = reply_of(first, text)
 
     def sent(self):
         """All octets of the request."""
@@ -152,9 +163,9 @@ class Request:
 def reply_of(status, body):
     """The whole reply with a status and a body. Without a body it tells the status."""
     body = (body or f'{{"error":{status}}}').encode()
-    lines = [f"HTTP/1.1 {status} {PHRASES[status]}", "Content-Type: application/json", f"Content-Length: {len(body)}", "Connection: close"]
-    lines += ["Allow: GET"] if status == "405" else []
-    return "".join(f"{line}\r\n" for line in [*lines, ""]).encode() + body
+    lines = [f"HTTP/1.1 {status} {PHRASES[status]}", "Content-Type: application/json", f"Content-Length: {len(body)}"]
+    lines += ["Connection: close", *(["Allow: GET"] if status == "405" else []), ""]
+    return "".join(f"{line}\r\n" for line in lines).encode() + body
 
 
 def ask(service, pieces, is_over=False):
@@ -170,6 +181,10 @@ def ask(service, pieces, is_over=False):
         return rest_of(caller)
 
 
+def get(service, target):
+    return ask(service, [f"GET {target} HTTP/1.1\r\n\r\n".encode()])
+
+
 # ---- files of rows/listing
 
 
@@ -182,8 +197,8 @@ class Listing(Row):
             self.acts.append(Request(text.encode() + END, True))
         elif first == "request":
             self.acts.append(Request(octets_of(rest), False))
-        elif self.acts and isinstance(self.acts[-1], Request) and (first in PHRASES or first in REQUEST_LINES):
-            self.acts[-1].take(first, rest, text)
+        elif first in MORE:
+            self.last(Request).take(first, rest, text)
         else:
             super().take(words, line)
 
@@ -199,9 +214,6 @@ class Listing(Row):
                     check_report(service.database, act.words[1], "".join(f"{line}\n" for line in act.told))
             if asked:
                 service.ends()
-
-
-REQUEST_LINES = ("fields", "field_up_to", "behind", "behind_up_to", "unfinished", "in_pieces", "cut", "whole")
 
 
 # ---- cases
@@ -240,7 +252,7 @@ def texts_are_read_back(room):
             over = ["--db", service.database, "--book", BOOK]
             expect(give(service, "feed", *over, given, room / "answer"), "end: partner 00\n", "the session's end")
             for target in (f"/in/{number}", "/responses"):
-                reply = ask(service, [f"GET {target} HTTP/1.1\r\n\r\n".encode()])
+                reply = get(service, target)
                 expect(reply, reply_of("200", body_of(service.database, target).decode()), f"the reply for {target}")
                 value = json.loads(reply.partition(END + END)[2])
                 told = value["description"] if "description" in value else value["received"][-1]["note"]
@@ -258,20 +270,21 @@ MANY = 10_000
 def ten_thousand_files(room):
     """A list of many files, made by stock sqlite3. Its time and memory are printed, and bound by nothing."""
     with Service(room, "http", "--requests", "3") as service:
-        first = ask(service, [b"GET /in HTTP/1.1\r\n\r\n"])
-        expect(first, reply_of("200", "[]"), "the empty list")
+        expect(get(service, "/in"), reply_of("200", "[]"), "the empty list")
         before = most_memory(service.program.pid)
         fill(service.database)
         begin, worked = time.monotonic(), processor_time(service.program.pid)
-        reply = ask(service, [b"GET /in HTTP/1.1\r\n\r\n"])
+        reply = get(service, "/in")
         seconds, worked = time.monotonic() - begin, processor_time(service.program.pid) - worked
         body = reply.partition(END + END)[2]
         expect(body, body_of(service.database, "/in"), "the list")
         memory = most_memory(service.program.pid)
         size = service.database.stat().st_size
         print(f"GET /in over {MANY} files: {seconds:.2f} s, {worked:.2f} s of them a processor's, over a database of {size} octets")
-        print(f"a body of {len(body)} octets, {memory} octets of memory ({memory / len(body):.1f} times the body), {before} for an empty list")
-        expect(ask(service, [b"GET /in/10000 HTTP/1.1\r\n\r\n"]), reply_of("200", body_of(service.database, "/in/10000").decode()), "the last")
+        times = memory / len(body)
+        print(f"its body: {len(body)} octets, in {memory} octets of memory, {times:.1f} times the body ({before} for an empty list)")
+        last = get(service, f"/in/{MANY}").partition(END + END)[2]
+        expect(last, body_of(service.database, f"/in/{MANY}"), "the last file")
         service.ends()
 
 

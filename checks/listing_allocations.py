@@ -154,7 +154,8 @@ def main():
             for act, numbers in zip(acts, runners.map(lambda act: numbers_of(act, opening, library), acts)):
                 some = numbers[:: max(len(numbers) // most, 1)]
                 told, faults = try_each(act, some, library, runners)
-                print("\n".join([*faults[:5], f"{act.name}: {len(some)} of {len(numbers)} allocations refused in turn, {told} told"]), flush=True)
+                said = f"{act.name}: {len(some)} of {len(numbers)} allocations refused in turn, {told} told"
+                print("\n".join([*faults[:5], said]), flush=True)
                 failed += len(faults)
                 passed += len(some) - len(faults)
     print(f"{passed} passed, {failed} failed")
