@@ -1,6 +1,6 @@
 //! A file that goes out: the answer to SFID, DATA, EFID and its answer (RFC 5024, sections 5.3.4 to 5.3.10).
 
-ghost use Rattle.std.specs.Prelude.{◌≡◌, ◌↔◌, ◌-◌, ◌<◌, ◌≤◌, [], None, IfErr, IfOk, OnOk, IsTrue, length, slice_get};
+ghost use Rattle.std.specs.Prelude.{◌≡◌, ◌↔◌, ◌-◌, ◌<◌, ◌≤◌, [], None, IfErr, IfOk, OnErr, OnOk, IsTrue, length, slice_get};
 ghost use Rattle.oftp_register.specs.LookUps.{rows_of};
 ghost use Rattle.oftp_session.specs.Phases.{Transfer};
 ghost use Rattle.oftp_session.specs.Sending.{came_sending, credited, marking, new_mark, payload_size, payloads_in, turned_sending};
@@ -115,6 +115,7 @@ fn say_payload<O: Office>(
         → SaysNext contact t shipment.new (O.view office.old) (O.view office.new) frame.new result }
     // It holds of any store.
     ensures same { IsSameShipment shipment.old shipment.new }
+    ensures kept { OnErr result (shipment.new ≡ shipment.old) }
     ensures err { IfErr result IsFailure }
 {
     let mut most = FIRST_ROWS.min(size);
@@ -190,6 +191,7 @@ fn cover<O: Office>(shipment: &mut Shipment, office: &mut O) -> Result<(), Sessi
         → shipment.old.filler.mark ≤ length t.file.rows
         → Files (marking t shipment.old.filler.mark) (O.view office.old) (O.view office.new) result }
     ensures covered { OnOk result (shipment.new ≡ record shipment.old { mark = shipment.old.filler.mark }) }
+    ensures kept { OnErr result (shipment.new ≡ shipment.old) }
     ensures err { IfErr result (λ fault. fault ≡ SessionFault.Office) }
 {
     let mark = shipment.filler.mark() as u64;
