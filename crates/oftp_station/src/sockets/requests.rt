@@ -1,5 +1,7 @@
 //! Requests over sockets.
 
+ghost use Rattle.std.specs.Prelude.{◌≤◌, IfOk, IfSome, length};
+
 use crate::database::{self, LIMITS, PATIENCE};
 use crate::outcome::Fault;
 use crate::sockets::addresses::accepted;
@@ -57,7 +59,9 @@ fn hear(
     rt: &HostRuntime,
     connection: &Connection,
     octets: &mut [u8],
-) -> Result<Option<usize>, Fault> {
+) -> Result<Option<usize>, Fault>
+    ensures { IfOk result (λ heard. IfSome heard (λ count. count ≤ length octets.new)) }
+{
     let Ok(mut reader) = timed(rt, connection) else {
         return Ok(None);
     };
