@@ -1,6 +1,6 @@
 //! Changes in short.
 
-use oftp_register::{Change, DigitString, Identity, Name, OfficeFault, PlainOffice, ResponseKind};
+use oftp_register::{Change, DigitString, Identity, Name, OfficeFault, ResponseKind};
 use oftp_vfile::{Format, Row, Rows};
 use oftp_wire::{Count, Digits, Text, X};
 use std::alloc::{AllocError, Global};

@@ -47,7 +47,8 @@ fn add_octets(all: &mut String, octets: &[u8]) -> Result<(), AllocError> {
     Ok(())
 }
 
-fn add_rows(all: &mut String, rows: &Rows) -> Result<(), AllocError> {
+/// The octets of some rows, each row ended by a bar.
+pub(super) fn add_rows(all: &mut String, rows: &Rows) -> Result<(), AllocError> {
     for row in rows.as_slice() {
         add_octets(all, row.octets())?;
         all.push('|')?;
