@@ -4,7 +4,7 @@
     checks/sockets.py
 
 Among the callers are ones that are slow, silent, gone, or send on after the end. Each case has a port and a database of its own, and
-all run at once, so it takes some half a minute. The last line is `N passed, M failed`.
+all run at once, so it takes some twelve seconds. The last line is `N passed, M failed`.
 """
 
 import fcntl
