@@ -1,10 +1,11 @@
 #!/usr/bin/env python3
 """Tries the wrong bodies in checks/wrong_bodies/, which the gate leaves out for its time: the prover must refuse each.
 
-    checks/wrong_bodies.py [CRATE ..]      tries those of these crates, or of all: about a minute each
+    checks/wrong_bodies.py [CRATE ..]      tries those of these crates, or of all
     checks/wrong_bodies.py --fits          says whether each can still be applied to the text that it turns
 
-A change of a crate is followed by the first of these for it. The last line is `N passed, M failed`.
+A change of a crate is followed by the first of these for it. The first wrong body of a crate takes as long as a check from nothing, each
+further one about a minute. The last line is `N passed, M failed`.
 """
 
 import pathlib
@@ -48,12 +49,12 @@ def fit(edits):
 
 
 def refused(edits):
-    """Has `rt must-fail` try the edits in a copy of the crates, and counts those that the prover doesn't refuse."""
+    """Has `rt must-fail` try the edits in a copy of the crates and the libraries built of them, and counts those that aren't refused."""
     with tempfile.TemporaryDirectory(prefix="wrong-bodies-") as room:
         room = pathlib.Path(room)
         for name in ("crates.txt", "HANDLES"):
             shutil.copy(ROOT / name, room / name)
-        shutil.copytree(ROOT / "crates", room / "crates", ignore=shutil.ignore_patterns("out", "must-fail"))
+        shutil.copytree(ROOT / "crates", room / "crates", ignore=shutil.ignore_patterns("incremental", "must-fail"))
         for it in edits:
             folder = room / "crates" / it.parent.name / "must-fail"
             folder.mkdir(exist_ok=True)
