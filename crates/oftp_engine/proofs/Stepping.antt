@@ -139,20 +139,11 @@ stepped_office contents a d x y c step broken same last = at last.0 last.1
     }
 
 -- a call that ran out of memory
-pub stepped_memory : {W : Type 0} (contents : W → Option (List ℕ)) (a : Port W) (x y : View) (c : Course) (step : Step) →
-    IsUndone step.change x y → x.register ≡ c.register →
-    NoMemory c step (scene contents x a) (scene contents y a)
-unfolding advance
-stepped_memory contents a x y c step h same = at h.cases
-  where
-    took : Took (scene contents x a) (scene contents y a) []
-    took = record { contents = appends_none (contents a.inner); taken = omega arith }
-
-    at : (y.register ≡ x.register) ⊎ Makes step.change x.register y.register → NoMemory c step (scene contents x a) (scene contents y a)
-    at (inl k) = record { took = took; register = inl (k ∙ same); stands = λ _. h.stands; faults = h.faults; told = refl }
-    at (inr k) =
-        let makes : Makes step.change c.register y.register = subst (λ (r : Register). Makes step.change r y.register) same k in
-        record { took = took; register = inr (made_register step.change c.register y.register makes); stands = λ _. h.stands; faults = h.faults; told = refl }
+pub stepped_memory : {W : Type 0} (contents : W → Option (List ℕ)) (a : Port W) (x y : View) (c : Course) → IsUndone x y → x.register ≡ c.register
+    → NoMemory c (scene contents x a) (scene contents y a)
+stepped_memory contents a x y c h same =
+    let took : Took (scene contents x a) (scene contents y a) [] = record { contents = appends_none (contents a.inner); taken = omega arith } in
+    record { took = took; register = h.register ∙ same; stands = λ _. h.stands; faults = h.faults; told = refl }
 
 -- a call of a session that stands at a course does what the course's next step says, and what the engine makes of it
 module _ {W : Type 0} (contents : W → Option (List ℕ)) (a d : Port W) (x y : View) (c : Course) (seen : Seen) (step : Setting → Register → Step)
@@ -176,8 +167,7 @@ module _ {W : Type 0} (contents : W → Option (List ℕ)) (a d : Port W) (x y :
   called_err session.Ended h broke = absurd h
   called_err session.Office h broke = stepped_office contents a d x y c (step c.setting c.register) (here (λ (s : Step). IsBroken s.change x y) h) at.register broke
   called_err session.Memory h broke =
-      subst (λ (p : Port W). NoMemory c (step c.setting c.register) (scene contents x a) (scene contents y p)) (sym broke)
-      (stepped_memory contents a x y c (step c.setting c.register) (here (λ (s : Step). IsUndone s.change x y) h) at.register)
+      subst (λ (p : Port W). NoMemory c (scene contents x a) (scene contents y p)) (sym broke) (stepped_memory contents a x y c h at.register)
 
 -- a fault of the session's is none of the reader's
 pub run_fault_own : (f : SessionFault) → IsOwn (run_fault f)

@@ -173,10 +173,10 @@ pub record NotMade (c : Course) (step : Step) (old new : Scene) : Type 0 where
   pub cases : StaysBefore c step new.office ⊎ StaysAfter c step new.office
   pub faults : new.office.told ≡ next_count old.office.told
 
--- one step at a course: memory ran out
-pub record NoMemory (c : Course) (step : Step) (old new : Scene) : Type 0 where
+-- one step at a course: memory ran out, and nothing is changed
+pub record NoMemory (c : Course) (old new : Scene) : Type 0 where
   pub took : Took old new []
-  pub register : (new.office.register ≡ c.register) ⊎ (new.office.register ≡ (advance c step).register)
+  pub register : new.office.register ≡ c.register
   pub stands : old.office.stands → new.office.stands
   pub faults : new.office.told ≡ old.office.told
   pub told : new.told ≡ old.told
@@ -185,7 +185,7 @@ abbrev pub StepFails : Course → Step → Scene → Scene → RunFault → Type
 StepFails c step old new fault.Read = ⊥
 StepFails c step old new fault.Write = MadePart c step old new
 StepFails c step old new fault.Office = NotMade c step old new
-StepFails c step old new fault.Memory = NoMemory c step old new
+StepFails c step old new fault.Memory = NoMemory c old new
 
 abbrev pub Stepped : {T : Type 0} → Course → Step → Seen → Scene → Scene → Result T RunFault → Type 0
 Stepped c step seen old new (Ok x) = Made c step seen old new

@@ -43,14 +43,7 @@ then_fails change fault.Office old mid new was d = record {
   ];
   faults = d.faults ∙ ap next_count was.faults;
 }
-then_fails change fault.Memory old mid new was d = record {
-  cases = elim d.cases [
-    | inl e ↦ inl (e ∙ was.register)
-    | inr m ↦ inr (subst (λ (r : Register). Makes change r new.register) was.register m)
-  ];
-  stands = d.stands;
-  faults = d.faults ∙ was.faults;
-}
+then_fails change fault.Memory old mid new was d = record { register = d.register ∙ was.register; stands = d.stands; faults = d.faults ∙ was.faults }
 
 with_none : (change : Option Change) (r : Register) (v : View) → WithOrWithout None r v → WithOrWithout change r v
 with_none None r v only = only
@@ -69,7 +62,7 @@ before_fails change fault.Office old new d = record {
   ];
   faults = d.faults;
 }
-before_fails change fault.Memory old new d = record { cases = elim d.cases [ inl e ↦ inl e | inr e ↦ inl e ]; stands = d.stands; faults = d.faults }
+before_fails change fault.Memory old new d = d
 
 -- a look-up after a change that begins a file fails
 pub after_fails : (change : Option Change) (old mid new : View) → Begins change → IsMade change None old mid [] → DoesNot None mid new fault.Office → DoesNot change old new fault.Office

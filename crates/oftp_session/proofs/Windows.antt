@@ -201,4 +201,4 @@ refused_takes contact f s payload cause now frame (Ok to) stands holds at short 
       (same_takes (fails (reason_of cause)) now to frame stands goes.0)
 ]
 refused_takes contact f s payload cause now frame (Err told') stands holds at short told goes =
-    subst (λ (x : SessionFault). DoesNot (data_step contact f payload).change now now x) (sym goes.1) (record { cases = inl refl; stands = stands; faults = refl })
+    subst (λ (x : SessionFault). DoesNot (data_step contact f payload).change now now x) (sym goes.1) (record { register = refl; stands = stands; faults = refl })

@@ -83,16 +83,16 @@ pub record IsBroken (change : Option Change) (old new : View) : Type 0 where
   pub cases : IsBefore change old new ⊎ IsAfter change old new
   pub faults : new.told ≡ next_count old.told
 
--- memory ran out: before the change was made, or after it
-pub record IsUndone (change : Option Change) (old new : View) : Type 0 where
-  pub cases : (new.register ≡ old.register) ⊎ Makes change old.register new.register
+-- memory ran out: nothing is changed
+pub record IsUndone (old new : View) : Type 0 where
+  pub register : new.register ≡ old.register
   pub stands : new.stands
   pub faults : new.told ≡ old.told
 
 abbrev pub DoesNot : Option Change → View → View → SessionFault → Type 0
 DoesNot change old new fault.Ended = ⊥
 DoesNot change old new fault.Office = IsBroken change old new
-DoesNot change old new fault.Memory = IsUndone change old new
+DoesNot change old new fault.Memory = IsUndone old new
 
 -- a call that answers this did the step
 abbrev pub Does : Step → View → View → Result (List ℕ) SessionFault → Type 0
