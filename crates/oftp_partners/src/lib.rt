@@ -11,8 +11,6 @@ mod key;
 mod partner;
 mod printing;
 mod reading;
-#[cfg(test)]
-mod tests;
 
 pub use book::{Book, read};
 pub use fault::BookFault;
