@@ -2,6 +2,7 @@ pub mod Bytes
 pub mod Courses
 pub mod Ending
 pub mod Folding
+pub mod Queues
 pub mod Phases
 pub mod Progress
 pub mod Reading

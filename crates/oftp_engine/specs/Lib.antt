@@ -3,6 +3,7 @@ pub mod Ports
 pub mod Serving
 pub mod Served
 pub mod Frames
+pub mod Queues
 pub mod Operating
 pub mod Operated
 pub mod Offers

@@ -6,6 +6,7 @@ ghost use Rattle.oftp_wire.specs.Stream.{Reads};
 ghost use Rattle.oftp_engine.specs.Frames.{over_commands};
 ghost use Rattle.oftp_engine.specs.Parts.{JobsMakeTheFile, NoCountPasses, PartsMakeTheFile};
 ghost use Rattle.oftp_engine.specs.Promise.{TwoStations};
+ghost use Rattle.oftp_engine.specs.Queues.{QueuesAreHeard};
 ghost use Rattle.oftp_engine.specs.Runs.{Course, run, started};
 ghost use Rattle.oftp_session.specs.Settings.{Setting};
 ghost use Rattle.oftp_register.specs.Register.{Register};
@@ -17,6 +18,13 @@ pub fn folds_over_frames()
     ensures { (limit : Option ℕ) (stream : List ℕ) (commands : List (List ℕ)) (fault : Option FrameFault) (c : Course)
         → All (λ octet. octet < 256) stream → Reads 100003 stream commands fault
         → run limit stream c ≡ over_commands limit commands fault c }
+{}
+
+/// What a station says, its frames one after another, is cut off anywhere: the other one hears the commands whose frames are whole, as
+/// they were said, and no fault; and its session over these octets is the one over these commands. It does nothing; its contract is
+/// the law.
+pub fn queues_are_heard()
+    ensures { QueuesAreHeard }
 {}
 
 /// The changes of a run from a sound register are all made, one after another.

@@ -1,0 +1,52 @@
+-- What a station has out, cut off anywhere, and what the other one hears of it.
+use Rattle.std.specs.Prelude.{◌≡◌, ℕ, ◌+◌, ◌≤◌, ◌||◌, if◌then◌else◌, List, [], ◌∷◌, ◌++◌, length, map, Option, None, Result, Ok}
+use Rattle.std.specs.List.{AllByRecursion, flat_map}
+use Rattle.oftp_wire.specs.declared.command.Command.{Command}
+use Rattle.oftp_wire.specs.declared.fault.WireFault.{WireFault}
+use Rattle.oftp_wire.specs.declared.frame_fault.FrameFault.{FrameFault}
+use Rattle.oftp_wire.specs.Kinds.{command_of}
+use Rattle.oftp_wire.specs.Spelling.{Canon, IsFit}
+use Rattle.oftp_wire.specs.Stream.{Reads}
+use Rattle.oftp_register.specs.Register.{Register}
+use Rattle.oftp_session.specs.Settings.{Setting}
+use Rattle.oftp_session.specs.Phases.{frame_of, is_over}
+use Rattle.oftp_session.specs.Steps.{came}
+use Rattle.oftp_engine.specs.Runs.{Course, advance, is_stopped, octets_of, run, settled, started}
+
+-- a command that a frame can say: each field is in its range, and the frame is none too long
+abbrev pub IsSayable : Command → Type 0
+IsSayable command = IsFit command × (length (Canon command) + 4 ≤ 100003)
+
+-- commands as they are out: their frames, one after another
+abbrev pub in_frames : List Command → List ℕ
+in_frames commands = flat_map frame_of commands
+
+-- what is read of the octets of these commands
+abbrev pub as_read : List Command → List (Result Command WireFault)
+as_read commands = map (λ command. command_of (Canon command)) commands
+
+-- a session over commands that come: the due turns, then the next command, and so on
+abbrev pub over_queue : Option ℕ → List Command → Course → Course
+over_queue limit [] c = settled limit c
+over_queue limit (m ∷ ms) c = let d = settled limit c in
+    if is_over d.phase || is_stopped limit d then d else over_queue limit ms (advance d (came d.setting d.phase d.register m))
+
+-- Of what was said these octets are out. Heard are the first commands, those whose frames are whole, each as it was said; the others are
+-- lost. The octets can be read in no other way, and what is left of them is no fault. A session over them is the one over these commands.
+pub record IsHeard (said : List Command) (octets : List ℕ) : Type 0 where
+  pub heard : List Command
+  pub lost : List Command
+  pub all : said ≡ heard ++ lost
+  pub frames : Reads 100003 octets (map Canon heard) None
+  pub alone : (commands : List (List ℕ)) (fault : Option FrameFault) → Reads 100003 octets commands fault → (commands ≡ map Canon heard) × (fault ≡ None)
+  pub same : as_read heard ≡ map Ok heard
+  pub session : (limit : Option ℕ) (c : Course) → run limit octets c ≡ over_queue limit heard c
+
+-- commands that are out as frames, cut off anywhere, are heard so
+abbrev pub QueuesAreHeard : Type 0
+QueuesAreHeard = (said : List Command) (octets lost : List ℕ) → AllByRecursion IsSayable said → in_frames said ≡ octets ++ lost → IsHeard said octets
+
+-- what a session has out is a queue of commands
+abbrev pub RunsSayCommands : Type 0
+RunsSayCommands = (limit : Option ℕ) (setting : Setting) (given : List ℕ) (r : Register)
+    → (said : List Command) × (octets_of (run limit given (started setting r)).outputs ≡ in_frames said)
