@@ -47,7 +47,7 @@ pub fn serve_durable<S: Alter, R: Read, W: Write>(
     ensures clean { HasCleanDisk (database_of S.Store office.new) → HasCleanDisk (database_of S.Store office.old) }
     ensures reader_told { ReaderTold reader.old reader.new result }
     ensures writer_told { WriterTold writer.old writer.new result }
-    ensures ends { InputEnded R.remaining reader.new result }
+    ensures ends { InputEnded R.remaining reader.old reader.new result }
     ensures out { Puts W.contents writer.old writer.new }
 {
     serve(alloc, office, book, role, reader, writer)

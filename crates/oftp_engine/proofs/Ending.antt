@@ -55,6 +55,12 @@ whole_is : (setting : Setting) (given t : List ℕ) (r : Register) (d : Course) 
 unfolding is_stopped
 whole_is setting given t r d leads e = ap (λ (x : List ℕ). run None x (started setting r)) (sym (append-nil given)) ∙ leads.same [] None refl ∙ e
 
+-- what is left of it from where it came
+rests_at : (setting : Setting) (given t : List ℕ) (r : Register) (d : Course) → Leads (started setting r) given d t → whole setting given r ≡ run None t d
+unfolding is_stopped
+rests_at setting given t r d leads =
+    ap (λ (x : List ℕ). run None x (started setting r)) (sym (append-nil given)) ∙ leads.same [] None refl ∙ ap (λ (x : List ℕ). run None x d) (append-nil t)
+
 pub whole_over : (setting : Setting) (given t : List ℕ) (seen : Seen) (old new : Scene) (end : Ending)
     (h : IsOver (started setting old.office.register) given t seen old new end)
     → whole setting given old.office.register ≡ h.come.at
@@ -240,43 +246,34 @@ pub is_out_of_memory : (setting : Setting) (given : List ℕ) (old new : Scene) 
 is_out_of_memory setting given old new law h =
     let r : Register = old.office.register in
     let w : Course = whole setting given r in
-    let sd : Sound r h.at = h.reaches.grows.sound r (sound_start setting r law.sound) in
-    let se : Sound r h.next = h.later.sound r sd in
-    let g : Grows h.at w = goes_on setting given r h.at h.next h.reaches h.later in
-    let ge : Grows h.next w = goes_past setting given r h.at h.next h.reaches in
-    let out : Took old new (octets_of h.at.outputs) = subst (λ (x : List ℕ). Took old new x) (sym h.outputs) h.took in
-    let kept : answered h.at.outputs (length (octets_of h.at.outputs)) ≤ length h.at.changes = answered_most h.at.outputs (length (octets_of h.at.outputs)) (length h.at.changes) sd.counted in
-    let more : length h.at.changes ≤ length h.next.changes = few h.at h.next h.later in
-    elim h.register [
-      | inl same ↦ record {
-        outs = h.at.outputs;
-        later = g.later_outputs;
-        outputs = g.outputs;
-        out = out;
-        made = length h.at.changes;
-        kept = kept;
-        few = few h.at w g;
-        register = replayed r h.at w g sd ∙ ap Ok (sym same);
-        stands = h.stands law.stood;
-        left = law.alone (h.stands law.stood);
-        faults = h.faults;
-        told = h.told;
-      }
-      | inr same ↦ record {
-        outs = h.at.outputs;
-        later = g.later_outputs;
-        outputs = g.outputs;
-        out = out;
-        made = length h.next.changes;
-        kept = omega arith;
-        few = few h.next w ge;
-        register = replayed r h.next w ge se ∙ ap Ok (sym same);
-        stands = h.stands law.stood;
-        left = law.alone (h.stands law.stood);
-        faults = h.faults;
-        told = h.told;
-      }
-    ]
+    let sd : Sound r h.at = h.leads.grows.sound r (sound_start setting r law.sound) in
+    let on : w ≡ run None h.rest h.at = rests_at setting given h.rest r h.at h.leads in
+    let g : Grows h.at w = subst (Grows h.at) (sym on) (run_grows None h.rest h.at) in
+    record {
+      outs = h.at.outputs;
+      later = g.later_outputs;
+      outputs = g.outputs;
+      out = subst (λ (x : List ℕ). Took old new x) (sym h.outputs) h.took;
+      made = length h.at.changes;
+      kept = answered_most h.at.outputs (length (octets_of h.at.outputs)) (length h.at.changes) sd.counted;
+      few = few h.at w g;
+      stopped = record {
+        at = h.at;
+        gone = h.leads.gone;
+        rest = h.rest;
+        all = h.leads.split;
+        goes_on = on;
+        cause = h.cause;
+        outputs = refl;
+        changes = sym (front_changes h.at w g);
+        register = sd.replay;
+      };
+      register = replayed r h.at w g sd ∙ ap Ok (sym h.register);
+      stands = h.stands law.stood;
+      left = law.alone (h.stands law.stood);
+      faults = h.faults;
+      told = h.told;
+    }
 
 -- each fault
 pub serves_from : (setting : Setting) (given : List ℕ) (old new : Scene) (law : IsLawful old.office new.office) (f : RunFault)

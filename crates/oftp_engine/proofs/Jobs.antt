@@ -34,7 +34,7 @@ module _ {R W : Type 0} (remaining : R → Option (List ℕ)) (contents : W → 
 
   pub does_session : {T : Type 0} (answer : Result End RunFault) (result : Result T RunFault) → IsGoneOn answer result → b.role ≡ a.role → b.result ≡ Some answer
       → (given : List ℕ) → Gave remaining a.reader b.reader given → Serves setting' given (scene contents x a.writer) (scene contents y b.writer) answer
-      → ReaderTold a.reader b.reader answer → InputEnded remaining b.reader answer
+      → ReaderTold a.reader b.reader answer → InputEnded remaining a.reader b.reader answer
       → DoesJob remaining contents book x y (job.Session a) (job.Session b) result
   does_session (Ok end) (Err f) gone role left given gave h told input = absurd gone
   does_session (Ok end) (Ok u) gone role left given gave h told input = record {
@@ -126,6 +126,7 @@ module _ {R W : Type 0} (remaining : R → Option (List ℕ)) (contents : W → 
           outs = h.outs;
           later = h.later;
           outputs = h.outputs;
+          stopped = h.stopped;
           out = record { contents = h.out.contents; moved = h.out.taken };
           unfailed = h.told;
           changes = refl;

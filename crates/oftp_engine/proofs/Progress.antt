@@ -1,21 +1,21 @@
 -- How far the engine has come, one part after another.
 use Rattle.oftp_wire.specs.declared.reason.SessionReason.TheVariants.{ProtocolViolation}
-use Rattle.std.proofs.Common.{◌≡◌, ℕ, ◌-◌, ◌≤◌, true, false, List, [], ◌∷◌, ◌++◌, length, take, drop, Option, None, Some, refl, sym, ap, ◌∙◌, subst, arith, append_assoc, length-append, length-drop, inl, inr}
+use Rattle.std.proofs.Common.{◌≡◌, ℕ, ◌-◌, ◌<◌, ◌≤◌, true, false, List, [], ◌∷◌, ◌++◌, length, take, drop, Option, None, Some, refl, sym, ap, ◌∙◌, subst, arith, append_assoc, length-append, length-drop, inl, inr}
 use Rattle.std.proofs.lemmas.List.{append-nil, take-append-le, drop-append-le}
 use Rattle.oftp_wire.specs.declared.command.Command.{Command}
 use Rattle.oftp_wire.specs.Stream.{front, command_in, IsWithin}
-use Rattle.oftp_wire.specs.Stream.{Whole, Bad}
+use Rattle.oftp_wire.specs.Stream.{Head, Whole, Bad}
 use Rattle.oftp_wire.specs.declared.frame_fault.FrameFault.{FrameFault}
 use Rattle.oftp_wire.proofs.Streams.{front_within, front_more, IsTold}
 use Rattle.oftp_register.specs.Offices.{next_count}
-use Rattle.oftp_session.specs.Phases.{is_over, Step, fails, framed, frame_of}
+use Rattle.oftp_session.specs.Phases.{is_over, Phase, Step, fails, framed, frame_of}
 use Rattle.oftp_session.specs.Steps.{has_turn, turned, Suits}
 use Rattle.oftp_session.specs.Calls.{Proceeds, Seen}
 use Rattle.oftp_session.proofs.Proceeding.{turned_proceeds}
 use Rattle.oftp_engine.specs.declared.serving.RunFault.{RunFault}
 use Rattle.oftp_engine.specs.declared.serving.RunFault.TheVariants as fault
 use Rattle.oftp_engine.specs.Runs.{Course, Output, advance, run, is_stopped, octets_of, with_output, with_change, turned_in, came_in}
-use Rattle.oftp_engine.specs.Serving.{IsSaid, Leads, Reaches, Scene, Took, Went, Fails, Made, StepFails}
+use Rattle.oftp_engine.specs.Serving.{IsSaid, Leads, MayRunOut, Reaches, Scene, Took, Went, Fails, Made, StepFails}
 use Rattle.oftp_engine.proofs.Bytes.{appends_none, appends_on, count_on}
 use Rattle.oftp_engine.proofs.Courses.{grows_none, grows_on, grows_step, octets-append, stopped_before, run_turn, run_frame, run_bad, run_over}
 
@@ -42,12 +42,14 @@ octets_step c s = output_octets c.outputs s.output (length (with_change c.change
 -- in a run
 
 pub leads_none : (c : Course) (s : List ℕ) → Leads c s c s
-leads_none c s = record { grows = grows_none c; same = λ more limit h. refl }
+leads_none c s = record { grows = grows_none c; same = λ more limit h. refl; gone = []; split = refl }
 
 pub leads_on : (c d e : Course) (s t u : List ℕ) → Leads c s d t → Leads d t e u → Leads c s e u
 leads_on c d e s t u p q = record {
   grows = grows_on c d e p.grows q.grows;
   same = λ more limit h. p.same more limit (stopped_before limit d e q.grows h) ∙ q.same more limit h;
+  gone = p.gone ++ q.gone;
+  split = p.split ∙ ap (λ (x : List ℕ). p.gone ++ x) q.split ∙ sym (append_assoc p.gone q.gone u);
 }
 
 pub reaches_later : (c d e e' : Course) (s t : List ℕ) → Leads c s d t → Reaches d t e e' → Reaches c s e e'
@@ -62,13 +64,13 @@ pub reaches_itself : (c : Course) (s : List ℕ) → Reaches c s c c
 reaches_itself c s = record { grows = grows_none c; same = λ more limit h. (s ++ more, refl) }
 
 -- what led to a step leads past it
-pub leads_step : (c : Course) (step : Step) (s t : List ℕ)
+pub leads_step : (c : Course) (step : Step) (s t gone : List ℕ) → s ≡ gone ++ t
     → (Suits c.phase c.register → Proceeds c.register step)
     → ((more : List ℕ) (limit : Option ℕ) → is_stopped limit c ≡ false → run limit (s ++ more) c ≡ run limit (t ++ more) (advance c step))
     → Leads c s (advance c step) t
-leads_step c step s t proceeds h =
+leads_step c step s t gone split proceeds h =
     let grows = grows_step c step proceeds in
-    record { grows = grows; same = λ more limit stopped. h more limit (stopped_before limit c (advance c step) grows stopped) }
+    record { grows = grows; same = λ more limit stopped. h more limit (stopped_before limit c (advance c step) grows stopped); gone = gone; split = split }
 
 pub reaches_step : (c : Course) (step : Step) (s t : List ℕ)
     → ((more : List ℕ) (limit : Option ℕ) → is_stopped limit c ≡ false → run limit (s ++ more) c ≡ run limit (t ++ more) (advance c step))
@@ -110,9 +112,10 @@ went_step c step s t seen a b leads made = record {
   told = made.told;
 }
 
-pub fails_step : (c : Course) (step : Step) (s : List ℕ) (a b : Scene) (f : RunFault) → Proceeds c.register step → Reaches c s c (advance c step) → StepFails c step a b f → Fails c s a b f
-fails_step c step s a b fault.Read proceeds r h = absurd h
-fails_step c step s a b fault.Write proceeds r h = record {
+pub fails_step : (c : Course) (step : Step) (s : List ℕ) (a b : Scene) (f : RunFault) → Proceeds c.register step → Reaches c s c (advance c step)
+    → (f ≡ fault.Memory → MayRunOut c.phase s) → StepFails c step a b f → Fails c s a b f
+fails_step c step s a b fault.Read proceeds r cause h = absurd h
+fails_step c step s a b fault.Write proceeds r cause h = record {
   at = c;
   step = step;
   count = h.count;
@@ -126,7 +129,7 @@ fails_step c step s a b fault.Write proceeds r h = record {
   faults = h.faults;
   told = h.told;
 }
-fails_step c step s a b fault.Office proceeds r h = record {
+fails_step c step s a b fault.Office proceeds r cause h = record {
   at = c;
   step = step;
   count = h.count;
@@ -139,15 +142,15 @@ fails_step c step s a b fault.Office proceeds r h = record {
   cases = h.cases;
   faults = h.faults;
 }
-fails_step c step s a b fault.Memory proceeds r h = record {
+fails_step c step s a b fault.Memory proceeds r cause h = record {
   at = c;
-  next = advance c step;
-  reaches = r;
-  later = grows_step c step (λ _. proceeds);
+  rest = s;
+  leads = leads_none c s;
+  cause = cause refl;
   between = [];
   outputs = sym (append-nil (octets_of c.outputs));
   took = h.took;
-  register = inl h.register;
+  register = h.register;
   stands = h.stands;
   faults = h.faults;
   told = h.told;
@@ -165,12 +168,16 @@ said_later a b z count same h = elim h [ inl all ↦ inl (all.0, all.1 ∙ same)
 -- what leads to d, so that what d reaches is reached
 record Before (c : Course) (s : List ℕ) (d : Course) (t : List ℕ) (old new : Scene) : Type 0 where
   reaches : (at next : Course) → Reaches d t at next → Reaches c s at next
+  leads : (at : Course) (u : List ℕ) → Leads d t at u → (v : List ℕ) × Leads c s at v × (length u ≤ length v)
   between : List ℕ
   outputs : octets_of d.outputs ≡ octets_of c.outputs ++ between
   took : Took old new between
   stands : old.office.stands → new.office.stands
   faults : new.office.told ≡ old.office.told
   told : new.told ≡ old.told
+
+later_cause : (p : Phase) (u v : List ℕ) → length u ≤ length v → MayRunOut p u → MayRunOut p v
+later_cause p u v le h = elim h [ inl some ↦ inl (omega (arith, some, le)) | inr sends ↦ inr sends ]
 
 fails_from : (c d : Course) (s t : List ℕ) (a b z : Scene) (f : RunFault) → Before c s d t a b → Fails d t b z f → Fails c s a z f
 fails_from c d s t a b z fault.Read w h = absurd h
@@ -203,9 +210,9 @@ fails_from c d s t a b z fault.Office w h = record {
 }
 fails_from c d s t a b z fault.Memory w h = record {
   at = h.at;
-  next = h.next;
-  reaches = w.reaches h.at h.next h.reaches;
-  later = h.later;
+  rest = (w.leads h.at h.rest h.leads).0;
+  leads = (w.leads h.at h.rest h.leads).1;
+  cause = later_cause h.at.phase h.rest _ (w.leads h.at h.rest h.leads).2 h.cause;
   between = w.between ++ h.between;
   outputs = outputs_later c d _ w.between h.between w.outputs h.outputs;
   took = took_on a b z w.between h.between w.took h.took;
@@ -221,6 +228,7 @@ fails_later c d s t a b z f w h = fails_from c d s t a b z f before h
     before : Before c s d t a b
     before = record {
       reaches = λ at next r. reaches_later c d at next s t w.leads r;
+      leads = λ at u l. (u, leads_on c d at s t u w.leads l, omega arith);
       between = w.between;
       outputs = w.outputs;
       took = w.took;
@@ -232,7 +240,7 @@ fails_later c d s t a b z f w h = fails_from c d s t a b z f before h
 -- a due turn, whatever is there to be read
 
 pub leads_turn : (c : Course) (s : List ℕ) → has_turn c.phase ≡ true → Leads c s (turned_in c) s
-leads_turn c s h = leads_step c (turned c.setting c.phase c.register) s s (turned_proceeds c.setting c.phase c.register) (λ more limit stopped. run_turn limit (s ++ more) c h stopped)
+leads_turn c s h = leads_step c (turned c.setting c.phase c.register) s s [] refl (turned_proceeds c.setting c.phase c.register) (λ more limit stopped. run_turn limit (s ++ more) c h stopped)
 
 pub reaches_turn : (c : Course) (s : List ℕ) → has_turn c.phase ≡ true → Reaches c s c (turned_in c)
 reaches_turn c s h = reaches_step c (turned c.setting c.phase c.register) s s (λ more limit stopped. run_turn limit (s ++ more) c h stopped)
@@ -257,6 +265,12 @@ over_step : (c : Course) (step : Step) → is_over step.phase ≡ true → is_ov
 unfolding advance
 over_step c step h = h
 
+-- octets that begin with a frame, or with none that may come, are there
+pub told_some : (s : List ℕ) (h : Head) → front 100003 s ≡ h → IsTold h → 0 < length s
+unfolding front
+told_some [] h e told = absurd (subst IsTold (sym e) told)
+told_some (x ∷ s) h e told = omega arith
+
 pub leads_bad : (c : Course) (s : List ℕ) (f : FrameFault)
     → has_turn c.phase ≡ false → is_over c.phase ≡ false → front 100003 s ≡ Bad f → (more : List ℕ) (limit : Option ℕ) → is_stopped limit c ≡ false
     → run limit (s ++ more) c ≡ run limit (s ++ more) (advance c (fails ProtocolViolation))
@@ -269,7 +283,7 @@ leads_bad c s f turn over bad more limit stopped =
 
 pub went_with : (c d : Course) (s : List ℕ) (a b : Scene) → Went c [] d [] a b → Went c s d s a b
 went_with c d s a b w = record {
-  leads = record { grows = w.leads.grows; same = λ more limit h. w.leads.same (s ++ more) limit h };
+  leads = record { grows = w.leads.grows; same = λ more limit h. w.leads.same (s ++ more) limit h; gone = []; split = refl };
   between = w.between;
   outputs = w.outputs;
   took = w.took;
@@ -278,8 +292,20 @@ went_with c d s a b w = record {
   told = w.told;
 }
 
+none_left : (xs ys : List ℕ) → [] ≡ xs ++ ys → [] ≡ ys
+none_left [] ys e = e
+none_left (x ∷ xs) ys e = absurd (let no : ⊥ = cc in no)
+
 reaches_with : (c d e : Course) (s : List ℕ) → Reaches c [] d e → Reaches c s d e
 reaches_with c d e s r = record { grows = r.grows; same = λ more limit h. r.same (s ++ more) limit h }
+
+leads_with : (c d : Course) (s u : List ℕ) → Leads c [] d u → Leads c s d (u ++ s)
+leads_with c d s u l = record {
+  grows = l.grows;
+  same = λ more limit h. l.same (s ++ more) limit h ∙ ap (λ (x : List ℕ). run limit x d) (sym (append_assoc u s more));
+  gone = [];
+  split = ap (λ (x : List ℕ). x ++ s) (none_left l.gone u l.split);
+}
 
 pub fails_with : (c : Course) (s : List ℕ) (a b : Scene) (f : RunFault) → Fails c [] a b f → Fails c s a b f
 fails_with c s a b f h = fails_from c c s [] a a b f before h
@@ -287,6 +313,7 @@ fails_with c s a b f h = fails_from c c s [] a a b f before h
     before : Before c s c [] a a
     before = record {
       reaches = λ at next r. reaches_with c at next s r;
+      leads = λ at u l. (u ++ s, leads_with c at s u l, omega (arith, length-append u s));
       between = [];
       outputs = sym (append-nil (octets_of c.outputs));
       took = took_none a;

@@ -1,7 +1,8 @@
 -- The loop over the frames, one part after another.
 use Rattle.oftp_wire.specs.declared.reason.SessionReason.{SessionReason}
 use Rattle.oftp_wire.specs.declared.reason.SessionReason.TheVariants.{ProtocolViolation}
-use Rattle.std.proofs.Common.{◌≡◌, ◌++◌, ℕ, ◌<◌, false, List, [], drop, length, Option, None, Some, Result, Ok, Err, refl, sym, ap, ◌∙◌, subst}
+use Rattle.std.proofs.Common.{◌≡◌, ◌++◌, ℕ, ◌<◌, false, List, [], take, drop, length, Option, None, Some, Result, Ok, Err, refl, sym, ap, ◌∙◌, subst, inl}
+use Rattle.std.proofs.lemmas.List.{take-append-drop}
 use Rattle.std.specs.Option.{option_copied}
 use Rattle.std.specs.Borrow.{Bor}
 use Rattle.oftp_wire.proofs.Streams.{next_err, next_none, next_some, past_shorter}
@@ -17,7 +18,7 @@ use Rattle.oftp_engine.specs.declared.serving.RunFault.{RunFault}
 use Rattle.oftp_engine.specs.Runs.{Course, advance, run, is_stopped, step_on}
 use Rattle.oftp_engine.specs.Serving.{Comes, Fails, IsAt, IsOver, IsWaiting, Made, Pumped, Scene, Settles, StepFails, Stepped}
 use Rattle.oftp_engine.proofs.Phases.{fails_proceed, live_from, step_proceeds}
-use Rattle.oftp_engine.proofs.Progress.{fails_later, fails_step, fails_with, leads_bad, leads_frame, leads_step, reaches_step, went_on, went_step, went_with}
+use Rattle.oftp_engine.proofs.Progress.{fails_later, fails_step, fails_with, leads_bad, leads_frame, leads_step, reaches_step, told_some, went_on, went_step, went_with}
 
 -- while it pumps: how far it came, and that the stream told no fault
 pub record IsPumping (c : Course) (s : List ℕ) (stream : Stream) (seen : Seen) (old new : Scene) : Type 0 where
@@ -52,21 +53,25 @@ over_after : (c : Course) (reason : SessionReason) → Some (Own reason) ≡ end
 unfolding advance
 over_after c reason = refl
 
+cut : (n : ℕ) (s : List ℕ) → s ≡ take n s ++ drop n s
+cut n s = sym (take-append-drop n s)
+
 -- The next step of a course, which takes the octets t and leaves u.
 module _ (k : Course) (s t u : List ℕ) (seen : Seen) (a b : Scene) (p : Comes k s t seen a b) (step : Step)
     (proceeds : Suits p.at.phase p.at.register → Proceeds p.at.register step)
-    (goes : (more : List ℕ) (limit : Option ℕ) → is_stopped limit p.at ≡ false → run limit (t ++ more) p.at ≡ run limit (u ++ more) (advance p.at step)) where
+    (goes : (more : List ℕ) (limit : Option ℕ) → is_stopped limit p.at ≡ false → run limit (t ++ more) p.at ≡ run limit (u ++ more) (advance p.at step))
+    (gone : List ℕ) (split : t ≡ gone ++ u) (some : 0 < length t) where
   -- it is made
   abbrev step_made : (next : Seen) (z : Scene) → Made p.at step next b z → Comes k s u next a z
   step_made next z made = record {
     at = advance p.at step;
-    went = went_on k p.at (advance p.at step) s t u a b z p.went (went_step p.at step t u next b z (leads_step p.at step t u proceeds goes) made);
+    went = went_on k p.at (advance p.at step) s t u a b z p.went (went_step p.at step t u next b z (leads_step p.at step t u gone split proceeds goes) made);
     now = made.now;
   }
 
   -- it fails
   step_failed : (z : Scene) (f : RunFault) → StepFails p.at step b z f → Fails k s a z f
-  step_failed z f h = fails_later k p.at s t a b z f p.went (fails_step p.at step t b z f (proceeds p.now.suits) (reaches_step p.at step t u goes) h)
+  step_failed z f h = fails_later k p.at s t a b z f p.went (fails_step p.at step t b z f (proceeds p.now.suits) (reaches_step p.at step t u goes) (λ _. inl some) h)
 
 -- One turn of the loop: it came so far before.
 module _ (k : Course) (s : List ℕ) (stream : Stream) (seen0 : Seen) (first old : Scene) (p : IsPumping k s stream seen0 first old) (stood : first.office.stands) where
@@ -130,13 +135,16 @@ module _ (k : Course) (s : List ℕ) (stream : Stream) (seen0 : Seen) (first old
             ≡ run limit (drop read.0 stream.rest ++ more) (advance settled.at (step_on settled.at.setting settled.at.phase settled.at.register (command_of x))))
             read.2 (leads_frame settled.at stream.rest read.0 taken.done live (limit_front stream (Whole read.0) p.limit read.1))
 
+        some : 0 < length stream.rest
+        some = told_some stream.rest (Whole read.0) (limit_front stream (Whole read.0) p.limit read.1) tt
+
         -- it was taken
         pub obeyed : (next : Seen) (z : Scene)
             → (mid.office.stands → (d : Course) → is_over d.phase ≡ false → IsAt d seen mid → Made d (step_on d.setting d.phase d.register (command_of o.now)) next mid z)
             → IsPumping k s after next first z
         obeyed next z made =
             subst (λ (x : Stream). IsPumping k s x next first z) (sym (left ∙ read.3)) (record {
-              come = step_made k s stream.rest (drop read.0 stream.rest) seen first mid settled step proceeds goes next z
+              come = step_made k s stream.rest (drop read.0 stream.rest) seen first mid settled step proceeds goes (take read.0 stream.rest) (cut read.0 stream.rest) some next z
                   (made (settled.went.stands stood) settled.at live settled.now);
               limit = p.limit;
               told = p.told;
@@ -149,7 +157,7 @@ module _ (k : Course) (s : List ℕ) (stream : Stream) (seen0 : Seen) (first old
             → result ≡ Err f → Pumped k s after next first z result
         obey_fails next z f result fails same =
             subst (Pumped k s after next first z) (sym same)
-            (step_failed k s stream.rest (drop read.0 stream.rest) seen first mid settled step proceeds goes z f
+            (step_failed k s stream.rest (drop read.0 stream.rest) seen first mid settled step proceeds goes (take read.0 stream.rest) (cut read.0 stream.rest) some z f
             (fails (settled.went.stands stood) settled.at live settled.now))
 
       -- no header stood where one has to be
@@ -165,6 +173,9 @@ module _ (k : Course) (s : List ℕ) (stream : Stream) (seen0 : Seen) (first old
             → run limit (stream.rest ++ more) settled.at ≡ run limit (stream.rest ++ more) (advance settled.at (fails ProtocolViolation))
         bad_goes = leads_bad settled.at stream.rest x taken.done live (limit_front stream (Bad x) p.limit bad.0)
 
+        bad_some : 0 < length stream.rest
+        bad_some = told_some stream.rest (Bad x) (limit_front stream (Bad x) p.limit bad.0) tt
+
         abbrev step_now : Stepped settled.at (fails ProtocolViolation) next mid z refused
         step_now = stepped settled.at settled.now
 
@@ -172,7 +183,7 @@ module _ (k : Course) (s : List ℕ) (stream : Stream) (seen0 : Seen) (first old
         pub refused_bad : (v : T) → refused ≡ Ok v → IsOver k s after.rest next first z (Own ProtocolViolation)
         refused_bad v ok =
             let made = ok_at settled.at (fails ProtocolViolation) next mid z refused v step_now ok in
-            let come = step_made k s stream.rest stream.rest seen first mid settled (fails ProtocolViolation) bad_proceeds bad_goes next z made in
+            let come = step_made k s stream.rest stream.rest seen first mid settled (fails ProtocolViolation) bad_proceeds bad_goes [] refl bad_some next z made in
             subst (λ (t : Stream). IsOver k s t.rest next first z (Own ProtocolViolation)) (sym (left ∙ bad.1))
             (record { come = come; ends = over_after settled.at ProtocolViolation })
 
@@ -180,5 +191,5 @@ module _ (k : Course) (s : List ℕ) (stream : Stream) (seen0 : Seen) (first old
         pub refuse_fails : (f : RunFault) (result : Result (Option Ending) RunFault) → refused ≡ Err f → result ≡ Err f → Pumped k s after next first z result
         refuse_fails f result failed same =
             subst (Pumped k s after next first z) (sym same)
-            (step_failed k s stream.rest stream.rest seen first mid settled (fails ProtocolViolation) bad_proceeds bad_goes z f
+            (step_failed k s stream.rest stream.rest seen first mid settled (fails ProtocolViolation) bad_proceeds bad_goes [] refl bad_some z f
             (err_at settled.at (fails ProtocolViolation) next mid z refused f step_now failed))

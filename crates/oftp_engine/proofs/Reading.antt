@@ -1,5 +1,5 @@
 -- The loop over the pieces, one part after another.
-use Rattle.std.proofs.Common.{◌≡◌, ℕ, List, [], ◌++◌, take, Option, Result, Ok, Err, refl, length, ◌≤◌, sym, ap, ◌∙◌, subst, arith, append_assoc, length-append, false, true, is_ok, inl}
+use Rattle.std.proofs.Common.{◌≡◌, ℕ, List, [], ◌++◌, take, Option, Result, Ok, Err, refl, length, ◌<◌, ◌≤◌, sym, ap, ◌∙◌, subst, arith, append_assoc, length-append, false, true, is_ok, inl}
 use Rattle.std.proofs.lemmas.List.{append-nil, length-take-le}
 use Rattle.std.proofs.lemmas.Bool.{false≢true}
 use Rattle.std.specs.Result.{OnOk}
@@ -11,13 +11,12 @@ use Rattle.oftp_session.specs.Settings.{Setting}
 use Rattle.oftp_session.specs.Calls.{Seen}
 use Rattle.oftp_engine.specs.declared.port.Port.{Port}
 use Rattle.oftp_engine.specs.Ports.{Gives, GivesNothing}
-use Rattle.oftp_engine.specs.Runs.{Course, started, run, is_stopped}
+use Rattle.oftp_engine.specs.Runs.{Course, started, run}
 use Rattle.oftp_engine.specs.Serving.{Leads, Scene, Comes, IsOver, IsWaiting, IsShort}
 use Rattle.oftp_engine.proofs.Pumping.{IsPumping}
 use Rattle.oftp_engine.specs.Served.{Gave, IsNeeded}
 use Rattle.oftp_engine.proofs.Ending.{whole_waits}
 use Rattle.oftp_engine.proofs.Bytes.{consumes_on, keeps_consumes}
-use Rattle.oftp_engine.proofs.Courses.{grows_none}
 use Rattle.oftp_engine.proofs.Progress.{went_on}
 
 -- while it reads: how far it came where the office is clean and stood
@@ -26,6 +25,7 @@ pub record IsReading {R : Type 0} (remaining : R → Option (List ℕ)) (before 
   pub given : List ℕ
   pub gave : Gave remaining before now given
   pub faults : now.faults ≡ before.faults
+  pub on : now.ended ≡ before.ended
   pub pumping : Clean → Stood → IsPumping (started setting old.office.register) given stream seen old new
   pub needed : Clean → Stood → IsNeeded setting old.office.register given
 
@@ -54,6 +54,8 @@ leads_more c d s t x h = record {
   same = λ more limit stopped.
       ap (λ (y : List ℕ). run limit y c) (append_assoc s x more) ∙ h.same (x ++ more) limit stopped
       ∙ ap (λ (y : List ℕ). run limit y d) (sym (append_assoc t x more));
+  gone = h.gone;
+  split = ap (λ (y : List ℕ). y ++ x) h.split ∙ append_assoc h.gone t x;
 }
 
 comes_more : (k : Course) (s t x : List ℕ) (seen : Seen) (a z : Scene) → Comes k s t seen a z → Comes k (s ++ x) (t ++ x) seen a z
@@ -101,14 +103,15 @@ gave_kept remaining before now next given g h =
 
 pub read_on : {R : Type 0} (remaining : R → Option (List ℕ)) (before now next : Port R) (given piece : List ℕ) (n : ℕ) (Clean Stood : Type 0)
     (setting : Setting) (stream fed : Stream) (seen : Seen) (a z : Scene)
-    → Gave remaining before now given → now.faults ≡ before.faults → Gives remaining now next piece n
+    → Gave remaining before now given → now.faults ≡ before.faults → now.ended ≡ before.ended → Gives remaining now next piece n → 0 < n
     → (Clean → Stood → IsWaiting (started setting a.office.register) given stream seen a z)
     → fed ≡ record stream { rest = stream.rest ++ take n piece; capacity = fed.capacity } → length (take n piece) ≤ 4096
     → IsReading remaining before next Clean Stood setting fed seen a z
-read_on remaining before now next given piece n Clean Stood setting stream fed seen a z g f h w e short = record {
+read_on remaining before now next given piece n Clean Stood setting stream fed seen a z g f o h some w e short = record {
   given = given ++ take n piece;
   gave = gave_on remaining before now next given piece n g h;
   faults = h.faults ∙ f;
+  on = h.on some ∙ o;
   pumping = λ clean stood. subst (λ (x : Stream). IsPumping (started setting a.office.register) (given ++ take n piece) x seen a z) (sym e) (record {
     come = comes_more (started setting a.office.register) given stream.rest (take n piece) seen a z (w clean stood).come;
     limit = (w clean stood).limit;
@@ -124,23 +127,20 @@ read_on remaining before now next given piece n Clean Stood setting stream fed s
 }
 
 -- the piece finds no room
-pub short_on : (k : Course) (s t x : List ℕ) (seen : Seen) (a z : Scene) → Comes k s t seen a z → IsShort k (s ++ x) a z
-short_on k s t x seen a z h = record {
+pub short_on : (k : Course) (s t x : List ℕ) (seen : Seen) (a z : Scene) → 0 < length x → Comes k s t seen a z → IsShort k (s ++ x) a z
+short_on k s t x seen a z some h = record {
   at = h.at;
-  next = h.at;
-  later = grows_none h.at;
-  reaches = record { grows = h.went.leads.grows; same = λ more limit stopped. (t ++ x ++ more, leads_at more limit stopped) };
+  rest = t ++ x;
+  leads = leads_more k h.at s t x h.went.leads;
+  cause = inl (omega (arith, some, length-append t x));
   between = h.went.between;
   outputs = h.went.outputs;
   took = h.went.took;
-  register = inl h.now.register;
+  register = h.now.register;
   stands = h.went.stands;
   faults = h.went.faults;
   told = h.went.told;
 }
-  where
-    leads_at : (more : List ℕ) (limit : Option ℕ) → is_stopped limit h.at ≡ false → run limit ((s ++ x) ++ more) k ≡ run limit ((t ++ x) ++ more) h.at
-    leads_at more limit stopped = (leads_more k h.at s t x h.went.leads).same more limit stopped
 
 -- what feeding left, where it was no error
 pub fed_from : {T E : Type 0} (r : Result T E) (P : Type 0) → is_ok r ≡ true → OnOk r P → P

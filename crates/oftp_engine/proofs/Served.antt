@@ -1,5 +1,5 @@
 -- From what one call of `pump` did to what `serve` answers.
-use Rattle.std.proofs.Common.{◌≡◌, false, ℕ, List, ◌++◌, Option, None, Some, Result, Ok, Err, sym, ap, ◌∙◌, subst}
+use Rattle.std.proofs.Common.{◌≡◌, ◌<◌, false, ℕ, List, length, ◌++◌, Option, None, Some, Result, Ok, Err, sym, ap, ◌∙◌, subst}
 use Rattle.oftp_session.specs.Phases.{is_over}
 use Rattle.oftp_wire.specs.Stream.{Stream}
 use Rattle.oftp_session.specs.Calls.{Seen}
@@ -72,5 +72,6 @@ module _ (setting : Setting) (given : List ℕ) (stream : Stream) (seen : Seen) 
     cut_short = record { all = is_whole setting given stream.rest seen first new law w.come at_end; live = goes_on }
 
     -- the octets that came then found no room
-    pub out_of_room : (piece : List ℕ) → IsOutOfMemory setting (given ++ piece) first new
-    out_of_room piece = is_out_of_memory setting (given ++ piece) first new law (short_on (started setting first.office.register) given stream.rest piece seen first new w.come)
+    pub out_of_room : (piece : List ℕ) → 0 < length piece → IsOutOfMemory setting (given ++ piece) first new
+    out_of_room piece some =
+        is_out_of_memory setting (given ++ piece) first new law (short_on (started setting first.office.register) given stream.rest piece seen first new some w.come)

@@ -13,7 +13,10 @@ use Rattle.oftp_register.specs.Offices.{View, Only, WithOrWithout}
 use Rattle.oftp_session.specs.declared.session.Out.{Out}
 use Rattle.oftp_session.specs.declared.session.SessionFault.{SessionFault}
 use Rattle.oftp_session.specs.declared.session.SessionFault.TheVariants as session
-use Rattle.oftp_session.specs.Phases.{EndedHere, Step, fails, register_after}
+use Rattle.oftp_session.specs.Phases.{EndedHere, Phase, Sending, Step, Transfer, fails, register_after}
+use Rattle.oftp_session.specs.declared.state.Contact.{Contact}
+use Rattle.oftp_session.specs.Standings.{At, Awaits, Broken, Offers, Receives, Sends, Standing, StandsIn, is_sending}
+use Rattle.oftp_session.proofs.Standings.{phase_sent}
 use Rattle.oftp_session.specs.Steps.{Suits}
 use Rattle.oftp_session.specs.Settings.{Setting}
 use Rattle.oftp_session.specs.Calls.{Makes, IsMade, IsBefore, IsAfter, IsBroken, IsUndone, Does, DoesNot, Seen, Stands, said as said_of}
@@ -168,6 +171,15 @@ module _ {W : Type 0} (contents : W → Option (List ℕ)) (a d : Port W) (x y :
   called_err session.Office h broke = stepped_office contents a d x y c (step c.setting c.register) (here (λ (s : Step). IsBroken s.change x y) h) at.register broke
   called_err session.Memory h broke =
       subst (λ (p : Port W). NoMemory c (scene contents x a) (scene contents y p)) (sym broke) (stepped_memory contents a x y c h at.register)
+
+-- a session that sends a file is in the phase of a file that is sent
+pub sends_at : (p : Phase) (s : Standing) → StandsIn p s → is_sending s ≡ true → (contact : Contact) × (transfer : Transfer) × (p ≡ Sending contact transfer)
+sends_at p (At q) h e = absurd (let no : ⊥ = cc in no)
+sends_at p (Receives contact reception) h e = absurd (let no : ⊥ = cc in no)
+sends_at p (Offers contact offering) h e = absurd (let no : ⊥ = cc in no)
+sends_at p (Sends contact shipment) h e = let found = phase_sent p contact shipment h in (contact, found.0, sym found.1)
+sends_at p (Awaits contact number) h e = absurd (let no : ⊥ = cc in no)
+sends_at p Broken h e = absurd (let no : ⊥ = cc in no)
 
 -- a fault of the session's is none of the reader's
 pub run_fault_own : (f : SessionFault) → IsOwn (run_fault f)

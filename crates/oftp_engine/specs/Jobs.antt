@@ -20,7 +20,7 @@ use Rattle.oftp_engine.specs.declared.serving.RunFault.TheVariants as fault
 use Rattle.oftp_engine.specs.Ports.{Wrote}
 use Rattle.oftp_engine.specs.Runs.{Course, Output, answered, ending, octets_of, run, started, with_change}
 use Rattle.oftp_engine.specs.Serving.{last_frame}
-use Rattle.oftp_engine.specs.Served.{Gave, InputEnded, IsNeeded, IsPrefix, ReaderTold, setting_of, whole}
+use Rattle.oftp_engine.specs.Served.{Gave, InputEnded, IsNeeded, IsPrefix, ReaderTold, StopsBetween, setting_of, whole}
 use Rattle.oftp_engine.specs.Operating.{Deed, IsDeed, NeedsMemory}
 
 -- A job as its ports tell. Of a session: the octets that its reader gave, and how many its writer had taken if it told a fault. Of an
@@ -82,7 +82,7 @@ pub record SessionDone {R W : Type 0} (remaining : R → Option (List ℕ)) (con
   pub result : new.result ≡ Some answer
   pub ends : SessionEnds setting r given stop answer
   pub reader_told : ReaderTold old.reader new.reader answer
-  pub input_ended : InputEnded remaining new.reader answer
+  pub input_ended : InputEnded remaining old.reader new.reader answer
 
 -- what a call told that its list went on after
 abbrev pub CallEnds : Deed → Option ℕ → Result Told RunFault → Type 0
@@ -136,6 +136,7 @@ pub record SessionShort {R W : Type 0} (remaining : R → Option (List ℕ)) (co
   pub outs : List Output
   pub later : List Output
   pub outputs : (whole (setting_of book old.role) given r).outputs ≡ outs ++ later
+  pub stopped : StopsBetween (setting_of book old.role) given r outs stop.made
   pub out : Wrote contents old.writer new.writer (octets_of outs)
   pub unfailed : new.writer.faults ≡ old.writer.faults
   pub changes : stop.changes ≡ (whole (setting_of book old.role) given r).changes

@@ -1,5 +1,5 @@
 -- What a served session leaves, and what it has out: the whole run over the octets that the reader gave.
-use Rattle.std.specs.Prelude.{◌≡◌, false, ℕ, ◌+◌, ◌-◌, ◌<◌, ◌≤◌, ◌⊎◌, ⊤, List, ◌++◌, length, take, Option, None, Some, Result, Ok, Err}
+use Rattle.std.specs.Prelude.{◌≡◌, false, ℕ, ◌+◌, ◌-◌, ◌<◌, ◌≤◌, ◌⊎◌, List, ◌++◌, length, take, Option, None, Some, Result, Ok, Err}
 use Rattle.std.specs.Io.KnownBytes.{Consumes}
 use Rattle.oftp_session.specs.Phases.{is_over}
 use Rattle.oftp_register.specs.declared.change.Change.{Change}
@@ -12,13 +12,13 @@ use Rattle.oftp_partners.specs.Book.{BookData}
 use Rattle.oftp_partners.specs.declared.partner.Partner.{Partner as Entry}
 use Rattle.oftp_engine.specs.declared.serving.Role.{Role}
 use Rattle.oftp_engine.specs.declared.serving.Role.TheVariants.{Responder, Initiator}
-use Rattle.oftp_engine.specs.declared.serving.End.TheVariants.{Input}
+use Rattle.oftp_engine.specs.declared.serving.End.TheVariants.{Own, Partner, Input}
 use Rattle.oftp_engine.specs.declared.port.Port.{Port}
 use Rattle.oftp_engine.specs.declared.serving.RunFault.{RunFault}
 use Rattle.oftp_engine.specs.declared.serving.RunFault.TheVariants as fault
 use Rattle.oftp_engine.specs.Ports.{IsDone}
 use Rattle.oftp_engine.specs.Runs.{Course, Output, run, started, octets_of, ending, answered}
-use Rattle.oftp_engine.specs.Serving.{Scene, Took, IsSaid, last_frame}
+use Rattle.oftp_engine.specs.Serving.{MayRunOut, Scene, Took, IsSaid, last_frame}
 
 -- the octets that a reader gave in a call: as many as its port counts, at most as many as the port's limit left, and the next
 -- ones that it had, where these are known
@@ -96,7 +96,20 @@ pub record IsOfficeFault (setting : Setting) (given : List ℕ) (old new : Scene
   pub left : LeavesPrefix (whole setting given old.office.register) old.office.register (answered outs (length (octets_of outs))) made new.office
   pub faults : new.office.told ≡ next_count old.office.told
 
--- memory ran out: a beginning of the outputs is out
+-- the session stopped between two of its steps, after these outputs and so many changes: with the octets that aren't answered yet it
+-- would have gone on so
+pub record StopsBetween (setting : Setting) (given : List ℕ) (r : Register) (outs : List Output) (made : ℕ) : Type 0 where
+  pub at : Course
+  pub gone : List ℕ
+  pub rest : List ℕ
+  pub all : given ≡ gone ++ rest
+  pub goes_on : whole setting given r ≡ run None rest at
+  pub cause : MayRunOut at.phase rest
+  pub outputs : at.outputs ≡ outs
+  pub changes : at.changes ≡ take made (whole setting given r).changes
+  pub register : apply_all r at.changes ≡ Ok at.register
+
+-- memory ran out: a beginning of the outputs is out, and nothing of the next step is made
 pub record IsOutOfMemory (setting : Setting) (given : List ℕ) (old new : Scene) : Type 0 where
   pub outs : List Output
   pub later : List Output
@@ -105,6 +118,7 @@ pub record IsOutOfMemory (setting : Setting) (given : List ℕ) (old new : Scene
   pub made : ℕ
   pub kept : answered outs (length (octets_of outs)) ≤ made
   pub few : made ≤ length (whole setting given old.office.register).changes
+  pub stopped : StopsBetween setting given old.office.register outs made
   pub register : apply_all old.office.register (take made (whole setting given old.office.register).changes) ≡ Ok new.office.register
   pub stands : new.office.stands
   pub left : Only new.office.register new.office
@@ -155,10 +169,15 @@ abbrev pub WriterTold : {T W : Type 0} → Port W → Port W → Result T RunFau
 WriterTold old new (Ok x) = new.faults ≡ old.faults
 WriterTold old new (Err fault) = WriterErr old new fault
 
--- a session ends by its input only where no more is to come
-abbrev pub InputEnded : {R : Type 0} → (R → Option (List ℕ)) → Port R → Result End RunFault → Type 0
-InputEnded remaining now (Ok end) = end ≡ Input → IsDone remaining now
-InputEnded remaining now (Err fault) = ⊤
+-- a session ends by its input only where no more is to come, and the port has seen the end in a call only where the session ended so
+abbrev pub EndSeen : {R : Type 0} → (R → Option (List ℕ)) → Port R → Port R → End → Type 0
+EndSeen remaining old new (Own reason) = new.ended ≡ old.ended
+EndSeen remaining old new (Partner reason) = new.ended ≡ old.ended
+EndSeen remaining old new Input = IsDone remaining new
+
+abbrev pub InputEnded : {R : Type 0} → (R → Option (List ℕ)) → Port R → Port R → Result End RunFault → Type 0
+InputEnded remaining old new (Ok end) = EndSeen remaining old new end
+InputEnded remaining old new (Err fault) = new.ended ≡ old.ended
 
 -- whom a session calls
 abbrev pub called_in : Role → Option Entry

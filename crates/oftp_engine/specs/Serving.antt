@@ -8,7 +8,8 @@ use Rattle.oftp_register.specs.declared.change.Change.{Change}
 use Rattle.oftp_register.specs.Register.{Register}
 use Rattle.oftp_register.specs.Changes.{apply_all}
 use Rattle.oftp_register.specs.Offices.{View, Only, WithOrWithout, next_count}
-use Rattle.oftp_session.specs.Phases.{is_over, ending_of, Step, framed, frame_of, esid_of}
+use Rattle.oftp_session.specs.Phases.{is_over, ending_of, Phase, Step, Transfer, Sending, framed, frame_of, esid_of}
+use Rattle.oftp_session.specs.declared.state.Contact.{Contact}
 use Rattle.oftp_session.specs.Steps.{has_turn, Suits}
 use Rattle.oftp_session.specs.Calls.{Proceeds, Seen, Stands}
 use Rattle.oftp_session.specs.declared.session.Ending.{Ending}
@@ -43,10 +44,12 @@ pub record Grows (c d : Course) : Type 0 where
   pub changes : d.changes ≡ c.changes ++ later_changes
   pub sound : (r : Register) → Sound r c → Sound r d
 
--- the run that comes from c with the octets s comes to d with t left, whatever follows
+-- the run that comes from c with the octets s comes to d with t left, the end of s, whatever follows
 pub record Leads (c : Course) (s : List ℕ) (d : Course) (t : List ℕ) : Type 0 where
   pub grows : Grows c d
   pub same : (more : List ℕ) (limit : Option ℕ) → is_stopped limit d ≡ false → run limit (s ++ more) c ≡ run limit (t ++ more) d
+  pub gone : List ℕ
+  pub split : s ≡ gone ++ t
 
 -- the run that comes from c with the octets s comes to d, which it leaves for e
 pub record Reaches (c : Course) (s : List ℕ) (d e : Course) : Type 0 where
@@ -126,16 +129,20 @@ pub record OfficeFails (c : Course) (s : List ℕ) (old new : Scene) : Type 0 wh
   pub cases : StaysBefore at step new.office ⊎ StaysAfter at step new.office
   pub faults : new.office.told ≡ next_count old.office.told
 
--- memory ran out, where the run had come or after the change of its next step
+-- memory may run out where octets came that aren't answered yet, and where a file is sent
+abbrev pub MayRunOut : Phase → List ℕ → Type 0
+MayRunOut p rest = (0 < length rest) ⊎ (contact : Contact) × (transfer : Transfer) × (p ≡ Sending contact transfer)
+
+-- memory ran out where the run had come, between two of its steps
 pub record IsShort (c : Course) (s : List ℕ) (old new : Scene) : Type 0 where
   pub at : Course
-  pub next : Course
-  pub reaches : Reaches c s at next
-  pub later : Grows at next
+  pub rest : List ℕ
+  pub leads : Leads c s at rest
+  pub cause : MayRunOut at.phase rest
   pub between : List ℕ
   pub outputs : octets_of at.outputs ≡ octets_of c.outputs ++ between
   pub took : Took old new between
-  pub register : (new.office.register ≡ at.register) ⊎ (new.office.register ≡ next.register)
+  pub register : new.office.register ≡ at.register
   pub stands : old.office.stands → new.office.stands
   pub faults : new.office.told ≡ old.office.told
   pub told : new.told ≡ old.told

@@ -6,7 +6,7 @@ ghost use Rattle.oftp_register.specs.Plain.{view_of};
 ghost use Rattle.oftp_session.specs.Phases.{is_over, Phase, frame_of, esid_of};
 ghost use Rattle.oftp_session.specs.Steps.{came, has_turn, opening, turned};
 ghost use Rattle.oftp_session.specs.Calls.{IsFailure, Stands, said};
-ghost use Rattle.oftp_session.specs.Standings.{Broken, is_closed, is_due, turns_left};
+ghost use Rattle.oftp_session.specs.Standings.{Broken, is_closed, is_due, is_sending, turns_left};
 ghost use Rattle.oftp_engine.specs.Ports.{Sent, Puts};
 ghost use Rattle.oftp_engine.specs.Runs.{Course, ended_as, step_on};
 ghost use Rattle.oftp_engine.specs.Served.{Gave, InputEnded, ReaderTold, Serves, setting_of, WriterErr, WriterTold};
@@ -170,6 +170,7 @@ fn take_turn<O: Office, W: Write>(
         (scene W.contents (O.view office.old) writer.old) (scene W.contents (O.view office.new) writer.new) result }
     ensures out { Puts W.contents writer.old writer.new }
     ensures told { WriterTold writer.old writer.new result }
+    ensures spared { IfErr result (λ fault. fault ≡ RunFault.Memory → is_sending session.old.standing ≡ true) }
 {
     match session.turn(office) {
         Ok(out) => write_out(writer, out),
@@ -329,7 +330,7 @@ pub fn serve<O: Office, R: Read, W: Write>(
     ensures clean { (O.view office.new).clean → (O.view office.old).clean }
     ensures reader_told { ReaderTold reader.old reader.new result }
     ensures writer_told { WriterTold writer.old writer.new result }
-    ensures ends { InputEnded R.remaining reader.new result }
+    ensures ends { InputEnded R.remaining reader.old reader.new result }
     ensures out { Puts W.contents writer.old writer.new }
 {
     let mut session = opened(alloc, book, role);
@@ -370,7 +371,7 @@ pub fn serve_in_memory<R: Read, W: Write>(
         (scene W.contents (view_of office.old) writer.old) (scene W.contents (view_of office.new) writer.new) result }
     ensures reader_told { ReaderTold reader.old reader.new result }
     ensures writer_told { WriterTold writer.old writer.new result }
-    ensures ends { InputEnded R.remaining reader.new result }
+    ensures ends { InputEnded R.remaining reader.old reader.new result }
     ensures out { Puts W.contents writer.old writer.new }
 {
     serve(alloc, office, book, role, reader, writer)

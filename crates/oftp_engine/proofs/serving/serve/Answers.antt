@@ -27,6 +27,7 @@ pieces-init g c =
         given = [];
         gave = record { bytes = consumes_none (g.R.Read.remaining c.args.reader.now.inner) []; count = omega arith; within = omega arith; most = refl };
         faults = refl;
+        on = refl;
         pumping = λ clean stood.
             let sound = g.met.O.Office.sound c.args.office.now clean stood in
             let now : IsAt k c.opened-session.result first = record {
@@ -106,7 +107,7 @@ returns-then-is_err-clause-serves g c =
           let law = lawful g.O.Office.view g.met.O.Office.sound g.met.O.Office.alone c.args.office.now c.pump.new.office (c.pieces.invariant.clean before) clean stood in
           let p = h.pumping before stood in
           let w = waits_on _ _ _ _ _ _ _ _ _ p _ (c.in_ok-ending.ensures.steps clean (p.come.went.stands stood) p.come.at p.limit p.told p.come.now) c.in_default.is in
-          out_of_room _ _ _ _ _ _ w law (take c.in-Some-read.n c.read.new.piece),
+          out_of_room _ _ _ _ _ _ w law (take c.in-Some-read.n c.read.new.piece) (search rules),
     )
 
 pub pieces-preserved : goal.pieces-preserved
@@ -122,7 +123,7 @@ pieces-preserved g c =
       clean = λ h. c.pieces.invariant.clean (c.pump.ensures.clean h);
       reads = read_on g.R.Read.remaining c.args.reader.now c.pieces.reader c.read.new.port h.given c.read.new.piece c.in-Some-read.n
           ((g.O.Office.view c.pump.new.office).clean) ((g.O.Office.view c.args.office.now).stands) setting c.pump.new.stream c.feed.new.self c.pump.new.session first new
-          h.gave h.faults c.in-Some-read.ensures
+          h.gave h.faults h.on c.in-Some-read.ensures (search rules)
           (λ clean stood.
           let p = h.pumping (c.pump.ensures.clean clean) stood in
           waits_on _ _ _ _ _ _ _ _ _ p _ (c.in_ok-ending.ensures.steps clean (p.come.went.stands stood) p.come.at p.limit p.told p.come.now) c.in_default.is)

@@ -1,10 +1,11 @@
-use Rattle.std.proofs.Common.{[], refl, sym, ◌∙◌, subst}
+use Rattle.std.proofs.Common.{[], inr, refl, sym, ◌∙◌, subst}
 use Rattle.oftp_engine.proofs.Puts.{handed_on, puts_none, puts_on, told_err}
 use Rattle.oftp_session.specs.Steps.{turned}
 use Rattle.oftp_engine.specs.Runs.{turned_in}
 use Rattle.oftp_engine.specs.Serving.{scene, TurnsTaken}
 use Rattle.oftp_session.proofs.Proceeding.{turned_proceeds}
 use Rattle.oftp_engine.proofs.Progress.{went_none, went_on, went_step, fails_step, fails_later, leads_turn, reaches_turn}
+use Rattle.oftp_engine.proofs.Stepping.{sends_at}
 use Rattle.oftp_engine.proofs.serving.take_turns.Goals as goal
 
 pub turns-init : goal.turns-init
@@ -49,6 +50,7 @@ returns-in_err-take_turn-clause-steps g c = λ clean stood k at.
     let step = turned t.at.setting t.at.phase t.at.register in
     let proceeds = turned_proceeds t.at.setting t.at.phase t.at.register t.now.suits in
     let failed = fails_step t.at step [] old new c.in_err-take_turn.field-0.0 proceeds (reaches_turn t.at [] due)
+    (λ short. inr (sends_at t.at.phase c.turns.session.standing t.now.stands (c.in_err-take_turn.ensures.spared short)))
     (c.in_err-take_turn.ensures.steps clean (t.went.stands stood) t.at due t.now) in
     subst (TurnsTaken k c.take_turn.new.session first new) (sym (handed_on _ _ c.from_residual.ensures.1))
     (fails_later k t.at [] [] first old new c.in_err-take_turn.field-0.0 t.went failed)
