@@ -34,7 +34,7 @@ fn tells(rows: &[Row], schema: u32) -> bool
     }
 }
 
-/// Whether `about` tells a schema.
+/// Whether `about` tells a schema. The database has schema 1 or 2, and the connection is outside a transaction.
 pub fn about_tells<S: Alter>(conn: &mut Connection<S>, schema: u32) -> Result<bool, Error>
     requires has { HasAbout conn.old.schema }
     requires autocommit { conn.old.in_transaction ≡ false }

@@ -41,7 +41,7 @@ fn text_of(at: usize) -> &'static str
     }
 }
 
-/// Makes one table, which its place in the order of making names.
+/// Makes one table, which its place in the order of making names, below 8.
 pub fn make_table<S: Alter>(tx: &mut Transaction<'_, S>, at: usize) -> Result<usize, Error>
     requires { at < 8 }
     ensures same_reference { tx.new.conn.ghost_name ≡ tx.old.conn.ghost_name }

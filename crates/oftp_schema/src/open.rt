@@ -15,7 +15,8 @@ use crate::shape::{is_blank, is_ours};
 use sqlite::{Alter, Connection};
 
 /// Makes the tables of schema 2 where the store is empty, or finds them. It answers WrongSchema exactly where the store is neither
-/// empty nor has those tables and nothing else, with the right `about`; the store is then as it was.
+/// empty nor has those tables and nothing else, with the right `about`; the store is then as it was. The connection is outside a
+/// transaction.
 pub fn prepare<S: Alter>(conn: &mut Connection<S>) -> Result<(), StoreFault>
     requires { conn.old.in_transaction ≡ false }
     ensures mode { conn.new.in_transaction ≡ false }
