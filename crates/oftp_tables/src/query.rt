@@ -14,7 +14,7 @@ use oftp_register::OfficeFault;
 use sqlite::types::ValueRef;
 use sqlite::{Alter, Connection, Error, ErrorCode, Row};
 
-/// A number as a value of the database.
+/// A number as a value of the database, below 2^63.
 pub fn number(no: u64) -> i64
     requires { no < 2 ^ 63 }
     ensures { result ≡ pos no }

@@ -45,7 +45,7 @@ pub fn digits_at<const N: usize>(row: &Row, at: usize) -> Option<DigitString<N>>
     }
 }
 
-/// The identity that a row tells, in five columns from a place on.
+/// The identity that a row tells, in five columns from a place on. The place is below 100.
 pub fn identity_at(row: &Row, at: usize) -> Option<Identity>
     requires { at < 100 }
     ensures { IfSome result (λ identity. identity ≡ identity_in at row.now) }
@@ -173,7 +173,7 @@ fn unrefused_state_of(text: &[u8]) -> Option<OutgoingState>
     }
 }
 
-/// The state of an outgoing file that a row tells at a place, with the reason of a refusal at the next.
+/// The state of an outgoing file that a row tells at a place, with the reason of a refusal at the next. The place is below 100.
 pub fn outgoing_state_at(row: &Row, at: usize) -> Option<OutgoingState>
     requires { at < 100 }
     ensures told { IfSome result (λ state. state ≡ out_state_in (bytes (column row.now at)) (bytes (column row.now (at + 1)))) }

@@ -115,7 +115,8 @@ pub fn add_to_record(
     }
 }
 
-/// Takes octets of a stream, and makes a block a row where it is full. An `Err` changes nothing.
+/// Takes octets of a stream, and makes a block a row where it is full. The octets, and those of the tail, are fewer than a block. An `Err`
+/// changes nothing.
 pub fn add_to_stream(
     alloc: Global,
     rows: &mut Vec<Row>,

@@ -14,7 +14,7 @@ const COUNT: u8 = 0x3f;
 /// The most octets that a subrecord has.
 pub const MOST_COUNT: usize = 63;
 
-/// The header of a subrecord that isn't compressed.
+/// The header of a subrecord that isn't compressed, of fewer than 64 octets.
 pub fn header_octet(ends: bool, count: usize) -> u8
     requires { count < 64 }
     ensures { result ≡ header_octet ends count }

@@ -70,7 +70,8 @@ fn needed(octets: &[u8]) -> usize
 }
 
 /// Writes subrecords of records, the first from an offset on, until nothing fits any more or the
-/// rows end. Answers how many octets were written, and what comes next.
+/// rows end. Answers how many octets were written, and what comes next. The offset is 0, or lies in
+/// the first row.
 pub fn pack_records(rows: &[Row], offset: usize, out: &mut [u8]) -> (usize, Place)
     requires { 0 < offset → offset < length (slice_index_or rows.now 0 []) }
     ensures room { result.0 ≤ length out.old }
@@ -168,7 +169,8 @@ pub enum End {
     Short,
 }
 
-/// Writes subrecords of a stream, from an offset of the first row on.
+/// Writes subrecords of a stream, from an offset of the first row on. The offset is 0, or lies in
+/// that row; no row is empty, and `out` has room for 2 octets.
 pub fn pack_stream(rows: &[Row], offset: usize, last: bool, out: &mut [u8]) -> (usize, Place, End)
     requires offset { 0 < offset → offset < length (slice_index_or rows.now 0 []) }
     requires some { All (λ r. 0 < length r) rows.now }
