@@ -1,64 +1,84 @@
--- A list that grows by an object for each entry.
-use Rattle.std.proofs.Common.{◌≡◌, ℕ, ◌+◌, ◌<◌, false, inl, inr, add-one, subst, List, [], ◌∷◌, ◌++◌, length, map, take, get_or, ◌≤◌, Ok, refl, ap, sym, ◌∙◌}
+-- The text of a list, which grows by an object for each entry.
+use Rattle.std.proofs.Common.{◌≡◌, ℕ, ◌+◌, ◌<◌, ◌≤◌, Bool, true, false, add-one, subst, List, [], ◌∷◌, ◌++◌, length, map, take, get_or, Ok, refl, ap, sym, ◌∙◌, append_assoc, append-nil, codes}
 use Rattle.std.proofs.Math.Seq.{take-suc}
-use Rattle.std.proofs.lemmas.Bool.{cases_Bool}
 use Rattle.std.proofs.lemmas.List.{map-append, take_all}
 use Rattle.serde_json.specs.Data.{Data}
-use Rattle.serde_json.specs.View.{items_of, view}
-use Rattle.serde_json.specs.Written.{has_float, items_have_float}
-use Rattle.serde_json.specs.declared.value.Value.{Value}
-use Rattle.serde_json.specs.declared.value.Value.TheVariants.{Array}
-use Rattle.serde_json.proofs.Views.{view-Array}
-use Rattle.std.specs.Prelude.{Vec}
-use Rattle.std.specs.Global.{Global}
+use Rattle.serde_json.specs.Data as json
+use Rattle.serde_json.proofs.OnLiterals.{serde_json_on_literals}
+use Rattle.serde_json.specs.View.{items_of}
+use Rattle.serde_json.specs.Written.{comma_if, compact_text, items_text}
 use Rattle.oftp_register.specs.Register.{Register}
 use Rattle.oftp_register.specs.Offices.{View, LooksUp}
-use Rattle.oftp_listing.specs.Finding.{Finds}
+use Rattle.oftp_listing.specs.Finding.{Finds, IsDataBehind}
+use Rattle.oftp_listing.specs.Objects.{members}
 use Rattle.oftp_listing.specs.Texts.{Asks, list_of}
 use Rattle.oftp_listing.proofs.Asking.{asks_on, asks_once}
 
--- the values are the objects of the entries so far, of all that the office told of, and none has a float
-pub record IsListing {E : Type 0} (all : Register → List E) (object : Register → E → Data) (old now : View) (told entries : List E) (values : List Value) : Type 0 where
+-- ---- the text of a list, object by object
+
+-- the texts with commas between them, and one in front where something stands before
+abbrev pub joined : Bool → List Data → List ℕ
+joined later [] = []
+joined later (d ∷ ds) = comma_if later ++ (compact_text d ++ joined true ds)
+
+-- whether the next stands behind another
+abbrev pub is_later : List Data → Bool
+is_later [] = false
+is_later (d ∷ ds) = true
+
+later_on : (ds : List Data) (d : Data) → true ≡ is_later (ds ++ d ∷ [])
+later_on [] d = refl
+later_on (x ∷ ds) d = refl
+
+three : (a b c e : List ℕ) → a ++ (b ++ (c ++ e)) ≡ (a ++ (b ++ c)) ++ e
+three a b c e = ap (λ x. a ++ x) (sym (append_assoc b c e)) ∙ sym (append_assoc a (b ++ c) e)
+
+joined_closes : (later : Bool) (ds : List Data) → items_text later (items_of ds) ≡ joined later ds ++ 93 ∷ []
+joined_closes later [] = refl
+joined_closes later (d ∷ ds) = rw (joined_closes true ds) (three (comma_if later) (compact_text d) (joined true ds) (93 ∷ []))
+
+joined_on : (ds : List Data) (d : Data) → joined true (ds ++ d ∷ []) ≡ joined true ds ++ (comma_if true ++ compact_text d)
+joined_on [] d = rw (append-nil (compact_text d)) refl
+joined_on (x ∷ ds) d = rw (joined_on ds d) (three (comma_if true) (compact_text x) (joined true ds) _)
+
+joined_more : (ds : List Data) (d : Data) → joined false (ds ++ d ∷ []) ≡ joined false ds ++ (comma_if (is_later ds) ++ compact_text d)
+joined_more [] d = append-nil (compact_text d)
+joined_more (x ∷ ds) d = rw (joined_on ds d) (three [] (compact_text x) (joined true ds) _)
+
+-- the whole list behind what stood before
+list_closes : (front : List ℕ) (ds : List Data) → ((front ++ 91 ∷ []) ++ joined false ds) ++ 93 ∷ [] ≡ front ++ compact_text (list_of ds)
+list_closes front ds = append_assoc (front ++ 91 ∷ []) (joined false ds) (93 ∷ []) ∙ append_assoc front (91 ∷ []) _ ∙ ap (λ x. front ++ 91 ∷ x) (sym (joined_closes false ds))
+
+-- ---- the entries
+
+-- behind what stood before, the text has the beginning of a list with some objects: those of the entries so far, of all that the office
+-- told of
+pub record IsListing {E : Type 0} (all : Register → List E) (object : Register → E → Data) (old now : View) (told entries : List E) (front text : List ℕ) (later : Bool) : Type 0 where
   pub asks : Asks old now
   pub untold : now.told ≡ old.told
   pub whole : now.clean → old.stands → told ≡ all old.register
-  pub objects : now.clean → old.stands → map view values ≡ map (object old.register) entries
-  pub integers : items_have_float (items_of (map view values)) ≡ false
-
-integers_append : (values : List Value) (v : Value) → items_have_float (items_of (map view values)) ≡ false → has_float (view v) ≡ false
-    → items_have_float (items_of (map view (values ++ v ∷ []))) ≡ false
-integers_append [] v h e = rw e refl
-integers_append (x ∷ values) v h e = elim (cases_Bool (has_float (view x))) [
-  | inl f ↦ absurd (cc (rw f at h))
-  | inr f ↦ rw f (integers_append values v (rw f at h) e)
-]
+  pub objects : List Data
+  pub text' : text ≡ (front ++ 91 ∷ []) ++ joined false objects
+  pub later' : later ≡ is_later objects
+  pub right : now.clean → old.stands → objects ≡ map (object old.register) entries
 
 pub take_next : {E : Type 0} (entries : List E) (i : ℕ) (e : E) → i < length entries → e ≡ get_or entries i e → take (i + 1) entries ≡ take i entries ++ e ∷ []
 take_next entries i e within is = rw add-one (take-suc entries i e within ∙ ap (λ (x : _). take i entries ++ x ∷ []) (sym is))
 
 -- nothing is listed yet
-pub listing_begins : {E : Type 0} (all : Register → List E) (object : Register → E → Data) (old now : View) (told : List E)
-    → LooksUp (λ r (x : List E). x ≡ all r) old now (Ok told) → IsListing all object old now told [] []
-listing_begins all object old now told looks = record {
+pub listing_begins : {E : Type 0} (all : Register → List E) (object : Register → E → Data) (old now : View) (told : List E) (front : List ℕ)
+    → LooksUp (λ r (x : List E). x ≡ all r) old now (Ok told) → IsListing all object old now told [] front (front ++ 91 ∷ []) false
+listing_begins all object old now told front looks = record {
   asks = asks_once old now (Ok told) looks;
   untold = looks.counts;
   whole = looks.answer;
-  objects = λ k s. refl;
-  integers = refl;
+  objects = [];
+  text' = sym (append-nil (front ++ 91 ∷ []));
+  later' = refl;
+  right = λ k s. refl;
 }
 
--- the office was asked something more
-pub listing_asked : {E T : Type 0} (all : Register → List E) (object : Register → E → Data) {Tells : Register → T → Type 0} (old now new : View) (told entries : List E) (values : List Value) (x : T)
-    → IsListing all object old now told entries values → LooksUp Tells now new (Ok x) → IsListing all object old new told entries values
-listing_asked all object old now new told entries values x l looks = record {
-  asks = asks_on old now new l.asks l.untold (asks_once now new (Ok x) looks);
-  untold = looks.counts ∙ l.untold;
-  whole = λ k s. l.whole (looks.clean k) s;
-  objects = λ k s. l.objects (looks.clean k) s;
-  integers = l.integers;
-}
-
--- what it told is of the register that it had at first
+-- what the office tells later is of the register that it had at first
 pub told_first : {T : Type 0} {Tells : Register → T → Type 0} (old now new : View) (x : T) → Asks old now → now.told ≡ old.told → LooksUp Tells now new (Ok x)
     → new.clean → old.stands → Tells old.register x
 told_first {Tells = Tells} old now new x asks untold looks k s =
@@ -66,40 +86,61 @@ told_first {Tells = Tells} old now new x asks untold looks k s =
     let stood = asks.stays untold before s in
     subst (λ r. Tells r x) (asks.register before s stood) (looks.answer k stood)
 
--- one entry more
-pub listing_more : {E : Type 0} (all : Register → List E) (object : Register → E → Data) (old now : View) (told entries : List E) (values : List Value) (e : E) (v : Value)
-    → IsListing all object old now told entries values → (now.clean → old.stands → view v ≡ object old.register e) → has_float (view v) ≡ false
-    → IsListing all object old now told (entries ++ e ∷ []) (values ++ v ∷ [])
-listing_more all object old now told entries values e v l is integer = record {
-  asks = l.asks;
-  untold = l.untold;
-  whole = l.whole;
-  objects = λ k s.
-      map-append view values (v ∷ []) ∙ ap (λ ds. ds ++ view v ∷ []) (l.objects k s)
-      ∙ ap (λ d. map (object old.register) entries ++ d ∷ []) (is k s) ∙ sym (map-append (object old.register) entries (e ∷ []));
-  integers = integers_append values v l.integers integer;
+-- one entry more, beside which the office told a number
+pub listing_on : {E : Type 0} (all : Register → List E) (beside : Register → E → ℕ) (made : E → ℕ → Data) (old now new : View) (told entries : List E)
+    (front text : List ℕ) (later : Bool) (e : E) (n : ℕ) (d : Data) (longer : List ℕ)
+    → IsListing all (λ r e. made e (beside r e)) old now told entries front text later → LooksUp (λ r n. n ≡ beside r e) now new (Ok n) → d ≡ made e n
+    → longer ≡ text ++ (comma_if later ++ compact_text d) → IsListing all (λ r e. made e (beside r e)) old new told (entries ++ e ∷ []) front longer true
+listing_on {E = E} all beside made old now new told entries front text later e n d longer l looks is grown = record {
+  asks = asks_on old now new l.asks l.untold (asks_once now new (Ok n) looks);
+  untold = looks.counts ∙ l.untold;
+  whole = λ k s. l.whole (looks.clean k) s;
+  objects = l.objects ++ d ∷ [];
+  text' =
+      grown ∙ ap (λ (t : List ℕ). t ++ (comma_if later ++ compact_text d)) l.text' ∙ append_assoc (front ++ 91 ∷ []) (joined false l.objects) _
+      ∙ ap (λ (b : Bool). (front ++ 91 ∷ []) ++ (joined false l.objects ++ (comma_if b ++ compact_text d))) l.later'
+      ∙ ap (λ (t : List ℕ). (front ++ 91 ∷ []) ++ t) (sym (joined_more l.objects d));
+  later' = later_on l.objects d;
+  right = λ k s.
+      let object : E → Data = λ e. made e (beside old.register e) in
+      ap (λ ds. ds ++ d ∷ []) (l.right (looks.clean k) s) ∙ ap (λ x. map object entries ++ x ∷ []) (is ∙ ap (made e) (told_first old now new n l.asks l.untold looks k s))
+      ∙ sym (map-append object entries (e ∷ []));
 }
 
--- one entry more, of which the office was asked something
-pub listing_on : {E T : Type 0} (all : Register → List E) (object : Register → E → Data) (made : E → T → Data) {Tells : Register → T → Type 0}
-    (old now new : View) (told entries : List E) (values : List Value) (e : E) (x : T) (v : Value)
-    → ((r : Register) → Tells r x → made e x ≡ object r e) → IsListing all object old now told entries values → LooksUp Tells now new (Ok x)
-    → view v ≡ made e x → has_float (made e x) ≡ false → IsListing all object old new told (entries ++ e ∷ []) (values ++ v ∷ [])
-listing_on all object made old now new told entries values e x v right l looks is integer =
-    listing_more all object old new told entries values e v (listing_asked all object old now new told entries values x l looks)
-    (λ k s. is ∙ right old.register (told_first old now new x l.asks l.untold looks k s)) (ap has_float is ∙ integer)
-
 -- all are listed
-listing_ends : {E : Type 0} (all : Register → List E) (object : Register → E → Data) (old now : View) (told : List E) (values : List Value) (i : ℕ)
-    → IsListing all object old now told (take i told) values
-    → length told ≤ i → (k : now.clean) (s : old.stands) → map view values ≡ map (object old.register) (all old.register)
-listing_ends all object old now told values i l long k s = l.objects k s ∙ ap (map (object old.register)) (take_all i told long ∙ l.whole k s)
+pub listing_finds : {E : Type 0} (all : Register → List E) (object : Register → E → Data) (old now : View) (told : List E) (i : ℕ) (front text : List ℕ) (later : Bool)
+    → IsListing all object old now told (take i told) front text later → length told ≤ i → now.clean → old.stands
+    → text ++ 93 ∷ [] ≡ front ++ compact_text (list_of (map (object old.register) (all old.register)))
+listing_finds all object old now told i front text later l long k s =
+    ap (λ (t : List ℕ). t ++ 93 ∷ []) l.text' ∙ list_closes front l.objects
+    ∙ ap (λ ds. front ++ compact_text (list_of ds)) (l.right k s ∙ ap (map (object old.register)) (take_all i told long ∙ l.whole k s))
 
--- so the list is what was asked for
-pub listing_finds : {E : Type 0} (all : Register → List E) (object : Register → E → Data) (old now : View) (told : List E) (list : Vec Value Global) (i : ℕ)
-    → IsListing all object old now told (take i told) list.items → length told ≤ i → Finds (λ r v. view v ≡ list_of (map (object r) (all r))) old now (Ok (Array list))
-listing_finds all object old now told list i l long = record {
-  asks = l.asks;
-  answer = λ k s. view-Array list ∙ ap list_of (listing_ends all object old now told list.items i l long k s);
-  counts = l.untold;
+-- something is listed
+pub listing_shows : {E : Type 0} (all : Register → List E) (object : Register → E → Data) (old now : View) (told entries : List E) (front text : List ℕ) (later : Bool)
+    → IsListing all object old now told entries front text later → IsDataBehind front (text ++ 93 ∷ [])
+listing_shows all object old now told entries front text later l = (list_of l.objects, ap (λ (t : List ℕ). t ++ 93 ∷ []) l.text' ∙ list_closes front l.objects)
+
+-- ---- two lists
+
+five : (a b c e f : List ℕ) → (((a ++ b) ++ c) ++ e) ++ f ≡ a ++ (b ++ (c ++ (e ++ f)))
+five a b c e f = append_assoc ((a ++ b) ++ c) e f ∙ append_assoc (a ++ b) c (e ++ f) ∙ append_assoc a b (c ++ (e ++ f))
+
+-- the text of an object of two values, each put behind what stood before
+pub two_values : (front one middle both text : List ℕ) (issued received : Data) → front ≡ codes "{\"issued\":" → one ≡ front ++ compact_text issued
+    → middle ≡ one ++ codes ",\"received\":" → both ≡ middle ++ compact_text received → text ≡ both ++ codes "}"
+    → text ≡ compact_text (json.object (members ((codes "issued", issued) ∷ (codes "received", received) ∷ [])))
+unfolding serde_json_on_literals
+two_values front one middle both text issued received a b c d e =
+    rw (e, d, c, b, a) (five (codes "{\"issued\":") (compact_text issued) (codes ",\"received\":") (compact_text received) (codes "}"))
+
+-- what is made of two answers, the second after the first
+pub finds_both : {A B C : Type 0} {TellsA : Register → A → Type 0} {TellsB : Register → B → Type 0} (TellsC : Register → C → Type 0) (old now new : View) (a : A) (b : B) (c : C)
+    → Finds TellsA old now (Ok a) → Finds TellsB now new (Ok b) → ((r : Register) → TellsA r a → TellsB r b → TellsC r c) → Finds TellsC old new (Ok c)
+finds_both {TellsB = TellsB} TellsC old now new a b c first next made = record {
+  asks = asks_on old now new first.asks first.counts next.asks;
+  answer = λ k s.
+      let before = next.asks.clean k in
+      let stood = first.asks.stays first.counts before s in
+      made old.register (first.answer before s) (subst (λ r. TellsB r b) (first.asks.register before s stood) (next.answer k stood));
+  counts = next.counts ∙ first.counts;
 }

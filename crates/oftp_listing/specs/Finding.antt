@@ -1,5 +1,7 @@
 -- What the parts of an answer and of a report do: for private clauses alone.
-use Rattle.std.specs.Prelude.{◌≡◌, ℕ, Result, Ok, Err, IfOk}
+use Rattle.std.specs.Prelude.{◌≡◌, ℕ, List, ◌++◌, Result, Ok, Err, IfOk}
+use Rattle.serde_json.specs.Data.{Data}
+use Rattle.serde_json.specs.Written.{compact_text}
 use Rattle.oftp_register.specs.Register.{Register}
 use Rattle.oftp_register.specs.Offices.{View, next_count}
 use Rattle.oftp_listing.specs.declared.fault.ListFault.{ListFault}
@@ -22,3 +24,7 @@ pub record Finds {T : Type 0} (Tells : Register → T → Type 0) (old new : Vie
   pub asks : Asks old new
   pub answer : new.clean → old.stands → IfOk result (Tells old.register)
   pub counts : Counts old.told new.told result
+
+-- behind what stood before, the text has something that is shown
+abbrev pub IsDataBehind : List ℕ → List ℕ → Type 0
+IsDataBehind front text = (d : Data) × (text ≡ front ++ compact_text d)

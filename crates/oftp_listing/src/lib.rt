@@ -4,6 +4,7 @@
 mod fault;
 mod head;
 mod laws;
+mod listed;
 mod listing;
 mod names;
 mod object;

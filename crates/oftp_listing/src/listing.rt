@@ -1,142 +1,118 @@
 //! What is answered to a request.
 
-ghost use Rattle.std.specs.Prelude.{◌≡◌, true, false, Some, IfErr, IfOk, IfSome, is_some, map};
+ghost use Rattle.std.specs.Prelude.{◌≡◌, [], ◌++◌, true, false, Some, IfErr, IfOk, IfSome, OnOk, is_some, map};
 ghost use Rattle.std.specs.Option.{option_map};
 ghost use Rattle.serde_json.specs.View.{view};
-ghost use Rattle.serde_json.specs.Written.{has_float};
-ghost use Rattle.oftp_register.specs.LookUps.{in_by_no, list_in, list_issued, list_out, list_received, out_by_no};
-ghost use Rattle.oftp_listing.specs.Finding.{Finds};
+ghost use Rattle.serde_json.specs.Written.{comma_if, compact_text, has_float};
+ghost use Rattle.oftp_listing.specs.Finding.{Finds, IsDataBehind};
 ghost use Rattle.oftp_listing.specs.Heads.{Heard, Hears};
-ghost use Rattle.oftp_listing.specs.Objects.{issued_object};
-ghost use Rattle.oftp_listing.specs.Texts.{Answers, Asks, IsListFault, Serves, is_asked, list_of, no_of, shown, shown_in, shown_out, shown_received, shown_responses};
+ghost use Rattle.oftp_listing.specs.Texts.{Answers, Asks, IsListFault, Serves, is_asked, list_of, shown, shown_responses};
 
 use crate::fault::ListFault;
 use crate::head::{Head, read_head};
-use crate::object::{incoming_object, issued_object, outgoing_object, received_object};
+use crate::listed::Listed;
 use crate::reply::{Reply, body_reply, error_reply};
 use crate::route::{Route, find_route};
 use http::StatusCode;
-use oftp_register::{Office, OutgoingEntry, Side};
-use serde_json::{Value, json};
-use std::alloc::Global;
+use oftp_register::{IncomingEntry, IssuedEntry, Office, OutgoingEntry, ReceivedEntry};
+use serde_json::Value;
+use std::alloc::{AllocError, Global};
 
-// All incoming files.
-fn incoming_list<O: Office>(alloc: Global, office: &mut O) -> Result<Value, ListFault>
-    ensures finds { Finds (λ r list. view list ≡ list_of (map (shown_in r) (list_in r))) (O.view office.old) (O.view office.new) result }
-    ensures integers { IfOk result (λ list. has_float (view list) ≡ false) }
-{
-    let entries = office.list_in()?;
-    let mut list = Vec::new(alloc);
-    for entry in &entries {
-        let units = office.units_of(Side::Incoming, entry.no)?;
-        list.push(incoming_object(alloc, entry, units)?)?;
-    }
-    Ok(Value::Array(list))
-}
-
-// All outgoing files.
-fn outgoing_list<O: Office>(alloc: Global, office: &mut O) -> Result<Value, ListFault>
-    ensures finds { Finds (λ r list. view list ≡ list_of (map (shown_out r) (list_out r))) (O.view office.old) (O.view office.new) result }
-    ensures integers { IfOk result (λ list. has_float (view list) ≡ false) }
-{
-    let entries = office.list_out()?;
-    let mut list = Vec::new(alloc);
-    for entry in &entries {
-        let units = office.units_of(Side::Outgoing, entry.no)?;
-        list.push(outgoing_object(alloc, entry, units)?)?;
-    }
-    Ok(Value::Array(list))
-}
-
-// All responses that were issued.
-fn issued_list<O: Office>(alloc: Global, office: &mut O) -> Result<Value, ListFault>
-    ensures finds { Finds (λ r list. view list ≡ list_of (map issued_object (list_issued r))) (O.view office.old) (O.view office.new) result }
-    ensures integers { IfOk result (λ list. has_float (view list) ≡ false) }
-{
-    let entries = office.list_issued()?;
-    let mut list = Vec::new(alloc);
-    for entry in &entries {
-        list.push(issued_object(alloc, entry)?)?;
-    }
-    Ok(Value::Array(list))
-}
-
-/// The number of a file, 0 where there is none.
-pub(crate) fn no_of(file: &Option<OutgoingEntry>) -> u64
-    ensures { result ≡ no_of file.now }
-{
-    match file {
-        None => 0,
-        Some(file) => file.no,
-    }
-}
-
-// All responses that came.
-fn received_list<O: Office>(alloc: Global, office: &mut O) -> Result<Value, ListFault>
-    ensures finds { Finds (λ r list. view list ≡ list_of (map (shown_received r) (list_received r))) (O.view office.old) (O.view office.new) result }
-    ensures integers { IfOk result (λ list. has_float (view list) ≡ false) }
-{
-    let entries = office.list_received()?;
-    let mut list = Vec::new(alloc);
-    for entry in &entries {
-        let file = office.look_out(&entry.response.identity)?;
-        list.push(received_object(alloc, entry, no_of(&file))?)?;
-    }
-    Ok(Value::Array(list))
-}
-
-// All responses.
-fn responses<O: Office>(alloc: Global, office: &mut O) -> Result<Value, ListFault>
-    ensures finds { Finds (λ r object. view object ≡ shown_responses r) (O.view office.old) (O.view office.new) result }
-    ensures integers { IfOk result (λ object. has_float (view object) ≡ false) }
-{
-    let issued = issued_list(alloc, office)?;
-    let received = received_list(alloc, office)?;
-    Ok(json!(in alloc; {"issued": issued, "received": received})?)
-}
-
-// The incoming file with a number.
-fn incoming_file<O: Office>(
+// Adds an object to a text, and before it a comma where another stands before it in its list.
+fn add_object(
     alloc: Global,
-    no: u64,
-    office: &mut O,
-) -> Result<Option<Value>, ListFault>
-    ensures finds { Finds (λ r found. option_map view found ≡ option_map (shown_in r) (in_by_no r no)) (O.view office.old) (O.view office.new) result }
-    ensures integers { IfOk result (λ found. IfSome found (λ object. has_float (view object) ≡ false)) }
+    object: &Value,
+    later: bool,
+    text: &mut Vec<u8>,
+) -> Result<(), AllocError>
+    requires { has_float (view object.now) ≡ false }
+    ensures { OnOk result (text.new.items ≡ text.old.items ++ (comma_if later ++ compact_text (view object.now))) }
 {
-    let Some(entry) = office.in_by_no(no)? else {
+    if later {
+        text.extend_from_slice(b",")?;
+    }
+    text.extend_from_slice(object.to_vec(alloc)?.as_slice())
+}
+
+// The text, and behind it the list of all entries of a kind. One object is held at a time.
+fn add_list<E: Listed + Drop, O: Office>(
+    alloc: Global,
+    front: Vec<u8>,
+    office: &mut O,
+) -> Result<Vec<u8>, ListFault>
+    ensures finds { Finds (λ r text. text.items ≡ front.items ++ compact_text (list_of (map (λ e. E.object e (E.beside r e)) (E.entries r)))) (O.view office.old) (O.view office.new) result }
+    ensures shows { IfOk result (λ text. IsDataBehind front.items text.items) }
+{
+    let entries = E::list(office)?;
+    let mut text = front;
+    text.extend_from_slice(b"[")?;
+    let mut later = false;
+    for entry in &entries {
+        let beside = entry.ask_beside(office)?;
+        let object = entry.to_object(alloc, beside)?;
+        add_object(alloc, &object, later, &mut text)?;
+        later = true;
+    }
+    text.extend_from_slice(b"]")?;
+    Ok(text)
+}
+
+// The text of all responses.
+fn responses<O: Office>(alloc: Global, office: &mut O) -> Result<Vec<u8>, ListFault>
+    ensures finds { Finds (λ r text. text.items ≡ compact_text (shown_responses r)) (O.view office.old) (O.view office.new) result }
+    ensures shows { IfOk result (λ text. IsDataBehind [] text.items) }
+{
+    let text = Vec::from_slice(alloc, b"{\"issued\":")?;
+    let mut text = add_list::<IssuedEntry, O>(alloc, text, office)?;
+    text.extend_from_slice(b",\"received\":")?;
+    let mut text = add_list::<ReceivedEntry, O>(alloc, text, office)?;
+    text.extend_from_slice(b"}")?;
+    Ok(text)
+}
+
+// The text of an entry, if there is one.
+fn entry_text<E: Listed + Drop, O: Office>(
+    alloc: Global,
+    found: Option<E>,
+    office: &mut O,
+) -> Result<Option<Vec<u8>>, ListFault>
+    ensures finds { Finds (λ r shown. option_map (λ text. text.items) shown ≡ option_map (λ e. compact_text (E.object e (E.beside r e))) found) (O.view office.old) (O.view office.new) result }
+    ensures shows { IfOk result (λ shown. IfSome shown (λ text. IsDataBehind [] text.items)) }
+{
+    let Some(entry) = found else {
         return Ok(None);
     };
-    let units = office.units_of(Side::Incoming, entry.no)?;
-    Ok(Some(incoming_object(alloc, &entry, units)?))
+    let beside = entry.ask_beside(office)?;
+    let object = entry.to_object(alloc, beside)?;
+    Ok(Some(object.to_vec(alloc)?))
 }
 
-// The outgoing file with a number.
-fn outgoing_file<O: Office>(
+// The text of what a route shows, none where its number names no entry.
+fn shown<O: Office>(
     alloc: Global,
-    no: u64,
+    route: Route,
     office: &mut O,
-) -> Result<Option<Value>, ListFault>
-    ensures finds { Finds (λ r found. option_map view found ≡ option_map (shown_out r) (out_by_no r no)) (O.view office.old) (O.view office.new) result }
-    ensures integers { IfOk result (λ found. IfSome found (λ object. has_float (view object) ≡ false)) }
-{
-    let Some(entry) = office.out_by_no(no)? else {
-        return Ok(None);
-    };
-    let units = office.units_of(Side::Outgoing, entry.no)?;
-    Ok(Some(outgoing_object(alloc, &entry, units)?))
-}
-
-// What a route shows, nothing where its number names no entry.
-fn shown<O: Office>(alloc: Global, route: Route, office: &mut O) -> Result<Option<Value>, ListFault>
-    ensures finds { Finds (λ r found. option_map view found ≡ shown r route) (O.view office.old) (O.view office.new) result }
-    ensures integers { IfOk result (λ found. IfSome found (λ value. has_float (view value) ≡ false)) }
+) -> Result<Option<Vec<u8>>, ListFault>
+    ensures finds { Finds (λ r found. option_map (λ text. text.items) found ≡ option_map compact_text (shown r route)) (O.view office.old) (O.view office.new) result }
+    ensures shows { IfOk result (λ found. IfSome found (λ text. IsDataBehind [] text.items)) }
 {
     match route {
-        Route::Incoming => Ok(Some(incoming_list(alloc, office)?)),
-        Route::IncomingFile(no) => incoming_file(alloc, no, office),
-        Route::Outgoing => Ok(Some(outgoing_list(alloc, office)?)),
-        Route::OutgoingFile(no) => outgoing_file(alloc, no, office),
+        Route::Incoming => {
+            let text = add_list::<IncomingEntry, O>(alloc, Vec::new(alloc), office)?;
+            Ok(Some(text))
+        }
+        Route::IncomingFile(no) => {
+            let found = office.in_by_no(no)?;
+            entry_text(alloc, found, office)
+        }
+        Route::Outgoing => {
+            let text = add_list::<OutgoingEntry, O>(alloc, Vec::new(alloc), office)?;
+            Ok(Some(text))
+        }
+        Route::OutgoingFile(no) => {
+            let found = office.out_by_no(no)?;
+            entry_text(alloc, found, office)
+        }
         Route::Responses => Ok(Some(responses(alloc, office)?)),
     }
 }
@@ -147,10 +123,7 @@ fn show<O: Office>(alloc: Global, route: Route, office: &mut O) -> Result<Reply,
     ensures asks { Asks (O.view office.old) (O.view office.new) }
 {
     match shown(alloc, route, office) {
-        Ok(Some(value)) => {
-            let body = value.to_string(alloc)?;
-            Ok(body_reply(alloc, body.as_str())?)
-        }
+        Ok(Some(body)) => Ok(body_reply(alloc, body)?),
         Ok(None) => Ok(error_reply(alloc, StatusCode::NOT_FOUND)?),
         Err(ListFault::Office) => Ok(error_reply(alloc, StatusCode::SERVICE_UNAVAILABLE)?),
         Err(fault) => Err(fault),

@@ -28,13 +28,6 @@ impl Reply {
     {
         self.octets.as_slice()
     }
-
-    /// The octets of the reply, for good. It takes no memory.
-    pub fn into_octets(self) -> Vec<u8>
-        ensures { result.items ≡ self }
-    {
-        self.octets
-    }
 }
 
 // The phrase of a status.
@@ -76,17 +69,23 @@ fn head(alloc: Global, status: StatusCode, body_length: &str) -> Result<Vec<u8>,
     Ok(octets)
 }
 
-/// The reply with a body.
+/// The reply with a body, in whose memory the head takes its place.
 ///
 /// # Errors
 ///
 /// A growth was refused.
-pub(crate) fn body_reply(alloc: Global, body: &str) -> Result<Reply, AllocError>
-    ensures { IfOk result (λ reply. reply ≡ reply_text 200 body.now) }
+pub(crate) fn body_reply(alloc: Global, body: Vec<u8>) -> Result<Reply, AllocError>
+    ensures { IfOk result (λ reply. reply ≡ reply_text 200 body.items) }
 {
-    let body_length = body.len().to_string(alloc)?;
-    let mut octets = head(alloc, StatusCode::OK, body_length.as_str())?;
-    octets.extend_from_slice(body.as_bytes())?;
+    let body_length = body.len();
+    let head = head(
+        alloc,
+        StatusCode::OK,
+        body_length.to_string(alloc)?.as_str(),
+    )?;
+    let mut octets = body;
+    octets.extend_from_slice(head.as_slice())?;
+    octets.rotate_left(body_length);
     Ok(Reply { octets })
 }
 

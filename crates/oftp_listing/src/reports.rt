@@ -1,21 +1,22 @@
 //! The reports.
 
 ghost use Rattle.std.specs.Prelude.{◌≡◌, ◌++◌, IfErr, IfOk, OnOk};
+ghost use Rattle.std.specs.List.{flat_map};
 ghost use Rattle.std.specs.Io.KnownBytes.{Appends};
 ghost use Rattle.csv.specs.Records.{fields_of};
 ghost use Rattle.oftp_listing.specs.declared.fault.ListFault.TheVariants.{Memory};
 ghost use Rattle.oftp_listing.specs.Finding.{Finds};
-ghost use Rattle.oftp_listing.specs.Reports.{Reports, heading, incoming_fields, issued_fields, line, lines_of, outgoing_fields, received_fields, report_of};
+ghost use Rattle.oftp_listing.specs.Reports.{Reports, heading, incoming_fields, issued_fields, line, outgoing_fields, received_fields, report_of};
 ghost use Rattle.oftp_listing.specs.Texts.{Asks};
 
 use crate::fault::ListFault;
-use crate::listing::no_of;
+use crate::listed::Listed;
 use crate::names::{
     format_name, incoming_state_name, is_sent, kind_name, outgoing_state_name, reason_name,
     refusal_name, response_name,
 };
 use csv::{ByteRecord, WriterBuilder};
-use oftp_register::{IncomingEntry, IssuedEntry, Office, OutgoingEntry, ReceivedEntry, Side};
+use oftp_register::{IncomingEntry, IssuedEntry, Office, OutgoingEntry, ReceivedEntry};
 use std::alloc::Global;
 use std::io::Write;
 
@@ -65,8 +66,12 @@ fn line(alloc: Global, fields: &ByteRecord) -> Result<Vec<u8>, ListFault>
     }
 }
 
-// The line of an incoming file, whose rows have so many octets.
-fn incoming_line(alloc: Global, entry: &IncomingEntry, units: u64) -> Result<Vec<u8>, ListFault>
+/// The line of an incoming file, whose rows have so many octets.
+pub(crate) fn incoming_line(
+    alloc: Global,
+    entry: &IncomingEntry,
+    units: u64,
+) -> Result<Vec<u8>, ListFault>
     ensures text { IfOk result (λ text. text.items ≡ line (incoming_fields entry.now units)) }
     ensures fault { IfErr result (λ fault. fault ≡ Memory) }
 {
@@ -84,8 +89,12 @@ fn incoming_line(alloc: Global, entry: &IncomingEntry, units: u64) -> Result<Vec
     line(alloc, &fields)
 }
 
-// The line of an outgoing file, whose rows have so many octets.
-fn outgoing_line(alloc: Global, entry: &OutgoingEntry, units: u64) -> Result<Vec<u8>, ListFault>
+/// The line of an outgoing file, whose rows have so many octets.
+pub(crate) fn outgoing_line(
+    alloc: Global,
+    entry: &OutgoingEntry,
+    units: u64,
+) -> Result<Vec<u8>, ListFault>
     ensures text { IfOk result (λ text. text.items ≡ line (outgoing_fields entry.now units)) }
     ensures fault { IfErr result (λ fault. fault ≡ Memory) }
 {
@@ -104,8 +113,8 @@ fn outgoing_line(alloc: Global, entry: &OutgoingEntry, units: u64) -> Result<Vec
     line(alloc, &fields)
 }
 
-// The line of a response that was issued.
-fn issued_line(alloc: Global, entry: &IssuedEntry) -> Result<Vec<u8>, ListFault>
+/// The line of a response that was issued.
+pub(crate) fn issued_line(alloc: Global, entry: &IssuedEntry) -> Result<Vec<u8>, ListFault>
     ensures text { IfOk result (λ text. text.items ≡ line (issued_fields entry.now)) }
     ensures fault { IfErr result (λ fault. fault ≡ Memory) }
 {
@@ -122,8 +131,12 @@ fn issued_line(alloc: Global, entry: &IssuedEntry) -> Result<Vec<u8>, ListFault>
     line(alloc, &fields)
 }
 
-// The line of a response that came, to the outgoing file with this number, 0 where there is none.
-fn received_line(alloc: Global, entry: &ReceivedEntry, file: u64) -> Result<Vec<u8>, ListFault>
+/// The line of a response that came, to the outgoing file with this number, 0 where there is none.
+pub(crate) fn received_line(
+    alloc: Global,
+    entry: &ReceivedEntry,
+    file: u64,
+) -> Result<Vec<u8>, ListFault>
     ensures text { IfOk result (λ text. text.items ≡ line (received_fields entry.now file)) }
     ensures fault { IfErr result (λ fault. fault ≡ Memory) }
 {
@@ -141,67 +154,21 @@ fn received_line(alloc: Global, entry: &ReceivedEntry, file: u64) -> Result<Vec<
     line(alloc, &fields)
 }
 
-// The lines of the incoming files under a heading.
-fn incoming_lines<O: Office>(
+// The text, and behind it the lines of all entries of a kind.
+fn add_lines<E: Listed + Drop, O: Office>(
     alloc: Global,
+    front: Vec<u8>,
     office: &mut O,
-    text: &mut Vec<u8>,
-) -> Result<(), ListFault>
-    ensures finds { Finds (λ r _. text.new.items ≡ text.old.items ++ lines_of ReportKind.Incoming r) (O.view office.old) (O.view office.new) result }
+) -> Result<Vec<u8>, ListFault>
+    ensures finds { Finds (λ r text. text.items ≡ front.items ++ flat_map (λ e. line (E.fields e (E.beside r e))) (E.entries r)) (O.view office.old) (O.view office.new) result }
 {
-    let entries = office.list_in()?;
+    let entries = E::list(office)?;
+    let mut text = front;
     for entry in &entries {
-        let units = office.units_of(Side::Incoming, entry.no)?;
-        text.extend_from_slice(incoming_line(alloc, entry, units)?.as_slice())?;
+        let beside = entry.ask_beside(office)?;
+        text.extend_from_slice(entry.to_line(alloc, beside)?.as_slice())?;
     }
-    Ok(())
-}
-
-// The lines of the outgoing files under a heading.
-fn outgoing_lines<O: Office>(
-    alloc: Global,
-    office: &mut O,
-    text: &mut Vec<u8>,
-) -> Result<(), ListFault>
-    ensures finds { Finds (λ r _. text.new.items ≡ text.old.items ++ lines_of ReportKind.Outgoing r) (O.view office.old) (O.view office.new) result }
-{
-    let entries = office.list_out()?;
-    for entry in &entries {
-        let units = office.units_of(Side::Outgoing, entry.no)?;
-        text.extend_from_slice(outgoing_line(alloc, entry, units)?.as_slice())?;
-    }
-    Ok(())
-}
-
-// The lines of the responses that were issued under a heading.
-fn issued_lines<O: Office>(
-    alloc: Global,
-    office: &mut O,
-    text: &mut Vec<u8>,
-) -> Result<(), ListFault>
-    ensures finds { Finds (λ r _. text.new.items ≡ text.old.items ++ lines_of ReportKind.Issued r) (O.view office.old) (O.view office.new) result }
-{
-    let entries = office.list_issued()?;
-    for entry in &entries {
-        text.extend_from_slice(issued_line(alloc, entry)?.as_slice())?;
-    }
-    Ok(())
-}
-
-// The lines of the responses that came under a heading.
-fn received_lines<O: Office>(
-    alloc: Global,
-    office: &mut O,
-    text: &mut Vec<u8>,
-) -> Result<(), ListFault>
-    ensures finds { Finds (λ r _. text.new.items ≡ text.old.items ++ lines_of ReportKind.Received r) (O.view office.old) (O.view office.new) result }
-{
-    let entries = office.list_received()?;
-    for entry in &entries {
-        let file = office.look_out(&entry.response.identity)?;
-        text.extend_from_slice(received_line(alloc, entry, no_of(&file))?.as_slice())?;
-    }
-    Ok(())
+    Ok(text)
 }
 
 // The text of a report.
@@ -212,14 +179,13 @@ fn report_text<O: Office>(
 ) -> Result<Vec<u8>, ListFault>
     ensures finds { Finds (λ r text. text.items ≡ report_of kind r) (O.view office.old) (O.view office.new) result }
 {
-    let mut text = Vec::from_slice(alloc, kind.heading())?;
+    let text = Vec::from_slice(alloc, kind.heading())?;
     match kind {
-        ReportKind::Incoming => incoming_lines(alloc, office, &mut text)?,
-        ReportKind::Outgoing => outgoing_lines(alloc, office, &mut text)?,
-        ReportKind::Issued => issued_lines(alloc, office, &mut text)?,
-        ReportKind::Received => received_lines(alloc, office, &mut text)?,
+        ReportKind::Incoming => add_lines::<IncomingEntry, O>(alloc, text, office),
+        ReportKind::Outgoing => add_lines::<OutgoingEntry, O>(alloc, text, office),
+        ReportKind::Issued => add_lines::<IssuedEntry, O>(alloc, text, office),
+        ReportKind::Received => add_lines::<ReceivedEntry, O>(alloc, text, office),
     }
-    Ok(text)
 }
 
 /// Writes a report of what the office keeps: a heading and a line for each entry, in order of number. The office is asked by look-ups

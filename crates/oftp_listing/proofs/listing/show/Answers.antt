@@ -1,18 +1,24 @@
-use Rattle.std.proofs.Common.{◌∙◌, ap, inl, Some, true}
-use Rattle.serde_json.specs.View.{view}
+use Rattle.std.proofs.Common.{◌≡◌, ◌∙◌, ℕ, List, Option, Some, None, ap, inl, true, refl}
+use Rattle.std.specs.Option.{option_map}
+use Rattle.serde_json.specs.Data.{Data}
+use Rattle.serde_json.specs.Written.{compact_text}
 use Rattle.oftp_listing.specs.Replies.{reply_text}
 use Rattle.oftp_listing.specs.Texts.{reply_to}
 use Rattle.oftp_listing.proofs.listing.show.Goals as goal
+
+shows : (body : List ℕ) (found : Option Data) → Some body ≡ option_map compact_text found → reply_text 200 body ≡ reply_to true found
+shows body None e = absurd (cc e)
+shows body (Some d) e = ap (reply_text 200) (cc e)
 
 pub returns-in_ok-body_reply-in-Ok-Some-clause-serves :
     goal.returns-in_ok-body_reply-in-Ok-Some-clause-serves
 returns-in_ok-body_reply-in-Ok-Some-clause-serves g c =
     let finds = rw c.in-Ok-Some.field-0-is at c.in-Ok-Some.ensures.finds in
-    let text = c.in_ok-body-in-Ok-Some.ensures.text (rw c.in-Ok-Some.field-0-is at c.in-Ok-Some.ensures.integers) in
-    let reply = c.in_ok-body_reply-in-Ok-Some.ensures ∙ ap (reply_text 200) (c.as_str.ensures.value ∙ text) in
+    let something = rw c.in-Ok-Some.field-0-is at c.in-Ok-Some.ensures.shows in
+    let reply = c.in_ok-body_reply-in-Ok-Some.ensures in
     inl (record {
       untold = finds.counts;
-      shown' = Some (view c.in-Ok-Some.value);
-      reply = reply;
-      right = λ k s. reply ∙ ap (reply_to true) (finds.answer k s);
+      shown' = Some something.0;
+      reply = reply ∙ ap (reply_text 200) something.1;
+      right = λ k s. reply ∙ shows _ _ (finds.answer k s);
     })

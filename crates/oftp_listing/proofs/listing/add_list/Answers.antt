@@ -1,0 +1,23 @@
+use Rattle.std.proofs.Common.{◌∙◌, ap, arith, take}
+use Rattle.serde_json.specs.Written.{comma_if, compact_text}
+use Rattle.oftp_listing.proofs.Listings.{listing_finds, listing_on, listing_shows, take_next}
+use Rattle.oftp_listing.proofs.listing.add_list.Goals as goal
+
+pub loop-entry-preserved : goal.loop-entry-preserved
+loop-entry-preserved g c =
+    let e = c.entry-item.result in
+    rw (take_next _ c.loop-entry.entry-index e c.loop-entry-test.true c.entry-item.is)
+    (listing_on g.E.Listed.entries g.E.Listed.beside g.E.Listed.object _ _ _ _ _ _ _ _ e c.in_ok-beside.beside _ _
+    c.loop-entry.invariant c.in_ok-beside.ensures.looks c.in_ok-object.ensures.object c.in_ok-add_object.ensures)
+
+pub returns-clause-finds : goal.returns-clause-finds
+returns-clause-finds g c = record {
+  asks = c.loop-entry.invariant.asks;
+  answer = λ k s. c.in_ok-extend_from_slice-2.ensures.items ∙ listing_finds _ _ _ _ _ c.loop-entry.entry-index _ _ _ c.loop-entry.invariant (omega arith) k s;
+  counts = c.loop-entry.invariant.untold;
+}
+
+pub returns-clause-shows : goal.returns-clause-shows
+returns-clause-shows g c =
+    let shows = listing_shows _ _ _ _ _ _ _ _ _ c.loop-entry.invariant in
+    (shows.0, c.in_ok-extend_from_slice-2.ensures.items ∙ shows.1)
