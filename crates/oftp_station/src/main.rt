@@ -7,6 +7,8 @@ mod outcome;
 mod perform;
 mod ports;
 mod sockets;
+mod tracing;
+mod transcript;
 
 use perform::{perform, tell_unread};
 use std::process::ExitCode;
