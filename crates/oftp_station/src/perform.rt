@@ -8,9 +8,8 @@ mod replacing;
 mod services;
 mod sessions;
 
-use crate::line::{Check, Line, LineFault, line_of};
-use crate::outcome::{Fault, Outcome, write_line};
 use oftp_engine::Told;
+use oftp_words::{Check, Fault, Line, LineFault, Outcome, line_of, write_line};
 use std::io::{self, ErrorKind, Write};
 
 const DONE: u8 = 0;

@@ -1,8 +1,6 @@
 //! The command `feed`, one session from file to file.
 
 use crate::database::{self, LIMITS, PATIENCE};
-use crate::line::{Feed, Side};
-use crate::outcome::{Fault, Outcome};
 use crate::perform::files::{
     are_of_one_file, file_fault, is_at, is_of_database, open_input, read_book,
 };
@@ -11,6 +9,7 @@ use oftp_durable::serve_durable;
 use oftp_engine::{End, Port, Role, RunFault, serve_in_memory};
 use oftp_partners::{Book, Partner};
 use oftp_register::PlainOffice;
+use oftp_words::{Fault, Feed, Outcome, Side};
 use std::fs::{self, Metadata, OpenFile};
 use std::io::ErrorKind;
 use std::rt::Files;

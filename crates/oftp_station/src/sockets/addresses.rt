@@ -1,6 +1,6 @@
 //! Sockets by their addresses.
 
-use crate::outcome::Fault;
+use oftp_words::Fault;
 use std::net::{TcpListener, TcpStream};
 
 /// The listener on a port of one of the machine's addresses. The same port can be bound again at once.
