@@ -2,8 +2,6 @@
 #![tactic(auto)]
 
 mod database;
-mod line;
-mod outcome;
 mod perform;
 mod ports;
 mod sockets;

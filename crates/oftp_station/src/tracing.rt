@@ -1,9 +1,9 @@
 //! Traces: what goes over a connection, appended to a file in words. No session knows of them.
 
-use crate::outcome::{Fault, Outcome};
 use crate::transcript::Transcript;
 use jiff::Timestamp;
 use oftp_engine::End;
+use oftp_words::{Fault, Outcome};
 use std::fmt;
 use std::fs::{File, OpenOptions};
 use std::io::{self, Read, Write};

@@ -66,7 +66,11 @@ impl Transcript {
     pub fn end(&mut self, head: &str, lines: &mut String) -> Result<(), AllocError> {
         if !self.is_faulty && self.offset < self.came {
             self.is_faulty = true;
-            write!(lines, "{head}fault at octet {}: the frame isn't whole\n", self.offset)?;
+            write!(
+                lines,
+                "{head}fault at octet {}: the frame isn't whole\n",
+                self.offset
+            )?;
         }
         Ok(())
     }

@@ -1,11 +1,10 @@
 //! The commands `listen`, `call` and `http`, over sockets.
 
 use crate::database::{self, PATIENCE};
-use crate::line::{Call, Http, Listen};
-use crate::outcome::{Fault, Outcome};
 use crate::perform::files::read_book;
 use crate::perform::traces::open_trace;
 use crate::sockets::{Station, bound, connected, dial, http_on, listen_on};
+use oftp_words::{Call, Fault, Http, Listen, Outcome};
 use std::io::Write;
 use std::time::Duration;
 

@@ -1,8 +1,6 @@
 //! The command `feed`, one session from file to file.
 
 use crate::database::{self, LIMITS, PATIENCE};
-use crate::line::{Feed, Side};
-use crate::outcome::{Fault, Outcome};
 use crate::perform::files::{
     are_of_one_file, file_fault, is_at, is_of_database, open_input, read_book,
 };
@@ -13,6 +11,7 @@ use oftp_durable::serve_durable;
 use oftp_engine::{End, Port, Role, RunFault, serve_in_memory};
 use oftp_partners::{Book, Partner};
 use oftp_register::PlainOffice;
+use oftp_words::{Fault, Feed, Outcome, Side};
 use std::fs::{self, File, Metadata, OpenFile};
 use std::io::ErrorKind;
 use std::rt::Files;
@@ -56,10 +55,7 @@ pub(super) fn feed(rt: &HostRuntime, line: &Feed<'_>) -> Result<Outcome, Fault> 
 }
 
 /// What a session comes to, which is also the last line of its trace.
-fn outcome_of(
-    ended: Result<End, RunFault>,
-    trace: Option<&Trace<'_>>,
-) -> Result<Outcome, Fault> {
+fn outcome_of(ended: Result<End, RunFault>, trace: Option<&Trace<'_>>) -> Result<Outcome, Fault> {
     let ended = ended.map_err(Fault::Run);
     if let Some(trace) = trace {
         trace.tell_end(&ended);
@@ -98,10 +94,7 @@ fn ports<'a>(
     let input = open_input(rt, line.input)?;
     check_output(rt, line, &input)?;
     let output = fs::create(rt, line.output).map_err(|error| file_fault(&error))?;
-    Ok(ports_of(
-        Traced::reader(input, trace),
-        Traced::writer(output, trace),
-    ))
+    Ok(ports_of(Traced::reader(input, trace), Traced::writer(output, trace)))
 }
 
 /// Refuses an output that the session needs: making it would take away its octets. A device loses none.
@@ -132,7 +125,9 @@ fn is_needed<R: Files + AllocGlobal>(
     if are_of_one_file(output, input) || is_at(rt, output, line.book)? {
         return Ok(true);
     }
-    if let Some(trace) = line.trace && is_at(rt, output, trace)? {
+    if let Some(trace) = line.trace
+        && is_at(rt, output, trace)?
+    {
         return Ok(true);
     }
     match line.database {

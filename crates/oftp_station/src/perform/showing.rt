@@ -1,10 +1,9 @@
 //! The command `show`: what one side of a session sent, in words.
 
-use crate::line::Show;
-use crate::outcome::Fault;
 use crate::perform::files::{file_fault, open_input};
 use crate::transcript::Transcript;
 use oftp_engine::RunFault;
+use oftp_words::{Fault, Show};
 use std::alloc::AllocError;
 use std::io::{Read, Write};
 

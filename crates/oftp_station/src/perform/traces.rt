@@ -1,8 +1,8 @@
 //! The traces that lines ask for.
 
-use crate::outcome::Fault;
 use crate::perform::files::{file_fault, is_at, is_of_database};
 use crate::tracing::Trace;
+use oftp_words::Fault;
 use std::fs::{self, Metadata};
 use std::io::ErrorKind;
 

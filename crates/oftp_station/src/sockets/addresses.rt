@@ -1,6 +1,6 @@
 //! Sockets by their addresses.
 
-use crate::outcome::Fault;
+use oftp_words::Fault;
 use std::net::{TcpListener, TcpStream, ToSocketAddrs};
 use std::time::Duration;
 

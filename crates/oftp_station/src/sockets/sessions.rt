@@ -1,7 +1,6 @@
 //! Sessions over sockets.
 
 use crate::database::{self, PATIENCE};
-use crate::outcome::{Fault, Outcome, write_line};
 use crate::ports::ports_of;
 use crate::sockets::addresses::accepted;
 use crate::sockets::callers::{Trouble, settled};
@@ -10,6 +9,7 @@ use crate::tracing::{Trace, Traced};
 use oftp_durable::serve_durable;
 use oftp_engine::{End, Role, RunFault};
 use oftp_partners::{Book, Partner};
+use oftp_words::{Fault, Outcome, write_line};
 use std::io::Write;
 use std::net::{TcpListener, TcpStream};
 use std::time::Duration;
