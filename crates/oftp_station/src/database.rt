@@ -1,9 +1,9 @@
 //! The office over the database that a line names.
 
-use crate::outcome::Fault;
 use oftp_durable::open_durable;
 use oftp_store::{PathFault, SqlOffice, StoreFault, migrate_at};
 use oftp_vfile::Limits;
+use oftp_words::Fault;
 use sqlite::{FileFrom, FileStore, Unknown};
 use std::fs;
 use std::io::ErrorKind;

@@ -2,11 +2,11 @@
 #![tactic(auto)]
 
 mod database;
-mod line;
-mod outcome;
 mod perform;
 mod ports;
 mod sockets;
+mod tracing;
+mod transcript;
 
 use perform::{perform, tell_unread};
 use std::process::ExitCode;

@@ -6,13 +6,12 @@ ghost use Rattle.oftp_register.specs.Soundness.{IsFile};
 ghost use Rattle.oftp_station.specs.Fetched.{fetched, piece_of};
 
 use crate::database::{self, PATIENCE};
-use crate::line::Fetch;
-use crate::outcome::{Fault, Outcome};
 use crate::perform::files::file_fault;
 use crate::perform::replacing::{Place, draft_of, place_of, settle};
 use oftp_engine::RunFault;
 use oftp_register::{IncomingEntry, IncomingState, Office, Side, are_full_rows, is_file};
 use oftp_vfile::{Row, VFile};
+use oftp_words::{Fault, Fetch, Outcome};
 use std::alloc::Global;
 use std::io::Write;
 use std::rt::Files;

@@ -1,13 +1,12 @@
 //! The commands `submit`, `release` and `refuse`, which are calls of the operator.
 
 use crate::database::{self, DatabaseOffice, LIMITS, PATIENCE};
-use crate::line::{Refuse, Release, Submit};
-use crate::outcome::Fault;
 use crate::perform::files::{read_beginning, read_book};
 use oftp_durable::operate_durable;
 use oftp_engine::{Operator, Port, Submission, Told};
 use oftp_partners::Book;
 use oftp_vfile::{Format, MOST_ROWS};
+use oftp_words::{Fault, Refuse, Release, Submit};
 use std::io::Write;
 
 /// How many octets the local form of a file that is kept has at most: the file's, and five digits for each of its records.

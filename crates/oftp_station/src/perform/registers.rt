@@ -1,9 +1,8 @@
 //! The commands `init`, `migrate` and `report`, which look at a database alone.
 
 use crate::database::{self, PATIENCE};
-use crate::line::{Init, Migrate, Report};
-use crate::outcome::{Fault, Outcome};
 use oftp_listing::report;
+use oftp_words::{Fault, Init, Migrate, Outcome, Report};
 use std::io::Write;
 
 /// Opens a database, making its tables.

@@ -3,13 +3,13 @@
 ghost use Rattle.std.specs.Prelude.{◌≤◌, IfOk, IfSome, length};
 
 use crate::database::{self, LIMITS, PATIENCE};
-use crate::outcome::Fault;
 use crate::sockets::addresses::accepted;
 use crate::sockets::callers::{Trouble, settled};
 use crate::sockets::connection::Connection;
 use crate::sockets::moments::Timed;
 use oftp_listing::{ListFault, Reply, answer};
 use oftp_register::PlainOffice;
+use oftp_words::Fault;
 use std::alloc::Global;
 use std::io::{self, Read, Write};
 use std::net::{TcpListener, TcpStream};

@@ -1,0 +1,6 @@
+pub mod CertainNumbers
+pub mod CertainValues
+pub mod CommandLines
+mod LineExamples
+pub mod SimpleCommands
+pub mod TakenWords

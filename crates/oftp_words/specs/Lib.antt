@@ -1,0 +1,17 @@
+pub mod Arguments
+pub mod CallLine
+pub mod CheckLine
+pub mod Fault
+pub mod FeedLine
+pub mod FetchLine
+pub mod HttpLine
+pub mod InitLine
+pub mod Line
+pub mod ListenLine
+pub mod MigrateLine
+pub mod Printed
+pub mod RefuseLine
+pub mod ReleaseLine
+pub mod ReportLine
+pub mod ShowLine
+pub mod SubmitLine

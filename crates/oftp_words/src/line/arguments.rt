@@ -1,0 +1,246 @@
+//! The arguments of a command, and what the parser makes of the words.
+ghost use Rattle.std.specs.Prelude.{◌≡◌, ◌∷◌, ℕ, [], IfErr, IfOk, IsSome, None, Some, false, map, option_map, true};
+ghost use Rattle.std.specs.String.{string_bytes};
+ghost use Rattle.clap.specs.Words.{app_of, first_of, found_of, is_simple_and_free, items_of, kind_of};
+ghost use Rattle.clap.specs.Words.{new_app, rows_of, rule_of};
+ghost use Rattle.clap.specs.declared.builder.command.Command.TheViews.{out-Command as fields_of};
+ghost use Rattle.oftp_words.specs.Arguments as spec;
+ghost use Rattle.oftp_words.specs.Arguments.{HasValues, IsNumber, taken};
+ghost use Rattle.oftp_words.specs.Fault.{is_bad};
+
+use super::LineFault;
+use clap::builder::ValueParser;
+use clap::error::ErrorKind;
+use clap::{Arg, ArgAction, ArgMatches, Command, Error};
+use std::alloc::{AllocError, Global};
+
+/// The greatest number of an incoming file that can be asked for.
+const MOST_NO: u64 = 9_999_999;
+
+/// The greatest port.
+const MOST_PORT: u64 = 65_535;
+
+/// How many callers can be asked for, at most.
+const MOST_CALLERS: u64 = 1_000_000;
+
+/// The greatest patience with a partner that can be asked for, in seconds: a day.
+const MOST_PATIENCE: u64 = 86_400;
+
+/// What the option for the database is, in texts.
+pub(super) const DATABASE: &str = "The file that holds the database";
+
+/// What the option for the book is, in texts.
+pub(super) const BOOK: &str = "The file that holds the book";
+
+/// A command with no arguments yet. `usage` is how it is called, and `about` what it does.
+pub(super) fn command<'a>(
+    alloc: Global,
+    name: &'a str,
+    usage: &'a str,
+    about: &'a str,
+) -> Command<'a>
+    ensures app { app_of result ≡ new_app name.entry.now }
+    ensures texts { ((fields_of result).usage_str ≡ Some usage.entry)
+        × ((fields_of result).about ≡ Some about.entry) }
+{
+    Command::new(alloc, name).override_usage(usage).about(about)
+}
+
+/// A word that must be given. `shown` stands for it in texts.
+pub(super) fn word<'a>(alloc: Global, id: &'a str, shown: &'a str, help: &'a str) -> Arg<'a>
+    ensures rule { rule_of result ≡ spec.word id.entry.now }
+    ensures local { result.global ≡ false }
+    ensures texts { (items_of result.val_names ≡ shown.entry ∷ []) × (result.help ≡ Some help.entry) }
+{
+    Arg::new(alloc, id)
+        .action(ArgAction::Set)
+        .required(true)
+        .value_name(shown)
+        .help(help)
+}
+
+/// An option that must be given, and takes one value.
+pub(super) fn needed<'a>(alloc: Global, id: &'a str, shown: &'a str, help: &'a str) -> Arg<'a>
+    ensures rule { rule_of result ≡ spec.needed id.entry.now }
+    ensures local { result.global ≡ false }
+    ensures texts { (items_of result.val_names ≡ shown.entry ∷ []) × (result.help ≡ Some help.entry) }
+{
+    word(alloc, id, shown, help).long(id)
+}
+
+/// An option that may be missing, and takes one value.
+pub(super) fn optional<'a>(alloc: Global, id: &'a str, shown: &'a str, help: &'a str) -> Arg<'a>
+    ensures rule { rule_of result ≡ spec.optional id.entry.now }
+    ensures local { result.global ≡ false }
+    ensures texts { (items_of result.val_names ≡ shown.entry ∷ []) × (result.help ≡ Some help.entry) }
+{
+    Arg::new(alloc, id)
+        .long(id)
+        .action(ArgAction::Set)
+        .value_name(shown)
+        .help(help)
+}
+
+/// An option that has this value where it is missing.
+pub(super) fn defaulted<'a>(
+    alloc: Global,
+    id: &'a str,
+    value: &'a str,
+    shown: &'a str,
+    help: &'a str,
+) -> Arg<'a>
+    ensures rule { rule_of result ≡ spec.defaulted id.entry.now value.entry.now }
+    ensures local { result.global ≡ false }
+    ensures texts { (items_of result.val_names ≡ shown.entry ∷ []) × (result.help ≡ Some help.entry) }
+{
+    optional(alloc, id, shown, help).default_value(value)
+}
+
+/// The argument, which takes the numbers from `low` to `high`.
+pub(super) fn numbered<'a>(argument: Arg<'a>, low: u64, high: u64) -> Arg<'a>
+    ensures rule { rule_of result ≡ spec.numbered low high (rule_of argument.entry) }
+    ensures local { result.global ≡ argument.entry.global }
+    ensures texts { (result.val_names ≡ argument.entry.val_names) × (result.help ≡ argument.entry.help) }
+{
+    argument.value_parser(ValueParser::unsigned(low, high))
+}
+
+/// The word that is an incoming file's number.
+pub(super) fn file_number<'a>(alloc: Global) -> Arg<'a>
+    ensures rule { rule_of result ≡ spec.file_number }
+    ensures local { result.global ≡ false }
+{
+    let no = word(
+        alloc,
+        "no",
+        "NO",
+        "The incoming file's number, 1 to 9999999",
+    );
+    numbered(no, 1, MOST_NO)
+}
+
+/// The option for the port where callers are awaited, which is `port` where it is missing.
+pub(super) fn own_port<'a>(alloc: Global, port: &'a str) -> Arg<'a>
+    ensures rule { rule_of result ≡ spec.own_port port.entry.now }
+    ensures local { result.global ≡ false }
+{
+    let help = "The port where callers are awaited, 1 to 65535";
+    numbered(defaulted(alloc, "port", port, "PORT", help), 1, MOST_PORT)
+}
+
+/// The option for the address where callers are awaited.
+pub(super) fn own_address<'a>(alloc: Global) -> Arg<'a>
+    ensures rule { rule_of result ≡ spec.own_address }
+    ensures local { result.global ≡ false }
+{
+    let help = "The machine's address where callers are awaited";
+    defaulted(alloc, "address", "127.0.0.1", "ADDRESS", help)
+}
+
+/// The option for how many callers are served.
+pub(super) fn callers<'a>(alloc: Global, id: &'a str, help: &'a str) -> Arg<'a>
+    ensures rule { rule_of result ≡ spec.callers id.entry.now }
+    ensures local { result.global ≡ false }
+{
+    numbered(defaulted(alloc, id, "1", "COUNT", help), 1, MOST_CALLERS)
+}
+
+/// The option for the file to which a session's commands are appended in words.
+pub(super) fn own_trace<'a>(alloc: Global) -> Arg<'a>
+    ensures rule { rule_of result ≡ spec.own_trace }
+    ensures local { result.global ≡ false }
+{
+    let help = "The file to which what goes over the connection is appended in words";
+    optional(alloc, "trace", "FILE", help)
+}
+
+/// The option for how many seconds a partner may keep still.
+pub(super) fn own_patience<'a>(alloc: Global) -> Arg<'a>
+    ensures rule { rule_of result ≡ spec.own_patience }
+    ensures local { result.global ≡ false }
+{
+    let help = "How many seconds the partner may keep still, 0 to 86400, 0 for ever";
+    let patience = defaulted(alloc, "patience", "300", "SECONDS", help);
+    numbered(patience, 0, MOST_PATIENCE)
+}
+
+/// The fault for an error of the parser.
+fn fault_from(alloc: Global, error: &Error) -> LineFault
+    ensures { is_bad result ≡ true → kind_of error.now ≡ ErrorKind.OutOfMemory → ⊥ }
+{
+    if error.kind() == ErrorKind::OutOfMemory {
+        return LineFault::Memory;
+    }
+    match error.to_string(alloc) {
+        Ok(text) => LineFault::Bad(text),
+        Err(_) => LineFault::Memory,
+    }
+}
+
+/// What the parser makes of the words, of which the first is the command's name.
+pub(super) fn matched<'a>(
+    alloc: Global,
+    command: Command<'a>,
+    words: &'a [String],
+) -> Result<ArgMatches<'a>, LineFault>
+    requires { is_simple_and_free (app_of command) ≡ true }
+    ensures ok { IfOk result (λ m. taken (app_of command.entry) (map string_bytes words.entry.now)
+        ≡ Some (rows_of (found_of m))) }
+    ensures bad { IfErr result (λ e. is_bad e ≡ true
+        → taken (app_of command.entry) (map string_bytes words.entry.now) ≡ None) }
+    ensures values { IfOk result (λ m. HasValues (app_of command.entry) (rows_of (found_of m))) }
+{
+    match command.try_get_matches_from(words) {
+        Ok(matches) => Ok(matches),
+        Err(error) => Err(fault_from(alloc, &error)),
+    }
+}
+
+/// The value of an option that may be missing.
+pub(super) fn value_of<'a>(matches: &ArgMatches<'a>, id: &str) -> Option<&'a str>
+    ensures { option_map (λ s. s.now) result ≡ first_of id.now (rows_of (found_of matches.now)) }
+{
+    matches.get_str(id)
+}
+
+/// The value of an argument that must be given or has a default.
+pub(super) fn given<'a>(matches: &ArgMatches<'a>, id: &str) -> &'a str
+    requires { IsSome (first_of id.now (rows_of (found_of matches.now))) }
+    ensures { result.now ≡ spec.given id.now (rows_of (found_of matches.now)) }
+{
+    value_of(matches, id).unwrap()
+}
+
+/// The number that is the value of an argument which takes numbers, and must be given or has a default.
+pub(super) fn number(matches: &ArgMatches<'_>, id: &str) -> u64
+    requires { (low : ℕ) × ((high : ℕ) × IsNumber low high id.now (rows_of (found_of matches.now))) }
+    ensures { result ≡ spec.number id.now (rows_of (found_of matches.now)) }
+{
+    matches.get_one::<u64>(id).unwrap()
+}
+
+/// A value that is none of those that its argument has names for.
+#[derive(Clone, Copy)]
+pub(super) struct Unlisted<'a> {
+    /// The value.
+    pub(super) value: &'a str,
+    /// The argument, as texts show it.
+    pub(super) argument: &'static str,
+    /// The values that it has names for.
+    pub(super) listed: &'static str,
+}
+
+impl Unlisted<'_> {
+    /// The text that says so.
+    pub(super) fn text(&self, alloc: Global) -> Result<String, AllocError> {
+        let Unlisted {
+            value,
+            argument,
+            listed,
+        } = self;
+        let mut text = format!(in alloc; "error: invalid value '{value}' for '{argument}'\n")?;
+        write!(text, "  [possible values: {listed}]\n\n")?;
+        text.push_str("For more information, try '--help'.\n")?;
+        Ok(text)
+    }
+}
