@@ -169,12 +169,13 @@ abbrev pub WriterTold : {T W : Type 0} → Port W → Port W → Result T RunFau
 WriterTold old new (Ok x) = new.faults ≡ old.faults
 WriterTold old new (Err fault) = WriterErr old new fault
 
--- a session ends by its input only where no more is to come, and the port has seen the end in a call only where the session ended so
+-- a session ends by its input only where no more is to come; in another end the port sees none
 abbrev pub EndSeen : {R : Type 0} → (R → Option (List ℕ)) → Port R → Port R → End → Type 0
 EndSeen remaining old new (Own reason) = new.ended ≡ old.ended
 EndSeen remaining old new (Partner reason) = new.ended ≡ old.ended
 EndSeen remaining old new Input = IsDone remaining new
 
+-- the same of each way out: a session that is broken off sees no end
 abbrev pub InputEnded : {R : Type 0} → (R → Option (List ℕ)) → Port R → Port R → Result End RunFault → Type 0
 InputEnded remaining old new (Ok end) = EndSeen remaining old new end
 InputEnded remaining old new (Err fault) = new.ended ≡ old.ended
