@@ -37,3 +37,4 @@ pub mod TurnLinks
 pub mod ListenLinks
 pub mod TakeLinks
 pub mod TwoStations
+pub mod Fetching
