@@ -38,3 +38,4 @@ pub mod TurnLinks
 pub mod ListenLinks
 pub mod TakeLinks
 pub mod TwoStations
+pub mod Fetching

@@ -14,3 +14,4 @@ pub mod TwoStations
 pub mod Standing
 pub mod Grounds
 pub mod Promise
+pub mod Fetched

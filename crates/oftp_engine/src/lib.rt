@@ -1,6 +1,7 @@
 //! Sessions over any office, any reader and any writer. The engine owns no policy: which step follows is the session's.
 #![tactic(auto)]
 
+mod content;
 mod laws;
 mod operating;
 mod port;
@@ -8,6 +9,7 @@ mod running;
 mod serving;
 mod submitting;
 
+pub use content::write_content;
 pub use laws::{
     changes_are_made, folds_over_frames, jobs_make_the_file, no_count_passes, parts_make_the_file,
     two_stations,

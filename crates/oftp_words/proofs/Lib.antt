@@ -4,3 +4,4 @@ pub mod CommandLines
 mod LineExamples
 pub mod SimpleCommands
 pub mod TakenWords
+pub mod Values

@@ -1,8 +1,9 @@
 -- Command lines that are written out.
-use Rattle.std.proofs.Common.{◌≡◌, refl, [], ◌∷◌, Some, None, codes}
+use Rattle.std.proofs.Common.{◌≡◌, ℕ, List, refl, [], ◌∷◌, Some, None, codes}
 use Rattle.clap.proofs.OnLiterals.{clap_on_literals}
 use Rattle.oftp_listing.specs.declared.reports.ReportKind.TheVariants.{Incoming, Issued, Outgoing, Received}
-use Rattle.oftp_vfile.specs.declared.format.Format.TheVariants.{Fixed, Text, Unstructured, Variable}
+use Rattle.oftp_vfile.specs.declared.format.Format.{Format}
+use Rattle.oftp_vfile.specs.declared.format.Format.TheVariants as format
 use Rattle.oftp_words.specs.Arguments.{taken}
 use Rattle.oftp_words.specs.CallLine.{call_app}
 use Rattle.oftp_words.specs.CheckLine.{check_app}
@@ -10,7 +11,7 @@ use Rattle.oftp_words.specs.FeedLine.{feed_app}
 use Rattle.oftp_words.specs.FetchLine.{fetch_app}
 use Rattle.oftp_words.specs.HttpLine.{http_app}
 use Rattle.oftp_words.specs.InitLine.{init_app}
-use Rattle.oftp_words.specs.Line.{line_named, line_of_words, said_call, said_check, said_feed, said_fetch, said_http, said_init, said_listen, said_migrate, said_refuse, said_release, said_report, said_show, said_submit}
+use Rattle.oftp_words.specs.Line.{Said, line_named, line_of_words, said_call, said_check, said_feed, said_fetch, said_http, said_init, said_listen, said_migrate, said_refuse, said_release, said_report, said_show, said_submit}
 use Rattle.oftp_words.specs.ListenLine.{listen_app}
 use Rattle.oftp_words.specs.MigrateLine.{migrate_app}
 use Rattle.oftp_words.specs.RefuseLine.{refuse_app}
@@ -60,21 +61,28 @@ check_word : line_of_words (codes "check" ∷ codes "--book=b" ∷ codes "w" ∷
 unfolding clap_on_literals check_app line_named taken
 check_word = refl
 
+-- the words of a file that is submitted in a format, with no more than the needed ones before these
+abbrev submit_words : List ℕ → List (List ℕ) → List (List ℕ)
+submit_words format more = codes "submit" ∷ codes "--db=d" ∷ codes "--book=b" ∷ codes "--dataset=n" ∷ codes "--date=20240131"
+    ∷ codes "--time=1015300001" ∷ codes "--to=p" ∷ format ∷ codes "f" ∷ more
+
+-- what they ask for, of records of such a length
+abbrev submit_asked : Format → ℕ → Said
+submit_asked f longest = said_submit (record {
+  database = codes "d";
+  book = codes "b";
+  dataset = codes "n";
+  date = codes "20240131";
+  time = codes "1015300001";
+  to = codes "p";
+  format = f;
+  longest = longest;
+  description = [];
+  file = codes "f";
+})
+
 -- `submit` is of records of no length and without a description, where no more is said
-submit_plain : line_of_words (codes "submit" ∷ codes "--db=d" ∷ codes "--book=b" ∷ codes "--dataset=n" ∷ codes "--date=20240131" ∷ codes "--time=1015300001"
-    ∷ codes "--to=p" ∷ codes "--format=U" ∷ codes "f" ∷ [])
-    ≡ Some (said_submit (record {
-      database = codes "d";
-      book = codes "b";
-      dataset = codes "n";
-      date = codes "20240131";
-      time = codes "1015300001";
-      to = codes "p";
-      format = Unstructured;
-      longest = 0;
-      description = [];
-      file = codes "f";
-    }))
+submit_plain : line_of_words (submit_words (codes "--format=U") []) ≡ Some (submit_asked format.Unstructured 0)
 unfolding clap_on_literals submit_app line_named taken
 submit_plain = refl
 
@@ -88,7 +96,7 @@ submit_whole : line_of_words (codes "submit" ∷ codes "f" ∷ codes "--descript
       date = codes "e";
       time = codes "t";
       to = codes "p";
-      format = Variable;
+      format = format.Variable;
       longest = 99999;
       description = codes "x";
       file = codes "f";
@@ -97,64 +105,33 @@ unfolding clap_on_literals submit_app line_named taken
 submit_whole = refl
 
 -- a length may have zeros and a plus before it
-submit_fixed : line_of_words (codes "submit" ∷ codes "--db=d" ∷ codes "--book=b" ∷ codes "--dataset=n" ∷ codes "--date=20240131" ∷ codes "--time=1015300001"
-    ∷ codes "--to=p" ∷ codes "--format=F" ∷ codes "f" ∷ codes "--longest=+007" ∷ [])
-    ≡ Some (said_submit (record {
-      database = codes "d";
-      book = codes "b";
-      dataset = codes "n";
-      date = codes "20240131";
-      time = codes "1015300001";
-      to = codes "p";
-      format = Fixed;
-      longest = 7;
-      description = [];
-      file = codes "f";
-    }))
+submit_fixed : line_of_words (submit_words (codes "--format=F") (codes "--longest=+007" ∷ [])) ≡ Some (submit_asked format.Fixed 7)
 unfolding clap_on_literals submit_app line_named taken
 submit_fixed = refl
 
 -- T is a format
-submit_text : line_of_words (codes "submit" ∷ codes "--db=d" ∷ codes "--book=b" ∷ codes "--dataset=n" ∷ codes "--date=20240131" ∷ codes "--time=1015300001"
-    ∷ codes "--to=p" ∷ codes "--format=T" ∷ codes "f" ∷ [])
-    ≡ Some (said_submit (record {
-      database = codes "d";
-      book = codes "b";
-      dataset = codes "n";
-      date = codes "20240131";
-      time = codes "1015300001";
-      to = codes "p";
-      format = Text;
-      longest = 0;
-      description = [];
-      file = codes "f";
-    }))
+submit_text : line_of_words (submit_words (codes "--format=T") []) ≡ Some (submit_asked format.Text 0)
 unfolding clap_on_literals submit_app line_named taken
 submit_text = refl
 
 -- no format has this letter
-submit_format : line_of_words (codes "submit" ∷ codes "--db=d" ∷ codes "--book=b" ∷ codes "--dataset=n" ∷ codes "--date=20240131" ∷ codes "--time=1015300001"
-    ∷ codes "--to=p" ∷ codes "--format=u" ∷ codes "f" ∷ [])
-    ≡ None
+submit_format : line_of_words (submit_words (codes "--format=u") []) ≡ None
 unfolding clap_on_literals submit_app line_named taken
 submit_format = refl
 
 -- a length has a bound
-submit_longer : line_of_words (codes "submit" ∷ codes "--db=d" ∷ codes "--book=b" ∷ codes "--dataset=n" ∷ codes "--date=20240131" ∷ codes "--time=1015300001"
-    ∷ codes "--to=p" ∷ codes "--format=U" ∷ codes "f" ∷ codes "--longest=100000" ∷ [])
-    ≡ None
+submit_longer : line_of_words (submit_words (codes "--format=U") (codes "--longest=100000" ∷ [])) ≡ None
 unfolding clap_on_literals submit_app line_named taken
 submit_longer = refl
 
 -- and none is below zero
-submit_below : line_of_words (codes "submit" ∷ codes "--db=d" ∷ codes "--book=b" ∷ codes "--dataset=n" ∷ codes "--date=20240131" ∷ codes "--time=1015300001"
-    ∷ codes "--to=p" ∷ codes "--format=U" ∷ codes "f" ∷ codes "--longest=-1" ∷ [])
-    ≡ None
+submit_below : line_of_words (submit_words (codes "--format=U") (codes "--longest=-1" ∷ [])) ≡ None
 unfolding clap_on_literals submit_app line_named taken
 submit_below = refl
 
 -- the date has no default
-submit_dateless : line_of_words (codes "submit" ∷ codes "--db=d" ∷ codes "--book=b" ∷ codes "--dataset=n" ∷ codes "--time=1015300001" ∷ codes "--to=p" ∷ codes "--format=U" ∷ codes "f" ∷ [])
+submit_dateless : line_of_words (codes "submit" ∷ codes "--db=d" ∷ codes "--book=b" ∷ codes "--dataset=n" ∷ codes "--time=1015300001" ∷ codes "--to=p"
+    ∷ codes "--format=U" ∷ codes "f" ∷ [])
     ≡ None
 unfolding clap_on_literals submit_app line_named taken
 submit_dateless = refl

@@ -1,23 +1,13 @@
 //! The command `fetch`, which writes an incoming file in its local form.
 
-ghost use Rattle.std.specs.Prelude.{◌≡◌, IfOk, IsTrue, OnOk};
-ghost use Rattle.std.specs.Io.KnownBytes.{Appends};
-ghost use Rattle.oftp_register.specs.Soundness.{IsFile};
-ghost use Rattle.oftp_station.specs.Fetched.{fetched, piece_of};
-
 use crate::database::{self, PATIENCE};
-use crate::perform::files::file_fault;
 use crate::perform::replacing::{Place, draft_of, place_of, settle};
-use oftp_engine::RunFault;
-use oftp_register::{IncomingEntry, IncomingState, Office, Side, are_full_rows, is_file};
-use oftp_vfile::{Row, VFile};
+use oftp_engine::{RunFault, write_content};
+use oftp_register::{IncomingEntry, IncomingState, Office};
 use oftp_words::{Fault, Fetch, Outcome};
 use std::alloc::Global;
 use std::io::Write;
 use std::rt::Files;
-
-/// How many rows are held at once.
-const WINDOW: u64 = 64;
 
 /// Any fault of a look-up is one of the office.
 const OFFICE: Fault = Fault::Run(RunFault::Office);
@@ -45,75 +35,24 @@ fn make_file<R: Files + AllocGlobal, O: Office>(
     entry: &IncomingEntry,
 ) -> Result<(), Fault> {
     match place_of(rt, line.file, line.database)? {
-        Place::Device(mut device) => write_content(rt.alloc(), office, entry, &mut device),
+        Place::Device(mut device) => write_to(rt.alloc(), office, entry, &mut device),
         Place::Name(name) => {
             let mut draft = draft_of(rt, &name)?;
-            let written = write_content(rt.alloc(), office, entry, &mut draft.file);
+            let written = write_to(rt.alloc(), office, entry, &mut draft.file);
             settle(rt, draft, &name, written)
         }
     }
 }
 
-/// Writes the local form of a file, some rows at a time.
-#[tactic(auto, using(crate::proofs::Fetching::fetched_none, crate::proofs::Fetching::fetched_on, crate::proofs::Fetching::fetched_whole))]
-fn write_content<O: Office, W: Write>(
+/// Writes the local form of a file. One that can't be written is one that can't be made.
+fn write_to<O: Office, W: Write>(
     alloc: Global,
     office: &mut O,
     entry: &IncomingEntry,
     out: &mut W,
-) -> Result<(), Fault>
-    ensures { (O.view office.new).clean → (O.view office.old).stands
-        → OnOk result (Appends (W.contents out.old) (W.contents out.new) (fetched (O.view office.old).register entry.now)) }
-{
-    let mut from = 0;
-    'rows: while from < entry.rows {
-        let most = WINDOW.min(entry.rows - from);
-        let is_last = most == entry.rows - from;
-        let piece = piece_of(alloc, office, entry, from, most, is_last)?;
-        if let Err(error) = out.write_all(piece.as_slice()) {
-            return Err(file_fault(&error));
-        }
-        from += most;
+) -> Result<(), Fault> {
+    match write_content(alloc, office, entry, out) {
+        Err(RunFault::Write) => Err(Fault::File),
+        written => written.map_err(Fault::Run),
     }
-    Ok(())
-}
-
-/// The local form of so many rows of a file from one on. Rows that are none of its file are a fault of the office.
-fn piece_of<O: Office>(
-    alloc: Global,
-    office: &mut O,
-    entry: &IncomingEntry,
-    from: u64,
-    most: u64,
-    is_last: bool,
-) -> Result<Vec<u8>, Fault>
-    ensures clean { (O.view office.new).clean → (O.view office.old).clean }
-    ensures stays { (O.view office.new).clean → (O.view office.old).stands → OnOk result ((O.view office.new).stands
-        × ((O.view office.new).register ≡ (O.view office.old).register)) }
-    ensures piece { (O.view office.new).clean → (O.view office.old).stands
-        → IfOk result (λ piece. piece.items ≡ piece_of (O.view office.old).register entry.now from most) }
-{
-    let Ok(rows) = office.rows_of(Side::Incoming, entry.no, from, most) else {
-        return Err(OFFICE);
-    };
-    if rows.len() as u64 != most || !fit(entry, rows.as_slice(), is_last) {
-        return Err(OFFICE);
-    }
-    let piece = VFile {
-        format: entry.format,
-        longest: entry.longest,
-        rows,
-    };
-    match piece.to_local(alloc) {
-        Ok(octets) => Ok(octets),
-        Err(_) => Err(Fault::MEMORY),
-    }
-}
-
-/// Whether rows are ones of a file; all but the last of a stream are full.
-fn fit(entry: &IncomingEntry, rows: &[Row], are_last: bool) -> bool
-    ensures { IsTrue result → IsFile entry.now.format entry.now.longest rows.now }
-{
-    is_file(entry.format, entry.longest, rows)
-        && (are_last || are_full_rows(entry.format, entry.longest, rows))
 }

@@ -7,6 +7,7 @@ ghost use Rattle.clap.specs.declared.builder.command.Command.TheViews.{out-Comma
 ghost use Rattle.oftp_words.specs.Arguments as spec;
 ghost use Rattle.oftp_words.specs.Arguments.{HasValues, IsNumber, taken};
 ghost use Rattle.oftp_words.specs.Fault.{is_bad};
+ghost use Rattle.oftp_words.specs.declared.line.arguments.TheConstants.{MOST_PORT};
 
 use super::LineFault;
 use clap::builder::ValueParser;
@@ -217,6 +218,14 @@ pub(super) fn number(matches: &ArgMatches<'_>, id: &str) -> u64
     ensures { result ≡ spec.number id.now (rows_of (found_of matches.now)) }
 {
     matches.get_one::<u64>(id).unwrap()
+}
+
+/// The port that is the value of an argument which takes ports, and must be given or has a default.
+pub(super) fn port(matches: &ArgMatches<'_>, id: &str) -> u16
+    requires { IsNumber 1 MOST_PORT id.now (rows_of (found_of matches.now)) }
+    ensures { result ≡ spec.number id.now (rows_of (found_of matches.now)) }
+{
+    number(matches, id) as u16
 }
 
 /// A value that is none of those that its argument has names for.

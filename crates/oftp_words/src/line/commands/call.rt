@@ -44,6 +44,7 @@ pub(super) fn call_command<'a>(alloc: Global) -> Result<Command<'a>, AllocError>
 }
 
 /// What `call` is asked for by the values of its options.
+#[tactic(auto, using(crate::proofs::Values::has_text), unfolding(crate::specs::CallLine::call_app))]
 pub(super) fn call_read<'a>(matches: &ArgMatches<'a>) -> Call<'a>
     requires { HasValues call_app (rows_of (found_of matches.now)) }
     ensures { call_said result ≡ call_with (rows_of (found_of matches.now)) }

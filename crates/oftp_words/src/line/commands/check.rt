@@ -27,6 +27,7 @@ pub(super) fn check_command<'a>(alloc: Global) -> Result<Command<'a>, AllocError
 }
 
 /// What `check` is asked for by the values of its options and words.
+#[tactic(auto, using(crate::proofs::Values::has_text), unfolding(crate::specs::CheckLine::check_app))]
 pub(super) fn check_read<'a>(matches: &ArgMatches<'a>) -> Check<'a>
     requires { HasValues check_app (rows_of (found_of matches.now)) }
     ensures { check_said result ≡ check_with (rows_of (found_of matches.now)) }

@@ -73,6 +73,7 @@ fn side_named(name: &str) -> Option<Side>
 }
 
 // What `feed` is asked for by the values, in a role.
+#[tactic(auto, using(crate::proofs::Values::has_text), unfolding(crate::specs::FeedLine::feed_app))]
 fn feed_read_in<'a>(matches: &ArgMatches<'a>, role: Side) -> Feed<'a>
     requires { HasValues feed_app (rows_of (found_of matches.now)) }
     ensures { feed_said result ≡ feed_with role (rows_of (found_of matches.now)) }
@@ -89,6 +90,7 @@ fn feed_read_in<'a>(matches: &ArgMatches<'a>, role: Side) -> Feed<'a>
 }
 
 /// What `feed` is asked for by the values of its options and words.
+#[tactic(auto, using(crate::proofs::Values::has_text), unfolding(crate::specs::FeedLine::feed_app))]
 pub(super) fn feed_read<'a>(matches: &ArgMatches<'a>) -> Result<Feed<'a>, Unlisted<'a>>
     requires { HasValues feed_app (rows_of (found_of matches.now)) }
     ensures ok { IfOk result (λ f. feed_in (rows_of (found_of matches.now)) ≡ Some (feed_said f)) }

@@ -35,6 +35,7 @@ pub(super) fn fetch_command<'a>(alloc: Global) -> Result<Command<'a>, AllocError
 }
 
 /// What `fetch` is asked for by the values of its options and words.
+#[tactic(auto, using(crate::proofs::Values::has_text), unfolding(crate::specs::FetchLine::fetch_app))]
 pub(super) fn fetch_read<'a>(matches: &ArgMatches<'a>) -> Fetch<'a>
     requires { HasValues fetch_app (rows_of (found_of matches.now)) }
     ensures { fetch_said result ≡ fetch_with (rows_of (found_of matches.now)) }

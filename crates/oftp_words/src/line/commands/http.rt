@@ -5,7 +5,7 @@ ghost use Rattle.oftp_words.specs.Arguments.{HasValues};
 ghost use Rattle.oftp_words.specs.HttpLine.{http_app, http_said, http_with};
 
 use crate::line::arguments::{
-    DATABASE, callers, command, given, needed, number, own_address, own_port,
+    DATABASE, callers, command, given, needed, number, own_address, own_port, port,
 };
 use clap::{ArgMatches, Command};
 use std::alloc::{AllocError, Global};
@@ -41,13 +41,14 @@ pub(super) fn http_command<'a>(alloc: Global) -> Result<Command<'a>, AllocError>
 }
 
 /// What `http` is asked for by the values of its options.
+#[tactic(auto, using(crate::proofs::Values::has_text), unfolding(crate::specs::HttpLine::http_app))]
 pub(super) fn http_read<'a>(matches: &ArgMatches<'a>) -> Http<'a>
     requires { HasValues http_app (rows_of (found_of matches.now)) }
     ensures { http_said result ≡ http_with (rows_of (found_of matches.now)) }
 {
     Http {
         database: given(matches, "db"),
-        port: number(matches, "port") as u16,
+        port: port(matches, "port"),
         address: given(matches, "address"),
         requests: number(matches, "requests"),
     }

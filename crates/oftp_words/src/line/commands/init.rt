@@ -27,6 +27,7 @@ pub(super) fn init_command<'a>(alloc: Global) -> Result<Command<'a>, AllocError>
 }
 
 /// What `init` is asked for by the values of its options and words.
+#[tactic(auto, using(crate::proofs::Values::has_text), unfolding(crate::specs::InitLine::init_app))]
 pub(super) fn init_read<'a>(matches: &ArgMatches<'a>) -> Init<'a>
     requires { HasValues init_app (rows_of (found_of matches.now)) }
     ensures { init_said result ≡ init_with (rows_of (found_of matches.now)) }

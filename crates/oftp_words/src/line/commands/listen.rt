@@ -6,7 +6,7 @@ ghost use Rattle.oftp_words.specs.ListenLine.{listen_app, listen_said, listen_wi
 
 use crate::line::arguments::{
     BOOK, DATABASE, callers, command, given, needed, number, own_address, own_patience, own_port,
-    own_trace, value_of,
+    own_trace, port, value_of,
 };
 use clap::{ArgMatches, Command};
 use std::alloc::{AllocError, Global};
@@ -51,6 +51,7 @@ pub(super) fn listen_command<'a>(alloc: Global) -> Result<Command<'a>, AllocErro
 }
 
 /// What `listen` is asked for by the values of its options.
+#[tactic(auto, using(crate::proofs::Values::has_text), unfolding(crate::specs::ListenLine::listen_app))]
 pub(super) fn listen_read<'a>(matches: &ArgMatches<'a>) -> Listen<'a>
     requires { HasValues listen_app (rows_of (found_of matches.now)) }
     ensures { listen_said result ≡ listen_with (rows_of (found_of matches.now)) }
@@ -58,7 +59,7 @@ pub(super) fn listen_read<'a>(matches: &ArgMatches<'a>) -> Listen<'a>
     Listen {
         database: given(matches, "db"),
         book: given(matches, "book"),
-        port: number(matches, "port") as u16,
+        port: port(matches, "port"),
         address: given(matches, "address"),
         sessions: number(matches, "sessions"),
         patience: number(matches, "patience"),

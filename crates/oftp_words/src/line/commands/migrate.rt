@@ -27,6 +27,7 @@ pub(super) fn migrate_command<'a>(alloc: Global) -> Result<Command<'a>, AllocErr
 }
 
 /// What `migrate` is asked for by the values of its options and words.
+#[tactic(auto, using(crate::proofs::Values::has_text), unfolding(crate::specs::MigrateLine::migrate_app))]
 pub(super) fn migrate_read<'a>(matches: &ArgMatches<'a>) -> Migrate<'a>
     requires { HasValues migrate_app (rows_of (found_of matches.now)) }
     ensures { migrate_said result ≡ migrate_with (rows_of (found_of matches.now)) }

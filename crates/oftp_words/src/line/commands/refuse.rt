@@ -47,6 +47,7 @@ pub(super) fn refuse_command<'a>(alloc: Global) -> Result<Command<'a>, AllocErro
 }
 
 /// What `refuse` is asked for by the values of its options and words.
+#[tactic(auto, using(crate::proofs::Values::has_text), unfolding(crate::specs::RefuseLine::refuse_app))]
 pub(super) fn refuse_read<'a>(matches: &ArgMatches<'a>) -> Refuse<'a>
     requires { HasValues refuse_app (rows_of (found_of matches.now)) }
     ensures { refuse_said result ≡ refuse_with (rows_of (found_of matches.now)) }

@@ -34,6 +34,7 @@ pub(super) fn release_command<'a>(alloc: Global) -> Result<Command<'a>, AllocErr
 }
 
 /// What `release` is asked for by the values of its options and words.
+#[tactic(auto, using(crate::proofs::Values::has_text), unfolding(crate::specs::ReleaseLine::release_app))]
 pub(super) fn release_read<'a>(matches: &ArgMatches<'a>) -> Release<'a>
     requires { HasValues release_app (rows_of (found_of matches.now)) }
     ensures { release_said result ≡ release_with (rows_of (found_of matches.now)) }

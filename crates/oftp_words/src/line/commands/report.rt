@@ -45,6 +45,7 @@ fn kind_named(name: &str) -> Option<ReportKind>
 }
 
 // What `report` is asked for by the values, of a kind.
+#[tactic(auto, using(crate::proofs::Values::has_text), unfolding(crate::specs::ReportLine::report_app))]
 fn report_read_of<'a>(matches: &ArgMatches<'a>, kind: ReportKind) -> Report<'a>
     requires { HasValues report_app (rows_of (found_of matches.now)) }
     ensures { report_said result ≡ report_with kind (rows_of (found_of matches.now)) }
@@ -56,6 +57,7 @@ fn report_read_of<'a>(matches: &ArgMatches<'a>, kind: ReportKind) -> Report<'a>
 }
 
 /// What `report` is asked for by the values of its options and words.
+#[tactic(auto, using(crate::proofs::Values::has_text), unfolding(crate::specs::ReportLine::report_app))]
 pub(super) fn report_read<'a>(matches: &ArgMatches<'a>) -> Result<Report<'a>, Unlisted<'a>>
     requires { HasValues report_app (rows_of (found_of matches.now)) }
     ensures ok { IfOk result (λ r. report_in (rows_of (found_of matches.now)) ≡ Some (report_said r)) }

@@ -86,6 +86,7 @@ fn format_named(name: &str) -> Option<Format>
 }
 
 // What `submit` is asked for by the values, in a format.
+#[tactic(auto, using(crate::proofs::Values::has_text), unfolding(crate::specs::SubmitLine::submit_app))]
 fn submit_read_in<'a>(matches: &ArgMatches<'a>, format: Format) -> Submit<'a>
     requires { HasValues submit_app (rows_of (found_of matches.now)) }
     ensures { submit_said result ≡ submit_with format (rows_of (found_of matches.now)) }
@@ -105,6 +106,7 @@ fn submit_read_in<'a>(matches: &ArgMatches<'a>, format: Format) -> Submit<'a>
 }
 
 /// What `submit` is asked for by the values of its options and words.
+#[tactic(auto, using(crate::proofs::Values::has_text), unfolding(crate::specs::SubmitLine::submit_app))]
 pub(super) fn submit_read<'a>(matches: &ArgMatches<'a>) -> Result<Submit<'a>, Unlisted<'a>>
     requires { HasValues submit_app (rows_of (found_of matches.now)) }
     ensures ok { IfOk result (λ s. submit_in (rows_of (found_of matches.now)) ≡ Some (submit_said s)) }

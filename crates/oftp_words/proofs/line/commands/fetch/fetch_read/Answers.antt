@@ -3,14 +3,6 @@ use Rattle.oftp_words.specs.FetchLine.{fetch_app}
 use Rattle.oftp_words.specs.declared.line.arguments.TheConstants.{MOST_NO}
 use Rattle.oftp_words.proofs.line.commands.fetch.fetch_read.Goals as goal
 
-pub given-requires : goal.given-requires
-unfolding fetch_app
-given-requires c = c.requires.texts (codes "db") refl
-
-pub given-requires-2 : goal.given-requires-2
-unfolding fetch_app
-given-requires-2 c = c.requires.texts (codes "file") refl
-
 pub number-requires : goal.number-requires
 unfolding fetch_app
 number-requires c = (1, (MOST_NO, c.requires.numbers 1 MOST_NO (codes "no") refl))

@@ -4,18 +4,6 @@ use Rattle.oftp_words.specs.declared.line.arguments.TheConstants.{MOST_NO}
 use Rattle.oftp_words.specs.declared.line.commands.refuse.TheConstants.{MOST_REASON}
 use Rattle.oftp_words.proofs.line.commands.refuse.refuse_read.Goals as goal
 
-pub given-requires : goal.given-requires
-unfolding refuse_app
-given-requires c = c.requires.texts (codes "db") refl
-
-pub given-requires-2 : goal.given-requires-2
-unfolding refuse_app
-given-requires-2 c = c.requires.texts (codes "book") refl
-
-pub given-requires-3 : goal.given-requires-3
-unfolding refuse_app
-given-requires-3 c = c.requires.texts (codes "text") refl
-
 pub number-requires : goal.number-requires
 unfolding refuse_app
 number-requires c = (1, (MOST_NO, c.requires.numbers 1 MOST_NO (codes "no") refl))

@@ -1,6 +1,6 @@
 use Rattle.std.proofs.Common.{◌-◌}
-use Rattle.oftp_station.proofs.Fetching.{IsFetched}
-use Rattle.oftp_station.proofs.perform.fetching.write_content.Given as goal
+use Rattle.oftp_engine.proofs.Fetching.{IsFetched}
+use Rattle.oftp_engine.proofs.content.write_content.Given as goal
 
 -- the rows so far are written
 abbrev pub invariant-rows : goal.invariant-rows

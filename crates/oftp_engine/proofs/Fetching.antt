@@ -10,7 +10,7 @@ use Rattle.oftp_register.specs.LookUps.{file_rows}
 use Rattle.oftp_register.specs.Offices.{View}
 use Rattle.oftp_register.specs.declared.entries.IncomingEntry.{IncomingEntry}
 use Rattle.oftp_register.specs.declared.entries.Side.TheVariants as side
-use Rattle.oftp_station.specs.Fetched.{fetched, piece_of}
+use Rattle.oftp_engine.specs.Fetched.{fetched, piece_of}
 
 -- the rows before one are written behind what stood there, in their local form
 pub record IsFetched (e : IncomingEntry) (from : ℕ) (old now : View) (front text : Option (List ℕ)) : Type 0 where
