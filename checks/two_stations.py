@@ -1,12 +1,14 @@
 #!/usr/bin/env python3
 """Joins two stations, each the program over a database of its own, and breaks their connection.
 
-    checks/two_stations.py [--every N]      the connection breaks after each Nth octet in turn, 29 where there is no number
+    checks/two_stations.py [--every N]              the connection breaks after each Nth octet in turn, 29 where there is no number
+    checks/two_stations.py --stops [--every N]      the supplier is killed at each Nth of its calls on its database instead
 
 The car maker has a file of 2,500 octets for the supplier. One round is: a session begun by the car maker; the supplier's operator
 releases the file, if it is there; a session begun by the supplier. In the first round the connection breaks once so many octets have
-passed, in either direction; the second round is whole. Then the file is delivered at the car maker, whole at the supplier, and there is
-one response for it at either side, whatever broke. The last line is `N passed, M failed`.
+passed, in either direction, or one of the supplier's three programs is killed before it writes, syncs or cuts a file of its database;
+the second round is whole. Then the file is delivered at the car maker, whole at the supplier, and there is one response for it at
+either side, whatever broke. `--stops` wants a C compiler. The last line is `N passed, M failed`.
 """
 
 import argparse
@@ -19,6 +21,7 @@ import tempfile
 from concurrent.futures import ThreadPoolExecutor
 from pathlib import Path
 
+import stop_at_each_call
 import tables
 from row_files import ROOT, content
 
@@ -31,22 +34,45 @@ class Wrong(Exception):
     """What is left isn't what it should be."""
 
 
-class Station:
-    """A station: its database, its book, and the other one's code."""
+class Stop:
+    """Where a station is stopped: at this call of this program of its, counted from 1. The file `reached` is made then."""
 
-    def __init__(self, room, name, other):
+    def __init__(self, library, program, call):
+        self.library = library
+        self.program = program
+        self.call = call
+        self.reached = None
+
+
+class Station:
+    """A station: its database, its book, the other one's code, and where it is stopped."""
+
+    def __init__(self, room, name, other, stop=None):
         self.database = room / name
         self.book = ROOT / "examples" / name / "book.toml"
         self.other = other
+        self.stop = stop
+        self.programs = 0
+
+    def environment(self):
+        """The environment of its next program."""
+        self.programs += 1
+        if self.stop is None or self.stop.program != self.programs:
+            return None
+        return {**os.environ, **stop_at_each_call.stopping("kill", self.stop.call, self.stop.library, self.stop.reached)}
+
+    def is_stopped(self):
+        return self.stop is not None and self.stop.reached.exists()
 
     def give(self, command, *rest):
         words = [PROGRAM, command, "--db", self.database, "--book", self.book, *rest]
-        return subprocess.run(words, capture_output=True, check=False, timeout=60)
+        return subprocess.run(words, capture_output=True, check=False, timeout=60, env=self.environment())
 
     def begin_session(self, is_caller, given, answer):
         role = ["--role", "initiator", "--partner", self.other] if is_caller else []
         words = [PROGRAM, "feed", "--db", self.database, "--book", self.book, *role, f"/dev/fd/{given}", f"/dev/fd/{answer}"]
-        return subprocess.Popen(words, pass_fds=[given, answer], stdout=subprocess.PIPE, stderr=subprocess.PIPE)
+        pipes = {"stdout": subprocess.PIPE, "stderr": subprocess.PIPE}
+        return subprocess.Popen(words, pass_fds=[given, answer], env=self.environment(), **pipes)
 
 
 def join(caller, called, octets):
@@ -66,9 +92,11 @@ def join(caller, called, octets):
     finally:
         for program in programs:
             program.kill()
+    was_stopped = caller.is_stopped() or called.is_stopped()
+    is_broken = was_stopped or (octets is not None and passed == octets)
     for program, (out, err) in zip(programs, told):
-        is_broken = octets is not None and passed == octets
-        if program.returncode != 0 and not (is_broken and err == b"fault: 2 write\n"):
+        is_killed = was_stopped and program.returncode == -9
+        if program.returncode != 0 and not is_killed and not (is_broken and err == b"fault: 2 write\n"):
             raise Wrong(f"a session ended by status {program.returncode}, {out!r}, {err!r}")
     return passed
 
@@ -104,7 +132,7 @@ def play_round(car_maker, supplier, octets):
     return passed + join(supplier, car_maker, octets - passed)
 
 
-def play(room, first, octets):
+def play(room, first, octets, stop=None):
     """Both rounds, over databases of their own, and what is left then. It answers how many octets passed in the first."""
     with tempfile.TemporaryDirectory(dir=room) as path:
         folder = Path(path)
@@ -112,9 +140,13 @@ def play(room, first, octets):
             if Path(f"{first}{end}").exists():
                 shutil.copyfile(f"{first}{end}", folder / f"carmaker{end}")
         car_maker = Station(folder, "carmaker", "O0013SUPPLIER")
-        supplier = Station(folder, "supplier", "O0177CARMAKER")
+        if stop is not None:
+            stop.reached = folder / "reached"
+        supplier = Station(folder, "supplier", "O0177CARMAKER", stop)
         passed = play_round(car_maker, supplier, octets)
-        if octets is not None:
+        if stop is not None and not supplier.is_stopped():
+            return None
+        if octets is not None or stop is not None:
             play_round(car_maker, supplier, None)
         check(tables.read(car_maker.database), tables.read(supplier.database))
         return passed
@@ -148,10 +180,41 @@ def told(room, first, octets):
     return None
 
 
+def told_of_stop(room, first, stop):
+    """Whether there is such a call, and why the case came out otherwise, or None."""
+    try:
+        return play(room, first, None, stop) is not None, None
+    except (Wrong, tables.Damaged, subprocess.SubprocessError) as why:
+        return True, f"program {stop.program} of the supplier, killed at call {stop.call}: {why}"
+
+
+def break_each(room, first, whole, every, players):
+    """Breaks the connection after each of these octets. It answers how many cases there are, and why some came out otherwise."""
+    places = range(1, whole, every)
+    return len(places), [why for why in players.map(lambda octets: told(room, first, octets), places) if why]
+
+
+def stop_each(room, first, every, players):
+    """Kills each program of the supplier at each of these calls. It answers how many cases there are, and why some came out otherwise."""
+    library = stop_at_each_call.compile_library(room, "stop_calls")
+    cases, faults = 0, []
+    for program in (1, 2, 3):
+        at, is_there = 1, True
+        while is_there:
+            calls = range(at, at + 16 * every, every)
+            tried = list(players.map(lambda call: told_of_stop(room, first, Stop(library, program, call)), calls))
+            reached = [why for was_reached, why in tried if was_reached]
+            cases, faults = cases + len(reached), faults + [why for why in reached if why]
+            at, is_there = at + 16 * every, len(reached) == len(calls)
+        print(f"program {program} of the supplier: {cases} stops so far", flush=True)
+    return cases, faults
+
+
 def main():
     parser = argparse.ArgumentParser(description=__doc__.splitlines()[0])
     parser.add_argument("--every", type=int, default=29)
-    every = parser.parse_args().every
+    parser.add_argument("--stops", action="store_true")
+    given = parser.parse_args()
     with tempfile.TemporaryDirectory() as path:
         room = Path(path)
         first = room / "carmaker"
@@ -161,11 +224,13 @@ def main():
             raise SystemExit(f"the file isn't submitted: {done}")
         whole = play(room, first, None)
         print(f"{whole} octets pass in a round that doesn't break")
-        places = range(1, whole, every)
         with ThreadPoolExecutor(max_workers=os.cpu_count()) as players:
-            faults = [why for why in players.map(lambda octets: told(room, first, octets), places) if why]
+            if given.stops:
+                cases, faults = stop_each(room, first, given.every, players)
+            else:
+                cases, faults = break_each(room, first, whole, given.every, players)
     print("".join(f"{why}\n" for why in faults), end="")
-    print(f"{len(places) + 1 - len(faults)} passed, {len(faults)} failed")
+    print(f"{cases + 1 - len(faults)} passed, {len(faults)} failed")
     return 1 if faults else 0
 
 
