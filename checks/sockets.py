@@ -9,6 +9,7 @@ all run at once, so it takes some twelve seconds. The last line is `N passed, M 
 
 import fcntl
 import os
+import re
 import select
 import socket
 import struct
@@ -294,6 +295,37 @@ def stopped_within_a_session(room):
         expect(files, [("ASN.0001", "whole"), ("ASN.0002", "whole")], "the files")
 
 
+def kinds_of(octets):
+    """The kinds of the commands in whole frames."""
+    return [oftp.read(frame[4:])[0] for frame in oftp.frames_of(octets)]
+
+
+def traced(room):
+    """A trace has a line for each command of both directions and one for the end, with the time, and no password."""
+    trace = room / "trace"
+    rows = ["receiving/file_in_one_session", "opening/wrong_password"]
+    with Service(room, "listen", "--sessions", "3", "--trace", trace) as service:
+        for row in rows:
+            play(service, row)
+        with service.caller() as caller:
+            caller.sendall(b"\x20\x00\x00\x05\x43")
+            rest_of(caller)
+        service.line()
+        service.ends()
+    told = trace.read_text()
+    if re.search("PW|PASS", told):
+        raise Wrong("a password is in the trace")
+    lines = [re.fullmatch(r"20\d\d-\d\d-\d\dT\d\d:\d\d:\d\d(?:\.\d+)?Z (?:([<>]) )?(.*)", line) for line in told.splitlines()]
+    sessions = "\n".join(f"{line[1]} {line[2]}" for line in lines).split("\nNone end: ")
+    expect(len(sessions), 4, "how many sessions are traced")
+    for row, session in zip(rows, sessions):
+        steps, _ = steps_of(row)
+        for mark, side in ("<", "in"), (">", "out"):
+            found = [line.split()[1].rstrip(",") for line in session.splitlines() if line.startswith(mark)]
+            expect(found, kinds_of(b"".join(octets for way, octets in steps if way == side)), f"{row}: {side}")
+    expect("< fault at octet 0: no stream header begins so" in sessions[2], True, "the fault is told")
+
+
 def nothing_to_print_to(room):
     """A service whose line can't be written ends, and what was answered stands."""
     steps, _ = steps_of("receiving/one_octet")
@@ -517,6 +549,7 @@ CASES = [
     octets_after_the_end,
     partner_who_stays_after_the_end,
     stopped_within_a_session,
+    traced,
     nothing_to_print_to,
     operator_while_it_listens,
     database_held,

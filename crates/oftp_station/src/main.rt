@@ -5,6 +5,8 @@ mod database;
 mod perform;
 mod ports;
 mod sockets;
+mod tracing;
+mod transcript;
 
 use perform::{perform, tell_unread};
 use std::process::ExitCode;

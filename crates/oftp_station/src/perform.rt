@@ -7,6 +7,8 @@ mod registers;
 mod replacing;
 mod services;
 mod sessions;
+mod showing;
+mod traces;
 
 use oftp_engine::Told;
 use oftp_words::{Check, Fault, Line, LineFault, Outcome, line_of, write_line};
@@ -71,6 +73,11 @@ fn carry_out(rt: &HostRuntime, line: &Line<'_>, out: &mut impl Write) -> Result<
         Line::Check(what) => tell(check(rt, what)?, out),
         Line::Fetch(fetch) => tell(fetching::fetch(rt, fetch)?, out),
         Line::Feed(feed) => tell(sessions::feed(rt, feed)?, out),
+        Line::Show(what) => Ok(if showing::show(rt, what, out)? {
+            DONE
+        } else {
+            FAILED
+        }),
         Line::Call(call) => tell(services::call(rt, call)?, out),
         Line::Listen(listen) => {
             services::listen(rt, listen, out)?;

@@ -11,12 +11,13 @@ use Rattle.oftp_words.specs.FeedLine.{feed_app}
 use Rattle.oftp_words.specs.FetchLine.{fetch_app}
 use Rattle.oftp_words.specs.HttpLine.{http_app}
 use Rattle.oftp_words.specs.InitLine.{init_app}
-use Rattle.oftp_words.specs.Line.{Said, line_named, line_of_words, said_call, said_check, said_feed, said_fetch, said_http, said_init, said_listen, said_migrate, said_refuse, said_release, said_report, said_submit}
+use Rattle.oftp_words.specs.Line.{Said, line_named, line_of_words, said_call, said_check, said_feed, said_fetch, said_http, said_init, said_listen, said_migrate, said_refuse, said_release, said_report, said_show, said_submit}
 use Rattle.oftp_words.specs.ListenLine.{listen_app}
 use Rattle.oftp_words.specs.MigrateLine.{migrate_app}
 use Rattle.oftp_words.specs.RefuseLine.{refuse_app}
 use Rattle.oftp_words.specs.ReleaseLine.{release_app}
 use Rattle.oftp_words.specs.ReportLine.{report_app}
+use Rattle.oftp_words.specs.ShowLine.{show_app}
 use Rattle.oftp_words.specs.SubmitLine.{submit_app}
 use Rattle.oftp_words.specs.declared.line.commands.feed.Side.TheVariants.{Initiator, Responder}
 
@@ -248,21 +249,27 @@ report_bare : line_of_words (codes "report" ∷ codes "--db=d" ∷ []) ≡ None
 unfolding clap_on_literals report_app line_named taken
 report_bare = refl
 
+-- `show` takes the file
+show_file : line_of_words (codes "show" ∷ codes "i" ∷ []) ≡ Some (said_show (record { input = codes "i" }))
+unfolding clap_on_literals show_app line_named taken
+show_file = refl
+
 -- `feed` is a responder's with any partner and a register in memory, where no more is said
 feed_plain : line_of_words (codes "feed" ∷ codes "--book=b" ∷ codes "i" ∷ codes "o" ∷ [])
-    ≡ Some (said_feed (record { database = None; book = codes "b"; role = Responder; partner = None; input = codes "i"; output = codes "o" }))
+    ≡ Some (said_feed (record { database = None; book = codes "b"; role = Responder; partner = None; trace = None; input = codes "i"; output = codes "o" }))
 unfolding clap_on_literals feed_app line_named taken
 feed_plain = refl
 
 -- options and words come in any order
-feed_whole : line_of_words (codes "feed" ∷ codes "i" ∷ codes "--role" ∷ codes "initiator" ∷ codes "--db=d" ∷ codes "o" ∷ codes "--partner=p" ∷ codes "--book" ∷ codes "b" ∷ [])
-    ≡ Some (said_feed (record { database = Some (codes "d"); book = codes "b"; role = Initiator; partner = Some (codes "p"); input = codes "i"; output = codes "o" }))
+feed_whole : line_of_words (codes "feed" ∷ codes "i" ∷ codes "--role" ∷ codes "initiator" ∷ codes "--db=d" ∷ codes "o" ∷ codes "--partner=p" ∷ codes "--trace=t"
+    ∷ codes "--book" ∷ codes "b" ∷ [])
+    ≡ Some (said_feed (record { database = Some (codes "d"); book = codes "b"; role = Initiator; partner = Some (codes "p"); trace = Some (codes "t"); input = codes "i"; output = codes "o" }))
 unfolding clap_on_literals feed_app line_named taken
 feed_whole = refl
 
 -- after `--` a word may begin with a minus
 feed_minus : line_of_words (codes "feed" ∷ codes "--book=b" ∷ codes "--" ∷ codes "-i" ∷ codes "--role" ∷ [])
-    ≡ Some (said_feed (record { database = None; book = codes "b"; role = Responder; partner = None; input = codes "-i"; output = codes "--role" }))
+    ≡ Some (said_feed (record { database = None; book = codes "b"; role = Responder; partner = None; trace = None; input = codes "-i"; output = codes "--role" }))
 unfolding clap_on_literals feed_app line_named taken
 feed_minus = refl
 
@@ -293,14 +300,14 @@ feed_help = refl
 
 -- `listen` serves one session on port 3305 of the loopback address, where no more is said
 listen_plain : line_of_words (codes "listen" ∷ codes "--db=d" ∷ codes "--book=b" ∷ [])
-    ≡ Some (said_listen (record { database = codes "d"; book = codes "b"; port = 3305; address = codes "127.0.0.1"; sessions = 1; patience = 300 }))
+    ≡ Some (said_listen (record { database = codes "d"; book = codes "b"; port = 3305; address = codes "127.0.0.1"; sessions = 1; patience = 300; trace = None }))
 unfolding clap_on_literals listen_app line_named taken
 listen_plain = refl
 
 -- options come in any order
-listen_whole : line_of_words (codes "listen" ∷ codes "--patience" ∷ codes "0" ∷ codes "--sessions=1000000" ∷ codes "--book=b" ∷ codes "--address" ∷ codes "::1"
+listen_whole : line_of_words (codes "listen" ∷ codes "--patience" ∷ codes "0" ∷ codes "--sessions=1000000" ∷ codes "--trace=t" ∷ codes "--book=b" ∷ codes "--address" ∷ codes "::1"
     ∷ codes "--db=d" ∷ codes "--port=65535" ∷ [])
-    ≡ Some (said_listen (record { database = codes "d"; book = codes "b"; port = 65535; address = codes "::1"; sessions = 1000000; patience = 0 }))
+    ≡ Some (said_listen (record { database = codes "d"; book = codes "b"; port = 65535; address = codes "::1"; sessions = 1000000; patience = 0; trace = Some (codes "t") }))
 unfolding clap_on_literals listen_app line_named taken
 listen_whole = refl
 
@@ -341,13 +348,13 @@ listen_partner = refl
 
 -- `call` takes a partner
 call_partner : line_of_words (codes "call" ∷ codes "--db=d" ∷ codes "--book=b" ∷ codes "--partner=p" ∷ [])
-    ≡ Some (said_call (record { database = codes "d"; book = codes "b"; partner = codes "p"; patience = 300 }))
+    ≡ Some (said_call (record { database = codes "d"; book = codes "b"; partner = codes "p"; patience = 300; trace = None }))
 unfolding clap_on_literals call_app line_named taken
 call_partner = refl
 
--- and a patience
-call_patient : line_of_words (codes "call" ∷ codes "--db=d" ∷ codes "--book=b" ∷ codes "--patience" ∷ codes "86400" ∷ codes "--partner" ∷ codes "p" ∷ [])
-    ≡ Some (said_call (record { database = codes "d"; book = codes "b"; partner = codes "p"; patience = 86400 }))
+-- and a patience and a trace
+call_patient : line_of_words (codes "call" ∷ codes "--db=d" ∷ codes "--book=b" ∷ codes "--patience" ∷ codes "86400" ∷ codes "--trace" ∷ codes "t" ∷ codes "--partner" ∷ codes "p" ∷ [])
+    ≡ Some (said_call (record { database = codes "d"; book = codes "b"; partner = codes "p"; patience = 86400; trace = Some (codes "t") }))
 unfolding clap_on_literals call_app line_named taken
 call_patient = refl
 

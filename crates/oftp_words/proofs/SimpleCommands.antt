@@ -13,13 +13,14 @@ use Rattle.oftp_words.specs.MigrateLine.{migrate_app}
 use Rattle.oftp_words.specs.RefuseLine.{refuse_app}
 use Rattle.oftp_words.specs.ReleaseLine.{release_app}
 use Rattle.oftp_words.specs.ReportLine.{report_app}
+use Rattle.oftp_words.specs.ShowLine.{show_app}
 use Rattle.oftp_words.specs.SubmitLine.{submit_app}
 use Rattle.oftp_words.specs.Line.{app_named}
 use Rattle.oftp_words.specs.declared.line.commands.Name.{Name}
-use Rattle.oftp_words.specs.declared.line.commands.Name.TheVariants.{Call, Check, Feed, Fetch, Http, Init, Listen, Migrate, Refuse, Release, Report, Submit}
+use Rattle.oftp_words.specs.declared.line.commands.Name.TheVariants.{Call, Check, Feed, Fetch, Http, Init, Listen, Migrate, Refuse, Release, Report, Show, Submit}
 
 pub is_simple_named : (name : Name) → is_simple_and_free (app_named name) ≡ true
-unfolding clap_on_literals call_app check_app feed_app fetch_app http_app init_app listen_app migrate_app refuse_app release_app report_app submit_app
+unfolding clap_on_literals call_app check_app feed_app fetch_app http_app init_app listen_app migrate_app refuse_app release_app report_app show_app submit_app
 is_simple_named Init = refl
 is_simple_named Migrate = refl
 is_simple_named Check = refl
@@ -28,6 +29,7 @@ is_simple_named Release = refl
 is_simple_named Refuse = refl
 is_simple_named Fetch = refl
 is_simple_named Report = refl
+is_simple_named Show = refl
 is_simple_named Feed = refl
 is_simple_named Listen = refl
 is_simple_named Call = refl

@@ -53,6 +53,10 @@ callers id = numbered 1 MOST_CALLERS (defaulted id (codes "1"))
 abbrev pub own_patience : Rule
 own_patience = numbered 0 MOST_PATIENCE (defaulted (codes "patience") (codes "300"))
 
+-- the option for the file to which a session's commands are appended in words
+abbrev pub own_trace : Rule
+own_trace = optional (codes "trace")
+
 -- ---- what the parser makes of the words
 
 -- the rows, unless there is a fault

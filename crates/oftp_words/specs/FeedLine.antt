@@ -1,7 +1,7 @@
 -- The command line of `feed`.
 use Rattle.std.specs.Prelude.{List, [], ◌∷◌, Option, codes, option_map}
 use Rattle.clap.specs.Words.{App, Row, Text, first_of, new_app, with_rule}
-use Rattle.oftp_words.specs.Arguments.{defaulted, given, named, needed, optional, word}
+use Rattle.oftp_words.specs.Arguments.{defaulted, given, named, needed, optional, own_trace, word}
 use Rattle.oftp_words.specs.declared.line.commands.feed.Feed.{Feed}
 use Rattle.oftp_words.specs.declared.line.commands.feed.Side.{Side}
 use Rattle.oftp_words.specs.declared.line.commands.feed.Side.TheVariants.{Initiator, Responder}
@@ -12,6 +12,7 @@ pub record FeedSaid : Type 0 where
   pub book : Text
   pub role : Side
   pub partner : Option Text
+  pub trace : Option Text
   pub input : Text
   pub output : Text
 
@@ -22,15 +23,16 @@ feed_said f = record {
   book = f.book.now;
   role = f.role;
   partner = option_map (λ s. s.now) f.partner;
+  trace = option_map (λ s. s.now) f.trace;
   input = f.input.now;
   output = f.output.now;
 }
 
 -- `feed`, as the parser is told of it
 unfoldable pub feed_app : App
-feed_app = with_rule (with_rule (with_rule (with_rule (with_rule (with_rule (new_app (codes "feed"))
+feed_app = with_rule (with_rule (with_rule (with_rule (with_rule (with_rule (with_rule (new_app (codes "feed"))
     (optional (codes "db"))) (needed (codes "book")))
-    (defaulted (codes "role") (codes "responder"))) (optional (codes "partner")))
+    (defaulted (codes "role") (codes "responder"))) (optional (codes "partner"))) own_trace)
     (word (codes "in"))) (word (codes "out"))
 
 -- the side that a text names
@@ -44,6 +46,7 @@ feed_with role rows = record {
   book = given (codes "book") rows;
   role = role;
   partner = first_of (codes "partner") rows;
+  trace = first_of (codes "trace") rows;
   input = given (codes "in") rows;
   output = given (codes "out") rows;
 }

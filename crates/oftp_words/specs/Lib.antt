@@ -13,4 +13,5 @@ pub mod Printed
 pub mod RefuseLine
 pub mod ReleaseLine
 pub mod ReportLine
+pub mod ShowLine
 pub mod SubmitLine

@@ -13,6 +13,7 @@ use Rattle.oftp_words.specs.MigrateLine.{MigrateSaid, migrate_app, migrate_said,
 use Rattle.oftp_words.specs.RefuseLine.{RefuseSaid, refuse_app, refuse_said, refuse_with}
 use Rattle.oftp_words.specs.ReleaseLine.{ReleaseSaid, release_app, release_said, release_with}
 use Rattle.oftp_words.specs.ReportLine.{ReportSaid, report_app, report_in, report_said}
+use Rattle.oftp_words.specs.ShowLine.{ShowSaid, show_app, show_said, show_with}
 use Rattle.oftp_words.specs.SubmitLine.{SubmitSaid, submit_app, submit_in, submit_said}
 use Rattle.oftp_words.specs.declared.line.Line.{Line}
 use Rattle.oftp_words.specs.declared.line.Line.TheVariants as line
@@ -29,6 +30,7 @@ pub data Said : Type 0 where
   said_refuse : RefuseSaid → Said
   said_fetch : FetchSaid → Said
   said_report : ReportSaid → Said
+  said_show : ShowSaid → Said
   said_feed : FeedSaid → Said
   said_listen : ListenSaid → Said
   said_call : CallSaid → Said
@@ -44,6 +46,7 @@ said (line.Release r) = said_release (release_said r)
 said (line.Refuse r) = said_refuse (refuse_said r)
 said (line.Fetch f) = said_fetch (fetch_said f)
 said (line.Report r) = said_report (report_said r)
+said (line.Show s) = said_show (show_said s)
 said (line.Feed f) = said_feed (feed_said f)
 said (line.Listen l) = said_listen (listen_said l)
 said (line.Call c) = said_call (call_said c)
@@ -55,6 +58,7 @@ name_of = named ((codes "init", name.Init) ∷ (codes "migrate", name.Migrate)
     ∷ (codes "check", name.Check) ∷ (codes "submit", name.Submit)
     ∷ (codes "release", name.Release) ∷ (codes "refuse", name.Refuse)
     ∷ (codes "fetch", name.Fetch) ∷ (codes "report", name.Report)
+    ∷ (codes "show", name.Show)
     ∷ (codes "feed", name.Feed) ∷ (codes "listen", name.Listen)
     ∷ (codes "call", name.Call) ∷ (codes "http", name.Http) ∷ [])
 
@@ -68,6 +72,7 @@ app_named name.Release = release_app
 app_named name.Refuse = refuse_app
 app_named name.Fetch = fetch_app
 app_named name.Report = report_app
+app_named name.Show = show_app
 app_named name.Feed = feed_app
 app_named name.Listen = listen_app
 app_named name.Call = call_app
@@ -84,6 +89,7 @@ said_by name.Release rows = Some (said_release (release_with rows))
 said_by name.Refuse rows = Some (said_refuse (refuse_with rows))
 said_by name.Fetch rows = Some (said_fetch (fetch_with rows))
 said_by name.Report rows = option_map said_report (report_in rows)
+said_by name.Show rows = Some (said_show (show_with rows))
 said_by name.Feed rows = option_map said_feed (feed_in rows)
 said_by name.Listen rows = Some (said_listen (listen_with rows))
 said_by name.Call rows = Some (said_call (call_with rows))

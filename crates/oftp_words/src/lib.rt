@@ -6,6 +6,6 @@ mod outcome;
 
 pub use line::{
     Call, Check, Feed, Fetch, Http, Init, Line, LineFault, Listen, Migrate, Refuse, Release,
-    Report, Side, Submit, line_of,
+    Report, Show, Side, Submit, line_of,
 };
 pub use outcome::{Fault, Outcome, write_line};

@@ -20,6 +20,7 @@ pub use commands::migrate::Migrate;
 pub use commands::refuse::Refuse;
 pub use commands::release::Release;
 pub use commands::report::Report;
+pub use commands::show::Show;
 pub use commands::submit::Submit;
 use commands::{Name, USAGES};
 use std::alloc::{AllocError, Global};
@@ -43,6 +44,8 @@ pub enum Line<'a> {
     Fetch(Fetch<'a>),
     /// What the database holds is told.
     Report(Report<'a>),
+    /// What one side of a session sent is told in words.
+    Show(Show<'a>),
     /// One session from the octets of a file to another file.
     Feed(Feed<'a>),
     /// Sessions of partners who call.

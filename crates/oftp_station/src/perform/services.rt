@@ -2,6 +2,7 @@
 
 use crate::database::{self, PATIENCE};
 use crate::perform::files::read_book;
+use crate::perform::traces::open_trace;
 use crate::sockets::{Station, bound, connected, dial, http_on, listen_on};
 use oftp_words::{Call, Fault, Http, Listen, Outcome};
 use std::io::Write;
@@ -29,11 +30,13 @@ pub(super) fn listen(
 ) -> Result<(), Fault> {
     let book = read_book(rt, line.book)?;
     try_database(rt, line.database)?;
+    let trace = open_trace(rt, line.trace, &[line.book], Some(line.database))?;
     let listener = bound(rt, line.address, line.port)?;
     let station = Station {
         book: &book,
         database: line.database,
         patience: patience_of(line.patience),
+        trace: trace.as_ref(),
     };
     listen_on(rt, &listener, line.sessions, &station, out)
 }
@@ -45,11 +48,14 @@ pub(super) fn call(rt: &HostRuntime, line: &Call<'_>) -> Result<Outcome, Fault> 
         return Ok(Outcome::Unknown);
     };
     try_database(rt, line.database)?;
-    let stream = connected(rt, partner.address.as_str())?;
+    let trace = open_trace(rt, line.trace, &[line.book], Some(line.database))?;
+    let patience = patience_of(line.patience);
+    let stream = connected(rt, partner.address.as_str(), patience)?;
     let station = Station {
         book: &book,
         database: line.database,
-        patience: patience_of(line.patience),
+        patience,
+        trace: trace.as_ref(),
     };
     dial(rt, stream, partner, &station).map(Outcome::Ended)
 }

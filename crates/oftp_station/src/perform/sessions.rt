@@ -4,13 +4,15 @@ use crate::database::{self, LIMITS, PATIENCE};
 use crate::perform::files::{
     are_of_one_file, file_fault, is_at, is_of_database, open_input, read_book,
 };
+use crate::perform::traces::open_trace;
 use crate::ports::ports_of;
+use crate::tracing::{Trace, Traced};
 use oftp_durable::serve_durable;
 use oftp_engine::{End, Port, Role, RunFault, serve_in_memory};
 use oftp_partners::{Book, Partner};
 use oftp_register::PlainOffice;
 use oftp_words::{Fault, Feed, Outcome, Side};
-use std::fs::{self, Metadata, OpenFile};
+use std::fs::{self, File, Metadata, OpenFile};
 use std::io::ErrorKind;
 use std::rt::Files;
 
@@ -23,37 +25,47 @@ pub(super) fn feed(rt: &HostRuntime, line: &Feed<'_>) -> Result<Outcome, Fault> 
     match line.database {
         Some(path) => {
             let mut office = database::open(rt, path, PATIENCE)?;
-            let (mut reader, mut writer) = ports(rt, line)?;
-            outcome_of(serve_durable(
+            let trace = trace_of(rt, line)?;
+            let (mut reader, mut writer) = ports(rt, line, trace.as_ref())?;
+            let ended = serve_durable(
                 rt.alloc(),
                 &mut office,
                 &book,
                 role,
                 &mut reader,
                 &mut writer,
-            ))
+            );
+            outcome_of(ended, trace.as_ref())
         }
         None => {
             let mut office = PlainOffice::new(rt.alloc(), LIMITS);
-            let (mut reader, mut writer) = ports(rt, line)?;
-            outcome_of(serve_in_memory(
+            let trace = trace_of(rt, line)?;
+            let (mut reader, mut writer) = ports(rt, line, trace.as_ref())?;
+            let ended = serve_in_memory(
                 rt.alloc(),
                 &mut office,
                 &book,
                 role,
                 &mut reader,
                 &mut writer,
-            ))
+            );
+            outcome_of(ended, trace.as_ref())
         }
     }
 }
 
-/// What a session comes to.
-fn outcome_of(ended: Result<End, RunFault>) -> Result<Outcome, Fault> {
-    match ended {
-        Ok(end) => Ok(Outcome::Ended(end)),
-        Err(fault) => Err(Fault::Run(fault)),
+/// What a session comes to, which is also the last line of its trace.
+fn outcome_of(ended: Result<End, RunFault>, trace: Option<&Trace<'_>>) -> Result<Outcome, Fault> {
+    let ended = ended.map_err(Fault::Run);
+    if let Some(trace) = trace {
+        trace.tell_end(&ended);
     }
+    ended.map(Outcome::Ended)
+}
+
+/// The trace that the line asks for.
+fn trace_of<'a>(rt: &'a HostRuntime, line: &Feed<'_>) -> Result<Option<Trace<'a>>, Fault> {
+    open_trace(rt, line.trace, &[line.input, line.book], line.database)
 }
 
 /// The role in the session. An initiator calls a named partner, and a partner that is named is in the book.
@@ -74,14 +86,15 @@ fn role_with<'b>(side: Side, named: Option<&'b Partner>) -> Option<Role<'b>> {
 }
 
 /// The ports of the files that the line names: what the partner sends, and what it is sent.
-fn ports<R: Files + AllocGlobal>(
-    rt: &R,
+fn ports<'a>(
+    rt: &HostRuntime,
     line: &Feed<'_>,
-) -> Result<(Port<R::File>, Port<R::File>), Fault> {
+    trace: Option<&'a Trace<'a>>,
+) -> Result<(Port<Traced<'a, File>>, Port<Traced<'a, File>>), Fault> {
     let input = open_input(rt, line.input)?;
     check_output(rt, line, &input)?;
     let output = fs::create(rt, line.output).map_err(|error| file_fault(&error))?;
-    Ok(ports_of(input, output))
+    Ok(ports_of(Traced::reader(input, trace), Traced::writer(output, trace)))
 }
 
 /// Refuses an output that the session needs: making it would take away its octets. A device loses none.
@@ -102,7 +115,7 @@ fn check_output<R: Files + AllocGlobal>(
     Ok(())
 }
 
-/// Whether this is of the input, the book or a file of the database.
+/// Whether this is of the input, the book, the trace or a file of the database.
 fn is_needed<R: Files + AllocGlobal>(
     rt: &R,
     line: &Feed<'_>,
@@ -110,6 +123,11 @@ fn is_needed<R: Files + AllocGlobal>(
     input: &Metadata,
 ) -> Result<bool, Fault> {
     if are_of_one_file(output, input) || is_at(rt, output, line.book)? {
+        return Ok(true);
+    }
+    if let Some(trace) = line.trace
+        && is_at(rt, output, trace)?
+    {
         return Ok(true);
     }
     match line.database {

@@ -5,6 +5,7 @@ use crate::ports::ports_of;
 use crate::sockets::addresses::accepted;
 use crate::sockets::callers::{Trouble, settled};
 use crate::sockets::connection::Connection;
+use crate::tracing::{Trace, Traced};
 use oftp_durable::serve_durable;
 use oftp_engine::{End, Role, RunFault};
 use oftp_partners::{Book, Partner};
@@ -22,6 +23,8 @@ pub struct Station<'a> {
     pub database: &'a str,
     /// How long a partner may keep still before its session is given up. Without a limit it is waited for as long as it takes.
     pub patience: Option<Duration>,
+    /// Where what goes over its connections is told, if it is.
+    pub trace: Option<&'a Trace<'a>>,
 }
 
 /// Serves so many sessions of partners who call, one after another, and writes a line for each: how it ended, or the fault that is
@@ -70,6 +73,9 @@ fn serve(
         return Err(Trouble::from(RunFault::Read));
     };
     let served = serve_over(rt, &connection, role, station);
+    if let Some(trace) = station.trace {
+        trace.tell_end(&served.map_err(Trouble::fault));
+    }
     if let Ok(End::Own(_)) | Err(Trouble::OfService(Fault::Run(RunFault::Office))) = served {
         let _ = connection.part(rt);
     }
@@ -84,7 +90,10 @@ fn serve_over(
     station: &Station<'_>,
 ) -> Result<End, Trouble> {
     let mut office = database::open_if_free(rt, station.database, PATIENCE)?;
-    let (mut reader, mut writer) = ports_of(connection, connection);
+    let (mut reader, mut writer) = ports_of(
+        Traced::reader(connection, station.trace),
+        Traced::writer(connection, station.trace),
+    );
     let book = station.book;
     let end = serve_durable(
         rt.alloc(),

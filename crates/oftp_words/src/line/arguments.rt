@@ -146,6 +146,15 @@ pub(super) fn callers<'a>(alloc: Global, id: &'a str, help: &'a str) -> Arg<'a>
     numbered(defaulted(alloc, id, "1", "COUNT", help), 1, MOST_CALLERS)
 }
 
+/// The option for the file to which a session's commands are appended in words.
+pub(super) fn own_trace<'a>(alloc: Global) -> Arg<'a>
+    ensures rule { rule_of result ≡ spec.own_trace }
+    ensures local { result.global ≡ false }
+{
+    let help = "The file to which what goes over the connection is appended in words";
+    optional(alloc, "trace", "FILE", help)
+}
+
 /// The option for how many seconds a partner may keep still.
 pub(super) fn own_patience<'a>(alloc: Global) -> Arg<'a>
     ensures rule { rule_of result ≡ spec.own_patience }

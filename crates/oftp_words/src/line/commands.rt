@@ -15,6 +15,7 @@ pub(super) mod migrate;
 pub(super) mod refuse;
 pub(super) mod release;
 pub(super) mod report;
+pub(super) mod show;
 pub(super) mod submit;
 
 use super::Line;
@@ -31,11 +32,12 @@ use migrate::{migrate_command, migrate_read};
 use refuse::{refuse_command, refuse_read};
 use release::{release_command, release_read};
 use report::{report_command, report_read};
+use show::{show_command, show_read};
 use std::alloc::{AllocError, Global};
 use submit::{submit_command, submit_read};
 
 /// How each command is called.
-pub(super) const USAGES: [&str; 12] = [
+pub(super) const USAGES: [&str; 13] = [
     init::USAGE,
     migrate::USAGE,
     check::USAGE,
@@ -44,6 +46,7 @@ pub(super) const USAGES: [&str; 12] = [
     refuse::USAGE,
     fetch::USAGE,
     report::USAGE,
+    show::USAGE,
     feed::USAGE,
     listen::USAGE,
     call::USAGE,
@@ -61,6 +64,7 @@ pub(super) enum Name {
     Refuse,
     Fetch,
     Report,
+    Show,
     Feed,
     Listen,
     Call,
@@ -81,6 +85,7 @@ impl Name {
             "refuse" => Some(Name::Refuse),
             "fetch" => Some(Name::Fetch),
             "report" => Some(Name::Report),
+            "show" => Some(Name::Show),
             "feed" => Some(Name::Feed),
             "listen" => Some(Name::Listen),
             "call" => Some(Name::Call),
@@ -102,6 +107,7 @@ impl Name {
             Name::Refuse => refuse_command(alloc),
             Name::Fetch => fetch_command(alloc),
             Name::Report => report_command(alloc),
+            Name::Show => show_command(alloc),
             Name::Feed => feed_command(alloc),
             Name::Listen => listen_command(alloc),
             Name::Call => call_command(alloc),
@@ -124,6 +130,7 @@ impl Name {
             Name::Refuse => Ok(Line::Refuse(refuse_read(matches))),
             Name::Fetch => Ok(Line::Fetch(fetch_read(matches))),
             Name::Report => report_read(matches).map(Line::Report),
+            Name::Show => Ok(Line::Show(show_read(matches))),
             Name::Feed => feed_read(matches).map(Line::Feed),
             Name::Listen => Ok(Line::Listen(listen_read(matches))),
             Name::Call => Ok(Line::Call(call_read(matches))),

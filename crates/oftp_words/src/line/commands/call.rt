@@ -4,13 +4,15 @@ ghost use Rattle.clap.specs.Words.{app_of, found_of, rows_of};
 ghost use Rattle.oftp_words.specs.Arguments.{HasValues};
 ghost use Rattle.oftp_words.specs.CallLine.{call_app, call_said, call_with};
 
-use crate::line::arguments::{BOOK, DATABASE, command, given, needed, number, own_patience};
+use crate::line::arguments::{
+    BOOK, DATABASE, command, given, needed, number, own_patience, own_trace, value_of,
+};
 use clap::{ArgMatches, Command};
 use std::alloc::{AllocError, Global};
 
 /// How `call` is called.
 pub(in crate::line) const USAGE: &str =
-    "oftp_station call --db <DATABASE> --book <BOOK> --partner <CODE> [--patience <SECONDS>]";
+    "oftp_station call --db <DATABASE> --book <BOOK> --partner <CODE> [--patience <SECONDS>] [--trace <FILE>]";
 
 /// The command `call`, which calls a partner for one session.
 #[derive(Debug, Clone, Copy, PartialEq, Eq)]
@@ -23,6 +25,8 @@ pub struct Call<'a> {
     pub partner: &'a str,
     /// How many seconds the partner may keep still, 0 to 86,400; 0 is for ever.
     pub patience: u64,
+    /// The file to which what goes over the connection is appended in words, if one is.
+    pub trace: Option<&'a str>,
 }
 
 /// `call`, as the parser is told of it.
@@ -35,7 +39,8 @@ pub(super) fn call_command<'a>(alloc: Global) -> Result<Command<'a>, AllocError>
         .arg(needed(alloc, "db", "DATABASE", DATABASE))?
         .arg(needed(alloc, "book", "BOOK", BOOK))?
         .arg(needed(alloc, "partner", "CODE", partner))?
-        .arg(own_patience(alloc))
+        .arg(own_patience(alloc))?
+        .arg(own_trace(alloc))
 }
 
 /// What `call` is asked for by the values of its options.
@@ -49,5 +54,6 @@ pub(super) fn call_read<'a>(matches: &ArgMatches<'a>) -> Call<'a>
         book: given(matches, "book"),
         partner: given(matches, "partner"),
         patience: number(matches, "patience"),
+        trace: value_of(matches, "trace"),
     }
 }

@@ -5,14 +5,15 @@ ghost use Rattle.oftp_words.specs.Arguments.{HasValues};
 ghost use Rattle.oftp_words.specs.FeedLine.{feed_app, feed_in, feed_said, feed_with, side_of};
 
 use crate::line::arguments::{
-    BOOK, DATABASE, Unlisted, command, defaulted, given, needed, optional, value_of, word,
+    BOOK, DATABASE, Unlisted, command, defaulted, given, needed, optional, own_trace, value_of,
+    word,
 };
 use clap::{ArgMatches, Command};
 use std::alloc::{AllocError, Global};
 
 /// How `feed` is called.
 pub(in crate::line) const USAGE: &str =
-    "oftp_station feed [--db <DATABASE>] --book <BOOK> [--role <ROLE>] [--partner <CODE>] <IN> <OUT>";
+    "oftp_station feed [--db <DATABASE>] --book <BOOK> [--role <ROLE>] [--partner <CODE>] [--trace <FILE>] <IN> <OUT>";
 
 /// The command `feed`, which plays one session from the octets of a file to another file.
 #[derive(Clone, Copy)]
@@ -25,6 +26,8 @@ pub struct Feed<'a> {
     pub role: Side,
     /// The code of the partner that an initiator calls. A responder may go without.
     pub partner: Option<&'a str>,
+    /// The file to which what goes over the connection is appended in words, if one is.
+    pub trace: Option<&'a str>,
     /// The file that holds what the partner sends.
     pub input: &'a str,
     /// The file that is given what the station sends.
@@ -54,6 +57,7 @@ pub(super) fn feed_command<'a>(alloc: Global) -> Result<Command<'a>, AllocError>
         .arg(needed(alloc, "book", "BOOK", BOOK))?
         .arg(defaulted(alloc, "role", "responder", "ROLE", role))?
         .arg(optional(alloc, "partner", "CODE", partner))?
+        .arg(own_trace(alloc))?
         .arg(word(alloc, "in", "IN", input))?
         .arg(word(alloc, "out", "OUT", output))
 }
@@ -79,6 +83,7 @@ fn feed_read_in<'a>(matches: &ArgMatches<'a>, role: Side) -> Feed<'a>
         book: given(matches, "book"),
         role,
         partner: value_of(matches, "partner"),
+        trace: value_of(matches, "trace"),
         input: given(matches, "in"),
         output: given(matches, "out"),
     }

@@ -6,14 +6,14 @@ ghost use Rattle.oftp_words.specs.ListenLine.{listen_app, listen_said, listen_wi
 
 use crate::line::arguments::{
     BOOK, DATABASE, callers, command, given, needed, number, own_address, own_patience, own_port,
-    port,
+    own_trace, port, value_of,
 };
 use clap::{ArgMatches, Command};
 use std::alloc::{AllocError, Global};
 
 /// How `listen` is called.
 pub(in crate::line) const USAGE: &str =
-    "oftp_station listen --db <DATABASE> --book <BOOK> [--port <PORT>] [--address <ADDRESS>] [--sessions <COUNT>] [--patience <SECONDS>]";
+    "oftp_station listen --db <DATABASE> --book <BOOK> [--port <PORT>] [--address <ADDRESS>] [--sessions <COUNT>] [--patience <SECONDS>] [--trace <FILE>]";
 
 /// The command `listen`, which serves sessions of partners who call.
 #[derive(Debug, Clone, Copy, PartialEq, Eq)]
@@ -30,6 +30,8 @@ pub struct Listen<'a> {
     pub sessions: u64,
     /// How many seconds a partner may keep still, 0 to 86,400; 0 is for ever.
     pub patience: u64,
+    /// The file to which what goes over the connection is appended in words, if one is.
+    pub trace: Option<&'a str>,
 }
 
 /// `listen`, as the parser is told of it.
@@ -44,7 +46,8 @@ pub(super) fn listen_command<'a>(alloc: Global) -> Result<Command<'a>, AllocErro
         .arg(own_port(alloc, "3305"))?
         .arg(own_address(alloc))?
         .arg(callers(alloc, "sessions", sessions))?
-        .arg(own_patience(alloc))
+        .arg(own_patience(alloc))?
+        .arg(own_trace(alloc))
 }
 
 /// What `listen` is asked for by the values of its options.
@@ -60,5 +63,6 @@ pub(super) fn listen_read<'a>(matches: &ArgMatches<'a>) -> Listen<'a>
         address: given(matches, "address"),
         sessions: number(matches, "sessions"),
         patience: number(matches, "patience"),
+        trace: value_of(matches, "trace"),
     }
 }

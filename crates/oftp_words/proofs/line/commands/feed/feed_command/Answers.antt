@@ -11,5 +11,6 @@ returns c =
     let book = c.in_ok-arg-2.ensures.shape c.needed.ensures.local ∙ ap₂ with_rule database c.needed.ensures.rule in
     let role = c.in_ok-arg-3.ensures.shape c.defaulted.ensures.local ∙ ap₂ with_rule book c.defaulted.ensures.rule in
     let partner = c.in_ok-arg-4.ensures.shape c.optional-2.ensures.local ∙ ap₂ with_rule role c.optional-2.ensures.rule in
-    let input = c.in_ok-arg-5.ensures.shape c.word.ensures.local ∙ ap₂ with_rule partner c.word.ensures.rule in
-    IfOk-weaker c.arg-6.result _ _ (λ d h. h.shape c.word-2.ensures.local ∙ ap₂ with_rule input c.word-2.ensures.rule) c.arg-6.ensures
+    let trace = c.in_ok-arg-5.ensures.shape c.own_trace.ensures.local ∙ ap₂ with_rule partner c.own_trace.ensures.rule in
+    let input = c.in_ok-arg-6.ensures.shape c.word.ensures.local ∙ ap₂ with_rule trace c.word.ensures.rule in
+    IfOk-weaker c.arg-7.result _ _ (λ d h. h.shape c.word-2.ensures.local ∙ ap₂ with_rule input c.word-2.ensures.rule) c.arg-7.ensures

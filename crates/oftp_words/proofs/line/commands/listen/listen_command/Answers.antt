@@ -12,4 +12,5 @@ returns c =
     let port = c.in_ok-arg-3.ensures.shape c.own_port.ensures.local ∙ ap₂ with_rule book c.own_port.ensures.rule in
     let address = c.in_ok-arg-4.ensures.shape c.own_address.ensures.local ∙ ap₂ with_rule port c.own_address.ensures.rule in
     let sessions = c.in_ok-arg-5.ensures.shape c.callers.ensures.local ∙ ap₂ with_rule address c.callers.ensures.rule in
-    IfOk-weaker c.arg-6.result _ _ (λ d h. h.shape c.own_patience.ensures.local ∙ ap₂ with_rule sessions c.own_patience.ensures.rule) c.arg-6.ensures
+    let patience = c.in_ok-arg-6.ensures.shape c.own_patience.ensures.local ∙ ap₂ with_rule sessions c.own_patience.ensures.rule in
+    IfOk-weaker c.arg-7.result _ _ (λ d h. h.shape c.own_trace.ensures.local ∙ ap₂ with_rule patience c.own_trace.ensures.rule) c.arg-7.ensures

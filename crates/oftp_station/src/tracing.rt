@@ -1,0 +1,137 @@
+//! Traces: what goes over a connection, appended to a file in words. No session knows of them.
+
+use crate::transcript::Transcript;
+use jiff::Timestamp;
+use oftp_engine::End;
+use oftp_words::{Fault, Outcome};
+use std::fmt;
+use std::fs::{File, OpenOptions};
+use std::io::{self, Read, Write};
+
+/// A file to which lines are appended, each behind the time. A line that can't be written is lost, and nothing else.
+#[derive(Drop)]
+pub struct Trace<'a> {
+    rt: &'a HostRuntime,
+    file: File,
+}
+
+impl<'a> Trace<'a> {
+    /// The trace in a file, which is made where it isn't there.
+    ///
+    /// # Errors
+    /// The file can't be made or written.
+    pub fn open(rt: &'a HostRuntime, path: &str) -> Result<Trace<'a>, Fault> {
+        match OpenOptions::new().append(true).create(true).open(rt, path) {
+            Ok(file) => Ok(Trace { rt, file }),
+            Err(_) => Err(Fault::File),
+        }
+    }
+
+    /// Appends the line of a session's end.
+    pub fn tell_end(&self, ended: &Result<End, Fault>) {
+        match ended {
+            Ok(end) => self.tell(&Outcome::Ended(*end)),
+            Err(fault) => self.tell(fault),
+        }
+    }
+
+    /// Appends a line.
+    pub fn tell<L: fmt::Display>(&self, line: &L) {
+        if let Some(time) = self.time() {
+            if let Ok(text) = format!(in self.rt.alloc(); "{time} {line}\n") {
+                self.put(text.as_str());
+            }
+        }
+    }
+
+    /// The time, where the clock tells it.
+    fn time(&self) -> Option<Timestamp> {
+        Timestamp::now(self.rt).ok()
+    }
+
+    /// Appends lines at once.
+    fn put(&self, lines: &str) {
+        let mut file = &self.file;
+        let _ = file.write_all(lines.as_bytes());
+    }
+}
+
+/// The reader or the writer of a session, and the trace of what goes through it, where one is kept.
+#[derive(Drop)]
+pub struct Traced<'a, S> {
+    stream: S,
+    way: Option<Way<'a>>,
+}
+
+/// One direction of a session: the trace, the mark in front of its lines, and what was told of it.
+#[derive(Drop)]
+struct Way<'a> {
+    trace: &'a Trace<'a>,
+    mark: &'static str,
+    transcript: Transcript,
+}
+
+impl<'a, S> Traced<'a, S> {
+    /// What the partner sends.
+    pub fn reader(stream: S, trace: Option<&'a Trace<'a>>) -> Traced<'a, S> {
+        Traced::new(stream, trace, "<")
+    }
+
+    /// What the partner is sent.
+    pub fn writer(stream: S, trace: Option<&'a Trace<'a>>) -> Traced<'a, S> {
+        Traced::new(stream, trace, ">")
+    }
+
+    /// A stream with a mark in front of its lines.
+    fn new(stream: S, trace: Option<&'a Trace<'a>>, mark: &'static str) -> Traced<'a, S> {
+        let way = trace.map(|trace| Way {
+            trace,
+            mark,
+            transcript: Transcript::new(trace.rt.alloc()),
+        });
+        Traced { stream, way }
+    }
+
+    /// Tells the trace what went through.
+    fn tell(&mut self, piece: &[u8]) {
+        if let Some(way) = &mut self.way {
+            way.tell(piece);
+        }
+    }
+}
+
+impl Way<'_> {
+    /// Appends the lines of a piece. Where memory runs out they are lost.
+    fn tell(&mut self, piece: &[u8]) {
+        let alloc = self.trace.rt.alloc();
+        let Some(time) = self.trace.time() else {
+            return;
+        };
+        let Ok(head) = format!(in alloc; "{time} {} ", self.mark) else {
+            return;
+        };
+        let mut lines = String::new(alloc);
+        let _ = self.transcript.take(piece, head.as_str(), &mut lines);
+        self.trace.put(lines.as_str());
+    }
+}
+
+impl<S: Read> Read for Traced<'_, S> {
+    fn read(&mut self, piece: &mut [u8]) -> io::Result<usize> {
+        let count = self.stream.read(piece)?;
+        self.tell(&piece[..count]);
+        Ok(count)
+    }
+}
+
+impl<S: Write> Write for Traced<'_, S> {
+    fn write(&mut self, piece: &[u8]) -> io::Result<usize> {
+        let count = self.stream.write(piece)?;
+        self.tell(&piece[..count]);
+        Ok(count)
+    }
+
+    fn flush(&mut self) -> io::Result<()> {
+        self.stream.flush()
+    }
+}
