@@ -28,6 +28,7 @@ pub(super) fn show_command<'a>(alloc: Global) -> Result<Command<'a>, AllocError>
 }
 
 /// What `show` is asked for by the values of its options and words.
+#[tactic(auto, using(crate::proofs::Values::has_text), unfolding(crate::specs::ShowLine::show_app))]
 pub(super) fn show_read<'a>(matches: &ArgMatches<'a>) -> Show<'a>
     requires { HasValues show_app (rows_of (found_of matches.now)) }
     ensures { show_said result ≡ show_with (rows_of (found_of matches.now)) }
