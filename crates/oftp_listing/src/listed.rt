@@ -22,31 +22,43 @@ use oftp_register::{
 use serde_json::Value;
 use std::alloc::{AllocError, Global};
 
-/// Entries of one kind. A number that an entry hasn't is shown with it: how many octets the rows of a file have, or which file a
-/// response answers.
+/// Entries of one kind. With each a number is shown that it doesn't have itself: how many octets the rows of a file have, or which
+/// file a response answers.
 pub(crate) trait Listed: Sized {
+    // all of a register, in order of number
     ghost entries: { Register → List Self };
 
+    // the number that is shown with one
     ghost beside: { Register → Self → ℕ };
 
+    // the object of one with its number
     ghost object: { Self → ℕ → Data };
 
+    // the fields of its line
     ghost fields: { Self → ℕ → List (List ℕ) };
 
     /// All of them, in order of number.
     fn list<O: Office>(office: &mut O) -> Result<Vec<Self>, OfficeFault>
         ensures looks { LooksUp (λ r told. told.items ≡ entries r) (O.view office.old) (O.view office.new) result };
 
-    /// The number beside an entry.
+    /// The number that is shown with an entry.
     fn ask_beside<O: Office>(&self, office: &mut O) -> Result<u64, OfficeFault>
         ensures looks { LooksUp (λ r number. number ≡ beside r self.now) (O.view office.old) (O.view office.new) result };
 
     /// Its object in the listing.
+    ///
+    /// # Errors
+    ///
+    /// A growth was refused.
     fn to_object(&self, alloc: Global, number: u64) -> Result<Value, AllocError>
         ensures object { IfOk result (λ value. view value ≡ object self.now number) }
         ensures integers { IfOk result (λ value. has_float (view value) ≡ false) };
 
     /// Its line in a report.
+    ///
+    /// # Errors
+    ///
+    /// [`ListFault::Memory`]: a growth was refused.
     fn to_line(&self, alloc: Global, number: u64) -> Result<Vec<u8>, ListFault>
         ensures text { IfOk result (λ text. text.items ≡ line (fields self.now number)) }
         ensures fault { IfErr result (λ fault. fault ≡ Memory) };
@@ -104,7 +116,7 @@ impl Listed for OutgoingEntry {
     }
 }
 
-// Nothing is shown beside an issued response.
+// Nothing more is shown with an issued response.
 impl Listed for IssuedEntry {
     ghost entries = { list_issued };
 

@@ -77,15 +77,12 @@ fn head(alloc: Global, status: StatusCode, body_length: &str) -> Result<Vec<u8>,
 pub(crate) fn body_reply(alloc: Global, body: Vec<u8>) -> Result<Reply, AllocError>
     ensures { IfOk result (λ reply. reply ≡ reply_text 200 body.items) }
 {
-    let body_length = body.len();
-    let head = head(
-        alloc,
-        StatusCode::OK,
-        body_length.to_string(alloc)?.as_str(),
-    )?;
+    let length = body.len();
+    let decimal = length.to_string(alloc)?;
+    let head = head(alloc, StatusCode::OK, decimal.as_str())?;
     let mut octets = body;
     octets.extend_from_slice(head.as_slice())?;
-    octets.rotate_left(body_length);
+    octets.rotate_left(length);
     Ok(Reply { octets })
 }
 

@@ -1,5 +1,4 @@
-use Rattle.std.proofs.Common.{◌∙◌, ap, arith, take}
-use Rattle.serde_json.specs.Written.{comma_if, compact_text}
+use Rattle.std.proofs.Common.{◌∙◌, arith}
 use Rattle.oftp_listing.proofs.Listings.{listing_finds, listing_on, listing_shows, take_next}
 use Rattle.oftp_listing.proofs.listing.add_list.Goals as goal
 
