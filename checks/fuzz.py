@@ -31,12 +31,12 @@ import play_rows
 import tables
 
 PROGRAM = play_rows.PROGRAM
-STATION = "O0013SUPPLIER"
+STATIONS = ["O0013SUPPLIER"] * 30 + ["O0013"]
 PARTNERS = {"O0177CARMAKER": "CARPW", "O0099OTHER": "", "A-(B&C)/D.9": "12345678"}
 SIZES = [0, 1, 2, 62, 63, 64, 65, 125, 126, 127, 250, 1023, 1024, 1025, 2047, 2048, 2049, 2500, 5000]
 RECORDS = [1, 2, 3, 3, 10, 62, 63, 64, 65, 127, 128, 300, 2000, 16384]
 # How often a session breaks in a phase.
-BREAKS = {"receives": 0.05, "sends": 0.06, "awaits EFPA": 0.2, "awaits RTR": 0.1, "offers": 0.05}
+BREAKS = {"receives": 0.05, "sends": 0.1, "awaits EFPA": 0.2, "awaits RTR": 0.1, "offers": 0.05}
 TEXTS = ["", "", "", "OK", "NO PLANT", "ü€\U0001f600", "a" * 999, "€" * 333, "\n\x1b[2J\x7f", "'; DROP TABLE in_file; --"]
 # What has to come about in so many sessions: each step of the step tables, these answers and turns, and these changes of a file's state.
 ENOUGH = 3000
@@ -60,11 +60,11 @@ class Differs(Exception):
 class Partner:
     """The other side of a session. It follows the model of the station, but for its mistakes."""
 
-    def __init__(self, chance, session, code, is_called):
+    def __init__(self, chance, session, code):
         self.chance = chance
         self.session = session
         self.code = code
-        self.is_called = is_called
+        self.station = session.book["code"]
         self.mistakes = chance.choice([0, 0, 0, 0.02, 0.1])
         self.patience = chance.choice([3, 10, 30, 80])
         self.left = 0
@@ -136,8 +136,9 @@ class Partner:
         else:
             file = {**self.names(), "format": chance.choice("FVUT"), "longest": chance.choice(RECORDS), "rows": []}
             file["longest"] *= file["format"] in "FV"
-        if chance.random() < 0.05:
-            file = {**file, "format": chance.choice("FV"), "longest": chance.choice([0, 3, 16384, 16385, 99999])}
+        if chance.random() < 0.08:
+            file = {**file, "format": chance.choice(["F", "V", file["format"]]), "longest": chance.choice([0, 3, 64, 16384, 16385, 99999])}
+            file["longest"] *= file["format"] in "FV"
         kept = len(file["rows"])
         names = {name: file[name] for name in ("dataset", "date", "time", "format", "longest")}
         self.left = chance.choice([0, 1, 2, 3, 8, 20])
@@ -147,7 +148,7 @@ class Partner:
         return self.spell(
             "SFID",
             **names,
-            destination=STATION if chance.random() < 0.98 else self.code,
+            destination=self.station if chance.random() < 0.98 else self.code,
             originator=self.code if chance.random() < 0.98 else chance.choice(["", *PARTNERS]),
             restart=chance.choice([0, kept, kept, kept + 1, max(kept - 1, 0), 99999999999999999]),
             description=chance.choice(TEXTS),
@@ -159,7 +160,7 @@ class Partner:
         sent = [file for file in self.session.register.out_file if file["destination"] == self.code]
         file = chance.choice(sent) if sent and chance.random() < 0.8 else self.names()
         names = {name: file[name] for name in ("dataset", "date", "time")}
-        destination = STATION if chance.random() < 0.98 else chance.choice(["", "O0013SUPPLIE", self.code])
+        destination = self.station if chance.random() < 0.98 else chance.choice(["", "O0013SUPPLIE", self.code])
         return self.spell(kind, **names, destination=destination, originator=self.code, **said)
 
     def eerp(self):
@@ -238,7 +239,7 @@ def change_field(chance, command):
     old, size = command[begin:end], end - begin
     new = {
         "const": [b"?" * size, old.lower()],
-        "name": [b" " * size, b"A" * size, b" " * (size - 1) + b"A", old.lower(), old[:-1] + b"\xff", old[:-1] + b"\0", STATION.encode().ljust(size)[:size]],
+        "name": [b" " * size, b"A" * size, b" " * (size - 1) + b"A", old.lower(), old[:-1] + b"\xff", old[:-1] + b"\0", STATIONS[0].encode().ljust(size)[:size]],
         "letter": [letter.encode() for letter in "YNSRBFVUTyn 0"] + [b"\0", b"\xff"],
         "nothing": [b"\0\1", b"\1\0", b"\xff\xff", b"  "],
         "return": [b"\r", b"\x8d", b"\n", b" "],
@@ -322,17 +323,19 @@ class Life:
     def take_book(self):
         chance = self.chance
         partners = {code: {"expects": password, "sends": chance.choice(["SUPPW", ""])} for code, password in PARTNERS.items()}
+        if chance.random() < 0.05:
+            del partners[chance.choice(list(PARTNERS))]
         for partner in partners.values():
             partner["mode"] = "B" if chance.random() < 0.9 else chance.choice("SR")
         buffer, credit = chance.choice([128, 128, 129, 130, 192, 1025, 2048, 16384]), chance.choice([1, 1, 2, 2, 3, 7, 99])
-        self.book = {"code": STATION, "buffer": buffer, "credit": credit, "restart": chance.choice("YYYYYN"), "partners": partners}
-        lines = [f"[station]\ncode = '{STATION}'\nbuffer = {buffer}\ncredit = {credit}\nrestart = {str(self.book['restart'] == 'Y').lower()}\n"]
+        self.book = {"code": chance.choice(STATIONS), "buffer": buffer, "credit": credit, "restart": chance.choice("YYYYYN"), "partners": partners}
+        lines = [f"[station]\ncode = '{self.book['code']}'\nbuffer = {buffer}\ncredit = {credit}\nrestart = {str(self.book['restart'] == 'Y').lower()}\n"]
         for code, partner in partners.items():
             words = "".join(f"{name} = '{value}'\n" for name, value in {"code": code, **partner, "address": "127.0.0.1:1"}.items())
             lines.append(f"\n[[partner]]\n{words}")
         (self.room / "book").write_text("".join(lines))
         modes = " ".join(partner["mode"] for partner in partners.values())
-        self.told.append(f"the book: buffer {buffer}, credit {credit}, restart {self.book['restart']}, modes {modes}")
+        self.told.append(f"the book: {self.book['code']}, {len(partners)} partners, buffer {buffer}, credit {credit}, restart {self.book['restart']}, modes {modes}")
 
     def give(self, *words, **how):
         return subprocess.run([PROGRAM, *words], capture_output=True, check=False, timeout=60, cwd=self.room, **how)
@@ -343,8 +346,8 @@ class Life:
         """A session over the database, where there is one; over an empty register it is held in memory too."""
         chance = self.chance
         code = chance.choice([*PARTNERS] + [*PARTNERS][:1] * 4)
-        called = code if chance.random() < (0.5 if database else 0.1) else None
-        partner = Partner(chance, model.Session(self.book, copy.deepcopy(self.register), called), code, bool(called))
+        called = code if code in self.book["partners"] and chance.random() < (0.5 if database else 0.1) else None
+        partner = Partner(chance, model.Session(self.book, copy.deepcopy(self.register), called), code)
         frames = [oftp.frame(command) for command in partner.talk()]
         for _ in range(chance.choice([0, 0, 0, 0, 0, 1, 1, 3])):
             frames = change(chance, partner, frames) if frames else frames
