@@ -107,7 +107,7 @@ class Broken:
 def places(octets, every):
     """Each Nth octet, and those about the ends of frames."""
     ends = list(itertools.accumulate(len(frame) for frame in oftp.frames_of(octets)))
-    near = {end + step for end in ends for step in (-1, 0, 1)}
+    near = {end + step for end in ends for step in (-1, 0, 1, 2)}
     return sorted(place for place in near | {*range(0, len(octets), every)} if place < len(octets))
 
 

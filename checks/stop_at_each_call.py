@@ -131,7 +131,9 @@ class Command:
         if told == "fault: 7 file\n" and self.name != "fetch":
             raise Wrong("no file is made")
         if told == "fault: 3 office\n" and isinstance(self.act, Session):
-            out = without_end(out, self.whole)
+            if not out.endswith(NO_RESOURCES):
+                raise Wrong("the partner isn't told by ESID 08")
+            out = out[: -len(NO_RESOURCES)]
         if not self.whole.startswith(out) or not self.line.startswith(line):
             raise Wrong(f"what came out begins no whole answer: {len(out)} octets, {line!r}")
         if left not in self.allowed(line, out):
@@ -172,14 +174,6 @@ class InMemory(Command):
     def judge_next(self, room, left):
         if self.run(room, {}) != (self.line, self.whole, (0, ""), self.left):
             raise Wrong("with ample memory it doesn't end as always")
-
-
-def without_end(out, whole):
-    """The octets before an ESID 08, or before a beginning of one."""
-    for size in range(len(NO_RESOURCES), 0, -1):
-        if out.endswith(NO_RESOURCES[:size]) and whole.startswith(out[:-size]):
-            return out[:-size]
-    return out
 
 
 def commands_of(name, file, room):
