@@ -130,7 +130,7 @@ class Register:
         """The rows of the tables that stand for it."""
         files = ("in_file", "out_file")
         found = {table: [without(entry, "rows") for entry in getattr(self, table)] for table in files}
-        found["issued"] = sorted(self.issued, key=lambda entry: entry["no"])
+        found["issued"] = sorted(({**entry} for entry in self.issued), key=lambda entry: entry["no"])
         found["received"] = [without(entry, "creator", "note") for entry in self.received]
         noted = [entry for entry in self.received if entry["kind"] == "NERP"]
         found["received_note"] = [{name: entry[name] for name in ("no", "creator", "note")} for entry in noted]
