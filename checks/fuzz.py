@@ -33,10 +33,10 @@ import tables
 PROGRAM = play_rows.PROGRAM
 STATIONS = ["O0013SUPPLIER"] * 30 + ["O0013"]
 PARTNERS = {"O0177CARMAKER": "CARPW", "O0099OTHER": "", "A-(B&C)/D.9": "12345678"}
-SIZES = [0, 1, 2, 62, 63, 64, 65, 125, 126, 127, 250, 1023, 1024, 1025, 2047, 2048, 2049, 2500, 5000]
+SIZES = [0, 1, 2, 62, 63, 64, 65, 125, 126, 127, 250, 1023, 1024, 1025, 2047, 2048, 2049, 2500, 2500, 3000, 4096, 5000]
 RECORDS = [1, 2, 3, 3, 10, 62, 63, 64, 65, 127, 128, 300, 2000, 16384]
 # How often a session breaks in a phase.
-BREAKS = {"receives": 0.05, "sends": 0.1, "awaits EFPA": 0.2, "awaits RTR": 0.1, "offers": 0.05}
+BREAKS = {"receives": 0.08, "sends": 0.1, "awaits EFPA": 0.3, "awaits RTR": 0.1, "offers": 0.05}
 TEXTS = ["", "", "", "OK", "NO PLANT", "ü€\U0001f600", "a" * 999, "€" * 333, "\n\x1b[2J\x7f", "'; DROP TABLE in_file; --"]
 # What has to come about in so many sessions: each step of the step tables, these answers and turns, and these changes of a file's state.
 ENOUGH = 3000
@@ -46,7 +46,7 @@ REFUSALS = [f"{kind} {reason}" for kind, reasons in REASONS.items() for reason i
 CHANGES = [
     *("EFID: open to whole", "SFPA: waiting to closing", "SFPA: closing to waiting", "CDT: waiting to closing", "EFPA: closing to handed"),
     *("SFNA: closing to handed", "SFNA: waiting to refused", "SFNA: closing to refused", "EFNA: closing to waiting"),
-    *("EERP: closing to delivered", "EERP: handed to delivered", "NERP: closing to returned", "NERP: handed to returned"),
+    *("EERP: handed to delivered", "NERP: handed to returned"),
 ]
 WANTED = {*(f"{phase}: {kind}" for phase, kind in model.STEPS), *TURNS, *REFUSALS, *CHANGES}
 
@@ -120,7 +120,7 @@ class Partner:
             buffer=chance.choice([128, 129, 190, 193, 500, 2048, 2048, 16384, 99999]),
             credit=chance.choice([1, 1, 1, 2, 2, 3, 5, 99, 999]),
             mode="B" if chance.random() < 0.9 else chance.choice("SR"),
-            restart=chance.choice("YYYYYYN"),
+            restart=chance.choice("YYYYN"),
             level=5 if agreed else chance.choice([4, 5, 9]),
             **other,
         )
@@ -140,12 +140,13 @@ class Partner:
         else:
             file = {**self.names(), "format": chance.choice("FVUT"), "longest": chance.choice(RECORDS), "rows": []}
             file["longest"] *= file["format"] in "FV"
-        if chance.random() < 0.12:
-            file = {**file, "format": chance.choice(["F", "V", file["format"]]), "longest": chance.choice([0, 3, 64, 16384, 16385, 99999])}
+        if chance.random() < 0.15:
+            other = [file["format"]] * 2 + ["F", "V"]
+            file = {**file, "format": chance.choice(other), "longest": chance.choice([0, 1, 3, 64, 300, 16384, 16385, 99999])}
             file["longest"] *= file["format"] in "FV"
         kept = len(file["rows"])
         names = {name: file[name] for name in ("dataset", "date", "time", "format", "longest")}
-        self.left = chance.choice([0, 1, 2, 3, 8, 20])
+        self.left = chance.choice([0, 1, 2, 3, 8, 20, 20])
         asked = {"size": chance.choice([65536, 65537])} if chance.random() < 0.03 else {}
         if chance.random() < 0.03:
             asked[chance.choice(["security", "cipher"])] = "01"
@@ -180,7 +181,7 @@ class Partner:
         self.left -= 1
         form, longest = self.session.taker.file["format"], self.session.taker.file["longest"]
         size = len(self.session.taker.tail)
-        most = chance.choice([1, 2, 65, 127, min(self.session.buffer, 3000) - 1, min(self.session.buffer, 3000) - 1])
+        most = chance.choice([1, 2, 65, 127] + [min(self.session.buffer, 3000) - 1] * 4)
         payload, is_last = b"", False
         while len(payload) < most and not is_last and chance.random() < 0.97:
             room = min(63, most - len(payload) - 1, longest - size if form in "FV" else 63)
@@ -193,7 +194,9 @@ class Partner:
             payload += bytes([count | (0x80 if is_last else 0)]) + chance.randbytes(count)
             size = 0 if is_last else size + count
             is_last = is_last and (form in "UT" or (self.left <= 0 and chance.random() < 0.5))
-        return self.spell("DATA", payload=payload if len(payload) < self.session.buffer else b"")
+        if chance.random() < 0.02:
+            payload = b"\x80" * chance.choice([self.session.buffer - 1, self.session.buffer])
+        return self.spell("DATA", payload=payload)
 
     def efid(self):
         taker = self.session.taker
@@ -209,7 +212,8 @@ class Partner:
 
     def sfna(self):
         chance = self.chance
-        if chance.random() < 0.5:
+        is_closing = self.session.phase == "offers" and self.session.file["state"] == "closing"
+        if chance.random() < 0.6 and not is_closing:
             return self.sfpa()
         return self.spell("SFNA", reason=chance.choice(["13", "13", "02", "99"]), retry=chance.choice("YN"), text=chance.choice(TEXTS))
 
@@ -335,7 +339,7 @@ class Life:
         for partner in partners.values():
             partner["mode"] = "B" if chance.random() < 0.9 else chance.choice("SR")
         buffer, credit = chance.choice([128, 128, 129, 130, 192, 1025, 2048, 16384]), chance.choice([1, 1, 2, 2, 3, 7, 99])
-        code, restart = chance.choice(STATIONS), chance.choice("YYYYYN")
+        code, restart = chance.choice(STATIONS), chance.choice("YYYYN")
         self.book = {"code": code, "buffer": buffer, "credit": credit, "restart": restart, "partners": partners}
         word = "true" if restart == "Y" else "false"
         lines = [f"[station]\ncode = '{code}'\nbuffer = {buffer}\ncredit = {credit}\nrestart = {word}\n"]
