@@ -31,23 +31,24 @@ import play_rows
 import tables
 
 PROGRAM = play_rows.PROGRAM
-STATION = "O0013SUPPLIER"
+STATIONS = ["O0013SUPPLIER"] * 30 + ["O0013"]
 PARTNERS = {"O0177CARMAKER": "CARPW", "O0099OTHER": "", "A-(B&C)/D.9": "12345678"}
-SIZES = [0, 1, 2, 62, 63, 64, 65, 125, 126, 127, 250, 1023, 1024, 1025, 2047, 2048, 2049, 2500, 5000]
+SIZES = [0, 1, 2, 62, 63, 64, 65, 125, 126, 127, 250, 1023, 1024, 1025, 2047, 2048, 2049, 2500, 2500, 3000, 4096, 5000]
 RECORDS = [1, 2, 3, 3, 10, 62, 63, 64, 65, 127, 128, 300, 2000, 16384]
 # How often a session breaks in a phase.
-BREAKS = {"receives": 0.05, "sends": 0.06, "awaits EFPA": 0.2, "awaits RTR": 0.1, "offers": 0.05}
+BREAKS = {"receives": 0.08, "sends": 0.1, "awaits EFPA": 0.3, "awaits RTR": 0.1, "offers": 0.05}
 TEXTS = ["", "", "", "OK", "NO PLANT", "ü€\U0001f600", "a" * 999, "€" * 333, "\n\x1b[2J\x7f", "'; DROP TABLE in_file; --"]
 # What has to come about in so many sessions: each step of the step tables, these answers and turns, and these changes of a file's state.
 ENOUGH = 3000
-TURNS = ["SSRM", "SSID", "SFPA", "SFPA later", "CDT", "EFPA N", "EFPA Y", "EFNA 10", "EFNA 11", "RTR", "EERP", "NERP 09", "SFID", "SFID later"]
-REFUSALS = [*(f"SFNA {reason}" for reason in "01 02 03 05 06 13 14 99".split()), *(f"ESID {reason}" for reason in "01 02 03 04 06 07 10 12".split())]
+REASONS = {"SFNA": "01 02 03 05 06 13 14 99", "ESID": "01 02 03 04 06 07 10 12"}
+TURNS = "SSRM,SSID,SFPA,SFPA later,DATA,CDT,EFID,EFPA N,EFPA Y,EFNA 10,EFNA 11,RTR,EERP,NERP 09,SFID,SFID later,CD,ESID 00".split(",")
+REFUSALS = [f"{kind} {reason}" for kind, reasons in REASONS.items() for reason in reasons.split()]
 CHANGES = [
     *("EFID: open to whole", "SFPA: waiting to closing", "SFPA: closing to waiting", "CDT: waiting to closing", "EFPA: closing to handed"),
     *("SFNA: closing to handed", "SFNA: waiting to refused", "SFNA: closing to refused", "EFNA: closing to waiting"),
-    *("EERP: closing to delivered", "EERP: handed to delivered", "NERP: closing to returned", "NERP: handed to returned"),
+    *("EERP: handed to delivered", "NERP: handed to returned"),
 ]
-WANTED = {*(f"{phase}: {kind}" for phase, kind in model.STEPS), *TURNS, "DATA", "EFID", "CD", "ESID 00", *REFUSALS, *CHANGES}
+WANTED = {*(f"{phase}: {kind}" for phase, kind in model.STEPS), *TURNS, *REFUSALS, *CHANGES}
 
 
 class Differs(Exception):
@@ -60,11 +61,11 @@ class Differs(Exception):
 class Partner:
     """The other side of a session. It follows the model of the station, but for its mistakes."""
 
-    def __init__(self, chance, session, code, is_called):
+    def __init__(self, chance, session, code):
         self.chance = chance
         self.session = session
         self.code = code
-        self.is_called = is_called
+        self.station = session.book["code"]
         self.mistakes = chance.choice([0, 0, 0, 0.02, 0.1])
         self.patience = chance.choice([3, 10, 30, 80])
         self.left = 0
@@ -89,7 +90,10 @@ class Partner:
             kinds = ["SFID"] * 5 + ["EERP"] * 2 + ["NERP"] * 2 + ["CD"] * 3 + ["ESID"]
         elif self.session.phase == "receives":
             kinds = ["DATA" if self.left > 0 or self.session.taker.is_open else "EFID"]
-        return getattr(self, kind.lower())() if (kind := self.chance.choice(kinds)) not in ("CD", "RTR", "CDT", "SSRM") else self.spell(kind)
+        return self.command(self.chance.choice(kinds))
+
+    def command(self, kind):
+        return getattr(self, kind.lower(), lambda: self.spell(kind))()
 
     def any_command(self):
         kind = self.chance.choice([*oftp.KINDS, "?"])
@@ -97,7 +101,7 @@ class Partner:
             return self.chance.randbytes(self.chance.choice([1, 2, 3, 18, 19, 110, 165, 200]))
         if kind in ("DATA", "EFID") and self.session.phase != "receives":
             return self.spell(kind, payload=b"\x80") if kind == "DATA" else self.spell(kind, records=0, units=0)
-        return getattr(self, kind.lower(), lambda: self.spell(kind))()
+        return self.command(kind)
 
     def mistake(self):
         command = self.chance.choice([self.any_command, self.next_command])()
@@ -116,7 +120,7 @@ class Partner:
             buffer=chance.choice([128, 129, 190, 193, 500, 2048, 2048, 16384, 99999]),
             credit=chance.choice([1, 1, 1, 2, 2, 3, 5, 99, 999]),
             mode="B" if chance.random() < 0.9 else chance.choice("SR"),
-            restart=chance.choice("YYYYYYN"),
+            restart=chance.choice("YYYYN"),
             level=5 if agreed else chance.choice([4, 5, 9]),
             **other,
         )
@@ -132,22 +136,24 @@ class Partner:
         known = [file for file in self.session.register.in_file if file["originator"] == self.code]
         begun = [file for file in known if file["state"] == "open"]
         if known and chance.random() < (0.7 if begun else 0.2):
-            file = chance.choice(begun or known)
+            file = chance.choice([file for file in begun if file["rows"]] or begun or known)
         else:
             file = {**self.names(), "format": chance.choice("FVUT"), "longest": chance.choice(RECORDS), "rows": []}
             file["longest"] *= file["format"] in "FV"
-        if chance.random() < 0.05:
-            file = {**file, "format": chance.choice("FV"), "longest": chance.choice([0, 3, 16384, 16385, 99999])}
+        if chance.random() < 0.15:
+            other = [file["format"]] * 2 + ["F", "V"]
+            file = {**file, "format": chance.choice(other), "longest": chance.choice([0, 1, 3, 64, 300, 16384, 16385, 99999])}
+            file["longest"] *= file["format"] in "FV"
         kept = len(file["rows"])
         names = {name: file[name] for name in ("dataset", "date", "time", "format", "longest")}
-        self.left = chance.choice([0, 1, 2, 3, 8, 20])
+        self.left = chance.choice([0, 1, 2, 3, 8, 20, 20])
         asked = {"size": chance.choice([65536, 65537])} if chance.random() < 0.03 else {}
         if chance.random() < 0.03:
             asked[chance.choice(["security", "cipher"])] = "01"
         return self.spell(
             "SFID",
             **names,
-            destination=STATION if chance.random() < 0.98 else self.code,
+            destination=self.station if chance.random() < 0.98 else self.code,
             originator=self.code if chance.random() < 0.98 else chance.choice(["", *PARTNERS]),
             restart=chance.choice([0, kept, kept, kept + 1, max(kept - 1, 0), 99999999999999999]),
             description=chance.choice(TEXTS),
@@ -159,7 +165,7 @@ class Partner:
         sent = [file for file in self.session.register.out_file if file["destination"] == self.code]
         file = chance.choice(sent) if sent and chance.random() < 0.8 else self.names()
         names = {name: file[name] for name in ("dataset", "date", "time")}
-        destination = STATION if chance.random() < 0.98 else chance.choice(["", "O0013SUPPLIE", self.code])
+        destination = self.station if chance.random() < 0.98 else chance.choice(["", "O0013SUPPLIE", self.code])
         return self.spell(kind, **names, destination=destination, originator=self.code, **said)
 
     def eerp(self):
@@ -175,7 +181,7 @@ class Partner:
         self.left -= 1
         form, longest = self.session.taker.file["format"], self.session.taker.file["longest"]
         size = len(self.session.taker.tail)
-        most = chance.choice([1, 2, 65, 127, min(self.session.buffer, 3000) - 1, min(self.session.buffer, 3000) - 1])
+        most = chance.choice([1, 2, 65, 127] + [min(self.session.buffer, 3000) - 1] * 4)
         payload, is_last = b"", False
         while len(payload) < most and not is_last and chance.random() < 0.97:
             room = min(63, most - len(payload) - 1, longest - size if form in "FV" else 63)
@@ -188,7 +194,9 @@ class Partner:
             payload += bytes([count | (0x80 if is_last else 0)]) + chance.randbytes(count)
             size = 0 if is_last else size + count
             is_last = is_last and (form in "UT" or (self.left <= 0 and chance.random() < 0.5))
-        return self.spell("DATA", payload=payload if len(payload) < self.session.buffer else b"")
+        if chance.random() < 0.02:
+            payload = b"\x80" * chance.choice([self.session.buffer - 1, self.session.buffer])
+        return self.spell("DATA", payload=payload)
 
     def efid(self):
         taker = self.session.taker
@@ -203,9 +211,11 @@ class Partner:
         return self.spell("SFPA", count=chance.choice([offered] * 10 + [0, chance.randint(0, offered), max(offered - 1, 0), offered + 1]))
 
     def sfna(self):
-        if self.chance.random() < 0.5:
+        chance = self.chance
+        is_closing = self.session.phase == "offers" and self.session.file["state"] == "closing"
+        if chance.random() < 0.6 and not is_closing:
             return self.sfpa()
-        return self.spell("SFNA", reason=self.chance.choice(["13", "13", "02", "99"]), retry=self.chance.choice("YN"), text=self.chance.choice(TEXTS))
+        return self.spell("SFNA", reason=chance.choice(["13", "13", "02", "99"]), retry=chance.choice("YN"), text=chance.choice(TEXTS))
 
     def efpa(self):
         return self.spell("EFPA", change=self.chance.choice("NNNY"))
@@ -229,22 +239,24 @@ def change_field(chance, command):
     places = []
     for _, form, size in oftp.KINDS[kind]:
         if form == "payload":
-            return command[:1] + chance.choice([b"", b"\x00", b"\x80", b"\x40", b"\xc1a", b"\x3f", b"\x81ab", chance.randbytes(99)]) + command[1:]
+            more = [b"", b"\x00", b"\x80", b"\x40", b"\xc1a", b"\x3f", b"\x81ab", chance.randbytes(99)]
+            return command[:1] + chance.choice(more) + command[1:]
         places.append((form, at, at + size))
         at += size
         if form == "text" and command[at - size : at].isdigit():
             at += int(command[at - size : at])
     form, begin, end = chance.choice(places)
     old, size = command[begin:end], end - begin
+    station = STATIONS[0].encode().ljust(size)[:size]
     new = {
         "const": [b"?" * size, old.lower()],
-        "name": [b" " * size, b"A" * size, b" " * (size - 1) + b"A", old.lower(), old[:-1] + b"\xff", old[:-1] + b"\0", STATION.encode().ljust(size)[:size]],
+        "name": [b" " * size, b"A" * size, b" " * (size - 1) + b"A", old.lower(), old[:-1] + b"\xff", old[:-1] + b"\0", station],
         "letter": [letter.encode() for letter in "YNSRBFVUTyn 0"] + [b"\0", b"\xff"],
         "nothing": [b"\0\1", b"\1\0", b"\xff\xff", b"  "],
         "return": [b"\r", b"\x8d", b"\n", b" "],
         "reserved": [bytes(size), b"\xff" * size],
     }
-    numbers = [b"0" * size, b"9" * size, b"1".rjust(size, b"0"), b" " * size, b"-1".rjust(size, b"0"), b"+1".rjust(size, b"0"), old[:-1] + b"x"]
+    numbers = [b"0" * size, b"9" * size, b" " * size, old[:-1] + b"x", *(number.rjust(size, b"0") for number in (b"1", b"-1", b"+1"))]
     if old.isdigit():
         numbers += [str(max(int(old) + step, 0)).rjust(size, "0").encode()[-size:] for step in (-1, 1)]
     return command[:begin] + chance.choice(new.get(form, numbers)) + command[end:]
@@ -322,17 +334,22 @@ class Life:
     def take_book(self):
         chance = self.chance
         partners = {code: {"expects": password, "sends": chance.choice(["SUPPW", ""])} for code, password in PARTNERS.items()}
+        if chance.random() < 0.05:
+            del partners[chance.choice(list(PARTNERS))]
         for partner in partners.values():
             partner["mode"] = "B" if chance.random() < 0.9 else chance.choice("SR")
         buffer, credit = chance.choice([128, 128, 129, 130, 192, 1025, 2048, 16384]), chance.choice([1, 1, 2, 2, 3, 7, 99])
-        self.book = {"code": STATION, "buffer": buffer, "credit": credit, "restart": chance.choice("YYYYYN"), "partners": partners}
-        lines = [f"[station]\ncode = '{STATION}'\nbuffer = {buffer}\ncredit = {credit}\nrestart = {str(self.book['restart'] == 'Y').lower()}\n"]
+        code, restart = chance.choice(STATIONS), chance.choice("YYYYN")
+        self.book = {"code": code, "buffer": buffer, "credit": credit, "restart": restart, "partners": partners}
+        word = "true" if restart == "Y" else "false"
+        lines = [f"[station]\ncode = '{code}'\nbuffer = {buffer}\ncredit = {credit}\nrestart = {word}\n"]
         for code, partner in partners.items():
             words = "".join(f"{name} = '{value}'\n" for name, value in {"code": code, **partner, "address": "127.0.0.1:1"}.items())
             lines.append(f"\n[[partner]]\n{words}")
         (self.room / "book").write_text("".join(lines))
         modes = " ".join(partner["mode"] for partner in partners.values())
-        self.told.append(f"the book: buffer {buffer}, credit {credit}, restart {self.book['restart']}, modes {modes}")
+        self.told.append(f"the book: {self.book['code']}, buffer {buffer}, credit {credit}, restart {restart}")
+        self.told.append(f"    {' '.join(partners)}: {modes}")
 
     def give(self, *words, **how):
         return subprocess.run([PROGRAM, *words], capture_output=True, check=False, timeout=60, cwd=self.room, **how)
@@ -343,8 +360,8 @@ class Life:
         """A session over the database, where there is one; over an empty register it is held in memory too."""
         chance = self.chance
         code = chance.choice([*PARTNERS] + [*PARTNERS][:1] * 4)
-        called = code if chance.random() < (0.5 if database else 0.1) else None
-        partner = Partner(chance, model.Session(self.book, copy.deepcopy(self.register), called), code, bool(called))
+        called = code if code in self.book["partners"] and chance.random() < (0.5 if database else 0.1) else None
+        partner = Partner(chance, model.Session(self.book, copy.deepcopy(self.register), called), code)
         frames = [oftp.frame(command) for command in partner.talk()]
         for _ in range(chance.choice([0, 0, 0, 0, 0, 1, 1, 3])):
             frames = change(chance, partner, frames) if frames else frames
@@ -384,7 +401,8 @@ class Life:
         """What went out."""
         for frame in session.out[shown:]:
             kind, fields = oftp.read(frame[4:])
-            detail = fields.get("change") or fields.get("reason") or ("later" if fields.get("count", fields.get("restart")) not in (None, *"0YN") else "")
+            is_later = fields.get("count", fields.get("restart", "0")) not in "0YN"
+            detail = fields.get("change") or fields.get("reason") or ("later" if is_later else "")
             self.steps.update([f"{kind} {detail}".strip()])
             self.told.append(f"    out  {oftp.shown(frame)[:150]}")
 
@@ -423,15 +441,15 @@ class Life:
         if form in "UT":
             content = chance.randbytes(chance.choice(SIZES))
         else:
-            count = chance.choice([0, 1, 2, 3, 10, 64, 65, 150])
-            sizes = [longest if form == "F" else chance.randint(0, chance.choice([0, 3, longest])) for _ in range(min(count, 1 + 6000 // longest))]
+            count = min(chance.choice([0, 1, 2, 3, 10, 64, 65, 150]), 1 + 6000 // longest)
+            sizes = [longest if form == "F" else chance.randint(0, chance.choice([0, 3, longest])) for _ in range(count)]
             content = b"".join((f"{size:05}".encode() if form == "V" else b"") + chance.randbytes(size) for size in sizes)
         names = {"dataset": f"INV.{chance.randint(1, 9)}", "date": "20240201", "time": "0800000001", "description": chance.choice(TEXTS)}
         fields = {**names, "to": chance.choice([*PARTNERS] + [*PARTNERS][:1] * 4), "format": form, "longest": longest}
         if chance.random() < 0.1:
-            wrong = [("dataset", "a"), ("dataset", "A" * 27), ("date", "2024020"), ("time", "080000000X"), ("to", "O0013"), ("longest", 16385)]
-            name, value = chance.choice([*wrong, ("longest", 0), ("longest", 7), ("description", "a" * 1000), ("format", "V")])
-            fields[name] = value
+            wrong = {"dataset": ["a", "A" * 27], "date": ["2024020"], "time": ["080000000X"], "to": ["O0013"], "longest": [0, 7, 16385]}
+            name = chance.choice([*wrong, "description", "format"])
+            fields[name] = chance.choice({**wrong, "description": ["a" * 1000], "format": [*"FVUT"]}[name])
         (self.room / "content").write_bytes(content)
         words = [word for name, value in fields.items() for word in (f"--{name}", str(value))]
         shown = " ".join(f"{name}={str(value)[:40]!r}" for name, value in fields.items())
@@ -446,8 +464,7 @@ class Life:
         elif act == "refuse":
             reason, text = chance.choice(["00", "09", "99"]), chance.choice([*TEXTS, "a" * 1000])
             self.told.append(f"refuse {number} {reason} {text[:40]!r}")
-            refuse = lambda: model.issue(self.register, number, "NERP", reason, text)  # noqa: E731
-            self.compare_line(act, refuse, str(number), str(int(reason)), text, book=True)
+            self.compare_line(act, lambda: model.issue(self.register, number, "NERP", reason, text), str(number), reason, text, book=True)
         else:
             fetched = self.room / "fetched"
             fetched.unlink(missing_ok=True)

@@ -5,6 +5,7 @@ of a file beside them.
 """
 
 import oftp
+import tables
 
 BLOCK = 1024
 MOST_OCTETS = 67_108_864
@@ -127,16 +128,15 @@ class Register:
 
     def tables(self):
         """The rows of the tables that stand for it."""
-        found = {table: [without(entry, "rows", "creator") for entry in getattr(self, table)] for table in ("in_file", "out_file", "issued")}
-        found["issued"].sort(key=lambda entry: entry["no"])
+        files = ("in_file", "out_file")
+        found = {table: [without(entry, "rows") for entry in getattr(self, table)] for table in files}
+        found["issued"] = sorted(({**entry} for entry in self.issued), key=lambda entry: entry["no"])
         found["received"] = [without(entry, "creator", "note") for entry in self.received]
         noted = [entry for entry in self.received if entry["kind"] == "NERP"]
         found["received_note"] = [{name: entry[name] for name in ("no", "creator", "note")} for entry in noted]
-        for table in ("in", "out"):
-            files = getattr(self, f"{table}_file")
-            found[f"{table}_row"] = [
-                {"no": file["no"], "pos": pos, "body": body} for file in files for pos, body in enumerate(file["rows"])
-            ]
+        for table in files:
+            rows = [(file["no"], pos, body) for file in getattr(self, table) for pos, body in enumerate(file["rows"])]
+            found[tables.ROWS_OF[table]] = [{"no": no, "pos": pos, "body": body} for no, pos, body in rows]
         return found
 
 

@@ -242,7 +242,8 @@ def texts(room):
     if (room / "answer").read_bytes() != b"".join(wanted):
         raise Failed("other octets go out")
     found = tables.read(station.database)
-    kept = [found["in_file"][0]["description"], found["out_file"][0]["description"], found["issued"][0]["note"], found["received_note"][0]["note"]]
+    columns = {"in_file": "description", "out_file": "description", "issued": "note", "received_note": "note"}
+    kept = [found[table][0][column] for table, column in columns.items()]
     if kept != [TEXT] * 4:
         raise Failed(f"texts of {[len(text.encode()) for text in kept]} octets are kept")
     return taken

@@ -1,14 +1,15 @@
 #!/usr/bin/env python3
-"""Stops each command of a day at each of its calls on the database, and refuses its allocations in turn.
+"""Stops each command of a day and of some rows at each of its calls on the database, and refuses its allocations in turn.
 
     checks/stop_at_each_call.py [--allocations N] [--every N]      as many allocations of each command, 25 where there is no number,
                                                                    spread over all; and each Nth call, where a number is given
 
-The commands are those of rows/day/a_day.row, each over the database that the ones before it left. At each call that changes a file of
-the database the program is killed before it; killed behind half of a write; or told a failure, then and at each later call. Each time,
-what came out has to be a beginning of the whole answer, but for the ESID 08 behind it, and the tables, read by stock sqlite3 and told
-by the program, have to hold all that it answers, and no more than the next change. The command is then given again, and ends. It wants
-a C compiler. The last line is `N passed, M failed`.
+The commands are those of the rows below, each over the database that the ones before it left. At each call that changes a file of the
+database the program is killed before it; killed behind half of a write; or told a failure, then and at each later call. Each time, what
+came out has to be a beginning of the whole answer, but for the ESID 08 behind it, and the tables, read by stock sqlite3 and told by the
+program, have to hold all that it answers, and no more than the next change. A command is then given again, and ends as always; so is a
+session, and it goes on as the model of a station has it (checks/model.py): a file that came in part goes on from the row that the station
+answers, and is fetched whole. It wants a C compiler. The last line is `N passed, M failed`.
 """
 
 import argparse
@@ -20,22 +21,34 @@ import tempfile
 from concurrent.futures import ThreadPoolExecutor
 from pathlib import Path
 
+import goes_on
+import model
 import oftp
 import play_rows
 import tables
-from row_files import ROOT, ROWS, Call, Row, Session
+from goes_on import Wrong
+from row_files import ROOT, ROWS, Call, Row, Session, content
 
 CHECKS = ROOT / "checks"
+# The rows, and the octets of the file that the partner sends in them, if it is to go on with it.
+STOPPED = {
+    "day/a_day": content(0, 2500),
+    "receiving/empty_file": b"",
+    "receiving/wrong_count": None,
+    "listening/repeated_end_response": None,
+    "sending/three_octets_out": None,
+    "sending/refusal_goes_out": None,
+    "operator/migrated": None,
+}
 NO_RESOURCES = oftp.frame(oftp.spell("ESID", {"reason": "08"}))
+# Rows whose first session is held in memory too, with each of its allocations refused.
+IN_MEMORY = ["receiving/empty_file", "taken_up/broken_and_taken_up", "listening/repeated_end_response"]
+OURS = {"about": [{"id": 1, "schema": 2}]}
 # What the program may tell where the disk fails, which is also that of the file that is fetched, and where memory is refused.
 FAULTS = {
     "fail": ["fault: 6 store 1\n", "fault: 3 office\n", "fault: 7 file\n"],
     "refuse": ["fault: 4 memory\n", "fault: 3 office\n", "fault: 6 store 2\n"],
 }
-
-
-class Wrong(Exception):
-    """What is left or what came out isn't what it should be."""
 
 
 def given(words, room, environment):
@@ -53,43 +66,41 @@ def stopping(how, number, library, reached):
 
 
 class Command:
-    """A command of the day, with the folder that it is given in, what it tells, and what it may leave: the tables after each part of
-    its input, with the octets that are out by then."""
+    """A command of a row, with the folder that it is given in, what it tells, and what it may leave."""
 
-    def __init__(self, act, base):
+    def __init__(self, act, base, file):
         self.act = act
         self.base = base
+        # A session in which the station calls sends no file of the partner's.
+        self.file = None if isinstance(act, Call) or act.role else file
         self.name = act.words[0] if isinstance(act, Call) else f"session {len(act.joined('in'))}"
         with tempfile.TemporaryDirectory() as room:
             self.line, self.whole, _, self.left = self.run(Path(room), {})
             self.states = self.all_states()
 
     def all_states(self):
-        before = (b"", tables.read(self.base / "database"))
+        """The tables that there are in turn, with the octets that are out by then: each change of a session is made before the frame that
+        answers it, as the model of a station has it."""
+        before = tables.read(self.base / "database")
+        opened = before if before["about"] else {**model.Register().tables(), **OURS}
+        states = [(0, before), (0, opened)]
         if isinstance(self.act, Call):
-            return [before, (b"", self.left)]
-        states = []
-        octets = self.act.joined("in")
-        ends = [0]
-        for spelled in oftp.frames_of(octets):
-            ends.append(ends[-1] + len(spelled))
-        for end in ends:
-            with tempfile.TemporaryDirectory() as room:
-                _, out, _, left = self.run(Path(room), {}, octets[:end])
-                states.append((out, left))
-        return states
+            return [*states, (0, self.left)]
+        session = goes_on.session_of(self.act, goes_on.register_of(opened))
+        model.play(session, self.act.joined("in"))
+        return states + [(out, {**found, **OURS}) for out, found in session.moments]
 
-    def run(self, room, environment, octets=None):
+    def run(self, room, environment):
         """Gives the command in a copy of its folder. It answers what it told, the octets out, how it ended, and the tables left."""
         shutil.copytree(self.base, room, dirs_exist_ok=True)
-        done = given(self.words(room, octets), room, environment)
+        done = given(self.words(room), room, environment)
         out = play_rows.octets_in(room / "answer") if isinstance(self.act, Session) else b""
         return done.stdout, out, (done.returncode, done.stderr.decode()), tables.read(room / "database")
 
-    def words(self, room, octets=None):
+    def words(self, room):
         if isinstance(self.act, Session):
             source = room / "given"
-            source.write_bytes(self.act.joined("in") if octets is None else octets)
+            source.write_bytes(self.act.joined("in"))
             return play_rows.words_of(self.act, room / "database", source, room / "answer")
         options = {"--db": room / "database", "--book": self.act.book}
         taken = [word for option in play_rows.OPTIONS[self.act.words[0]] for word in (option, options[option])]
@@ -120,54 +131,73 @@ class Command:
         if told == "fault: 7 file\n" and self.name != "fetch":
             raise Wrong("no file is made")
         if told == "fault: 3 office\n" and isinstance(self.act, Session):
-            out = without_end(out, self.whole)
+            if not out.endswith(NO_RESOURCES):
+                raise Wrong("the partner isn't told by ESID 08")
+            out = out[: -len(NO_RESOURCES)]
         if not self.whole.startswith(out) or not self.line.startswith(line):
             raise Wrong(f"what came out begins no whole answer: {len(out)} octets, {line!r}")
         if left not in self.allowed(line, out):
             raise Wrong(f"{len(out)} octets and {line!r} are out, and the tables don't fit them")
 
     def allowed(self, line, out):
-        """The tables that may be left: all that is answered, and what comes next."""
-        if isinstance(self.act, Call):
-            return [left for _, left in self.states[1 if line else 0 :]]
-        first = next(at for at, (there, _) in enumerate(self.states) if len(there) >= len(out))
-        longer = [at for at, (there, _) in enumerate(self.states) if len(there) > len(out)]
-        return [left for _, left in self.states[first : (longer[0] if longer else len(self.states)) + 1]]
+        """The tables that may be left: with each change that is answered by an octet that is out, and no other but the next one."""
+        if line:
+            return [self.left]
+        first = max((at for at, (there, _) in enumerate(self.states) if there < len(out)), default=0)
+        return [left for there, left in self.states[first:] if there <= len(out)]
 
     def judge_next(self, room, left):
         """The program opens what is left, changes nothing of it, and does what it is asked again."""
         database = room / "database"
-        if left["about"]:
+        if left["about"] == OURS["about"]:
             done = given([play_rows.PROGRAM, "report", "--db", database, "in"], room, {})
             if done.returncode != 0 or len(done.stdout.splitlines()) != 1 + len(left["in_file"]) or tables.read(database) != left:
                 raise Wrong(f"the program tells other tables: status {done.returncode}, {done.stdout!r}, {done.stderr!r}")
+        if isinstance(self.act, Session):
+            goes_on.go_on(self.act, room, left, self.file)
+            return
         done = given(self.words(room), room, {})
-        if done.stderr or (isinstance(self.act, Call) and tables.read(database) != self.left):
+        if done.stderr or tables.read(database) != self.left:
             raise Wrong(f"given again, it doesn't end as always: {done.stdout!r}, {done.stderr!r}")
 
 
-def without_end(out, whole):
-    """The octets before an ESID 08, or before a beginning of one."""
-    for size in range(len(NO_RESOURCES), 0, -1):
-        if out.endswith(NO_RESOURCES[:size]) and whole.startswith(out[:-size]):
-            return out[:-size]
-    return out
+class InMemory(Command):
+    """A session with a register in memory, which leaves nothing."""
+
+    def words(self, room):
+        (room / "given").write_bytes(self.act.joined("in"))
+        return play_rows.words_of(self.act, None, room / "given", room / "answer")
+
+    def all_states(self):
+        return [(0, self.left)]
+
+    def judge_next(self, room, left):
+        if self.run(room, {}) != (self.line, self.whole, (0, ""), self.left):
+            raise Wrong("with ample memory it doesn't end as always")
 
 
-def commands_of_a_day(room):
-    """Each command of the day but reports, with the folder as the ones before it left it."""
-    now = room / "now"
+def commands_of(name, file, room):
+    """Each command of a row but reports, with the folder as the ones before it left it."""
+    now = room / name.replace("/", "_")
     now.mkdir()
-    for number, act in enumerate(Row(ROWS / "day/a_day.row").acts):
-        base = room / f"before_{number}"
+    for number, act in enumerate(Row(ROWS / f"{name}.row").acts):
+        base = room / f"{now.name}_{number}"
         shutil.copytree(now, base)
         if isinstance(act, Session) or (isinstance(act, Call) and act.words[0] != "report"):
-            yield Command(act, base)
+            yield Command(act, base, file)
         why = play_rows.play_act(play_rows.in_one_piece, act, now, now / "database")
         if why:
-            raise SystemExit(f"the day goes otherwise: {why}")
+            raise SystemExit(f"{name} goes otherwise: {why}")
         for name in ("given", "answer"):
             (now / name).unlink(missing_ok=True)
+
+
+def all_commands(room):
+    for name, file in STOPPED.items():
+        yield from commands_of(name, file, room)
+    (room / "empty").mkdir()
+    for name in IN_MEMORY:
+        yield InMemory(Row(ROWS / f"{name}.row").sessions()[0], room / "empty", None)
 
 
 def compile_library(room, name):
@@ -178,6 +208,8 @@ def compile_library(room, name):
 
 def numbers_of(command, library, how, most, every):
     """The numbers of the calls at which a command is stopped: each of them, or some that are spread over all."""
+    if not is_there(command, library, how, 1):
+        return []
     count = 1
     while is_there(command, library, how, 2 * count):
         count *= 2
@@ -219,11 +251,11 @@ def main():
     with tempfile.TemporaryDirectory() as path, ThreadPoolExecutor(max_workers=os.cpu_count()) as runners:
         room = Path(path)
         libraries = {how: compile_library(room, name) for how, name in (("fail", "stop_calls"), ("refuse", "refuse_allocation"))}
-        for command in commands_of_a_day(room):
+        for command in all_commands(room):
             tried = []
-            for how in ("kill", "tear", "fail", "refuse"):
+            for how in ("refuse",) if isinstance(command, InMemory) else ("kill", "tear", "fail", "refuse"):
                 library = libraries.get(how, libraries["fail"])
-                most = taken.allocations if how == "refuse" else None
+                most = taken.allocations if how == "refuse" and not isinstance(command, InMemory) else None
                 numbers = numbers_of(command, library, how if how == "refuse" else "fail", most, taken.every)
                 faults = stop_each(command, how, numbers, library, runners)
                 print("\n".join(faults[:5]), end="\n" if faults else "")
