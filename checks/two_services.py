@@ -10,8 +10,8 @@ by SIGKILL, after a time or at a place in what is said. After each round both da
 stations promise (`promised`): a file that one has handed over is whole and equal at the other, and what it holds as delivered or
 returned was answered so there. Behind a number of rounds come two sessions that nothing breaks: then all is delivered or returned.
 
-Four pairs of stations live at once. The seed is printed; at a failure also all that happened to the pair, and what is left is kept. The
-last line is `N passed, M failed`.
+Four pairs of stations live at once. The seed is printed: it repeats what is chosen, and not how far a program is when it is killed. At
+a failure all that happened to the pair is printed too, and what is left is kept. The last line is `N passed, M failed`.
 """
 
 import argparse

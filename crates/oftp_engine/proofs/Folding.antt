@@ -20,7 +20,7 @@ unfolding on_front
 at_end go_on s d None = refl
 at_end go_on s d (Some fault) = refl
 
-frame_length : (m : List ℕ) → length (frame m) ≡ length m + 4
+pub frame_length : (m : List ℕ) → length (frame m) ≡ length m + 4
 frame_length m = omega (arith, length-append (header_of (length m + 4)) m)
 
 pub folds : (limit : Option ℕ) (commands : List (List ℕ)) (rest : List ℕ) (fault : Option FrameFault) (c : Course)

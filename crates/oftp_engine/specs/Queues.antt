@@ -1,5 +1,5 @@
 -- What a station has out, cut off anywhere, and what the other one hears of it.
-use Rattle.std.specs.Prelude.{◌≡◌, ℕ, ◌+◌, ◌≤◌, ◌||◌, if◌then◌else◌, List, [], ◌∷◌, ◌++◌, length, map, Option, None, Result, Ok}
+use Rattle.std.specs.Prelude.{◌≡◌, ℕ, ◌+◌, ◌≤◌, ◌||◌, if◌then◌else◌, List, [], ◌∷◌, ◌++◌, length, map, take, Option, None, Result, Ok}
 use Rattle.std.specs.List.{AllByRecursion, flat_map}
 use Rattle.oftp_wire.specs.declared.command.Command.{Command}
 use Rattle.oftp_wire.specs.declared.fault.WireFault.{WireFault}
@@ -11,7 +11,8 @@ use Rattle.oftp_register.specs.Register.{Register}
 use Rattle.oftp_session.specs.Settings.{Setting}
 use Rattle.oftp_session.specs.Phases.{frame_of, is_over}
 use Rattle.oftp_session.specs.Steps.{came}
-use Rattle.oftp_engine.specs.Runs.{Course, advance, is_stopped, octets_of, run, settled, started}
+use Rattle.oftp_engine.specs.Runs.{Course, Output, advance, is_stopped, octets_of, run, settled, started}
+use Rattle.oftp_engine.specs.Serving.{last_frame}
 
 -- a command that a frame can say: each field is in its range, and the frame is none too long
 abbrev pub IsSayable : Command → Type 0
@@ -46,7 +47,25 @@ pub record IsHeard (said : List Command) (octets : List ℕ) : Type 0 where
 abbrev pub QueuesAreHeard : Type 0
 QueuesAreHeard = (said : List Command) (octets lost : List ℕ) → AllByRecursion IsSayable said → in_frames said ≡ octets ++ lost → IsHeard said octets
 
--- what a session has out is a queue of commands
+-- what a session says are commands, each as a frame
 abbrev pub RunsSayCommands : Type 0
 RunsSayCommands = (limit : Option ℕ) (setting : Setting) (given : List ℕ) (r : Register)
-    → (said : List Command) × (octets_of (run limit given (started setting r)).outputs ≡ in_frames said)
+    → (said : List Command) × (map (λ (o : Output). o.octets) (run limit given (started setting r)).outputs ≡ map frame_of said)
+
+-- octets of a queue of commands that is cut off somewhere
+pub record IsQueue (octets : List ℕ) : Type 0 where
+  pub said : List Command
+  pub lost : List ℕ
+  pub all : in_frames said ≡ octets ++ lost
+
+-- What is out where a session ends: these outputs, a beginning of their octets where the writer told a fault, or behind them a beginning of
+-- ESID 08 where the office told one (specs/Served.antt).
+pub record SaysQueues (outs : List Output) : Type 0 where
+  pub whole : IsQueue (octets_of outs)
+  pub cut : (count : ℕ) → IsQueue (take count (octets_of outs))
+  pub ended : (count : ℕ) → IsQueue (octets_of outs ++ take count last_frame)
+
+-- so it is wherever a run ends
+abbrev pub RunsSayQueues : Type 0
+RunsSayQueues = (limit : Option ℕ) (setting : Setting) (given : List ℕ) (r : Register) (outs later : List Output)
+    → (run limit given (started setting r)).outputs ≡ outs ++ later → SaysQueues outs

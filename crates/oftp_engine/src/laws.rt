@@ -6,7 +6,7 @@ ghost use Rattle.oftp_wire.specs.Stream.{Reads};
 ghost use Rattle.oftp_engine.specs.Frames.{over_commands};
 ghost use Rattle.oftp_engine.specs.Parts.{JobsMakeTheFile, NoCountPasses, PartsMakeTheFile};
 ghost use Rattle.oftp_engine.specs.Promise.{TwoStations};
-ghost use Rattle.oftp_engine.specs.Queues.{QueuesAreHeard};
+ghost use Rattle.oftp_engine.specs.Queues.{QueuesAreHeard, RunsSayCommands, RunsSayQueues};
 ghost use Rattle.oftp_engine.specs.Runs.{Course, run, started};
 ghost use Rattle.oftp_session.specs.Settings.{Setting};
 ghost use Rattle.oftp_register.specs.Register.{Register};
@@ -25,6 +25,13 @@ pub fn folds_over_frames()
 /// the law.
 pub fn queues_are_heard()
     ensures { QueuesAreHeard }
+{}
+
+/// What a session says are commands, each as a frame, and what it has out at its end, or at a fault, is these frames in order, cut off
+/// somewhere. It does nothing; its contract is the law.
+pub fn runs_say_queues()
+    ensures commands { RunsSayCommands }
+    ensures queues { RunsSayQueues }
 {}
 
 /// The changes of a run from a sound register are all made, one after another.
