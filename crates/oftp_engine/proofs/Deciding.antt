@@ -12,7 +12,7 @@ use Rattle.oftp_register.specs.declared.office.OfficeFault.{OfficeFault}
 use Rattle.oftp_register.specs.declared.office.OfficeFault.TheVariants as office
 use Rattle.oftp_register.specs.Register.{Register}
 use Rattle.oftp_register.specs.Changes.{apply}
-use Rattle.oftp_register.specs.Offices.{Commits, Only, View, WithOrWithout}
+use Rattle.oftp_register.specs.Offices.{Commits, Only, View, WithOrWithout, next_count}
 use Rattle.oftp_register.specs.Soundness.{IsFit}
 use Rattle.oftp_session.specs.Calls.{Makes}
 use Rattle.oftp_engine.specs.declared.operating.Operator.{Operator}
@@ -33,6 +33,19 @@ left_by : (verb : List ℕ) (n : ℕ) (change : Change) (r : Register) (now : Vi
 left_by verb n change r now (Ok after) e left = left
 left_by verb n change r now (Err cause) e left = λ content may.
     elim (left content may) [ inl same ↦ same | inr made ↦ absurd (false≢true (ap is_ok (sym e ∙ made.1))) ]
+
+-- a change that the office told a fault of is made or not
+module _ (verb : List ℕ) (n : ℕ) (change : Change) (old new : View) where
+  leaves_open : (new.stands → new.register ≡ old.register) → WithOrWithout (Some change) old.register new → new.told ≡ next_count old.told
+      → AttemptsErr (λ deed. deed ≡ makes verb n change old.register) old new fault.Office
+  leaves_open same left counts = (
+    makes verb n change old.register,
+    refl,
+    record {
+      cases = inl (record { register = same; left = left_by verb n change old.register new (apply old.register change) refl left });
+      faults = counts;
+    },
+  )
 
 -- what the office makes of a change is what the call does
 module _ {T : Type 0} (verb : List ℕ) (n : ℕ) (change : Change) (old new : View) where
@@ -64,28 +77,8 @@ module _ {T : Type 0} (verb : List ℕ) (n : ℕ) (change : Change) (old new : V
           faults = c.counts;
         },
       )
-  decides (Err office.Store) c clean stood fit = (
-    makes verb n change old.register,
-    refl,
-    record {
-      cases = inl (record {
-        register = c.same clean stood;
-        left = left_by verb n change old.register new (apply old.register change) refl (c.left clean stood fit);
-      });
-      faults = c.counts;
-    },
-  )
-  decides (Err office.Memory) c clean stood fit = (
-    makes verb n change old.register,
-    refl,
-    record {
-      cases = inl (record {
-        register = c.same clean stood;
-        left = left_by verb n change old.register new (apply old.register change) refl (c.left clean stood fit);
-      });
-      faults = c.counts;
-    },
-  )
+  decides (Err office.Store) c clean stood fit = leaves_open verb n change old new (c.same clean stood) (c.left clean stood fit) c.counts
+  decides (Err office.Memory) c clean stood fit = leaves_open verb n change old new (c.same clean stood) (c.left clean stood fit) c.counts
 
 -- what the office makes of a response to the file with a number
 module _ (old new : View) (n reason : ℕ) (text : List ℕ) (result : Result Outcome RunFault) where

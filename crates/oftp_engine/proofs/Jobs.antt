@@ -21,9 +21,9 @@ use Rattle.oftp_engine.specs.declared.serving.RunFault.{RunFault}
 use Rattle.oftp_engine.specs.declared.serving.RunFault.TheVariants as fault
 use Rattle.oftp_engine.specs.Runs.{answered, octets_of, with_change}
 use Rattle.oftp_engine.specs.Serving.{scene}
-use Rattle.oftp_engine.specs.Served.{Gave, InputEnded, ReaderTold, Serves, setting_of, whole}
+use Rattle.oftp_engine.specs.Served.{Gave, InputEnded, IsWhole, ReaderTold, Serves, setting_of, whole}
 use Rattle.oftp_engine.specs.Operated.{Operates}
-use Rattle.oftp_engine.specs.Jobs.{DoesJob, EndsWith, Entry, Session, Call, IsGoneOn, IsJobDone, IsJobStopped, IsRun, IsRunning, IsStopped, JobDone, JobStops, JobsDone, LeavesSome, after_jobs, changes_of, share_of}
+use Rattle.oftp_engine.specs.Jobs.{DoesJob, EndsWith, Entry, Session, SessionEnds, Call, IsGoneOn, IsJobDone, IsJobStopped, IsRun, IsRunning, IsStopped, JobDone, JobStops, JobsDone, LeavesSome, after_jobs, changes_of, share_of}
 use Rattle.oftp_engine.proofs.Ending.{take_past}
 use Rattle.oftp_engine.proofs.Stepping.{made_register}
 
@@ -32,48 +32,37 @@ module _ {R W : Type 0} (remaining : R → Option (List ℕ)) (contents : W → 
   abbrev setting' : Setting
   setting' = setting_of book a.role
 
+  went_through : (answer : Result End RunFault) → b.role ≡ a.role → b.result ≡ Some answer → (given : List ℕ) → Gave remaining a.reader b.reader given
+      → IsWhole setting' given (scene contents x a.writer) (scene contents y b.writer) → SessionEnds setting' x.register given None answer
+      → ReaderTold a.reader b.reader answer → InputEnded remaining b.reader answer
+      → IsJobDone remaining contents book x y (job.Session a) (job.Session b)
+  went_through answer role left given gave all ends told input = record {
+    entry = Session setting' given None;
+    done = record {
+      is = refl;
+      role = role;
+      gave = gave;
+      out = (record { contents = all.out.contents; moved = all.out.taken }, all.told);
+      answer = answer;
+      result = left;
+      ends = ends;
+      reader_told = told;
+      input_ended = input;
+    };
+    register = all.register;
+    replay = all.replay;
+    stands = all.stands;
+    faults = all.faults;
+  }
+
   pub does_session : {T : Type 0} (answer : Result End RunFault) (result : Result T RunFault) → IsGoneOn answer result → b.role ≡ a.role → b.result ≡ Some answer
       → (given : List ℕ) → Gave remaining a.reader b.reader given → Serves setting' given (scene contents x a.writer) (scene contents y b.writer) answer
       → ReaderTold a.reader b.reader answer → InputEnded remaining a.reader b.reader answer
       → DoesJob remaining contents book x y (job.Session a) (job.Session b) result
   does_session (Ok end) (Err f) gone role left given gave h told input = absurd gone
-  does_session (Ok end) (Ok u) gone role left given gave h told input = record {
-    entry = Session setting' given None;
-    done = record {
-      is = refl;
-      role = role;
-      gave = gave;
-      out = (record { contents = h.all.out.contents; moved = h.all.out.taken }, h.all.told);
-      answer = Ok end;
-      result = left;
-      ends = (refl, h.ends, h.needed);
-      reader_told = told;
-      input_ended = input;
-    };
-    register = h.all.register;
-    replay = h.all.replay;
-    stands = h.all.stands;
-    faults = h.all.faults;
-  }
+  does_session (Ok end) (Ok u) gone role left given gave h told input = went_through (Ok end) role left given gave h.all (refl, h.ends, h.needed) told input
   does_session (Err fault.Read) (Err f) gone role left given gave h told input = absurd gone
-  does_session (Err fault.Read) (Ok u) gone role left given gave h told input = record {
-    entry = Session setting' given None;
-    done = record {
-      is = refl;
-      role = role;
-      gave = gave;
-      out = (record { contents = h.all.out.contents; moved = h.all.out.taken }, h.all.told);
-      answer = Err fault.Read;
-      result = left;
-      ends = (refl, h.live);
-      reader_told = told;
-      input_ended = input;
-    };
-    register = h.all.register;
-    replay = h.all.replay;
-    stands = h.all.stands;
-    faults = h.all.faults;
-  }
+  does_session (Err fault.Read) (Ok u) gone role left given gave h told input = went_through (Err fault.Read) role left given gave h.all (refl, h.live) told input
   does_session (Err fault.Write) (Err f) gone role left given gave h told input = absurd gone
   does_session (Err fault.Write) (Ok u) gone role left given gave h told input = record {
     entry = Session setting' given (Some h.taken);

@@ -14,7 +14,7 @@ use crate::first::bring;
 use oftp_schema::{StoreFault, prepare};
 use sqlite::{Alter, Connection};
 
-/// Makes the tables of schema 2 where the store is empty, or finds them.
+/// Makes the tables of schema 2 where the store is empty, or finds them. The connection is outside a transaction.
 ///
 /// # Errors
 ///
@@ -36,7 +36,7 @@ pub fn open_tables<S: Alter>(conn: &mut Connection<S>) -> Result<(), StoreFault>
 }
 
 /// Brings a store of schema 1 to schema 2, in one transaction: the table `received_note`, with one row of two empty texts for each
-/// received negative response, and `about`. A store of schema 2 is found.
+/// received negative response, and `about`. A store of schema 2 is found. The connection is outside a transaction.
 ///
 /// # Errors
 ///

@@ -1,3 +1,5 @@
+//! A store of schema 2 made twice, and one of schema 1 migrated: stores that are neither.
+
 use crate::{migrate_tables, open_tables};
 use oftp_schema::StoreFault;
 use sqlite::{Alter, Connection, Error};
@@ -31,12 +33,18 @@ fn make_first<S: Alter>(conn: &mut Connection<S>) -> Result<(), Error> {
     batch(
         conn,
         "CREATE TABLE about (id INTEGER NOT NULL PRIMARY KEY, schema INTEGER NOT NULL) STRICT;
-        CREATE TABLE in_file (no INTEGER NOT NULL PRIMARY KEY, dataset TEXT NOT NULL, date TEXT NOT NULL, time TEXT NOT NULL, originator TEXT NOT NULL, destination TEXT NOT NULL, format TEXT NOT NULL, longest INTEGER NOT NULL, description TEXT NOT NULL, state TEXT NOT NULL, UNIQUE (dataset, date, time, originator, destination)) STRICT;
+        CREATE TABLE in_file (no INTEGER NOT NULL PRIMARY KEY, dataset TEXT NOT NULL, date TEXT NOT NULL, time TEXT NOT NULL,
+            originator TEXT NOT NULL, destination TEXT NOT NULL, format TEXT NOT NULL, longest INTEGER NOT NULL, description TEXT NOT NULL,
+            state TEXT NOT NULL, UNIQUE (dataset, date, time, originator, destination)) STRICT;
         CREATE TABLE in_row (no INTEGER NOT NULL REFERENCES in_file (no), pos INTEGER NOT NULL, body BLOB NOT NULL, PRIMARY KEY (no, pos)) STRICT;
-        CREATE TABLE out_file (no INTEGER NOT NULL PRIMARY KEY, dataset TEXT NOT NULL, date TEXT NOT NULL, time TEXT NOT NULL, originator TEXT NOT NULL, destination TEXT NOT NULL, format TEXT NOT NULL, longest INTEGER NOT NULL, description TEXT NOT NULL, mark INTEGER NOT NULL, state TEXT NOT NULL, reason TEXT NOT NULL, UNIQUE (dataset, date, time, originator, destination)) STRICT;
+        CREATE TABLE out_file (no INTEGER NOT NULL PRIMARY KEY, dataset TEXT NOT NULL, date TEXT NOT NULL, time TEXT NOT NULL,
+            originator TEXT NOT NULL, destination TEXT NOT NULL, format TEXT NOT NULL, longest INTEGER NOT NULL, description TEXT NOT NULL,
+            mark INTEGER NOT NULL, state TEXT NOT NULL, reason TEXT NOT NULL, UNIQUE (dataset, date, time, originator, destination)) STRICT;
         CREATE TABLE out_row (no INTEGER NOT NULL REFERENCES out_file (no), pos INTEGER NOT NULL, body BLOB NOT NULL, PRIMARY KEY (no, pos)) STRICT;
         CREATE TABLE issued (no INTEGER NOT NULL PRIMARY KEY REFERENCES in_file (no), kind TEXT NOT NULL, reason TEXT NOT NULL, note TEXT NOT NULL, sent INTEGER NOT NULL) STRICT;
-        CREATE TABLE received (no INTEGER NOT NULL PRIMARY KEY, kind TEXT NOT NULL, dataset TEXT NOT NULL, date TEXT NOT NULL, time TEXT NOT NULL, originator TEXT NOT NULL, destination TEXT NOT NULL, reason TEXT NOT NULL, UNIQUE (kind, dataset, date, time, originator, destination)) STRICT;
+        CREATE TABLE received (no INTEGER NOT NULL PRIMARY KEY, kind TEXT NOT NULL, dataset TEXT NOT NULL, date TEXT NOT NULL,
+            time TEXT NOT NULL, originator TEXT NOT NULL, destination TEXT NOT NULL, reason TEXT NOT NULL, UNIQUE (kind, dataset, date,
+            time, originator, destination)) STRICT;
         INSERT INTO about VALUES (1, 1);
         INSERT INTO received VALUES (1, 'NERP', 'A', 'D', 'T', 'O', 'P', '07'), (2, 'EERP', 'B', 'D', 'T', 'O', 'P', ''), (3, 'NERP', 'C', 'D', 'T', 'O', 'P', '23')",
     )

@@ -1,3 +1,5 @@
+//! Streams in pieces, faults in them, and the memory that a deframer takes.
+
 use super::*;
 use std::process::Abort;
 use std::test::Fail;
