@@ -112,7 +112,8 @@ record Here (r : Register) (header : Incoming) (count n : ℕ) (before : List In
   same : f.identity ≡ header.identity
   starts : started r header count ≡ mapped (with_files r) (mapped (λ y. before ++ y ∷ after) (gone_on header count f f.state))
 
-here : (r : Register) (header : Incoming) (count n : ℕ) (before : List Incoming) (f : Incoming) (after : List Incoming) → no_of r side.Incoming header.identity ≡ Some n → IsPlaced r.incoming n before f after
+here : (r : Register) (header : Incoming) (count n : ℕ) (before : List Incoming) (f : Incoming) (after : List Incoming) → no_of r side.Incoming header.identity ≡ Some n
+    → IsPlaced r.incoming n before f after
     → Here r header count n before f after
 here r header count n before f after some placed =
     let found = is_there r header.identity n some in
@@ -152,7 +153,8 @@ moves_on : (header : Incoming) (count : ℕ) (f : Incoming) (state : IncomingSta
 moves_on header count f Open h = (refl, cond-false (nat_lt (length f.rows) count) _ _ (not_more (length f.rows) count h))
 moves_on header count f Whole h = absurd (let no_such = h in cc)
 
-pub unfit_start : (r : Register) (it : Identity) (format : Format) (longest : ℕ) (description : List ℕ) (count n : ℕ) (place : Place) → IsArrivalOf r it (arrival.Known n place) → goes_on place count ≡ false
+pub unfit_start : (r : Register) (it : Identity) (format : Format) (longest : ℕ) (description : List ℕ) (count n : ℕ) (place : Place)
+    → IsArrivalOf r it (arrival.Known n place) → goes_on place count ≡ false
     → apply r (change.Start it format longest description count) ≡ Err Unfit
 unfolding apply
 unfit_start r it format longest description count n place (some, (before, f, after, placed, is)) off =
@@ -160,7 +162,8 @@ unfit_start r it format longest description count n place (some, (before, f, aft
     (here r header count n before f after some placed).starts
     ∙ ap (λ (x : Result Incoming Cause). mapped (with_files r) (mapped (λ y. before ++ y ∷ after) x)) (stays_off header count f f.state (sym (ap (λ (p : Place). goes_on p count) is) ∙ off))
 
-pub made_by_go_on : (r : Register) (it : Bor Identity) (format : Format) (longest : ℕ) (description : Bor Words) (count n : ℕ) (place : Place) → IsArrivalOf r it.now (arrival.Known n place) → goes_on place count ≡ true
+pub made_by_go_on : (r : Register) (it : Bor Identity) (format : Format) (longest : ℕ) (description : Bor Words) (count n : ℕ) (place : Place)
+    → IsArrivalOf r it.now (arrival.Known n place) → goes_on place count ≡ true
     → (let header : Edit = record { no = n; deed = SetHeader format longest description } in let rest : Edit = record { no = n; deed = CutRows count } in
     IsMadeBy (header ∷ rest ∷ []) r (change.Start it.now format longest description.now count))
 unfolding apply

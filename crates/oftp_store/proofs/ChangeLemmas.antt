@@ -78,10 +78,15 @@ unknown_step step n r none = step_applies step n r ∙ ap (mapped (λ files. let
 allowed_of : (step : Step) (f : Outgoing) (stage : Stage) → stage ≡ stage_of f → is_allowed step f.state (length f.rows) ≡ is_allowed step stage.state stage.rows
 allowed_of step f stage is = sym (ap (λ (s : Stage). is_allowed step s.state s.rows) is)
 
-pub unfit_step : (step : Step) (n : ℕ) (r : Register) (stage : Stage) → IsToldOf stage_of r.outgoing n (Some stage) → is_allowed step stage.state stage.rows ≡ false → apply r (change_by n step) ≡ Err Unfit
+pub unfit_step : (step : Step) (n : ℕ) (r : Register) (stage : Stage) → IsToldOf stage_of r.outgoing n (Some stage) → is_allowed step stage.state stage.rows ≡ false
+    → apply r (change_by n step) ≡ Err Unfit
 unfit_step step n r stage (before, f, after, placed, is) refused =
     step_applies step n r
-    ∙ ap (mapped (λ files. let s : Register = record r { outgoing = files } in s)) (at_known (stepped step) n r.outgoing before f after placed ∙ ap (mapped (λ y. before ++ y ∷ after)) (step_is step f ∙ ap (λ b. let g : Outgoing = record f { mark = mark_after step f.mark; state = state_after step f.state } in cond b (Ok g) (Err Unfit)) (allowed_of step f stage is ∙ refused)))
+    ∙ ap (mapped (λ files. let s : Register = record r { outgoing = files } in s))
+    (at_known (stepped step) n r.outgoing before f after placed
+    ∙ ap (mapped (λ y. before ++ y ∷ after))
+    (step_is step f ∙ ap (λ b. let g : Outgoing = record f { mark = mark_after step f.mark; state = state_after step f.state } in cond b (Ok g) (Err Unfit))
+    (allowed_of step f stage is ∙ refused)))
 
 pub made_by_step : (step : Step) (n : ℕ) (r : Register) (stage : Stage) → IsToldOf stage_of r.outgoing n (Some stage) → is_allowed step stage.state stage.rows ≡ true
     → (let edit : Edit = record { no = n; deed = SetOutgoing (mark_after step stage.mark) (state_after step stage.state) } in IsMadeBy (edit ∷ []) r (change_by n step))
@@ -94,7 +99,9 @@ made_by_step step n r stage (before, f, after, placed, is) allowed =
       now = s;
       is =
           step_applies step n r
-          ∙ ap (mapped (λ files. let s : Register = record r { outgoing = files } in s)) (at_known (stepped step) n r.outgoing before f after placed ∙ ap (mapped (λ y. before ++ y ∷ after)) (step_is step f ∙ ap (λ b. cond b (Ok g) (Err Unfit)) (allowed_of step f stage is ∙ allowed) ∙ ap Ok same));
+          ∙ ap (mapped (λ files. let s : Register = record r { outgoing = files } in s))
+          (at_known (stepped step) n r.outgoing before f after placed
+          ∙ ap (mapped (λ y. before ++ y ∷ after)) (step_is step f ∙ ap (λ b. cond b (Ok g) (Err Unfit)) (allowed_of step f stage is ∙ allowed) ∙ ap Ok same));
       limits = refl;
       edited = (s, record { before = before; file = f; after = after; here = placed.here; number = placed.number; was = tt; now = refl }, refl);
     }
@@ -104,16 +111,20 @@ made_by_step step n r stage (before, f, after, placed, is) allowed =
 pub unknown_in : (g : Incoming → Result Incoming Cause) (n : ℕ) (r : Register) → entry_at n r.incoming ≡ None → on_incoming g n r ≡ Err Unknown
 unknown_in g n r none = ap (mapped (λ files. let s : Register = record r { incoming = files } in s)) (at_unknown g n r.incoming none)
 
-in_placed : (g : Incoming → Result Incoming Cause) (n : ℕ) (r : Register) (before : List Incoming) (f : Incoming) (after : List Incoming) (out : Result Incoming Cause) → IsPlaced r.incoming n before f after → g f ≡ out
+in_placed : (g : Incoming → Result Incoming Cause) (n : ℕ) (r : Register) (before : List Incoming) (f : Incoming) (after : List Incoming) (out : Result Incoming Cause)
+    → IsPlaced r.incoming n before f after → g f ≡ out
     → on_incoming g n r ≡ mapped (λ files. let s : Register = record r { incoming = files } in s) (mapped (λ y. before ++ y ∷ after) out)
-in_placed g n r before f after out placed is = ap (mapped (λ files. let s : Register = record r { incoming = files } in s)) (at_known g n r.incoming before f after placed ∙ ap (mapped (λ y. before ++ y ∷ after)) is)
+in_placed g n r before f after out placed is =
+    ap (mapped (λ files. let s : Register = record r { incoming = files } in s)) (at_known g n r.incoming before f after placed ∙ ap (mapped (λ y. before ++ y ∷ after)) is)
 
-pub whole_in : (file_rows : Incoming → List (List ℕ)) (to : IncomingState) (n : ℕ) (r : Register) (rows : ℕ) → (let place : Place = record { state = Whole; rows = rows } in IsToldOf place_of r.incoming n (Some place))
+pub whole_in : (file_rows : Incoming → List (List ℕ)) (to : IncomingState) (n : ℕ) (r : Register) (rows : ℕ)
+    → (let place : Place = record { state = Whole; rows = rows } in IsToldOf place_of r.incoming n (Some place))
     → on_incoming (λ f. if_open f (file_rows f) to f.state) n r ≡ Err Unfit
 whole_in file_rows to n r rows (before, f, after, placed, is) =
     in_placed (λ f. if_open f (file_rows f) to f.state) n r before f after (Err Unfit) placed (ap (if_open f (file_rows f) to) (sym (ap (λ (p : Place). p.state) is)))
 
-open_in : (file_rows : Incoming → List (List ℕ)) (to : IncomingState) (n : ℕ) (r : Register) (before : List Incoming) (f : Incoming) (after : List Incoming) → IsPlaced r.incoming n before f after → f.state ≡ Open
+open_in : (file_rows : Incoming → List (List ℕ)) (to : IncomingState) (n : ℕ) (r : Register) (before : List Incoming) (f : Incoming) (after : List Incoming)
+    → IsPlaced r.incoming n before f after → f.state ≡ Open
     → on_incoming (λ f. if_open f (file_rows f) to f.state) n r ≡ Ok (record r { incoming = before ++ (record f { rows = file_rows f; state = to }) ∷ after })
 open_in file_rows to n r before f after placed is_open =
     in_placed (λ f. if_open f (file_rows f) to f.state) n r before f after (Ok (record f { rows = file_rows f; state = to })) placed (ap (if_open f (file_rows f) to) is_open)
@@ -201,7 +212,8 @@ pub unknown_issue : (n : ℕ) (r : Register) (kind : ResponseKind) (reason : ℕ
 unfolding apply
 unknown_issue n r kind reason text none = unknown_in (issued (record { kind = kind; reason = reason; text = text; dispatch = Due })) n r none
 
-pub unfit_issue : (n : ℕ) (r : Register) (kind : ResponseKind) (reason : ℕ) (text : List ℕ) (answered : Answered) → IsToldOf answered_of r.incoming n (Some answered) → is_answerable answered ≡ false → apply r (change.Issue n kind reason text) ≡ Err Unfit
+pub unfit_issue : (n : ℕ) (r : Register) (kind : ResponseKind) (reason : ℕ) (text : List ℕ) (answered : Answered) → IsToldOf answered_of r.incoming n (Some answered)
+    → is_answerable answered ≡ false → apply r (change.Issue n kind reason text) ≡ Err Unfit
 unfolding apply
 unfit_issue n r kind reason text answered (before, f, after, placed, is) refused =
     in_placed (issued x) n r before f after (Err Unfit) placed (so_is x f f.state ∙ go f.state f.response (sym (ap is_answerable is) ∙ refused))
@@ -209,12 +221,14 @@ unfit_issue n r kind reason text answered (before, f, after, placed, is) refused
     x : Issued
     x = record { kind = kind; reason = reason; text = text; dispatch = Due }
 
-    go : (state : IncomingState) (o : Option Issued) → (let a : Answered = record { state = state; response = option_map dispatch_of o } in is_answerable a ≡ false) → answers_so x f state o ≡ Err Unfit
+    go : (state : IncomingState) (o : Option Issued) → (let a : Answered = record { state = state; response = option_map dispatch_of o } in is_answerable a ≡ false)
+        → answers_so x f state o ≡ Err Unfit
     go Open o h = refl
     go Whole None h = absurd (let no_such = h in cc)
     go Whole (Some other) h = refl
 
-pub made_by_issue : (n : ℕ) (r : Register) (kind : ResponseKind) (reason : ℕ) (text : Bor Words) (answered : Answered) → IsToldOf answered_of r.incoming n (Some answered) → is_answerable answered ≡ true
+pub made_by_issue : (n : ℕ) (r : Register) (kind : ResponseKind) (reason : ℕ) (text : Bor Words) (answered : Answered) → IsToldOf answered_of r.incoming n (Some answered)
+    → is_answerable answered ≡ true
     → (let edit : Edit = record { no = n; deed = AddIssued kind reason text } in IsMadeBy (edit ∷ []) r (change.Issue n kind reason text.now))
 unfolding apply
 made_by_issue n r kind reason text answered (before, f, after, placed, is) allowed =
@@ -249,7 +263,8 @@ unfit_send n r answered (before, f, after, placed, is) refused = in_placed sent 
     go None h = refl
     go (Some x) h = due x x.dispatch h
 
-pub made_by_send : (n : ℕ) (r : Register) (answered : Answered) → IsToldOf answered_of r.incoming n (Some answered) → is_sendable answered ≡ true → (let edit : Edit = record { no = n; deed = SetSent } in IsMadeBy (edit ∷ []) r (change.Send n))
+pub made_by_send : (n : ℕ) (r : Register) (answered : Answered) → IsToldOf answered_of r.incoming n (Some answered) → is_sendable answered ≡ true
+    → (let edit : Edit = record { no = n; deed = SetSent } in IsMadeBy (edit ∷ []) r (change.Send n))
 unfolding apply
 made_by_send n r answered (before, f, after, placed, is) allowed =
     let part = go f.response (sym (ap is_sendable is) ∙ allowed) in
@@ -258,7 +273,8 @@ made_by_send n r answered (before, f, after, placed, is) allowed =
     let s : Register = record r { incoming = before ++ (record f { response = Some y }) ∷ after } in
     record {
       now = s;
-      is = in_placed sent n r before f after (Ok (record f { response = Some y })) placed (ap (sent_of f) part.1 ∙ ap (λ d. mapped (λ answer. let g : Incoming = record f { response = Some answer } in g) (sent_as x d)) part.2);
+      is = in_placed sent n r before f after (Ok (record f { response = Some y })) placed
+          (ap (sent_of f) part.1 ∙ ap (λ d. mapped (λ answer. let g : Incoming = record f { response = Some answer } in g) (sent_as x d)) part.2);
       limits = refl;
       edited = (s, (x, record { before = before; file = f; after = after; here = placed.here; number = placed.number; was = part.1; now = refl }), refl);
     }

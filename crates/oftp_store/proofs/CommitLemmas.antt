@@ -110,7 +110,8 @@ no_refusal T wanted Store P h = tt
 no_refusal T wanted Memory P h = tt
 no_refusal T wanted (Refused cause) P h = absurd h
 
-pub commits_failed : {A T : Type 0} (limits : Limits) (change : Change) (old new : State) (fault : OfficeFault) → Looks {T = A} old new (Err fault) → CommitsOn {T = T} limits change old new (Err fault)
+pub commits_failed : {A T : Type 0} (limits : Limits) (change : Change) (old new : State) (fault : OfficeFault) → Looks {T = A} old new (Err fault)
+    → CommitsOn {T = T} limits change old new (Err fault)
 commits_failed {T = T} limits change old new fault looks = record {
   clean = looks.clean;
   mode = looks.mode;

@@ -26,7 +26,7 @@ use Rattle.oftp_tables.proofs.StatementLemmas.{Others, PutsIn, Rewrites, updates
 use Rattle.oftp_tables.proofs.LandLemmas.{lands}
 use Rattle.oftp_tables.proofs.BackLemmas.{at_place}
 use Rattle.std.proofs.Common.{Bor}
-use Rattle.oftp_store.specs.Edits.{Makes}
+use Rattle.oftp_store.specs.Edits.{Makes, header_params}
 use Rattle.oftp_store.specs.Texts.{add_incoming_text, add_issued_text, add_outgoing_text, set_header_text, set_outgoing_text, set_sent_text, set_whole_text}
 use Rattle.oftp_store.specs.declared.changes.edit.Deed.TheVariants.{AddIncoming, AddIssued, AddOutgoing, SetHeader, SetOutgoing, SetSent, SetWhole}
 use Rattle.oftp_store.proofs.EditTexts.{add_incoming_is, add_incoming_plain, add_incoming_terms, add_issued_is, add_issued_plain, add_issued_terms, add_outgoing_is, add_outgoing_plain, add_outgoing_terms, set_header_is, set_header_plain, set_header_terms, set_outgoing_is, set_outgoing_plain, set_outgoing_terms, set_sent_is, set_sent_plain, set_sent_terms, set_whole_is, set_whole_plain, set_whole_terms}
@@ -44,7 +44,8 @@ pub record Between {X : Type 0} (row : ℕ → X → Row) (k : ℕ) (before : Li
   pub split : IsSplit k lo hi
   pub is : (y : X) → rows_from row 1 (before ++ y ∷ after) ≡ lo ++ row k y ∷ hi
 
-pub between : {X : Type 0} (row : ℕ → X → Row) → ((n : ℕ) (x : X) → column (row n x) 0 ≡ Int (pos n)) → (k : ℕ) (before : List X) (x : X) (after : List X) → k ≡ 1 + length before → Between row k before x after
+pub between : {X : Type 0} (row : ℕ → X → Row) → ((n : ℕ) (x : X) → column (row n x) 0 ≡ Int (pos n)) → (k : ℕ) (before : List X) (x : X) (after : List X)
+    → k ≡ 1 + length before → Between row k before x after
 between {X} row numbered k before x after at =
     let piece : ℕ → X → List Row = λ n y. row n y ∷ [] in
     let found : (y : X) → IsAmong piece (λ n y. (numbered n y, tt)) k before y after = λ y. among piece (λ n y. (numbered n y, tt)) k before y after at in
@@ -107,7 +108,8 @@ makes_outgoing n mark stage refusal old new made r s did kept =
       outgoing = record {
         headers = sym (place.is g);
         rows =
-            subst (λ files. IsPermutation (bodies_from 1 files) (less_rowids (old out_row_tree))) (ap (map rows_out) did.here ∙ sym (same_but rows_out did.before f g did.after refl)) kept.outgoing.rows;
+            subst (λ files. IsPermutation (bodies_from 1 files) (less_rowids (old out_row_tree)))
+            (ap (map rows_out) did.here ∙ sym (same_but rows_out did.before f g did.after refl)) kept.outgoing.rows;
         row_ids = kept.outgoing.row_ids;
         reasons = all_but (λ (x : Outgoing). HasRefusal x.state) did.before f g did.after refusal (subst (AllByRecursion (λ (x : Outgoing). HasRefusal x.state)) did.here kept.outgoing.reasons);
         few = omega (arith, kept.outgoing.few, ap length did.here, length_but did.before f g did.after);
@@ -116,10 +118,12 @@ makes_outgoing n mark stage refusal old new made r s did kept =
     }))
 
 pub outgoing_set : (old new : State) (n mark : ℕ) (stage : OutgoingState) (count : ℕ) → HasRefusal stage → old.now.schema ≡ office_schema
-    → ExecutesInside 0 set_outgoing_text (number_value n ∷ number_value mark ∷ Text (out_state_text stage) ∷ Text (refusal_text stage) ∷ []) old new (Ok count) → Moves (Makes n (SetOutgoing mark stage)) old new
+    → ExecutesInside 0 set_outgoing_text (number_value n ∷ number_value mark ∷ Text (out_state_text stage) ∷ Text (refusal_text stage) ∷ []) old new (Ok count)
+    → Moves (Makes n (SetOutgoing mark stage)) old new
 outgoing_set old new n mark stage count refusal has h =
     moves_as _ _ old new (makes_outgoing n mark stage refusal)
-    (updates_row old new set_outgoing_text 3 our_out_file set_outgoing_terms (number_value mark ∷ Text (out_state_text stage) ∷ Text (refusal_text stage) ∷ []) n count has set_outgoing_is set_outgoing_plain refl h)
+    (updates_row old new set_outgoing_text 3 our_out_file set_outgoing_terms
+    (number_value mark ∷ Text (out_state_text stage) ∷ Text (refusal_text stage) ∷ []) n count has set_outgoing_is set_outgoing_plain refl h)
 
 -- ---- the header of an incoming file
 
@@ -131,7 +135,8 @@ issued_same f g same n [] after = ap (λ o. issued_if_any n o ++ issued_from (n 
 issued_same f g same n (b ∷ before) after = ap (λ (rows : List Row). issued_if_any n b.response ++ rows) (issued_same f g same (n + 1) before after)
 
 -- the header of one file is another
-header_lands : (r : Register) (n : ℕ) (before : List Incoming) (f g : Incoming) (after : List Incoming) → r.incoming ≡ before ++ f ∷ after → g.rows ≡ f.rows → g.response ≡ f.response → (place : Between in_file_row n before f after)
+header_lands : (r : Register) (n : ℕ) (before : List Incoming) (f g : Incoming) (after : List Incoming) → r.incoming ≡ before ++ f ∷ after → g.rows ≡ f.rows
+    → g.response ≡ f.response → (place : Between in_file_row n before f after)
     → (old new : Trees) → new in_file_tree ≡ place.lo ++ in_file_row n g ∷ place.hi → Others in_file_tree old new → Tables r old → Tables (record r { incoming = before ++ g ∷ after }) new
 header_lands r n before f g after here rows response place old new row others kept =
     lands in_file_tree (place.lo ++ in_file_row n g ∷ place.hi) old new row (record r { incoming = before ++ g ∷ after }) others (record {
@@ -142,7 +147,9 @@ header_lands r n before f g after here rows response place old new row others ke
         row_ids = kept.incoming.row_ids;
         responses = kept.incoming.responses ∙ ap (issued_from 1) here ∙ issued_same f g response 1 before after;
         reasons =
-            all_but (λ (x : Incoming). HasReason x.response) before f g after (subst HasReason (sym response) (at_place (λ (x : Incoming). HasReason x.response) before f after (subst (AllByRecursion (λ (x : Incoming). HasReason x.response)) here kept.incoming.reasons)))
+            all_but (λ (x : Incoming). HasReason x.response) before f g after
+            (subst HasReason (sym response)
+            (at_place (λ (x : Incoming). HasReason x.response) before f after (subst (AllByRecursion (λ (x : Incoming). HasReason x.response)) here kept.incoming.reasons)))
             (subst (AllByRecursion (λ (x : Incoming). HasReason x.response)) here kept.incoming.reasons);
         few = omega (arith, kept.incoming.few, ap length here, length_but before f g after);
       };
@@ -170,10 +177,12 @@ makes_whole n old new made r s did kept =
     subst (λ (q : Register). Tables q new) (sym did.now) (header_lands r n did.before f g did.after did.here refl refl place old new row made.others kept)
 
 pub header_set : (old new : State) (n : ℕ) (format : Format) (longest : ℕ) (description : Bor Words) (count : ℕ) → old.now.schema ≡ office_schema
-    → ExecutesInside 0 set_header_text (number_value n ∷ Text (format_text format) ∷ number_value longest ∷ Text description.now ∷ []) old new (Ok count) → Moves (Makes n (SetHeader format longest description)) old new
+    → ExecutesInside 0 set_header_text (number_value n ∷ Text (format_text format) ∷ number_value longest ∷ Text description.now ∷ []) old new (Ok count)
+    → Moves (Makes n (SetHeader format longest description)) old new
 header_set old new n format longest description count has h =
     moves_as _ _ old new (makes_header n format longest description)
-    (updates_row old new set_header_text 1 our_in_file set_header_terms (Text (format_text format) ∷ number_value longest ∷ Text description.now ∷ []) n count has set_header_is set_header_plain refl h)
+    (updates_row old new set_header_text 1 our_in_file set_header_terms
+    (Text (format_text format) ∷ number_value longest ∷ Text description.now ∷ []) n count has set_header_is set_header_plain refl h)
 
 pub whole_set : (old new : State) (n count : ℕ) → old.now.schema ≡ office_schema → ExecutesInside 0 set_whole_text (number_value n ∷ []) old new (Ok count) → Moves (Makes n SetWhole) old new
 whole_set old new n count has h = moves_as _ _ old new (makes_whole n) (updates_row old new set_whole_text 1 our_in_file set_whole_terms [] n count has set_whole_is set_whole_plain refl h)
@@ -193,7 +202,8 @@ all_and_last P [] x all last = (last, tt)
 all_and_last P (y ∷ xs) x all last = (all.0, all_and_last P xs x all.1 last)
 
 makes_incoming : (n : ℕ) → n < 2 ^ 63 → (identity : Bor Identity) (format : Format) (longest : ℕ) (description : Bor Words) (old new : Trees)
-    → PutsIn n our_in_file (number_value n ∷ Null ∷ identity_values identity.now ++ Text (format_text format) ∷ number_value longest ∷ Text description.now ∷ Text (codes "open") ∷ []) old new → Makes n (AddIncoming identity format longest description) old new
+    → PutsIn n our_in_file (number_value n ∷ Null ∷ identity_values identity.now ++ Text (format_text format) ∷ number_value longest ∷ Text description.now ∷ Text (codes "open") ∷ []) old new
+    → Makes n (AddIncoming identity format longest description) old new
 makes_incoming n held identity format longest description old new made r s did kept =
     let f : Incoming = record { identity = identity.now; format = format; longest = longest; description = description.now; state = Open; rows = []; response = None } in
     let place = behind in_file_row (λ k x. refl) n r.incoming did.0.number in
@@ -204,7 +214,8 @@ makes_incoming n held identity format longest description old new made r s did k
       about = kept.about;
       incoming = record {
         headers = sym (place.is f);
-        rows = subst (λ rows. IsPermutation rows (less_rowids (old in_row_tree))) (sym (bodies_behind 1 (map rows_in r.incoming)) ∙ ap (bodies_from 1) (sym (map-append rows_in r.incoming (f ∷ [])))) kept.incoming.rows;
+        rows = subst (λ rows. IsPermutation rows (less_rowids (old in_row_tree)))
+            (sym (bodies_behind 1 (map rows_in r.incoming)) ∙ ap (bodies_from 1) (sym (map-append rows_in r.incoming (f ∷ [])))) kept.incoming.rows;
         row_ids = kept.incoming.row_ids;
         responses = kept.incoming.responses ∙ sym (issued_behind f refl 1 r.incoming);
         reasons = all_and_last (λ (x : Incoming). HasReason x.response) r.incoming f kept.incoming.reasons tt;
@@ -215,7 +226,8 @@ makes_incoming n held identity format longest description old new made r s did k
     }))
 
 makes_new_outgoing : (n : ℕ) → n < 2 ^ 63 → (identity : Bor Identity) (format : Format) (longest : ℕ) (description : Bor Words) (old new : Trees)
-    → PutsIn n our_out_file (number_value n ∷ Null ∷ identity_values identity.now ++ Text (format_text format) ∷ number_value longest ∷ Text description.now ∷ number_value 0 ∷ Text (codes "waiting") ∷ Text [] ∷ []) old new
+    → PutsIn n our_out_file (number_value n ∷ Null ∷ identity_values identity.now ++ Text (format_text format) ∷ number_value longest ∷ Text description.now
+    ∷ number_value 0 ∷ Text (codes "waiting") ∷ Text [] ∷ []) old new
     → Makes n (AddOutgoing identity format longest description) old new
 makes_new_outgoing n held identity format longest description old new made r s did kept =
     let f : Outgoing = record { identity = identity.now; format = format; longest = longest; description = description.now; rows = []; mark = 0; state = Waiting } in
@@ -228,7 +240,8 @@ makes_new_outgoing n held identity format longest description old new made r s d
       incoming = kept.incoming;
       outgoing = record {
         headers = sym (place.is f);
-        rows = subst (λ rows. IsPermutation rows (less_rowids (old out_row_tree))) (sym (bodies_behind 1 (map rows_out r.outgoing)) ∙ ap (bodies_from 1) (sym (map-append rows_out r.outgoing (f ∷ [])))) kept.outgoing.rows;
+        rows = subst (λ rows. IsPermutation rows (less_rowids (old out_row_tree)))
+            (sym (bodies_behind 1 (map rows_out r.outgoing)) ∙ ap (bodies_from 1) (sym (map-append rows_out r.outgoing (f ∷ [])))) kept.outgoing.rows;
         row_ids = kept.outgoing.row_ids;
         reasons = all_and_last (λ (x : Outgoing). HasRefusal x.state) r.outgoing f kept.outgoing.reasons tt;
         few = omega (arith, held, did.0.number, length-append r.outgoing (f ∷ []));
@@ -236,23 +249,21 @@ makes_new_outgoing n held identity format longest description old new made r s d
       received = kept.received;
     }))
 
-abbrev pub header_params : ℕ → Identity → Format → ℕ → List ℕ → Row
-header_params n identity format longest description =
-    number_value n ∷ Text identity.dataset ∷ Text identity.date ∷ Text identity.time ∷ Text identity.originator ∷ Text identity.destination ∷ Text (format_text format) ∷ number_value longest ∷ Text description ∷ []
-
 pub incoming_added : (old new : State) (n : ℕ) → n < 2 ^ 63 → (identity : Bor Identity) (format : Format) (longest : ℕ) (description : Bor Words) (count : ℕ) → old.now.schema ≡ office_schema
     → ExecutesInside 0 add_incoming_text (header_params n identity.now format longest description.now) old new (Ok count) → Moves (Makes n (AddIncoming identity format longest description)) old new
 incoming_added old new n held identity format longest description count has h =
     moves_as _ _ old new (makes_incoming n held identity format longest description)
     (inserts_row old new add_incoming_text 1 our_in_file add_incoming_terms 11 (header_params n identity.now format longest description.now)
-    (number_value n ∷ Null ∷ identity_values identity.now ++ Text (format_text format) ∷ number_value longest ∷ Text description.now ∷ Text (codes "open") ∷ []) n count has add_incoming_is add_incoming_plain refl refl h)
+    (number_value n ∷ Null ∷ identity_values identity.now ++ Text (format_text format) ∷ number_value longest ∷ Text description.now ∷ Text (codes "open") ∷ []) n count
+    has add_incoming_is add_incoming_plain refl refl h)
 
 pub outgoing_added : (old new : State) (n : ℕ) → n < 2 ^ 63 → (identity : Bor Identity) (format : Format) (longest : ℕ) (description : Bor Words) (count : ℕ) → old.now.schema ≡ office_schema
     → ExecutesInside 0 add_outgoing_text (header_params n identity.now format longest description.now) old new (Ok count) → Moves (Makes n (AddOutgoing identity format longest description)) old new
 outgoing_added old new n held identity format longest description count has h =
     moves_as _ _ old new (makes_new_outgoing n held identity format longest description)
     (inserts_row old new add_outgoing_text 3 our_out_file add_outgoing_terms 13 (header_params n identity.now format longest description.now)
-    (number_value n ∷ Null ∷ identity_values identity.now ++ Text (format_text format) ∷ number_value longest ∷ Text description.now ∷ number_value 0 ∷ Text (codes "waiting") ∷ Text [] ∷ []) n count has add_outgoing_is add_outgoing_plain refl refl h)
+    (number_value n ∷ Null ∷ identity_values identity.now ++ Text (format_text format) ∷ number_value longest ∷ Text description.now ∷ number_value 0 ∷ Text (codes "waiting") ∷ Text [] ∷ []) n count
+    has add_outgoing_is add_outgoing_plain refl refl h)
 
 -- ---- the response to an incoming file
 
@@ -291,7 +302,8 @@ response_lands r n before f x after here small at old new row others kept =
       received = kept.received;
     })
   where
-    rows_same : (f : Incoming) (g : Incoming) → (k : ℕ) (before after : List Incoming) → rows_from in_file_row k (before ++ (record f { response = g.response }) ∷ after) ≡ rows_from in_file_row k (before ++ f ∷ after)
+    rows_same : (f : Incoming) (g : Incoming) → (k : ℕ) (before after : List Incoming)
+        → rows_from in_file_row k (before ++ (record f { response = g.response }) ∷ after) ≡ rows_from in_file_row k (before ++ f ∷ after)
     rows_same f g k [] after = refl
     rows_same f g k (b ∷ before) after = ap (λ (rows : List Row). in_file_row k b ∷ rows) (rows_same f g (k + 1) before after)
 
@@ -319,11 +331,13 @@ makes_sent n old new made r s done kept =
     ∙ ap (λ o. pieces_from issued_piece 1 did.before ++ (issued_if_any n o ++ pieces_from issued_piece (n + 1) did.after)) did.was in
     let row = made.rows _ _ (issued_row n answer) (issued_row n x) place.split refl refl (simp (cast_null, cast_int)) was in
     let small : answer.reason < 100 =
-    subst HasReason did.was (at_place (λ (y : Incoming). HasReason y.response) did.before f did.after (subst (AllByRecursion (λ (y : Incoming). HasReason y.response)) did.here kept.incoming.reasons)) in
+    subst HasReason did.was (at_place (λ (y : Incoming). HasReason y.response) did.before f did.after
+    (subst (AllByRecursion (λ (y : Incoming). HasReason y.response)) did.here kept.incoming.reasons)) in
     subst (λ (q : Register). Tables q new) (sym did.now) (response_lands r n did.before f x did.after did.here small did.number old new row made.others kept)
 
 pub issued_added : (old new : State) (n : ℕ) (kind : ResponseKind) (reason : ℕ) (text : Bor Words) (count : ℕ) → reason < 100 → old.now.schema ≡ office_schema
-    → ExecutesInside 0 add_issued_text (number_value n ∷ Text (kind_text kind) ∷ Text (reason_text kind reason) ∷ Text text.now ∷ []) old new (Ok count) → Moves (Makes n (AddIssued kind reason text)) old new
+    → ExecutesInside 0 add_issued_text (number_value n ∷ Text (kind_text kind) ∷ Text (reason_text kind reason) ∷ Text text.now ∷ []) old new (Ok count)
+    → Moves (Makes n (AddIssued kind reason text)) old new
 issued_added old new n kind reason text count small has h =
     moves_as _ _ old new (makes_issued n kind reason text small)
     (inserts_row old new add_issued_text 5 our_issued add_issued_terms 6 (number_value n ∷ Text (kind_text kind) ∷ Text (reason_text kind reason) ∷ Text text.now ∷ [])

@@ -58,7 +58,8 @@ others it (f ∷ files) h =
     ap (λ b. b || list_any (λ (f : Outgoing). same_identity f.identity it) files) (turned it f.identity parts.0) ∙ others it files parts.1
 
 -- an identity isn't that of a file among others
-not_that : (it : Identity) (before : List Outgoing) (f : Outgoing) (after : List Outgoing) → list_any (λ i. same_identity it i) (map name_of (before ++ f ∷ after)) ≡ false → same_identity it f.identity ≡ false
+not_that : (it : Identity) (before : List Outgoing) (f : Outgoing) (after : List Outgoing)
+    → list_any (λ i. same_identity it i) (map name_of (before ++ f ∷ after)) ≡ false → same_identity it f.identity ≡ false
 not_that it [] f after h = (or_parts (same_identity it f.identity) (list_any (λ i. same_identity it i) (map name_of after)) h).0
 not_that it (b ∷ before) f after h = not_that it before f after (or_parts (same_identity it b.identity) (list_any (λ i. same_identity it i) (map name_of (before ++ f ∷ after))) h).1
 
@@ -67,7 +68,8 @@ settled_there : (kind : ResponseKind) (it : Identity) (before : List Outgoing) (
 settled_there kind it [] f after once is =
     let own : same_identity f.identity it ≡ true = ap (λ i. same_identity i it) is ∙ same_self it in
     ap (λ g. g ∷ map (settled kind it) after) (cond-true (same_identity f.identity it) (record f { state = answered kind f.state }) f own)
-    ∙ ap (λ gs. let g : Outgoing = record f { state = answered kind f.state } in g ∷ gs) (unsettled kind it after (others it after (ap (λ j. list_any (λ i. same_identity j i) (map name_of after)) (sym is) ∙ once.0)))
+    ∙ ap (λ gs. let g : Outgoing = record f { state = answered kind f.state } in g ∷ gs)
+    (unsettled kind it after (others it after (ap (λ j. list_any (λ i. same_identity j i) (map name_of after)) (sym is) ∙ once.0)))
 settled_there kind it (b ∷ before) f after once is =
     let other : same_identity b.identity it ≡ false = ap (same_identity b.identity) (sym is) ∙ not_that b.identity before f after once.0 in
     ap (λ g. g ∷ map (settled kind it) (before ++ f ∷ after)) (cond-false (same_identity b.identity it) _ b other) ∙ ap (λ gs. b ∷ gs) (settled_there kind it before f after once.1 is)
@@ -79,7 +81,8 @@ pub settles_none : (r : Register) (it : Identity) → no_of r side.Outgoing it �
 settles_none r it none kind = unsettled kind it r.outgoing (sym (known_out r it) ∙ ap is_some none)
 
 -- the file with the number of an identity has this identity
-named_so : (r : Register) (it : Identity) (n : ℕ) (before : List Outgoing) (f : Outgoing) (after : List Outgoing) → no_of r side.Outgoing it ≡ Some n → IsPlaced r.outgoing n before f after → f.identity ≡ it
+named_so : (r : Register) (it : Identity) (n : ℕ) (before : List Outgoing) (f : Outgoing) (after : List Outgoing) → no_of r side.Outgoing it ≡ Some n
+    → IsPlaced r.outgoing n before f after → f.identity ≡ it
 named_so r it n before f after some placed =
     let found : look_out r it ≡ Some (outgoing_entry n f) =
     sym (same_by_number outgoing_entry (λ (e : OutgoingEntry). e.no) (λ n x. refl) (λ (e : OutgoingEntry). same_identity e.identity it) n 1 r.outgoing some)
@@ -111,11 +114,13 @@ answers_it kind (Refused reason) h = absurd (let no_such = h in cc)
 answers_it kind Delivered h = absurd (let no_such = h in cc)
 answers_it kind Returned h = absurd (let no_such = h in cc)
 
-placed_once : (r : Register) (n : ℕ) (before : List Outgoing) (f : Outgoing) (after : List Outgoing) → IsSound r → IsPlaced r.outgoing n before f after → AreNamedOnce (map name_of (before ++ f ∷ after))
+placed_once : (r : Register) (n : ℕ) (before : List Outgoing) (f : Outgoing) (after : List Outgoing) → IsSound r → IsPlaced r.outgoing n before f after
+    → AreNamedOnce (map name_of (before ++ f ∷ after))
 placed_once r n before f after sound placed = subst (λ files. AreNamedOnce (map name_of files)) placed.here sound.outgoing_once
 
 -- its file is one that a response leaves as it is
-pub settles_nothing : (r : Register) (it : Identity) (n : ℕ) (stage : Stage) → IsSound r → no_of r side.Outgoing it ≡ Some n → IsToldOf stage_of r.outgoing n (Some stage) → is_awaiting stage.state ≡ false → Settles r it None
+pub settles_nothing : (r : Register) (it : Identity) (n : ℕ) (stage : Stage) → IsSound r → no_of r side.Outgoing it ≡ Some n → IsToldOf stage_of r.outgoing n (Some stage)
+    → is_awaiting stage.state ≡ false → Settles r it None
 settles_nothing r it n stage sound some (before, f, after, placed, is) off kind =
     ap (map (settled kind it)) placed.here
     ∙ settled_there kind it before f after (placed_once r n before f after sound placed) (named_so r it n before f after some placed)
@@ -139,7 +144,8 @@ settles_it r it n stage sound some (before, f, after, placed, is) on = (
 
 -- ---- the change
 
-pub duplicate_file : (r : Register) (kind : ResponseKind) (it : Identity) (reason : ℕ) (creator text : List ℕ) → IsFilingOf r kind it filing.Known → apply r (change.File kind it reason creator text) ≡ Err Duplicate
+pub duplicate_file : (r : Register) (kind : ResponseKind) (it : Identity) (reason : ℕ) (creator text : List ℕ) → IsFilingOf r kind it filing.Known
+    → apply r (change.File kind it reason creator text) ≡ Err Duplicate
 unfolding apply
 duplicate_file r kind it reason creator text filed = cond-true (has_received r kind it) _ _ filed
 

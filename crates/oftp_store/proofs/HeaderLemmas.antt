@@ -47,7 +47,8 @@ in_header_plain = (refl, refl)
 
 in_back : (k : ℕ) (f : Incoming) → incoming_header_in (eval_all in_project ((number_value k ∷ []) ∷ in_file_row k f ∷ [])) ≡ incoming_header_of f
 in_back k f =
-    ap (λ x. let h : IncomingHeader = record { identity = f.identity; format = x; longest = f.longest; description = f.description; state = in_state_in (in_state_text f.state) } in h) (format_back f.format)
+    ap (λ x. let h : IncomingHeader = record { identity = f.identity; format = x; longest = f.longest; description = f.description; state = in_state_in (in_state_text f.state) } in h)
+    (format_back f.format)
     ∙ ap (λ x. let h : IncomingHeader = record { identity = f.identity; format = f.format; longest = f.longest; description = f.description; state = x } in h) (in_state_back f.state)
 
 pub finds_in_header : (old new : State) (k : ℕ) (rows : List Row) → old.now.schema ≡ office_schema → Shown in_header_text (number_value k ∷ []) old new rows → (r : Register) → Tables r old.now.trees
@@ -55,7 +56,8 @@ pub finds_in_header : (old new : State) (k : ℕ) (rows : List Row) → old.now.
 finds_in_header old new k rows has h r kept =
     let params = number_value k ∷ [] in
     let read = reads_as in_header_text params old new office_schema has in_select in_is.0 in_header_plain in_is.1 rows h in
-    go (one_row in_file_row (λ n x. refl) r.incoming k in_project rows (subst (λ table. IsPermutation (chosen by_number in_project params table) rows) kept.incoming.headers (answers old.now.trees in_file_tree by_number in_project params rows (read.answer Null))))
+    go (one_row in_file_row (λ n x. refl) r.incoming k in_project rows
+    (subst (λ table. IsPermutation (chosen by_number in_project params table) rows) kept.incoming.headers (answers old.now.trees in_file_tree by_number in_project params rows (read.answer Null))))
   where
     go : OneRow in_file_row r.incoming k in_project rows → IsToldOf incoming_header_of r.incoming k (first_told incoming_header_in rows)
     go (nowhere none unknown) = subst (λ rows. IsToldOf incoming_header_of r.incoming k (first_told incoming_header_in rows)) (sym none) unknown
@@ -69,7 +71,8 @@ out_project = col 1 2 ∷ col 1 3 ∷ col 1 4 ∷ col 1 5 ∷ col 1 6 ∷ col 1 
 abbrev out_select : Command
 out_select =
     Select (record { lets = []; body = plain_query out_file_tree by_number out_project })
-    (codes "dataset" ∷ codes "date" ∷ codes "time" ∷ codes "originator" ∷ codes "destination" ∷ codes "format" ∷ codes "longest" ∷ codes "description" ∷ codes "mark" ∷ codes "state" ∷ codes "reason" ∷ [])
+    (codes "dataset" ∷ codes "date" ∷ codes "time" ∷ codes "originator" ∷ codes "destination" ∷ codes "format" ∷ codes "longest" ∷ codes "description" ∷ codes "mark"
+    ∷ codes "state" ∷ codes "reason" ∷ [])
 
 out_is : (command_of (understood office_schema out_header_text) ≡ out_select) × (reads_listing office_schema out_header_text ≡ false)
 unfolding understood everything
@@ -81,15 +84,25 @@ out_header_plain = (refl, refl)
 
 out_back : (k : ℕ) (f : Outgoing) → HasRefusal f.state → outgoing_header_in (eval_all out_project ((number_value k ∷ []) ∷ out_file_row k f ∷ [])) ≡ outgoing_header_of f
 out_back k f small =
-    ap (λ x. let h : OutgoingHeader = record { identity = f.identity; format = x; longest = f.longest; description = f.description; mark = f.mark; state = out_state_in (out_state_text f.state) (refusal_text f.state) } in h) (format_back f.format)
-    ∙ ap (λ x. let h : OutgoingHeader = record { identity = f.identity; format = f.format; longest = f.longest; description = f.description; mark = f.mark; state = x } in h) (out_state_back f.state small)
+    ap (λ x. let h : OutgoingHeader = record {
+      identity = f.identity;
+      format = x;
+      longest = f.longest;
+      description = f.description;
+      mark = f.mark;
+      state = out_state_in (out_state_text f.state) (refusal_text f.state);
+    } in h) (format_back f.format)
+    ∙ ap (λ x. let h : OutgoingHeader = record { identity = f.identity; format = f.format; longest = f.longest; description = f.description; mark = f.mark; state = x } in h)
+    (out_state_back f.state small)
 
 pub finds_out_header : (old new : State) (k : ℕ) (rows : List Row) → old.now.schema ≡ office_schema → Shown out_header_text (number_value k ∷ []) old new rows → (r : Register) → Tables r old.now.trees
     → IsToldOf outgoing_header_of r.outgoing k (first_told outgoing_header_in rows)
 finds_out_header old new k rows has h r kept =
     let params = number_value k ∷ [] in
     let read = reads_as out_header_text params old new office_schema has out_select out_is.0 out_header_plain out_is.1 rows h in
-    go (one_row out_file_row (λ n x. refl) r.outgoing k out_project rows (subst (λ table. IsPermutation (chosen by_number out_project params table) rows) kept.outgoing.headers (answers old.now.trees out_file_tree by_number out_project params rows (read.answer Null))))
+    go (one_row out_file_row (λ n x. refl) r.outgoing k out_project rows
+    (subst (λ table. IsPermutation (chosen by_number out_project params table) rows) kept.outgoing.headers
+    (answers old.now.trees out_file_tree by_number out_project params rows (read.answer Null))))
   where
     go : OneRow out_file_row r.outgoing k out_project rows → IsToldOf outgoing_header_of r.outgoing k (first_told outgoing_header_in rows)
     go (nowhere none unknown) = subst (λ rows. IsToldOf outgoing_header_of r.outgoing k (first_told outgoing_header_in rows)) (sym none) unknown
@@ -113,7 +126,8 @@ pub response_plain : IsPlain (understood office_schema response_text)
 unfolding understood everything
 response_plain = (refl, refl)
 
-pub finds_response : (old new : State) (k : ℕ) (rows : List Row) → old.now.schema ≡ office_schema → Shown response_text (number_value k ∷ []) old new rows → (r : Register) → Tables r old.now.trees → IsSound r
+pub finds_response : (old new : State) (k : ℕ) (rows : List Row) → old.now.schema ≡ office_schema → Shown response_text (number_value k ∷ []) old new rows
+    → (r : Register) → Tables r old.now.trees → IsSound r
     → IsResponseTo r k (first_told response_in rows)
 finds_response old new k rows has h r kept sound before f after placed =
     let params = number_value k ∷ [] in
@@ -131,9 +145,12 @@ finds_response old new k rows has h r kept sound before f after placed =
     hi : List Row
     hi = Rattle.oftp_tables.proofs.SplitLemmas.pieces_from issued_piece (k + 1) after
 
-    go : (o : Option Issued) → HasReason o → IsSoundAnswer o → IsPermutation (chosen by_number response_project (number_value k ∷ []) (lo ++ (issued_if_any k o ++ hi))) rows → first_told response_in rows ≡ option_map issued_response o
+    go : (o : Option Issued) → HasReason o → IsSoundAnswer o
+        → IsPermutation (chosen by_number response_project (number_value k ∷ []) (lo ++ (issued_if_any k o ++ hi))) rows → first_told response_in rows ≡ option_map issued_response o
     go None small right perm =
-        ap (first_told response_in) (no_rows rows (subst (λ all. IsPermutation all rows) (chosen_none response_project k [] lo hi (among issued_piece issued_number k before f after placed.number).split) perm))
+        ap (first_told response_in) (no_rows rows
+        (subst (λ all. IsPermutation all rows) (chosen_none response_project k [] lo hi (among issued_piece issued_number k before f after placed.number).split) perm))
     go (Some x) small right perm =
-        ap (first_told response_in) (one_permutation _ rows (subst (λ all. IsPermutation all rows) (chosen_one response_project k [] (issued_row k x) lo hi refl (among issued_piece issued_number k before f after placed.number).split) perm))
+        ap (first_told response_in) (one_permutation _ rows
+        (subst (λ all. IsPermutation all rows) (chosen_one response_project k [] (issued_row k x) lo hi refl (among issued_piece issued_number k before f after placed.number).split) perm))
         ∙ ap (λ (i : Issued). Some (issued_response i)) (issued_back k x small right)

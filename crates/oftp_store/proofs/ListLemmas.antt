@@ -44,7 +44,8 @@ module _ {X E : Type 0} (entry : ℕ → X → E) where
   numbered_at n zero (x ∷ xs) = let here : n ≡ n + 0 = omega arith in ap (λ m. Some (entry m x)) here
   numbered_at n (suc k) (x ∷ xs) = let here : (n + 1) + k ≡ n + suc k = omega arith in numbered_at (n + 1) k xs ∙ ap (λ m. option_map (entry m) (slice_get xs k)) here
 
-  pub found_after : (number_of : E → ℕ) → ((n : ℕ) (x : X) → number_of (entry n x) ≡ n) → (k : ℕ) (xs : List X) → find (λ e. number_of e == k + 1) (numbered entry 1 xs) ≡ slice_get (numbered entry 1 xs) k
+  pub found_after : (number_of : E → ℕ) → ((n : ℕ) (x : X) → number_of (entry n x) ≡ n) → (k : ℕ) (xs : List X)
+      → find (λ e. number_of e == k + 1) (numbered entry 1 xs) ≡ slice_get (numbered entry 1 xs) k
   found_after number_of same k xs = go (spot (k + 1) xs) ∙ ap (option_map (entry (k + 1))) by_place ∙ ap (λ m. option_map (entry m) (slice_get xs k)) next ∙ sym (numbered_at 1 k xs)
     where
       next : k + 1 ≡ 1 + k
@@ -70,31 +71,28 @@ issued_in_order n fs = filter_map (λ entry. entry) (numbered issued_entry n fs)
 number : IssuedEntry → ℕ
 number e = e.no
 
+-- the entry of a response to a file with a number
+abbrev entry_so : ℕ → Incoming → Issued → IssuedEntry
+entry_so n f x = record { no = n; identity = f.identity; response = issued_response x }
+
+-- an entry that isn't wanted is passed by
+passed_by : (wanted : IssuedEntry → Bool) (n : ℕ) (f : Incoming) (o : Option Issued) (rest : List (Option IssuedEntry)) → ((x : Issued) → wanted (entry_so n f x) ≡ false)
+    → find wanted (filter_map (λ entry. entry) (option_map (entry_so n f) o ∷ rest)) ≡ find wanted (filter_map (λ entry. entry) rest)
+passed_by wanted n f None rest other = refl
+passed_by wanted n f (Some x) rest other = rw (other x) refl
+
 issued_low : (k n : ℕ) (fs : List Incoming) → k < n → find (λ (e : IssuedEntry). e.no == k) (issued_in_order n fs) ≡ None
 issued_low k n [] h = refl
-issued_low k n (f ∷ fs) h = go f.response (issued_low k (n + 1) fs (omega (arith, h)))
-  where
-    other : (n == k) ≡ false
-    other = grind (arith, nat_tests, h)
-
-    go : (o : Option Issued) → find (λ (e : IssuedEntry). e.no == k) (issued_in_order (n + 1) fs) ≡ None
-        → find (λ (e : IssuedEntry). e.no == k) (filter_map (λ entry. entry) (option_map (λ x. let e : IssuedEntry = record { no = n; identity = f.identity; response = issued_response x } in e) o ∷ numbered issued_entry (n + 1) fs)) ≡ None
-    go None later = later
-    go (Some x) later = rw other later
+issued_low k n (f ∷ fs) h =
+    passed_by (λ e. e.no == k) n f f.response (numbered issued_entry (n + 1) fs) (λ x. grind (arith, nat_tests, h)) ∙ issued_low k (n + 1) fs (omega (arith, h))
 
 issued_past : (k n : ℕ) (fs : List Incoming) → n + length fs ≤ k → find (λ (e : IssuedEntry). e.no == k) (issued_in_order n fs) ≡ None
 issued_past k n [] h = refl
-issued_past k n (f ∷ fs) h = go f.response (issued_past k (n + 1) fs (omega (arith, h)))
-  where
-    other : (n == k) ≡ false
-    other = grind (arith, nat_tests, h)
+issued_past k n (f ∷ fs) h =
+    passed_by (λ e. e.no == k) n f f.response (numbered issued_entry (n + 1) fs) (λ x. grind (arith, nat_tests, h)) ∙ issued_past k (n + 1) fs (omega (arith, h))
 
-    go : (o : Option Issued) → find (λ (e : IssuedEntry). e.no == k) (issued_in_order (n + 1) fs) ≡ None
-        → find (λ (e : IssuedEntry). e.no == k) (filter_map (λ entry. entry) (option_map (λ x. let e : IssuedEntry = record { no = n; identity = f.identity; response = issued_response x } in e) o ∷ numbered issued_entry (n + 1) fs)) ≡ None
-    go None later = later
-    go (Some x) later = rw other later
-
-issued_there : (k n : ℕ) (before : List Incoming) (f : Incoming) (after : List Incoming) → k ≡ n + length before → find (λ (e : IssuedEntry). e.no == k) (issued_in_order n (before ++ f ∷ after)) ≡ issued_entry k f
+issued_there : (k n : ℕ) (before : List Incoming) (f : Incoming) (after : List Incoming) → k ≡ n + length before
+    → find (λ (e : IssuedEntry). e.no == k) (issued_in_order n (before ++ f ∷ after)) ≡ issued_entry k f
 issued_there k n [] f after is = go f.response (issued_low n (n + 1) after (omega arith))
   where
     here : n ≡ k
@@ -104,21 +102,16 @@ issued_there k n [] f after is = go f.response (issued_low n (n + 1) after (omeg
     yes = grind (arith, nat_tests, here)
 
     go : (o : Option Issued) → find (λ (e : IssuedEntry). e.no == n) (issued_in_order (n + 1) after) ≡ None
-        → find (λ (e : IssuedEntry). e.no == k) (filter_map (λ entry. entry) (option_map (λ x. let e : IssuedEntry = record { no = n; identity = f.identity; response = issued_response x } in e) o ∷ numbered issued_entry (n + 1) after))
-        ≡ option_map (λ x. let e : IssuedEntry = record { no = k; identity = f.identity; response = issued_response x } in e) o
+        → find (λ (e : IssuedEntry). e.no == k) (filter_map (λ entry. entry) (option_map (entry_so n f) o ∷ numbered issued_entry (n + 1) after))
+        ≡ option_map (entry_so k f) o
     go None later = subst (λ m. find (λ (e : IssuedEntry). e.no == m) (issued_in_order (n + 1) after) ≡ None) here later
-    go (Some x) later = rw yes (ap (λ m. let e : IssuedEntry = record { no = m; identity = f.identity; response = issued_response x } in Some e) here)
-issued_there k n (b ∷ before) f after is = go b.response (issued_there k (n + 1) before f after (omega (arith, is)))
-  where
-    other : (n == k) ≡ false
-    other = grind (arith, nat_tests, is)
+    go (Some x) later = rw yes (ap (λ m. Some (entry_so m f x)) here)
+issued_there k n (b ∷ before) f after is =
+    passed_by (λ e. e.no == k) n b b.response (numbered issued_entry (n + 1) (before ++ f ∷ after)) (λ x. grind (arith, nat_tests, is))
+    ∙ issued_there k (n + 1) before f after (omega (arith, is))
 
-    go : (o : Option Issued) → find (λ (e : IssuedEntry). e.no == k) (issued_in_order (n + 1) (before ++ f ∷ after)) ≡ issued_entry k f
-        → find (λ (e : IssuedEntry). e.no == k) (filter_map (λ entry. entry) (option_map (λ x. let e : IssuedEntry = record { no = n; identity = b.identity; response = issued_response x } in e) o ∷ numbered issued_entry (n + 1) (before ++ f ∷ after))) ≡ issued_entry k f
-    go None later = later
-    go (Some x) later = rw other later
-
-pub issued_known : (k : ℕ) (fs before : List Incoming) (f : Incoming) (after : List Incoming) → IsPlaced fs k before f after → find (λ (e : IssuedEntry). e.no == k) (issued_in_order 1 fs) ≡ issued_entry k f
+pub issued_known : (k : ℕ) (fs before : List Incoming) (f : Incoming) (after : List Incoming) → IsPlaced fs k before f after
+    → find (λ (e : IssuedEntry). e.no == k) (issued_in_order 1 fs) ≡ issued_entry k f
 issued_known k fs before f after placed = ap (λ all. find (λ (e : IssuedEntry). e.no == k) (issued_in_order 1 all)) placed.here ∙ issued_there k 1 before f after placed.number
 
 issued_grows : (n : ℕ) (fs : List Incoming) (f : Incoming) → issued_in_order n (fs ++ f ∷ []) ≡ issued_in_order n fs ++ listed (issued_entry (n + length fs) f)
@@ -127,20 +120,19 @@ issued_grows n [] f = go f.response
     here : n ≡ n + 0
     here = omega arith
 
-    go : (o : Option Issued) → filter_map (λ entry. entry) (option_map (λ x. let e : IssuedEntry = record { no = n; identity = f.identity; response = issued_response x } in e) o ∷ [])
-        ≡ listed (option_map (λ x. let e : IssuedEntry = record { no = n + 0; identity = f.identity; response = issued_response x } in e) o)
+    go : (o : Option Issued) → filter_map (λ entry. entry) (option_map (entry_so n f) o ∷ []) ≡ listed (option_map (entry_so (n + 0) f) o)
     go None = refl
-    go (Some x) = ap (λ m. let e : IssuedEntry = record { no = m; identity = f.identity; response = issued_response x } in e ∷ []) here
+    go (Some x) = ap (λ m. entry_so m f x ∷ []) here
 issued_grows n (g ∷ fs) f = go g.response (issued_grows (n + 1) fs f ∙ ap (λ m. issued_in_order (n + 1) fs ++ listed (issued_entry m f)) here)
   where
     here : (n + 1) + length fs ≡ n + length (g ∷ fs)
     here = omega arith
 
     go : (o : Option Issued) → issued_in_order (n + 1) (fs ++ f ∷ []) ≡ issued_in_order (n + 1) fs ++ listed (issued_entry (n + length (g ∷ fs)) f)
-        → filter_map (λ entry. entry) (option_map (λ x. let e : IssuedEntry = record { no = n; identity = g.identity; response = issued_response x } in e) o ∷ numbered issued_entry (n + 1) (fs ++ f ∷ []))
-        ≡ filter_map (λ entry. entry) (option_map (λ x. let e : IssuedEntry = record { no = n; identity = g.identity; response = issued_response x } in e) o ∷ numbered issued_entry (n + 1) fs) ++ listed (issued_entry (n + length (g ∷ fs)) f)
+        → filter_map (λ entry. entry) (option_map (entry_so n g) o ∷ numbered issued_entry (n + 1) (fs ++ f ∷ []))
+        ≡ filter_map (λ entry. entry) (option_map (entry_so n g) o ∷ numbered issued_entry (n + 1) fs) ++ listed (issued_entry (n + length (g ∷ fs)) f)
     go None later = later
-    go (Some x) later = ap (λ es. (let e : IssuedEntry = record { no = n; identity = g.identity; response = issued_response x } in e ∷ es)) later
+    go (Some x) later = ap (λ es. entry_so n g x ∷ es) later
 
 pub issued_more : (k : ℕ) (fs : List Incoming) (found : Option IssuedEntry) → found ≡ find (λ (e : IssuedEntry). e.no == k + 1) (issued_in_order 1 fs)
     → issued_in_order 1 (take (k + 1) fs) ≡ issued_in_order 1 (take k fs) ++ listed found
@@ -169,17 +161,15 @@ module _ (wanted : IssuedEntry → Bool) where
       rest : Option IssuedEntry
       rest = find wanted (issued_in_order (n + 1) fs)
 
-      entry : Issued → IssuedEntry
-      entry x = record { no = n; identity = f.identity; response = issued_response x }
-
-      pick : (b : Bool) (x : Issued) → (option_map (λ (e : IssuedEntry). e.no) rest ≡ Some k → n + 1 ≤ k) → option_map (λ (e : IssuedEntry). e.no) (cond b (Some (entry x)) rest) ≡ Some k → n ≤ k
+      pick : (b : Bool) (x : Issued) → (option_map (λ (e : IssuedEntry). e.no) rest ≡ Some k → n + 1 ≤ k)
+          → option_map (λ (e : IssuedEntry). e.no) (cond b (Some (entry_so n f x)) rest) ≡ Some k → n ≤ k
       pick true x later is = let at : n ≡ k = cc is in omega (arith, at)
       pick false x later is = let more = later is in omega (arith, more)
 
       go : (o : Option Issued) → (option_map (λ (e : IssuedEntry). e.no) rest ≡ Some k → n + 1 ≤ k)
-          → option_map (λ (e : IssuedEntry). e.no) (find wanted (filter_map (λ entry. entry) (option_map entry o ∷ numbered issued_entry (n + 1) fs))) ≡ Some k → n ≤ k
+          → option_map (λ (e : IssuedEntry). e.no) (find wanted (filter_map (λ entry. entry) (option_map (entry_so n f) o ∷ numbered issued_entry (n + 1) fs))) ≡ Some k → n ≤ k
       go None later is = let more = later is in omega (arith, more)
-      go (Some x) later is = pick (wanted (entry x)) x later is
+      go (Some x) later is = pick (wanted (entry_so n f x)) x later is
 
   pub issued_by_number : (k n : ℕ) (fs : List Incoming) → option_map (λ (e : IssuedEntry). e.no) (find wanted (issued_in_order n fs)) ≡ Some k
       → find (λ (e : IssuedEntry). e.no == k) (issued_in_order n fs) ≡ find wanted (issued_in_order n fs)
@@ -192,33 +182,25 @@ module _ (wanted : IssuedEntry → Bool) where
       by : Option IssuedEntry
       by = find (λ (e : IssuedEntry). e.no == k) (issued_in_order (n + 1) fs)
 
-      entry : Issued → IssuedEntry
-      entry x = record { no = n; identity = f.identity; response = issued_response x }
-
       pick : (b : Bool) (x : Issued) → (option_map (λ (e : IssuedEntry). e.no) rest ≡ Some k → n + 1 ≤ k) → (option_map (λ (e : IssuedEntry). e.no) rest ≡ Some k → by ≡ rest)
-          → option_map (λ (e : IssuedEntry). e.no) (cond b (Some (entry x)) rest) ≡ Some k → cond (n == k) (Some (entry x)) by ≡ cond b (Some (entry x)) rest
+          → option_map (λ (e : IssuedEntry). e.no) (cond b (Some (entry_so n f x)) rest) ≡ Some k → cond (n == k) (Some (entry_so n f x)) by ≡ cond b (Some (entry_so n f x)) rest
       pick true x below later is = let at : n ≡ k = cc is in let yes : (n == k) ≡ true = grind (arith, nat_tests, at) in rw yes refl
       pick false x below later is = let above = below is in let other : (n == k) ≡ false = grind (arith, nat_tests, above) in rw other (later is)
 
       go : (o : Option Issued) → (option_map (λ (e : IssuedEntry). e.no) rest ≡ Some k → n + 1 ≤ k) → (option_map (λ (e : IssuedEntry). e.no) rest ≡ Some k → by ≡ rest)
-          → option_map (λ (e : IssuedEntry). e.no) (find wanted (filter_map (λ entry. entry) (option_map entry o ∷ numbered issued_entry (n + 1) fs))) ≡ Some k
-          → find (λ (e : IssuedEntry). e.no == k) (filter_map (λ entry. entry) (option_map entry o ∷ numbered issued_entry (n + 1) fs)) ≡ find wanted (filter_map (λ entry. entry) (option_map entry o ∷ numbered issued_entry (n + 1) fs))
+          → option_map (λ (e : IssuedEntry). e.no) (find wanted (filter_map (λ entry. entry) (option_map (entry_so n f) o ∷ numbered issued_entry (n + 1) fs))) ≡ Some k
+          → find (λ (e : IssuedEntry). e.no == k) (filter_map (λ entry. entry) (option_map (entry_so n f) o ∷ numbered issued_entry (n + 1) fs))
+          ≡ find wanted (filter_map (λ entry. entry) (option_map (entry_so n f) o ∷ numbered issued_entry (n + 1) fs))
       go None below later is = later is
-      go (Some x) below later is = pick (wanted (entry x)) x below later is
+      go (Some x) below later is = pick (wanted (entry_so n f x)) x below later is
 
 -- ---- beyond the last number
 
 no_response : (partner : List ℕ) (tried n : ℕ) (fs : List Incoming) → n + length fs ≤ tried + 1 → find (is_next_response partner tried) (issued_in_order n fs) ≡ None
 no_response partner tried n [] h = refl
-no_response partner tried n (f ∷ fs) h = go f.response (no_response partner tried (n + 1) fs (omega (arith, h)))
-  where
-    low : nat_lt tried n ≡ false
-    low = grind (arith, nat_tests, h)
-
-    go : (o : Option Issued) → find (is_next_response partner tried) (issued_in_order (n + 1) fs) ≡ None
-        → find (is_next_response partner tried) (filter_map (λ entry. entry) (option_map (λ x. let e : IssuedEntry = record { no = n; identity = f.identity; response = issued_response x } in e) o ∷ numbered issued_entry (n + 1) fs)) ≡ None
-    go None later = later
-    go (Some x) later = rw low later
+no_response partner tried n (f ∷ fs) h =
+    let low : nat_lt tried n ≡ false = grind (arith, nat_tests, h) in
+    passed_by (is_next_response partner tried) n f f.response (numbered issued_entry (n + 1) fs) (λ x. rw low refl) ∙ no_response partner tried (n + 1) fs (omega (arith, h))
 
 no_file : (partner : List ℕ) (tried n : ℕ) (fs : List Outgoing) → n + length fs ≤ tried + 1 → find (is_next_file partner tried) (numbered outgoing_entry n fs) ≡ None
 no_file partner tried n [] h = refl
@@ -251,7 +233,8 @@ file_within r partner tried given few within =
 
 -- ---- the response to one file
 
-issued_placed : (r : Register) (k : ℕ) (o : Option IssuedResponse) (before : List Incoming) (f : Incoming) (after : List Incoming) → IsPlaced r.incoming k before f after → o ≡ option_map issued_response f.response
+issued_placed : (r : Register) (k : ℕ) (o : Option IssuedResponse) (before : List Incoming) (f : Incoming) (after : List Incoming) → IsPlaced r.incoming k before f after
+    → o ≡ option_map issued_response f.response
     → option_map (λ x. let e : IssuedEntry = record { no = k; identity = f.identity; response = x } in e) o ≡ issued_by_no r k
 issued_placed r k o before f after placed is =
     ap (option_map (λ x. let e : IssuedEntry = record { no = k; identity = f.identity; response = x } in e)) is ∙ twice f.response ∙ sym (issued_known k r.incoming before f after placed)
@@ -267,12 +250,14 @@ issued_none r k is = go (spot k r.incoming)
     go : Spot k r.incoming → None ≡ issued_by_no r k
     go (zeroth at) = sym (issued_low k 1 r.incoming (omega (arith, at)))
     go (past h) = sym (issued_past k 1 r.incoming (omega (arith, h)))
-    go (there before f after here at) = let placed : IsPlaced r.incoming k before f after = record { here = here; number = at } in issued_placed r k None before f after placed (is before f after placed)
+    go (there before f after here at) =
+        let placed : IsPlaced r.incoming k before f after = record { here = here; number = at } in issued_placed r k None before f after placed (is before f after placed)
 
 pub issued_some : (r : Register) (k : ℕ) (h : IncomingHeader) (x : IssuedResponse) → IsToldOf incoming_header_of r.incoming k (Some h) → IsResponseTo r k (Some x)
     → (let e : IssuedEntry = record { no = k; identity = h.identity; response = x } in Some e ≡ issued_by_no r k)
 issued_some r k h x (before, f, after, placed, header) is =
-    ap (λ (h : IncomingHeader). let e : IssuedEntry = record { no = k; identity = h.identity; response = x } in Some e) header ∙ issued_placed r k (Some x) before f after placed (is before f after placed)
+    ap (λ (h : IncomingHeader). let e : IssuedEntry = record { no = k; identity = h.identity; response = x } in Some e) header
+    ∙ issued_placed r k (Some x) before f after placed (is before f after placed)
 
 -- ---- what is next
 
@@ -280,10 +265,12 @@ pub item_nothing : (r : Register) (partner : List ℕ) (cursor : Cursor) (files 
 item_nothing r partner cursor true unasked none = absurd (let no_such = unasked in cc)
 item_nothing r partner cursor false unasked none = ap (λ o. item_of o None) none
 
-pub item_response : (r : Register) (partner : List ℕ) (cursor : Cursor) (files : Bool) (e : IssuedEntry) → Some e ≡ next_response r partner cursor.response → Some (item.Response e) ≡ next_item r partner cursor files
+pub item_response : (r : Register) (partner : List ℕ) (cursor : Cursor) (files : Bool) (e : IssuedEntry) → Some e ≡ next_response r partner cursor.response
+    → Some (item.Response e) ≡ next_item r partner cursor files
 item_response r partner cursor files e found = ap (λ o. item_of o (if files then next_file r partner cursor.file else None)) found
 
-pub item_file : (r : Register) (partner : List ℕ) (cursor : Cursor) (files : Bool) (file : Option OutgoingEntry) → files ≡ true → None ≡ next_response r partner cursor.response → file ≡ next_file r partner cursor.file
+pub item_file : (r : Register) (partner : List ℕ) (cursor : Cursor) (files : Bool) (file : Option OutgoingEntry) → files ≡ true
+    → None ≡ next_response r partner cursor.response → file ≡ next_file r partner cursor.file
     → item_of None file ≡ next_item r partner cursor files
 item_file r partner cursor true file asked none found = ap (item_of None) found ∙ ap (λ o. item_of o (next_file r partner cursor.file)) none
 item_file r partner cursor false file asked none found = absurd (let no_such = asked in cc)

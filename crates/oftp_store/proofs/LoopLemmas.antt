@@ -19,10 +19,12 @@ pub record IsKnown (Known : Register → Type 0) (old now : State) : Type 0 wher
 pub looks_other : {A B : Type 0} (old new : State) (x : A) (y : B) → Looks {T = A} old new (Ok x) → Looks {T = B} old new (Ok y)
 looks_other old new x y looks = record { clean = looks.clean; mode = looks.mode; same = looks.same; failed = λ k has. tt; left = looks.left; unrefused = tt }
 
-pub begins_known : {T : Type 0} (Known : Register → Type 0) (old now : State) (x : T) → Looks old now (Ok x) → (HasCleanDisk now → old.now.schema ≡ office_schema → (r : Register) → Tables r old.now.trees → Known r) → IsKnown Known old now
+pub begins_known : {T : Type 0} (Known : Register → Type 0) (old now : State) (x : T) → Looks old now (Ok x)
+    → (HasCleanDisk now → old.now.schema ≡ office_schema → (r : Register) → Tables r old.now.trees → Known r) → IsKnown Known old now
 begins_known Known old now x looks told = record { looks = looks_other old now x 0 looks; known = λ k has r kept sound. told k has r kept }
 
-pub goes_on_known : {T : Type 0} (Known Next : Register → Type 0) (says : Register → T → Type 0) (old mid now : State) (x : T) → IsKnown Known old mid → Looks mid now (Ok x) → Tells says mid now (Ok x)
+pub goes_on_known : {T : Type 0} (Known Next : Register → Type 0) (says : Register → T → Type 0) (old mid now : State) (x : T) → IsKnown Known old mid
+    → Looks mid now (Ok x) → Tells says mid now (Ok x)
     → ((r : Register) → Tables r old.now.trees → IsSound r → Known r → says r x → Next r) → IsKnown Next old now
 goes_on_known Known Next says old mid now x is looks told next = record {
   looks = looks_both old mid now 0 (Ok 0) is.looks (looks_other mid now x 0 looks);
@@ -32,5 +34,6 @@ goes_on_known Known Next says old mid now x is looks told next = record {
       next r kept sound (is.known early has r kept sound) (told k was.0 r was.1 sound);
 }
 
-pub ends_known : {T : Type 0} (Known : Register → Type 0) (says : Register → T → Type 0) (old now : State) (x : T) → IsKnown Known old now → ((r : Register) → Tables r old.now.trees → IsSound r → Known r → says r x) → Tells says old now (Ok x)
+pub ends_known : {T : Type 0} (Known : Register → Type 0) (says : Register → T → Type 0) (old now : State) (x : T) → IsKnown Known old now
+    → ((r : Register) → Tables r old.now.trees → IsSound r → Known r → says r x) → Tells says old now (Ok x)
 ends_known Known says old now x is last k has r kept sound = last r kept sound (is.known k has r kept sound)

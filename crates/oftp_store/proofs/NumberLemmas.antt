@@ -50,14 +50,21 @@ one_row {X} row numbers xs k project rows perm = go (spot k xs)
 
     go : Spot k xs → OneRow row xs k project rows
     go (zeroth is) =
-        nowhere (none [] (rows_from row 1 xs) (record { below = tt; above = subst (Rattle.std.specs.List.AllByRecursion (Rattle.oftp_tables.proofs.SplitLemmas.IsAbove k)) (sym (rows_pieces row 1 xs)) (pieces_above piece has k 1 xs (omega (arith, is))) }) refl)
+        nowhere (none [] (rows_from row 1 xs)
+        (record {
+          below = tt;
+          above = subst (Rattle.std.specs.List.AllByRecursion (Rattle.oftp_tables.proofs.SplitLemmas.IsAbove k)) (sym (rows_pieces row 1 xs))
+              (pieces_above piece has k 1 xs (omega (arith, is)));
+        }) refl)
         (ap (λ m. entry_at m xs) is)
     go (past h) =
         nowhere (none (pieces_from piece 1 xs) [] (record { below = pieces_below piece has k 1 xs (omega (arith, h)); above = tt }) (rows_pieces row 1 xs ∙ sym (append-nil (pieces_from piece 1 xs))))
         (entry_beyond k xs h)
     go (there before x after here at) =
         let place = between row numbers k before x after at in
-        somewhere before x after (record { here = here; number = at }) (one_permutation _ rows (subst (λ all. IsPermutation all rows) (ap (chosen by_number project (number_value k ∷ [])) (ap (rows_from row 1) here ∙ place.is x) ∙ chosen_one project k [] (row k x) place.lo place.hi (numbers k x) place.split) perm))
+        somewhere before x after (record { here = here; number = at })
+        (one_permutation _ rows (subst (λ all. IsPermutation all rows)
+        (ap (chosen by_number project (number_value k ∷ [])) (ap (rows_from row 1) here ∙ place.is x) ∙ chosen_one project k [] (row k x) place.lo place.hi (numbers k x) place.split) perm))
 
 -- ---- entries as they are handed out
 

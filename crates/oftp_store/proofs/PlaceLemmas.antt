@@ -28,7 +28,8 @@ after_look r old new same has kept = (ap (λ (d : Database). d.schema) same.0.no
 -- what each entry has, at a number
 mapped_placed : {X Y : Type 0} (f : X → Y) (k : ℕ) (xs before : List X) (x : X) (after : List X) → IsPlaced xs k before x after → entry_at k (map f xs) ≡ Some (f x)
 mapped_placed f k xs before x after placed =
-    entry_placed k (map f xs) (map f before) (f x) (map f after) (record { here = ap (map f) placed.here ∙ map-append f before (x ∷ after); number = omega (arith, placed.number, length-map before f) })
+    entry_placed k (map f xs) (map f before) (f x) (map f after)
+    (record { here = ap (map f) placed.here ∙ map-append f before (x ∷ after); number = omega (arith, placed.number, length-map before f) })
 
 pub in_rows_placed : (r : Register) (k : ℕ) (before : List Incoming) (f : Incoming) (after : List Incoming) → IsPlaced r.incoming k before f after → file_rows r side.Incoming k ≡ f.rows
 in_rows_placed r k before f after placed = ap (λ o. unwrap_or o []) (mapped_placed rows_in k r.incoming before f after placed)
@@ -43,7 +44,8 @@ place_told r k count h (before, f, after, placed, is) counted = (
   f,
   after,
   placed,
-  ap (λ st. let p : Place = record { state = st; rows = count } in p) (ap (λ (h : IncomingHeader). h.state) is) ∙ ap (λ n. let p : Place = record { state = f.state; rows = n } in p) (counted ∙ ap length (in_rows_placed r k before f after placed)),
+  ap (λ st. let p : Place = record { state = st; rows = count } in p) (ap (λ (h : IncomingHeader). h.state) is)
+      ∙ ap (λ n. let p : Place = record { state = f.state; rows = n } in p) (counted ∙ ap length (in_rows_placed r k before f after placed)),
 )
 
 pub stage_told : (r : Register) (k count : ℕ) (h : OutgoingHeader) → IsToldOf outgoing_header_of r.outgoing k (Some h) → count ≡ length (file_rows r side.Outgoing k)
@@ -81,17 +83,57 @@ no_incoming r k none = entry_unknown incoming_entry (λ (e : IncomingEntry). e.n
 pub no_outgoing : (r : Register) (k : ℕ) → entry_at k r.outgoing ≡ None → out_by_no r k ≡ None
 no_outgoing r k none = entry_unknown outgoing_entry (λ (e : OutgoingEntry). e.no) (λ n x. refl) k r.outgoing none
 
-pub incoming_told : (r : Register) (k count : ℕ) (h : IncomingHeader) (response : Option IssuedResponse) → IsToldOf incoming_header_of r.incoming k (Some h) → count ≡ length (file_rows r side.Incoming k) → IsResponseTo r k response
-    → (let e : IncomingEntry = record { no = k; identity = h.identity; format = h.format; longest = h.longest; description = h.description; state = h.state; rows = count; response = response } in Some e ≡ in_by_no r k)
+pub incoming_told : (r : Register) (k count : ℕ) (h : IncomingHeader) (response : Option IssuedResponse) → IsToldOf incoming_header_of r.incoming k (Some h)
+    → count ≡ length (file_rows r side.Incoming k) → IsResponseTo r k response
+    → (let e : IncomingEntry = record { no = k; identity = h.identity; format = h.format; longest = h.longest; description = h.description; state = h.state; rows = count; response = response } in
+    Some e ≡ in_by_no r k)
 incoming_told r k count h response (before, f, after, placed, header) counted answered =
-    ap (λ (h : IncomingHeader). let e : IncomingEntry = record { no = k; identity = h.identity; format = h.format; longest = h.longest; description = h.description; state = h.state; rows = count; response = response } in Some e) header
-    ∙ ap (λ m. let e : IncomingEntry = record { no = k; identity = f.identity; format = f.format; longest = f.longest; description = f.description; state = f.state; rows = m; response = response } in Some e) (counted ∙ ap length (in_rows_placed r k before f after placed))
-    ∙ ap (λ o. let e : IncomingEntry = record { no = k; identity = f.identity; format = f.format; longest = f.longest; description = f.description; state = f.state; rows = length f.rows; response = o } in Some e) (answered before f after placed)
+    ap (λ (h : IncomingHeader). let e : IncomingEntry = record {
+      no = k;
+      identity = h.identity;
+      format = h.format;
+      longest = h.longest;
+      description = h.description;
+      state = h.state;
+      rows = count;
+      response = response;
+    } in Some e) header
+    ∙ ap (λ m. let e : IncomingEntry = record {
+      no = k;
+      identity = f.identity;
+      format = f.format;
+      longest = f.longest;
+      description = f.description;
+      state = f.state;
+      rows = m;
+      response = response;
+    } in Some e) (counted ∙ ap length (in_rows_placed r k before f after placed))
+    ∙ ap (λ o. let e : IncomingEntry = record {
+      no = k;
+      identity = f.identity;
+      format = f.format;
+      longest = f.longest;
+      description = f.description;
+      state = f.state;
+      rows = length f.rows;
+      response = o;
+    } in Some e) (answered before f after placed)
     ∙ sym (entry_known incoming_entry (λ (e : IncomingEntry). e.no) (λ n x. refl) k r.incoming before f after placed)
 
 pub outgoing_told : (r : Register) (k count : ℕ) (h : OutgoingHeader) → IsToldOf outgoing_header_of r.outgoing k (Some h) → count ≡ length (file_rows r side.Outgoing k)
-    → (let e : OutgoingEntry = record { no = k; identity = h.identity; format = h.format; longest = h.longest; description = h.description; rows = count; mark = h.mark; state = h.state } in Some e ≡ out_by_no r k)
+    → (let e : OutgoingEntry = record { no = k; identity = h.identity; format = h.format; longest = h.longest; description = h.description; rows = count; mark = h.mark; state = h.state } in
+    Some e ≡ out_by_no r k)
 outgoing_told r k count h (before, f, after, placed, header) counted =
-    ap (λ (h : OutgoingHeader). let e : OutgoingEntry = record { no = k; identity = h.identity; format = h.format; longest = h.longest; description = h.description; rows = count; mark = h.mark; state = h.state } in Some e) header
-    ∙ ap (λ m. let e : OutgoingEntry = record { no = k; identity = f.identity; format = f.format; longest = f.longest; description = f.description; rows = m; mark = f.mark; state = f.state } in Some e) (counted ∙ ap length (out_rows_placed r k before f after placed))
+    ap (λ (h : OutgoingHeader). let e : OutgoingEntry = record {
+      no = k;
+      identity = h.identity;
+      format = h.format;
+      longest = h.longest;
+      description = h.description;
+      rows = count;
+      mark = h.mark;
+      state = h.state;
+    } in Some e) header
+    ∙ ap (λ m. let e : OutgoingEntry = record { no = k; identity = f.identity; format = f.format; longest = f.longest; description = f.description; rows = m; mark = f.mark; state = f.state } in
+    Some e) (counted ∙ ap length (out_rows_placed r k before f after placed))
     ∙ sym (entry_known outgoing_entry (λ (e : OutgoingEntry). e.no) (λ n x. refl) k r.outgoing before f after placed)

@@ -33,7 +33,8 @@ our_note = record received_note { tree = note_tree }
 abbrev received_source : ℕ → ResponseKind → Identity → ℕ → Row
 received_source n kind identity reason = number_value n ∷ Null ∷ Text (kind_text kind) ∷ identity_values identity ++ Text (reason_text kind reason) ∷ []
 
-makes_noteless : (n : ℕ) (kind : ResponseKind) (identity : Identity) (reason : ℕ) → reason < 100 → (old new : Trees) → PutsIn n our_received (received_source n kind identity reason) old new → MakesNoteless n kind identity reason old new
+makes_noteless : (n : ℕ) (kind : ResponseKind) (identity : Identity) (reason : ℕ) → reason < 100 → (old new : Trees)
+    → PutsIn n our_received (received_source n kind identity reason) old new → MakesNoteless n kind identity reason old new
 makes_noteless n kind identity reason small old new made r creator text next kept =
     let x : Received = record { kind = kind; identity = identity; reason = reason; creator = creator; text = text } in
     let place = behind received_row (λ k x. refl) n r.received next.number in
@@ -43,9 +44,11 @@ makes_noteless n kind identity reason small old new made r creator text next kep
       about = o.0 (λ e. omega (arith, e)) ∙ kept.about;
       incoming =
           subst (λ issued. HoldIncoming r.incoming (new 1) (new 3) issued) (sym (o.1.1.1.1.1.0 (λ e. omega (arith, e))))
-          (subst (λ in_row. HoldIncoming r.incoming (new 1) in_row (old 9)) (sym (o.1.1.0 (λ e. omega (arith, e)))) (subst (λ in_file. HoldIncoming r.incoming in_file (old 3) (old 9)) (sym (o.1.0 (λ e. omega (arith, e)))) kept.incoming));
+          (subst (λ in_row. HoldIncoming r.incoming (new 1) in_row (old 9)) (sym (o.1.1.0 (λ e. omega (arith, e))))
+          (subst (λ in_file. HoldIncoming r.incoming in_file (old 3) (old 9)) (sym (o.1.0 (λ e. omega (arith, e)))) kept.incoming));
       outgoing =
-          subst (HoldOutgoing r.outgoing (new 5)) (sym (o.1.1.1.1.0 (λ e. omega (arith, e)))) (subst (λ out_file. HoldOutgoing r.outgoing out_file (old 7)) (sym (o.1.1.1.0 (λ e. omega (arith, e)))) kept.outgoing);
+          subst (HoldOutgoing r.outgoing (new 5)) (sym (o.1.1.1.1.0 (λ e. omega (arith, e))))
+          (subst (λ out_file. HoldOutgoing r.outgoing out_file (old 7)) (sym (o.1.1.1.0 (λ e. omega (arith, e)))) kept.outgoing);
       responses_are = row ∙ sym (place.is x);
       notes_are = o.1.1.1.1.1.1.1.0 (λ e. omega (arith, e)) ∙ kept.received.notes_are;
       reasons = all_and_last (λ (y : Received). y.reason < 100) r.received x kept.received.reasons small;
@@ -88,9 +91,11 @@ makes_note n creator text old new made r identity reason next held =
       about = o.0 (λ e. omega (arith, e)) ∙ held.about;
       incoming =
           subst (λ issued. HoldIncoming r.incoming (new 1) (new 3) issued) (sym (o.1.1.1.1.1.0 (λ e. omega (arith, e))))
-          (subst (λ in_row. HoldIncoming r.incoming (new 1) in_row (old 9)) (sym (o.1.1.0 (λ e. omega (arith, e)))) (subst (λ in_file. HoldIncoming r.incoming in_file (old 3) (old 9)) (sym (o.1.0 (λ e. omega (arith, e)))) held.incoming));
+          (subst (λ in_row. HoldIncoming r.incoming (new 1) in_row (old 9)) (sym (o.1.1.0 (λ e. omega (arith, e))))
+          (subst (λ in_file. HoldIncoming r.incoming in_file (old 3) (old 9)) (sym (o.1.0 (λ e. omega (arith, e)))) held.incoming));
       outgoing =
-          subst (HoldOutgoing r.outgoing (new 5)) (sym (o.1.1.1.1.0 (λ e. omega (arith, e)))) (subst (λ out_file. HoldOutgoing r.outgoing out_file (old 7)) (sym (o.1.1.1.0 (λ e. omega (arith, e)))) held.outgoing);
+          subst (HoldOutgoing r.outgoing (new 5)) (sym (o.1.1.1.1.0 (λ e. omega (arith, e))))
+          (subst (λ out_file. HoldOutgoing r.outgoing out_file (old 7)) (sym (o.1.1.1.0 (λ e. omega (arith, e)))) held.outgoing);
       received = record {
         responses_are = o.1.1.1.1.1.1.0 (λ e. omega (arith, e)) ∙ held.responses_are;
         notes_are = row ∙ sym (notes_pieces 1 (r.received ++ x ∷ []) ∙ found.rows);
@@ -100,19 +105,22 @@ makes_note n creator text old new made r identity reason next held =
 
 abbrev pub received_params : ℕ → ResponseKind → Identity → ℕ → Row
 received_params n kind identity reason =
-    number_value n ∷ Text (kind_text kind) ∷ Text identity.dataset ∷ Text identity.date ∷ Text identity.time ∷ Text identity.originator ∷ Text identity.destination ∷ Text (reason_text kind reason) ∷ []
+    number_value n ∷ Text (kind_text kind) ∷ Text identity.dataset ∷ Text identity.date ∷ Text identity.time ∷ Text identity.originator ∷ Text identity.destination
+    ∷ Text (reason_text kind reason) ∷ []
 
 pub received_added : (old new : State) (n : ℕ) (kind : ResponseKind) (identity : Identity) (reason count : ℕ) → reason < 100 → old.now.schema ≡ office_schema
     → ExecutesInside 0 add_received_text (received_params n kind identity reason) old new (Ok count) → Moves (MakesNoteless n kind identity reason) old new
 received_added old new n kind identity reason count small has h =
     moves_as _ _ old new (makes_noteless n kind identity reason small)
-    (inserts_row old new add_received_text 6 our_received add_received_terms 9 (received_params n kind identity reason) (received_source n kind identity reason) n count has add_received_is add_received_plain refl refl h)
+    (inserts_row old new add_received_text 6 our_received add_received_terms 9 (received_params n kind identity reason)
+    (received_source n kind identity reason) n count has add_received_is add_received_plain refl refl h)
 
 pub note_added : (old new : State) (n : ℕ) (creator text : List ℕ) (count : ℕ) → old.now.schema ≡ office_schema
     → ExecutesInside 0 add_note_text (number_value n ∷ Text creator ∷ Text text ∷ []) old new (Ok count) → Moves (MakesNote n creator text) old new
 note_added old new n creator text count has h =
     moves_as _ _ old new (makes_note n creator text)
-    (inserts_row old new add_note_text 7 our_note add_note_terms 4 (number_value n ∷ Text creator ∷ Text text ∷ []) (number_value n ∷ Null ∷ Text creator ∷ Text text ∷ []) n count has add_note_is add_note_plain refl refl h)
+    (inserts_row old new add_note_text 7 our_note add_note_terms 4 (number_value n ∷ Text creator ∷ Text text ∷ [])
+    (number_value n ∷ Null ∷ Text creator ∷ Text text ∷ []) n count has add_note_is add_note_plain refl refl h)
 
 -- ---- a response with what belongs to it
 
@@ -124,4 +132,5 @@ makes_negative n identity reason creator text a b c one two r s did kept =
 pub makes_end : (n : ℕ) (kind : ResponseKind) (identity : Bor Identity) (reason : ℕ) (creator : Bor (Name 25)) (text : Bor Words) → kind ≡ EndResponse → (a b : Trees)
     → MakesNoteless n kind identity.now reason a b → Makes n (AddReceived kind identity reason creator text) a b
 makes_end n kind identity reason creator text end a b one r s did kept =
-    subst (λ (q : Register). Tables q b) (sym did.1) (unnoted r (record { kind = kind; identity = identity.now; reason = reason; creator = creator.now; text = text.now }) b end (one r creator.now text.now did.0 kept))
+    subst (λ (q : Register). Tables q b) (sym did.1)
+    (unnoted r (record { kind = kind; identity = identity.now; reason = reason; creator = creator.now; text = text.now }) b end (one r creator.now text.now did.0 kept))

@@ -64,12 +64,15 @@ header_back k x small sound =
     ap (λ y. let h : ReceivedHeader = record { kind = y; identity = x.identity; reason = number (reason_text x.kind x.reason) } in h) (kind_back x.kind)
     ∙ ap (λ y. let h : ReceivedHeader = record { kind = x.kind; identity = x.identity; reason = y } in h) (reason_is_back x small sound)
 
-pub finds_received : (old new : State) (k : ℕ) (rows : List Row) → old.now.schema ≡ office_schema → Shown received_text (number_value k ∷ []) old new rows → (r : Register) → Tables r old.now.trees → IsSound r
+pub finds_received : (old new : State) (k : ℕ) (rows : List Row) → old.now.schema ≡ office_schema → Shown received_text (number_value k ∷ []) old new rows
+    → (r : Register) → Tables r old.now.trees → IsSound r
     → IsToldOf received_header_of r.received k (first_told received_header_in rows)
 finds_received old new k rows has h r kept sound =
     let params = number_value k ∷ [] in
     let read = reads_as received_text params old new office_schema has received_select received_is.0 received_plain received_is.1 rows h in
-    go (one_row received_row (λ n x. refl) r.received k received_project rows (subst (λ table. IsPermutation (chosen by_number received_project params table) rows) kept.received.responses_are (answers old.now.trees received_tree by_number received_project params rows (read.answer Null))))
+    go (one_row received_row (λ n x. refl) r.received k received_project rows
+    (subst (λ table. IsPermutation (chosen by_number received_project params table) rows) kept.received.responses_are
+    (answers old.now.trees received_tree by_number received_project params rows (read.answer Null))))
   where
     go : OneRow received_row r.received k received_project rows → IsToldOf received_header_of r.received k (first_told received_header_in rows)
     go (nowhere none unknown) = subst (λ rows. IsToldOf received_header_of r.received k (first_told received_header_in rows)) (sym none) unknown
@@ -103,7 +106,9 @@ finds_remark old new k rows has h r kept before x after placed negative =
     let place = among note_piece note_number k before x after placed.number in
     let table : old.now.trees note_tree ≡ lo ++ (note_if_negative k x NegativeEndResponse ++ hi) =
     kept.received.notes_are ∙ ap (notes_from 1) placed.here ∙ notes_pieces 1 (before ++ x ∷ after) ∙ place.rows ∙ ap (λ kind. lo ++ (note_if_negative k x kind ++ hi)) negative in
-    ap (first_told remark_in) (one_permutation _ rows (subst (λ all. IsPermutation all rows) (chosen_one remark_project k [] note lo hi refl place.split) (subst (λ table. IsPermutation (chosen by_number remark_project params table) rows) table perm)))
+    ap (first_told remark_in) (one_permutation _ rows
+    (subst (λ all. IsPermutation all rows) (chosen_one remark_project k [] note lo hi refl place.split)
+    (subst (λ table. IsPermutation (chosen by_number remark_project params table) rows) table perm)))
   where
     lo : List Row
     lo = pieces_from note_piece 1 before
@@ -120,7 +125,8 @@ pub no_received : (r : Register) (k : ℕ) → IsToldOf received_header_of r.rec
 no_received r k none = entry_unknown received_entry (λ (e : ReceivedEntry). e.no) (λ n x. refl) k r.received none
 
 pub received_told : (r : Register) (k : ℕ) (h : ReceivedHeader) (remark : Remark) → IsToldOf received_header_of r.received k (Some h)
-    → ((before : List Received) (x : Received) (after : List Received) → IsPlaced r.received k before x after → h.kind ≡ x.kind → remark ≡ remark_of x) → Some (received_entry_of k h remark) ≡ received_by_no r k
+    → ((before : List Received) (x : Received) (after : List Received) → IsPlaced r.received k before x after → h.kind ≡ x.kind → remark ≡ remark_of x)
+    → Some (received_entry_of k h remark) ≡ received_by_no r k
 received_told r k h remark (before, x, after, placed, header) texts =
     let kind : h.kind ≡ x.kind = ap (λ (h : ReceivedHeader). h.kind) header in
     ap (λ h. Some (received_entry_of k h remark)) header ∙ ap (λ remark. Some (received_entry_of k (received_header_of x) remark)) (texts before x after placed kind)

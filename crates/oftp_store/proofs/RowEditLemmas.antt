@@ -83,7 +83,8 @@ record AddsRow (tree n at : ℕ) (body : List ℕ) (old new : Trees) : Type 0 wh
   apart : AreNumbered (old tree) → AreNumbered (new tree)
   others : Others tree old new
 
-adds : (t : Table) (n at : ℕ) (body : List ℕ) (old new : Trees) → cast_row (simple t) (Null ∷ body_row n at body) ≡ Null ∷ body_row n at body → Inserted office_schema (simple t) (Null ∷ body_row n at body) old new → AddsRow t.tree n at body old new
+adds : (t : Table) (n at : ℕ) (body : List ℕ) (old new : Trees) → cast_row (simple t) (Null ∷ body_row n at body) ≡ Null ∷ body_row n at body
+    → Inserted office_schema (simple t) (Null ∷ body_row n at body) old new → AddsRow t.tree n at body old new
 adds t n at body old new cast made =
     let was = old t.tree in
     let row = Int (next_rowid was) ∷ body_row n at body in
@@ -98,7 +99,8 @@ adds t n at body old new cast made =
 
 -- the header and the response of a file stay where its rows change
 
-in_files_same : (f : Incoming) (rows : List (List ℕ)) (k : ℕ) (before after : List Incoming) → rows_from in_file_row k (before ++ f ∷ after) ≡ rows_from in_file_row k (before ++ (record f { rows = rows }) ∷ after)
+in_files_same : (f : Incoming) (rows : List (List ℕ)) (k : ℕ) (before after : List Incoming)
+    → rows_from in_file_row k (before ++ f ∷ after) ≡ rows_from in_file_row k (before ++ (record f { rows = rows }) ∷ after)
 in_files_same f rows k [] after = refl
 in_files_same f rows k (b ∷ before) after = ap (λ (more : List Row). in_file_row k b ∷ more) (in_files_same f rows (k + 1) before after)
 
@@ -106,13 +108,16 @@ issued_stays : (f : Incoming) (rows : List (List ℕ)) (k : ℕ) (before after :
 issued_stays f rows k [] after = refl
 issued_stays f rows k (b ∷ before) after = ap (λ (more : List Row). issued_if_any k b.response ++ more) (issued_stays f rows (k + 1) before after)
 
-out_files_same : (f : Outgoing) (rows : List (List ℕ)) (k : ℕ) (before after : List Outgoing) → rows_from out_file_row k (before ++ f ∷ after) ≡ rows_from out_file_row k (before ++ (record f { rows = rows }) ∷ after)
+out_files_same : (f : Outgoing) (rows : List (List ℕ)) (k : ℕ) (before after : List Outgoing)
+    → rows_from out_file_row k (before ++ f ∷ after) ≡ rows_from out_file_row k (before ++ (record f { rows = rows }) ∷ after)
 out_files_same f rows k [] after = refl
 out_files_same f rows k (b ∷ before) after = ap (λ (more : List Row). out_file_row k b ∷ more) (out_files_same f rows (k + 1) before after)
 
 -- the rows of one incoming file are others
-in_rows_land : (r : Register) (before : List Incoming) (f : Incoming) (rows : List (List ℕ)) (after : List Incoming) → r.incoming ≡ before ++ f ∷ after → (old new : Trees) → Others in_row_tree old new → AreNumbered (new in_row_tree)
-    → IsPermutation (bodies_from 1 (map rows_in before ++ rows ∷ map rows_in after)) (less_rowids (new in_row_tree)) → Tables r old → Tables (record r { incoming = before ++ (record f { rows = rows }) ∷ after }) new
+in_rows_land : (r : Register) (before : List Incoming) (f : Incoming) (rows : List (List ℕ)) (after : List Incoming) → r.incoming ≡ before ++ f ∷ after
+    → (old new : Trees) → Others in_row_tree old new → AreNumbered (new in_row_tree)
+    → IsPermutation (bodies_from 1 (map rows_in before ++ rows ∷ map rows_in after)) (less_rowids (new in_row_tree)) → Tables r old
+    → Tables (record r { incoming = before ++ (record f { rows = rows }) ∷ after }) new
 in_rows_land r before f rows after here old new others apart are kept =
     let g : Incoming = record f { rows = rows } in
     lands in_row_tree (new in_row_tree) old new refl (record r { incoming = before ++ g ∷ after }) others (record {
@@ -130,11 +135,14 @@ in_rows_land r before f rows after here old new others apart are kept =
     })
   where
     all_as : AllByRecursion (λ (x : Incoming). HasReason x.response) (before ++ f ∷ after) → AllByRecursion (λ (x : Incoming). HasReason x.response) (before ++ (record f { rows = rows }) ∷ after)
-    all_as h = all_but (λ (x : Incoming). HasReason x.response) before f (record f { rows = rows }) after (Rattle.oftp_tables.proofs.BackLemmas.at_place (λ (x : Incoming). HasReason x.response) before f after h) h
+    all_as h = all_but (λ (x : Incoming). HasReason x.response) before f (record f { rows = rows }) after
+        (Rattle.oftp_tables.proofs.BackLemmas.at_place (λ (x : Incoming). HasReason x.response) before f after h) h
 
 -- the rows of one outgoing file are others
-out_rows_land : (r : Register) (before : List Outgoing) (f : Outgoing) (rows : List (List ℕ)) (after : List Outgoing) → r.outgoing ≡ before ++ f ∷ after → (old new : Trees) → Others out_row_tree old new → AreNumbered (new out_row_tree)
-    → IsPermutation (bodies_from 1 (map rows_out before ++ rows ∷ map rows_out after)) (less_rowids (new out_row_tree)) → Tables r old → Tables (record r { outgoing = before ++ (record f { rows = rows }) ∷ after }) new
+out_rows_land : (r : Register) (before : List Outgoing) (f : Outgoing) (rows : List (List ℕ)) (after : List Outgoing) → r.outgoing ≡ before ++ f ∷ after
+    → (old new : Trees) → Others out_row_tree old new → AreNumbered (new out_row_tree)
+    → IsPermutation (bodies_from 1 (map rows_out before ++ rows ∷ map rows_out after)) (less_rowids (new out_row_tree)) → Tables r old
+    → Tables (record r { outgoing = before ++ (record f { rows = rows }) ∷ after }) new
 out_rows_land r before f rows after here old new others apart are kept =
     let g : Outgoing = record f { rows = rows } in
     lands out_row_tree (new out_row_tree) old new refl (record r { outgoing = before ++ g ∷ after }) others (record {
@@ -151,7 +159,8 @@ out_rows_land r before f rows after here old new others apart are kept =
     })
   where
     all_as : AllByRecursion (λ (x : Outgoing). HasRefusal x.state) (before ++ f ∷ after) → AllByRecursion (λ (x : Outgoing). HasRefusal x.state) (before ++ (record f { rows = rows }) ∷ after)
-    all_as h = all_but (λ (x : Outgoing). HasRefusal x.state) before f (record f { rows = rows }) after (Rattle.oftp_tables.proofs.BackLemmas.at_place (λ (x : Outgoing). HasRefusal x.state) before f after h) h
+    all_as h = all_but (λ (x : Outgoing). HasRefusal x.state) before f (record f { rows = rows }) after
+        (Rattle.oftp_tables.proofs.BackLemmas.at_place (λ (x : Outgoing). HasRefusal x.state) before f after h) h
 
 -- one body more behind those of a file, among those of all
 one_more : (n at : ℕ) (before : List (List (List ℕ))) (rows : List (List ℕ)) (body : List ℕ) (after : List (List (List ℕ))) (old new : List Row) → n ≡ 1 + length before → length rows ≡ at
@@ -160,7 +169,8 @@ one_more : (n at : ℕ) (before : List (List (List ℕ))) (rows : List (List ℕ
 one_more n at before rows body after old new number size were added =
     let join : IsPermutation (body_row n at body ∷ bodies_from 1 (before ++ rows ∷ after)) (bodies_from 1 (before ++ (rows ++ body ∷ []) ∷ after)) =
     subst (λ k. IsPermutation (body_row k at body ∷ bodies_from 1 (before ++ rows ∷ after)) (bodies_from 1 (before ++ (rows ++ body ∷ []) ∷ after))) (sym number)
-    (subst (λ m. IsPermutation (body_row (1 + length before) m body ∷ bodies_from 1 (before ++ rows ∷ after)) (bodies_from 1 (before ++ (rows ++ body ∷ []) ∷ after))) size (bodies_more 1 before rows (body ∷ []) after)) in
+    (subst (λ m. IsPermutation (body_row (1 + length before) m body ∷ bodies_from 1 (before ++ rows ∷ after)) (bodies_from 1 (before ++ (rows ++ body ∷ []) ∷ after))) size
+    (bodies_more 1 before rows (body ∷ []) after)) in
     IsPermutation-trans _ _ _ (IsPermutation-sym _ _ join) (IsPermutation-trans _ _ _ (IsPermutation-cons (body_row n at body) _ _ were) added)
 
 makes_row : (which : Side) (n at : ℕ) (body : List ℕ) (old new : Trees) → AddsRow (row_table which).tree n at body old new → MakesRows which n at (body ∷ []) old new
@@ -169,13 +179,15 @@ makes_row side.Incoming n at body old new made r s did kept =
     let were : IsPermutation (bodies_from 1 (map rows_in did.before ++ f.rows ∷ map rows_in did.after)) (less_rowids (old in_row_tree)) =
     subst (λ files. IsPermutation (bodies_from 1 files) (less_rowids (old in_row_tree))) (ap (map rows_in) did.here ∙ map-append rows_in did.before (f ∷ did.after)) kept.incoming.rows in
     subst (λ (q : Register). Tables q new) (sym did.now) (in_rows_land r did.before f (f.rows ++ body ∷ []) did.after did.here old new made.others (made.apart kept.incoming.row_ids)
-    (one_more n at (map rows_in did.before) f.rows body (map rows_in did.after) (old in_row_tree) (new in_row_tree) (omega (arith, did.number, length-map did.before rows_in)) did.was were made.added) kept)
+    (one_more n at (map rows_in did.before) f.rows body (map rows_in did.after) (old in_row_tree) (new in_row_tree)
+    (omega (arith, did.number, length-map did.before rows_in)) did.was were made.added) kept)
 makes_row side.Outgoing n at body old new made r s did kept =
     let f = did.file in
     let were : IsPermutation (bodies_from 1 (map rows_out did.before ++ f.rows ∷ map rows_out did.after)) (less_rowids (old out_row_tree)) =
     subst (λ files. IsPermutation (bodies_from 1 files) (less_rowids (old out_row_tree))) (ap (map rows_out) did.here ∙ map-append rows_out did.before (f ∷ did.after)) kept.outgoing.rows in
     subst (λ (q : Register). Tables q new) (sym did.now) (out_rows_land r did.before f (f.rows ++ body ∷ []) did.after did.here old new made.others (made.apart kept.outgoing.row_ids)
-    (one_more n at (map rows_out did.before) f.rows body (map rows_out did.after) (old out_row_tree) (new out_row_tree) (omega (arith, did.number, length-map did.before rows_out)) did.was were made.added) kept)
+    (one_more n at (map rows_out did.before) f.rows body (map rows_out did.after) (old out_row_tree) (new out_row_tree)
+    (omega (arith, did.number, length-map did.before rows_out)) did.was were made.added) kept)
 
 pub row_added : (which : Side) (old new : State) (n at : ℕ) (body : List ℕ) (count : ℕ) → old.now.schema ≡ office_schema → ExecutesInside 0 (add_row_text which) (body_row n at body) old new (Ok count)
     → Moves (MakesRows which n at (body ∷ [])) old new
@@ -184,7 +196,8 @@ row_added which old new n at body count has h =
     let text = add_row_text which in
     let insert = Insert (place_of which) (Values terms 4) in
     let w = runs_as text params old new office_schema has insert (add_row_is which) (add_row_plain which) count h.0 in
-    let made = inserts (mode_of old) old.step_limit params (record { schema = office_schema; trees = old.now.trees }) (statement_of text (understood office_schema text)) (place_of which) (row_table which) terms 4 (Null ∷ params) (w.tally, new.now)
+    let made = inserts (mode_of old) old.step_limit params (record { schema = office_schema; trees = old.now.trees }) (statement_of text (understood office_schema text))
+    (place_of which) (row_table which) terms 4 (Null ∷ params) (w.tally, new.now)
     (found_table which) refl (no_works (row_table which).tree)
     (subst (λ s. Does old.step_limit (mode_of old) params (record old.now { schema = s }) (statement_of text (understood office_schema text)) None insert (Ok (w.tally, new.now))) has w.changed) in
     record {
@@ -240,9 +253,13 @@ adds_more which n from i at bodies body old mid new within item place one two = 
 
 makes_none : (which : Side) (n from : ℕ) (db : Trees) → MakesRows which n from [] db db
 makes_none side.Incoming n from db r s did kept =
-    subst (λ (q : Register). Tables q db) (sym (did.now ∙ ap (λ rows. let q : Register = record r { incoming = did.before ++ (record did.file { rows = rows }) ∷ did.after } in q) (append-nil did.file.rows) ∙ ap (λ files. let q : Register = record r { incoming = files } in q) (sym did.here))) kept
+    subst (λ (q : Register). Tables q db)
+    (sym (did.now ∙ ap (λ rows. let q : Register = record r { incoming = did.before ++ (record did.file { rows = rows }) ∷ did.after } in q) (append-nil did.file.rows)
+    ∙ ap (λ files. let q : Register = record r { incoming = files } in q) (sym did.here))) kept
 makes_none side.Outgoing n from db r s did kept =
-    subst (λ (q : Register). Tables q db) (sym (did.now ∙ ap (λ rows. let q : Register = record r { outgoing = did.before ++ (record did.file { rows = rows }) ∷ did.after } in q) (append-nil did.file.rows) ∙ ap (λ files. let q : Register = record r { outgoing = files } in q) (sym did.here))) kept
+    subst (λ (q : Register). Tables q db)
+    (sym (did.now ∙ ap (λ rows. let q : Register = record r { outgoing = did.before ++ (record did.file { rows = rows }) ∷ did.after } in q) (append-nil did.file.rows)
+    ∙ ap (λ files. let q : Register = record r { outgoing = files } in q) (sym did.here))) kept
 
 -- where nothing was done yet
 pub stays_here : (Made : Trees → Trees → Type 0) (old : State) → ((db : Trees) → Made db db) → IsInside old → Moves Made old old
@@ -280,7 +297,9 @@ whole_test n count r = list_all (holds (cut_params n count ∷ r ∷ [])) from_f
 found_ids : (n count : ℕ) (rows : List Row) → ids_of (chosen from_filter (col 1 0 ∷ []) (cut_params n count) rows) ≡ map id_of (filter (whole_test n count) rows)
 found_ids n count [] = refl
 found_ids n count (r ∷ rows) =
-    elim (whole_test n count r) as (λ b. ids_of (cond b (eval_all (col 1 0 ∷ []) (cut_params n count ∷ r ∷ []) ∷ []) [] ++ chosen from_filter (col 1 0 ∷ []) (cut_params n count) rows) ≡ map id_of (cond b (r ∷ filter (whole_test n count) rows) (filter (whole_test n count) rows))) [
+    elim (whole_test n count r) as
+    (λ b. ids_of (cond b (eval_all (col 1 0 ∷ []) (cut_params n count ∷ r ∷ []) ∷ []) [] ++ chosen from_filter (col 1 0 ∷ []) (cut_params n count) rows)
+    ≡ map id_of (cond b (r ∷ filter (whole_test n count) rows) (filter (whole_test n count) rows))) [
       | true ↦ ap (λ (ids : List ℤ). id_of r ∷ ids) (found_ids n count rows)
       | false ↦ found_ids n count rows
     ]
@@ -288,18 +307,22 @@ found_ids n count (r ∷ rows) =
 less_filtered : (n count : ℕ) (rows : List Row) → less_rowids (filter (λ r. not (whole_test n count r)) rows) ≡ filter (λ r. not (from_test n count r)) (less_rowids rows)
 less_filtered n count [] = refl
 less_filtered n count (r ∷ rows) =
-    rw (from_passes n count [] r) (elim (from_test n count (drop 1 r)) as (λ b. less_rowids (cond (not b) (r ∷ filter (λ r. not (whole_test n count r)) rows) (filter (λ r. not (whole_test n count r)) rows)) ≡ cond (not b) (drop 1 r ∷ filter (λ r. not (from_test n count r)) (less_rowids rows)) (filter (λ r. not (from_test n count r)) (less_rowids rows))) [
+    rw (from_passes n count [] r) (elim (from_test n count (drop 1 r)) as
+    (λ b. less_rowids (cond (not b) (r ∷ filter (λ r. not (whole_test n count r)) rows) (filter (λ r. not (whole_test n count r)) rows))
+    ≡ cond (not b) (drop 1 r ∷ filter (λ r. not (from_test n count r)) (less_rowids rows)) (filter (λ r. not (from_test n count r)) (less_rowids rows))) [
       | true ↦ less_filtered n count rows
       | false ↦ ap (λ (more : List Row). drop 1 r ∷ more) (less_filtered n count rows)
     ])
 
-makes_cut : (n count : ℕ) (rows : List Row) (old new : Trees) → IsPermutation (chosen from_filter (col 1 0 ∷ []) (cut_params n count) (old in_row_tree)) rows → Deleted office_schema (row_table side.Incoming) rows old new → Makes n (CutRows count) old new
+makes_cut : (n count : ℕ) (rows : List Row) (old new : Trees) → IsPermutation (chosen from_filter (col 1 0 ∷ []) (cut_params n count) (old in_row_tree)) rows
+    → Deleted office_schema (row_table side.Incoming) rows old new → Makes n (CutRows count) old new
 makes_cut n count rows old new perm made r s did kept =
     let f = did.file in
     let numbered = kept.incoming.row_ids in
     let left : new in_row_tree ≡ filter (λ r. not (whole_test n count r)) (old in_row_tree) =
     made.rows ∙ deleted (whole_test n count) (old in_row_tree) (ids_of rows) numbered
-    (subst (λ ids. IsPermutation ids (ids_of rows)) (found_ids n count (old in_row_tree)) (IsPermutation-map (λ r. id_in (column r 0)) (chosen from_filter (col 1 0 ∷ []) (cut_params n count) (old in_row_tree)) rows perm)) in
+    (subst (λ ids. IsPermutation ids (ids_of rows)) (found_ids n count (old in_row_tree))
+    (IsPermutation-map (λ r. id_in (column r 0)) (chosen from_filter (col 1 0 ∷ []) (cut_params n count) (old in_row_tree)) rows perm)) in
     let were : IsPermutation (bodies_from 1 (map rows_in did.before ++ f.rows ∷ map rows_in did.after)) (less_rowids (old in_row_tree)) =
     subst (λ files. IsPermutation (bodies_from 1 files) (less_rowids (old in_row_tree))) (ap (map rows_in) did.here ∙ map-append rows_in did.before (f ∷ did.after)) kept.incoming.rows in
     let files = map rows_in did.before ++ f.rows ∷ map rows_in did.after in
@@ -316,8 +339,10 @@ rows_cut old new n count done has h =
     let params = cut_params n count in
     let command = Delete 2 cut_program in
     let w = runs_as cut_rows_text params old new office_schema has command cut_is cut_plain done h.0 in
-    let u = deletes (mode_of old) old.step_limit params (record { schema = office_schema; trees = old.now.trees }) (statement_of cut_rows_text (understood office_schema cut_rows_text)) 2 (row_table side.Incoming) cut_program (w.tally, new.now) refl (no_works in_row_tree)
-    (subst (λ s. Does old.step_limit (mode_of old) params (record old.now { schema = s }) (statement_of cut_rows_text (understood office_schema cut_rows_text)) None command (Ok (w.tally, new.now))) has w.changed) in
+    let u = deletes (mode_of old) old.step_limit params (record { schema = office_schema; trees = old.now.trees })
+    (statement_of cut_rows_text (understood office_schema cut_rows_text)) 2 (row_table side.Incoming) cut_program (w.tally, new.now) refl (no_works in_row_tree)
+    (subst (λ s. Does old.step_limit (mode_of old) params (record old.now { schema = s }) (statement_of cut_rows_text (understood office_schema cut_rows_text)) None command (Ok (w.tally, new.now)))
+    has w.changed) in
     record {
       schema = u.2;
       made = makes_cut n count u.0 old.now.trees new.now.trees (answers old.now.trees in_row_tree from_filter (col 1 0 ∷ []) params u.0 (u.1.answer Null)) u.3;

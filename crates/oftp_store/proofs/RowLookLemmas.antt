@@ -127,7 +127,8 @@ kept_rows : (which : Side) (r : Register) (db : Trees) → Tables r db → IsPer
 kept_rows side.Incoming r db kept = kept.incoming.rows
 kept_rows side.Outgoing r db kept = kept.outgoing.rows
 
-pub finds_rows : (which : Side) (old new : State) (n from most : ℕ) (rows : List Row) → old.now.schema ≡ office_schema → Shown (some_rows_text which) (some_params n from most) old new rows → (r : Register) → Tables r old.now.trees
+pub finds_rows : (which : Side) (old new : State) (n from most : ℕ) (rows : List Row) → old.now.schema ≡ office_schema
+    → Shown (some_rows_text which) (some_params n from most) old new rows → (r : Register) → Tables r old.now.trees
     → rows ≡ map (λ b. Blob b ∷ []) (take most (drop from (file_rows r which n)))
 finds_rows which old new n from most rows has h r kept =
     let params = some_params n from most in
@@ -145,10 +146,14 @@ finds_rows which old new n from most rows has h r kept =
         let db = old.now.trees in
         let all = body_rows n from (drop from (file_rows r which n)) in
         let among : IsPermutation all (filter (from_test n from) (less_rowids (db (tree_of which)))) =
-        subst (λ xs. IsPermutation xs (filter (from_test n from) (less_rowids (db (tree_of which))))) is (passing (from_test n from) (λ r. has_number n r && nat_le from (place r)) (from_same n from) (files_of which r) (less_rowids (db (tree_of which))) (kept_rows which r db kept)) in
+        subst (λ xs. IsPermutation xs (filter (from_test n from) (less_rowids (db (tree_of which))))) is
+        (passing (from_test n from) (λ r. has_number n r && nat_le from (place r)) (from_same n from) (files_of which r) (less_rowids (db (tree_of which))) (kept_rows which r db kept)) in
         let wanted : IsPermutation (map some_show all) (map (output (some_query (tree_of which))) (found from_filter (some_params n from most) (db (tree_of which)))) =
-        subst (IsPermutation (map some_show all)) (sym (without_rowids (some_query (tree_of which)) (some_params n from most) (from_test n from) some_show (from_passes n from (number_value most ∷ [])) (some_shows (tree_of which) n from most) (db (tree_of which)))) (IsPermutation-map some_show all _ among) in
-        answers_in_order db (tree_of which) from_filter (col 1 3 ∷ []) ((col 1 2, rising) ∷ []) (col 0 2) (some_params n from most) rows (map some_show all) answer (rising_rows (tree_of which) n from (drop from (file_rows r which n))) wanted
+        subst (IsPermutation (map some_show all))
+        (sym (without_rowids (some_query (tree_of which)) (some_params n from most) (from_test n from) some_show (from_passes n from (number_value most ∷ []))
+        (some_shows (tree_of which) n from most) (db (tree_of which)))) (IsPermutation-map some_show all _ among) in
+        answers_in_order db (tree_of which) from_filter (col 1 3 ∷ []) ((col 1 2, rising) ∷ []) (col 0 2) (some_params n from most) rows (map some_show all) answer
+        (rising_rows (tree_of which) n from (drop from (file_rows r which n))) wanted
         ∙ ap (take most) (shown_bodies n from (drop from (file_rows r which n))) ∙ take_map most (drop from (file_rows r which n))
 
 -- ---- the last row
@@ -213,7 +218,8 @@ turned_over zero = IsPermutation-refl []
 turned_over (suc m) =
     let same : 0 + m ≡ m = omega arith in
     IsPermutation-trans _ (shown_place m ∷ places_up 0 m) _ (IsPermutation-cons (shown_place m) _ _ (turned_over m))
-    (subst (IsPermutation (shown_place m ∷ places_up 0 m)) (sym (up_last 0 m ∙ ap (λ k. places_up 0 m ++ shown_place k ∷ []) same)) (IsPermutation-sym _ _ (IsPermutation-to_front (places_up 0 m) (shown_place m))))
+    (subst (IsPermutation (shown_place m ∷ places_up 0 m)) (sym (up_last 0 m ∙ ap (λ k. places_up 0 m ++ shown_place k ∷ []) same))
+    (IsPermutation-sym _ _ (IsPermutation-to_front (places_up 0 m) (shown_place m))))
 
 places_of : (n at : ℕ) (bodies : List (List ℕ)) → map last_show (body_rows n at bodies) ≡ places_up at (length bodies)
 places_of n at [] = refl
@@ -232,7 +238,8 @@ abbrev pub last_rows : ℕ → List Row
 last_rows zero = []
 last_rows (suc m) = (number_value m ∷ []) ∷ []
 
-pub finds_last : (which : Side) (old new : State) (n : ℕ) (rows : List Row) → old.now.schema ≡ office_schema → Shown (last_row_text which) (number_value n ∷ []) old new rows → (r : Register) → Tables r old.now.trees
+pub finds_last : (which : Side) (old new : State) (n : ℕ) (rows : List Row) → old.now.schema ≡ office_schema
+    → Shown (last_row_text which) (number_value n ∷ []) old new rows → (r : Register) → Tables r old.now.trees
     → rows ≡ last_rows (length (file_rows r which n))
 finds_last which old new n rows has h r kept =
     let read = reads_as (last_row_text which) (number_value n ∷ []) old new office_schema has (last_select (tree_of which)) (last_is which).0 (last_plain which) (last_is which).1 rows h in
@@ -242,15 +249,20 @@ finds_last which old new n rows has h r kept =
     first_place zero = refl
     first_place (suc m) = refl
 
-    go : Bodies n 0 (files_of which r) (file_rows r which n) → IsAnswer (last_query (tree_of which)) (overlay old.now.trees []) (number_value n ∷ []) rows → rows ≡ last_rows (length (file_rows r which n))
+    go : Bodies n 0 (files_of which r) (file_rows r which n) → IsAnswer (last_query (tree_of which)) (overlay old.now.trees []) (number_value n ∷ []) rows
+        → rows ≡ last_rows (length (file_rows r which n))
     go (are is) answer =
         let db = old.now.trees in
         let bodies = file_rows r which n in
         let among : IsPermutation (body_rows n 0 bodies) (filter (last_test n) (less_rowids (db (tree_of which)))) =
-        subst (λ xs. IsPermutation xs (filter (last_test n) (less_rowids (db (tree_of which))))) is (passing (last_test n) (λ r. has_number n r && nat_le 0 (place r)) (last_same n) (files_of which r) (less_rowids (db (tree_of which))) (kept_rows which r db kept)) in
+        subst (λ xs. IsPermutation xs (filter (last_test n) (less_rowids (db (tree_of which))))) is
+        (passing (last_test n) (λ r. has_number n r && nat_le 0 (place r)) (last_same n) (files_of which r) (less_rowids (db (tree_of which))) (kept_rows which r db kept)) in
         let outputs : IsPermutation (places_up 0 (length bodies)) (map (output (last_query (tree_of which))) (found last_filter (number_value n ∷ []) (db (tree_of which)))) =
-        subst₂ IsPermutation (places_of n 0 bodies) (sym (without_rowids (last_query (tree_of which)) (number_value n ∷ []) (last_test n) last_show (last_passes n) (last_shows (tree_of which) n) (db (tree_of which)))) (IsPermutation-map last_show (body_rows n 0 bodies) _ among) in
-        answers_in_order db (tree_of which) last_filter (col 1 2 ∷ []) ((col 1 2, falling) ∷ []) (lit (Int (pos 1))) (number_value n ∷ []) rows (places_down (length bodies)) answer (falling_places (tree_of which) (length bodies)) (IsPermutation-trans _ _ _ (turned_over (length bodies)) outputs)
+        subst₂ IsPermutation (places_of n 0 bodies)
+        (sym (without_rowids (last_query (tree_of which)) (number_value n ∷ []) (last_test n) last_show (last_passes n) (last_shows (tree_of which) n) (db (tree_of which))))
+        (IsPermutation-map last_show (body_rows n 0 bodies) _ among) in
+        answers_in_order db (tree_of which) last_filter (col 1 2 ∷ []) ((col 1 2, falling) ∷ []) (lit (Int (pos 1))) (number_value n ∷ []) rows
+        (places_down (length bodies)) answer (falling_places (tree_of which) (length bodies)) (IsPermutation-trans _ _ _ (turned_over (length bodies)) outputs)
         ∙ first_place (length bodies)
 
 place_back : (m at : ℕ) → place_told (number_value m) ≡ Some at → at ≡ m

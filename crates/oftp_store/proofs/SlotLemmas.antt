@@ -20,7 +20,8 @@ use Rattle.oftp_store.proofs.FirstLemmas.{any_wanted, first_wanted}
 pub taken_told : (r : Register) (which : Side) (it : Identity) (n : ℕ) → Some n ≡ no_of r which it → IsSlotOf r which it (slot.Taken n)
 taken_told r which it n some = ap (slot_of r.limits (entries_in r (table_of which))) some
 
-pub new_told : (r : Register) (which : Side) (it : Identity) (limits : Limits) (last : ℕ) (found : Slot) → r.limits ≡ limits → None ≡ no_of r which it → last ≡ entries_in r (table_of which) → found ≡ slot_after limits last
+pub new_told : (r : Register) (which : Side) (it : Identity) (limits : Limits) (last : ℕ) (found : Slot) → r.limits ≡ limits → None ≡ no_of r which it
+    → last ≡ entries_in r (table_of which) → found ≡ slot_after limits last
     → IsSlotOf r which it found
 new_told r which it limits last found same none counted is =
     is ∙ ap (λ l. slot_after l last) (sym same) ∙ ap (slot_after r.limits) counted ∙ ap (slot_of r.limits (entries_in r (table_of which))) none

@@ -21,13 +21,15 @@ ends_with : (edits : List Edit) (edit : Edit) (r s : Register) → AreEdited (ed
 ends_with [] edit r s h = record { mid = r; first = refl; last = subst (IsEdited edit r) h.2 h.1 }
 ends_with (x ∷ edits) edit r s h = let more = ends_with edits edit h.0 s h.2 in record { mid = more.mid; first = (h.0, h.1, more.first); last = more.last }
 
-makes_more : (edits : List Edit) (i : ℕ) (edit : Edit) → i < length edits → edit ≡ get_or edits i edit → (a b c : Trees) → MakesAll (take i edits) a b → Makes edit.no edit.deed b c → MakesAll (take (i + 1) edits) a c
+makes_more : (edits : List Edit) (i : ℕ) (edit : Edit) → i < length edits → edit ≡ get_or edits i edit → (a b c : Trees) → MakesAll (take i edits) a b
+    → Makes edit.no edit.deed b c → MakesAll (take (i + 1) edits) a c
 makes_more edits i edit within item a b c one two r s did kept =
     let all : take (i + 1) edits ≡ take i edits ++ edit ∷ [] = take_more edits i edit within ∙ ap (λ e. take i edits ++ e ∷ []) (sym item) in
     let parts = ends_with (take i edits) edit r s (subst (λ edits. AreEdited edits r s) all did) in
     two parts.mid s parts.last (one r parts.mid parts.first kept)
 
-pub edits_more : (edits : List Edit) (i : ℕ) (edit : Edit) (old mid new : State) → i < length edits → edit ≡ get_or edits i edit → Moves (MakesAll (take i edits)) old mid → Moves (Makes edit.no edit.deed) mid new
+pub edits_more : (edits : List Edit) (i : ℕ) (edit : Edit) (old mid new : State) → i < length edits → edit ≡ get_or edits i edit → Moves (MakesAll (take i edits)) old mid
+    → Moves (Makes edit.no edit.deed) mid new
     → Moves (MakesAll (take (i + 1) edits)) old new
 edits_more edits i edit old mid new within item one two = moves_then _ _ _ (makes_more edits i edit within item) old mid new one two
 

@@ -1,10 +1,11 @@
 -- What a change does to a connection.
-use Rattle.std.specs.Prelude.{◌≡◌, ◌≤◌, ◌⊎◌, List, Result, Ok, OnOk, OnErr, IfErr, IsTrue, false}
+use Rattle.std.specs.Prelude.{◌≡◌, ◌≤◌, ◌⊎◌, List, Result, Ok, OnOk, OnErr, IfErr, IsTrue, Bool, false, true}
 use Rattle.sqlite.specs.Tree.{Trees}
 use Rattle.sqlite.specs.View.{doubt}
 use Rattle.sqlite.specs.State.{State, HasCleanDisk, Survives}
 use Rattle.oftp_vfile.specs.declared.format.Limits.{Limits}
 use Rattle.oftp_register.specs.declared.change.Change.{Change}
+use Rattle.oftp_register.specs.declared.change.Change.TheVariants as change
 use Rattle.oftp_register.specs.declared.office.OfficeFault.{OfficeFault}
 use Rattle.oftp_register.specs.Register.{Register}
 use Rattle.oftp_register.specs.Changes.{apply}
@@ -28,6 +29,12 @@ pub record CommitsOn {T : Type 0} (limits : Limits) (change : Change) (old new :
   pub same : HasCleanDisk new → Stands limits old → OnErr result (IsTrue new.is_open → register_in limits new.now.trees ≡ register_in limits old.now.trees)
   pub left : HasCleanDisk new → Stands limits old → IsFit (register_in limits old.now.trees) change → (db : Trees) → new.may_leave db
       → old.may_leave db ⊎ ((r : Register) × (apply (register_in limits old.now.trees) change ≡ Ok r) × IsContentOf db r)
+
+-- whether a file begins with a change
+abbrev pub begins_file : Change → Bool
+begins_file (change.Submit identity format longest description rows) = true
+begins_file (change.Start identity format longest description count) = true
+begins_file change = false
 
 -- Edits in one transaction do this to a connection: all of them are made and committed, or none is.
 pub record MakesEdits (edits : List Edit) (old new : State) (result : Result (Unit {0}) OfficeFault) : Type 0 where

@@ -1,6 +1,9 @@
 -- What the edits of a transaction make of a register.
-use Rattle.std.specs.Prelude.{◌≡◌, ◌+◌, ◌<◌, ℕ, List, [], ◌∷◌, ◌++◌, length, take, Some, None, ⊤}
+use Rattle.std.specs.Prelude.{◌≡◌, ◌+◌, ◌<◌, ℕ, List, [], ◌∷◌, ◌++◌, length, take, Some, None, Bool, true, false, ⊤}
+use Rattle.sqlite.specs.declared.types.Value.TheVariants.{Text}
+use Rattle.sqlite.specs.Order.{Row}
 use Rattle.sqlite.specs.Tree.{Trees}
+use Rattle.oftp_vfile.specs.declared.format.Format.{Format}
 use Rattle.oftp_register.specs.declared.entry.Dispatch.TheVariants.{Due, Sent}
 use Rattle.oftp_register.specs.declared.entry.IncomingState.TheVariants.{Open, Whole}
 use Rattle.oftp_register.specs.declared.entry.OutgoingState.TheVariants.{Waiting}
@@ -12,7 +15,7 @@ use Rattle.oftp_register.specs.declared.entry.Identity.{Identity}
 use Rattle.oftp_register.specs.declared.entry.ResponseKind.{ResponseKind}
 use Rattle.oftp_register.specs.declared.entry.ResponseKind.TheVariants.{NegativeEndResponse}
 use Rattle.oftp_schema.specs.Schema.{about_tree, in_file_tree, in_row_tree, issued_tree, note_tree, out_file_tree, out_row_tree, received_tree}
-use Rattle.oftp_tables.specs.Tables.{HoldIncoming, HoldOutgoing, Tables, about_row, notes_from, received_row, rows_from}
+use Rattle.oftp_tables.specs.Tables.{HoldIncoming, HoldOutgoing, Tables, about_row, format_text, notes_from, number_value, received_row, rows_from}
 use Rattle.oftp_store.specs.declared.changes.edit.Edit.{Edit}
 use Rattle.oftp_store.specs.declared.changes.edit.Deed.{Deed}
 use Rattle.oftp_store.specs.declared.changes.edit.Deed.TheVariants.{AddIncoming, AddOutgoing, SetHeader, SetWhole, SetOutgoing, AddRows, CutRows, AddIssued, SetSent, AddReceived}
@@ -46,12 +49,25 @@ abbrev pub AddsRowsTo : Side → ℕ → ℕ → List (List ℕ) → Register �
 AddsRowsTo side.Incoming n from rows = ChangesIncoming n (λ f. length f.rows ≡ from) (λ f. record f { rows = f.rows ++ rows })
 AddsRowsTo side.Outgoing n from rows = ChangesOutgoing n (λ f. length f.rows ≡ from) (λ f. record f { rows = f.rows ++ rows })
 
+-- whether a deed adds an entry
+abbrev pub adds_entry : Deed → Bool
+adds_entry (AddIncoming identity format longest description) = true
+adds_entry (AddOutgoing identity format longest description) = true
+adds_entry (AddReceived kind identity reason creator text) = true
+adds_entry deed = false
+
 -- what is made of the entry with a number
 abbrev pub IsDone : ℕ → Deed → Register → Register → Type 0
 IsDone n (AddIncoming identity format longest description) r s =
-    IsNext n r.incoming × (s ≡ record r { incoming = r.incoming ++ (record { identity = identity.now; format = format; longest = longest; description = description.now; state = Open; rows = []; response = None }) ∷ [] })
+    IsNext n r.incoming × (s ≡ record r {
+      incoming = r.incoming
+          ++ (record { identity = identity.now; format = format; longest = longest; description = description.now; state = Open; rows = []; response = None }) ∷ [];
+    })
 IsDone n (AddOutgoing identity format longest description) r s =
-    IsNext n r.outgoing × (s ≡ record r { outgoing = r.outgoing ++ (record { identity = identity.now; format = format; longest = longest; description = description.now; rows = []; mark = 0; state = Waiting }) ∷ [] })
+    IsNext n r.outgoing × (s ≡ record r {
+      outgoing = r.outgoing
+          ++ (record { identity = identity.now; format = format; longest = longest; description = description.now; rows = []; mark = 0; state = Waiting }) ∷ [];
+    })
 IsDone n (SetHeader format longest description) r s = ChangesIncoming n (λ f. ⊤) (λ f. record f { format = format; longest = longest; description = description.now }) r s
 IsDone n SetWhole r s = ChangesIncoming n (λ f. ⊤) (λ f. record f { state = Whole }) r s
 IsDone n (SetOutgoing mark state) r s = ChangesOutgoing n (λ f. ⊤) (λ f. record f { mark = mark; state = state }) r s
@@ -101,4 +117,11 @@ MakesNoteless n kind identity reason old new =
 abbrev pub MakesNote : ℕ → List ℕ → List ℕ → Trees → Trees → Type 0
 MakesNote n creator text old new =
     (r : Register) (identity : Identity) (reason : ℕ) → IsNext n r.received
-    → (let x : Received = record { kind = NegativeEndResponse; identity = identity; reason = reason; creator = creator; text = text } in HoldNoteless r x old → Tables (record r { received = r.received ++ x ∷ [] }) new)
+    → (let x : Received = record { kind = NegativeEndResponse; identity = identity; reason = reason; creator = creator; text = text } in HoldNoteless r x old
+    → Tables (record r { received = r.received ++ x ∷ [] }) new)
+
+-- what the statements that add a file are given: its number, its identity and its header
+abbrev pub header_params : ℕ → Identity → Format → ℕ → List ℕ → Row
+header_params n identity format longest description =
+    number_value n ∷ Text identity.dataset ∷ Text identity.date ∷ Text identity.time ∷ Text identity.originator ∷ Text identity.destination ∷ Text (format_text format)
+    ∷ number_value longest ∷ Text description ∷ []

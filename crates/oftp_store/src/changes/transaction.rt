@@ -1,13 +1,13 @@
 //! The transaction of a change.
 
-ghost use Rattle.std.specs.Prelude.{◌≡◌, ◌≤◌, ◌<◌, ◌^◌, OnOk, OnErr, false};
+ghost use Rattle.std.specs.Prelude.{◌≡◌, ◌≤◌, ◌<◌, ◌^◌, OnOk, OnErr, false, true};
 ghost use Rattle.sqlite.specs.Held.{state};
 ghost use Rattle.sqlite.specs.View.{doubt};
 ghost use Rattle.sqlite.specs.State.{HasCleanDisk, Survives};
 ghost use Rattle.oftp_schema.specs.Calls.{IsUndone, KeepsCommit};
 ghost use Rattle.oftp_tables.specs.Calls.{Changes, IsInside, IsOurs, MayLeave, Moves};
 ghost use Rattle.oftp_store.specs.Commits.{MakesEdits};
-ghost use Rattle.oftp_store.specs.Edits.{Makes, MakesAll};
+ghost use Rattle.oftp_store.specs.Edits.{Makes, MakesAll, adds_entry};
 
 use super::edit::{Deed, Edit};
 use super::statements::{
@@ -18,16 +18,15 @@ use oftp_register::OfficeFault;
 use oftp_tables::fault_of;
 use sqlite::{Alter, Connection, Error, Transaction};
 
-// Makes an edit of the entry with a number that the database can hold.
-fn perform_deed<S: Alter>(
-    tx: &mut Transaction<'_, S>,
-    no: u64,
-    deed: &Deed<'_>,
-) -> Result<(), Error>
-    requires { no < 2 ^ 63 }
+// Makes an edit that adds an entry, with a number that the database can hold.
+fn add_entry<S: Alter>(tx: &mut Transaction<'_, S>, no: u64, deed: &Deed<'_>) -> Result<(), Error>
+    requires small { no < 2 ^ 63 }
+    requires adds { adds_entry deed.now ≡ true }
     ensures same_reference { tx.new.conn.ghost_name ≡ tx.old.conn.ghost_name }
-    ensures done { HasCleanDisk (state S.Store tx.new.conn.now) → IsInside (state S.Store tx.old.conn.now) → OnOk result (Moves (Makes no deed.now) (state S.Store tx.old.conn.now) (state S.Store tx.new.conn.now)) }
-    ensures failed { HasCleanDisk (state S.Store tx.new.conn.now) → IsInside (state S.Store tx.old.conn.now) → OnErr result (KeepsCommit (state S.Store tx.old.conn.now) (state S.Store tx.new.conn.now)) }
+    ensures done { HasCleanDisk (state S.Store tx.new.conn.now) → IsInside (state S.Store tx.old.conn.now)
+        → OnOk result (Moves (Makes no deed.now) (state S.Store tx.old.conn.now) (state S.Store tx.new.conn.now)) }
+    ensures failed { HasCleanDisk (state S.Store tx.new.conn.now) → IsInside (state S.Store tx.old.conn.now)
+        → OnErr result (KeepsCommit (state S.Store tx.old.conn.now) (state S.Store tx.new.conn.now)) }
     ensures survives { Survives (state S.Store tx.old.conn.now) (state S.Store tx.new.conn.now) (λ _. ⊥) }
 {
     match deed {
@@ -46,6 +45,38 @@ fn perform_deed<S: Alter>(
             description,
         } => {
             add_outgoing(tx, no, identity, *format, *longest, description)?;
+        }
+        Deed::AddReceived {
+            kind,
+            identity,
+            reason,
+            creator,
+            text,
+        } => {
+            add_received(tx, no, *kind, identity, *reason, creator, text)?;
+        }
+        _ => unreachable!(),
+    }
+    Ok(())
+}
+
+// Makes an edit of the entry with a number that the database can hold.
+fn perform_deed<S: Alter>(
+    tx: &mut Transaction<'_, S>,
+    no: u64,
+    deed: &Deed<'_>,
+) -> Result<(), Error>
+    requires { no < 2 ^ 63 }
+    ensures same_reference { tx.new.conn.ghost_name ≡ tx.old.conn.ghost_name }
+    ensures done { HasCleanDisk (state S.Store tx.new.conn.now) → IsInside (state S.Store tx.old.conn.now)
+        → OnOk result (Moves (Makes no deed.now) (state S.Store tx.old.conn.now) (state S.Store tx.new.conn.now)) }
+    ensures failed { HasCleanDisk (state S.Store tx.new.conn.now) → IsInside (state S.Store tx.old.conn.now)
+        → OnErr result (KeepsCommit (state S.Store tx.old.conn.now) (state S.Store tx.new.conn.now)) }
+    ensures survives { Survives (state S.Store tx.old.conn.now) (state S.Store tx.new.conn.now) (λ _. ⊥) }
+{
+    match deed {
+        Deed::AddIncoming { .. } | Deed::AddOutgoing { .. } | Deed::AddReceived { .. } => {
+            add_entry(tx, no, deed)?;
         }
         Deed::SetHeader {
             format,
@@ -75,15 +106,6 @@ fn perform_deed<S: Alter>(
         Deed::SetSent => {
             set_sent(tx, no)?;
         }
-        Deed::AddReceived {
-            kind,
-            identity,
-            reason,
-            creator,
-            text,
-        } => {
-            add_received(tx, no, *kind, identity, *reason, creator, text)?;
-        }
     }
     Ok(())
 }
@@ -91,8 +113,10 @@ fn perform_deed<S: Alter>(
 // Makes an edit.
 fn perform<S: Alter>(tx: &mut Transaction<'_, S>, edit: &Edit<'_>) -> Result<(), Error>
     ensures same_reference { tx.new.conn.ghost_name ≡ tx.old.conn.ghost_name }
-    ensures done { HasCleanDisk (state S.Store tx.new.conn.now) → IsInside (state S.Store tx.old.conn.now) → OnOk result (Moves (Makes edit.now.no edit.now.deed) (state S.Store tx.old.conn.now) (state S.Store tx.new.conn.now)) }
-    ensures failed { HasCleanDisk (state S.Store tx.new.conn.now) → IsInside (state S.Store tx.old.conn.now) → OnErr result (KeepsCommit (state S.Store tx.old.conn.now) (state S.Store tx.new.conn.now)) }
+    ensures done { HasCleanDisk (state S.Store tx.new.conn.now) → IsInside (state S.Store tx.old.conn.now)
+        → OnOk result (Moves (Makes edit.now.no edit.now.deed) (state S.Store tx.old.conn.now) (state S.Store tx.new.conn.now)) }
+    ensures failed { HasCleanDisk (state S.Store tx.new.conn.now) → IsInside (state S.Store tx.old.conn.now)
+        → OnErr result (KeepsCommit (state S.Store tx.old.conn.now) (state S.Store tx.new.conn.now)) }
     ensures survives { Survives (state S.Store tx.old.conn.now) (state S.Store tx.new.conn.now) (λ _. ⊥) }
 {
     if edit.no >= 1 << 63 {
@@ -104,8 +128,10 @@ fn perform<S: Alter>(tx: &mut Transaction<'_, S>, edit: &Edit<'_>) -> Result<(),
 // Makes edits in turn.
 fn perform_all<S: Alter>(tx: &mut Transaction<'_, S>, edits: &[Edit<'_>]) -> Result<(), Error>
     ensures same_reference { tx.new.conn.ghost_name ≡ tx.old.conn.ghost_name }
-    ensures done { HasCleanDisk (state S.Store tx.new.conn.now) → IsInside (state S.Store tx.old.conn.now) → OnOk result (Moves (MakesAll edits.now) (state S.Store tx.old.conn.now) (state S.Store tx.new.conn.now)) }
-    ensures failed { HasCleanDisk (state S.Store tx.new.conn.now) → IsInside (state S.Store tx.old.conn.now) → OnErr result (KeepsCommit (state S.Store tx.old.conn.now) (state S.Store tx.new.conn.now)) }
+    ensures done { HasCleanDisk (state S.Store tx.new.conn.now) → IsInside (state S.Store tx.old.conn.now)
+        → OnOk result (Moves (MakesAll edits.now) (state S.Store tx.old.conn.now) (state S.Store tx.new.conn.now)) }
+    ensures failed { HasCleanDisk (state S.Store tx.new.conn.now) → IsInside (state S.Store tx.old.conn.now)
+        → OnErr result (KeepsCommit (state S.Store tx.old.conn.now) (state S.Store tx.new.conn.now)) }
     ensures survives { Survives (state S.Store tx.old.conn.now) (state S.Store tx.new.conn.now) (λ _. ⊥) }
 {
     'edits: for edit in edits {

@@ -25,7 +25,8 @@ pub(crate) fn find_incoming<S: Alter>(
 ) -> Result<Option<IncomingEntry>, OfficeFault>
     requires { no < 2 ^ 63 }
     ensures looks { Looks (state S.Store conn.old) (state S.Store conn.new) result }
-    ensures answer { HasCleanDisk (state S.Store conn.new) → conn.old.schema ≡ office_schema → IfOk result (λ found. (r : Register) → Tables r (state S.Store conn.old).now.trees → IsSound r → found ≡ in_by_no r no) }
+    ensures answer { HasCleanDisk (state S.Store conn.new) → conn.old.schema ≡ office_schema
+        → IfOk result (λ found. (r : Register) → Tables r (state S.Store conn.old).now.trees → IsSound r → found ≡ in_by_no r no) }
     ensures within { IfOk result (λ found. IfSome found IsIncomingWithin) }
 {
     match find_incoming_header(alloc, conn, no) {
@@ -58,7 +59,8 @@ pub(crate) fn find_outgoing<S: Alter>(
 ) -> Result<Option<OutgoingEntry>, OfficeFault>
     requires { no < 2 ^ 63 }
     ensures looks { Looks (state S.Store conn.old) (state S.Store conn.new) result }
-    ensures answer { HasCleanDisk (state S.Store conn.new) → conn.old.schema ≡ office_schema → IfOk result (λ found. (r : Register) → Tables r (state S.Store conn.old).now.trees → found ≡ out_by_no r no) }
+    ensures answer { HasCleanDisk (state S.Store conn.new) → conn.old.schema ≡ office_schema
+        → IfOk result (λ found. (r : Register) → Tables r (state S.Store conn.old).now.trees → found ≡ out_by_no r no) }
     ensures within { IfOk result (λ found. IfSome found IsOutgoingWithin) }
 {
     match find_outgoing_header(alloc, conn, no) {

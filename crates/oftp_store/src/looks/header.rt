@@ -153,7 +153,8 @@ pub(crate) fn find_incoming_header<S: Alter>(
 ) -> Result<Option<IncomingHeader>, OfficeFault>
     requires { no < 2 ^ 63 }
     ensures looks { Looks (state S.Store conn.old) (state S.Store conn.new) result }
-    ensures answer { HasCleanDisk (state S.Store conn.new) → conn.old.schema ≡ office_schema → IfOk result (λ found. (r : Register) → Tables r (state S.Store conn.old).now.trees → IsToldOf incoming_header_of r.incoming no found) }
+    ensures answer { HasCleanDisk (state S.Store conn.new) → conn.old.schema ≡ office_schema
+        → IfOk result (λ found. (r : Register) → Tables r (state S.Store conn.old).now.trees → IsToldOf incoming_header_of r.incoming no found) }
     ensures within { IfOk result (λ found. IfSome found (λ header. IsLongest header.format header.longest)) }
 {
     match ask(
@@ -174,7 +175,8 @@ pub(crate) fn find_outgoing_header<S: Alter>(
 ) -> Result<Option<OutgoingHeader>, OfficeFault>
     requires { no < 2 ^ 63 }
     ensures looks { Looks (state S.Store conn.old) (state S.Store conn.new) result }
-    ensures answer { HasCleanDisk (state S.Store conn.new) → conn.old.schema ≡ office_schema → IfOk result (λ found. (r : Register) → Tables r (state S.Store conn.old).now.trees → IsToldOf outgoing_header_of r.outgoing no found) }
+    ensures answer { HasCleanDisk (state S.Store conn.new) → conn.old.schema ≡ office_schema
+        → IfOk result (λ found. (r : Register) → Tables r (state S.Store conn.old).now.trees → IsToldOf outgoing_header_of r.outgoing no found) }
     ensures within { IfOk result (λ found. IfSome found (λ header. IsLongest header.format header.longest)) }
 {
     match ask(

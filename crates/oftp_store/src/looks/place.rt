@@ -50,7 +50,8 @@ pub(crate) fn find_place<S: Alter>(
 ) -> Result<Option<Place>, OfficeFault>
     requires { no < 2 ^ 63 }
     ensures looks { Looks (state S.Store conn.old) (state S.Store conn.new) result }
-    ensures answer { HasCleanDisk (state S.Store conn.new) → conn.old.schema ≡ office_schema → IfOk result (λ found. (r : Register) → Tables r (state S.Store conn.old).now.trees → IsToldOf place_of r.incoming no found) }
+    ensures answer { HasCleanDisk (state S.Store conn.new) → conn.old.schema ≡ office_schema
+        → IfOk result (λ found. (r : Register) → Tables r (state S.Store conn.old).now.trees → IsToldOf place_of r.incoming no found) }
     ensures few { IfOk result (λ found. IfSome found (λ place. place.rows ≤ 1000000)) }
 {
     match find_incoming_header(alloc, conn, no) {
@@ -74,7 +75,8 @@ pub(crate) fn find_stage<S: Alter>(
 ) -> Result<Option<Stage>, OfficeFault>
     requires { no < 2 ^ 63 }
     ensures looks { Looks (state S.Store conn.old) (state S.Store conn.new) result }
-    ensures answer { HasCleanDisk (state S.Store conn.new) → conn.old.schema ≡ office_schema → IfOk result (λ found. (r : Register) → Tables r (state S.Store conn.old).now.trees → IsToldOf stage_of r.outgoing no found) }
+    ensures answer { HasCleanDisk (state S.Store conn.new) → conn.old.schema ≡ office_schema
+        → IfOk result (λ found. (r : Register) → Tables r (state S.Store conn.old).now.trees → IsToldOf stage_of r.outgoing no found) }
     ensures few { IfOk result (λ found. IfSome found (λ stage. stage.rows ≤ 1000000)) }
 {
     match find_outgoing_header(alloc, conn, no) {
@@ -99,7 +101,8 @@ pub(crate) fn find_answered<S: Alter>(
 ) -> Result<Option<Answered>, OfficeFault>
     requires { no < 2 ^ 63 }
     ensures looks { Looks (state S.Store conn.old) (state S.Store conn.new) result }
-    ensures answer { HasCleanDisk (state S.Store conn.new) → conn.old.schema ≡ office_schema → IfOk result (λ found. (r : Register) → Tables r (state S.Store conn.old).now.trees → IsSound r → IsToldOf answered_of r.incoming no found) }
+    ensures answer { HasCleanDisk (state S.Store conn.new) → conn.old.schema ≡ office_schema
+        → IfOk result (λ found. (r : Register) → Tables r (state S.Store conn.old).now.trees → IsSound r → IsToldOf answered_of r.incoming no found) }
 {
     match find_incoming_header(alloc, conn, no) {
         Err(fault) => Err(fault),

@@ -57,7 +57,8 @@ pub(crate) fn find_response<S: Alter>(
 ) -> Result<Option<IssuedResponse>, OfficeFault>
     requires { no < 2 ^ 63 }
     ensures looks { Looks (state S.Store conn.old) (state S.Store conn.new) result }
-    ensures answer { HasCleanDisk (state S.Store conn.new) → conn.old.schema ≡ office_schema → IfOk result (λ found. (r : Register) → Tables r (state S.Store conn.old).now.trees → IsSound r → IsResponseTo r no found) }
+    ensures answer { HasCleanDisk (state S.Store conn.new) → conn.old.schema ≡ office_schema
+        → IfOk result (λ found. (r : Register) → Tables r (state S.Store conn.old).now.trees → IsSound r → IsResponseTo r no found) }
 {
     match ask(
         conn,

@@ -80,7 +80,8 @@ pub(crate) fn count_rows<S: Alter>(
 ) -> Result<u32, OfficeFault>
     requires { no < 2 ^ 63 }
     ensures looks { Looks (state S.Store conn.old) (state S.Store conn.new) result }
-    ensures answer { HasCleanDisk (state S.Store conn.new) → conn.old.schema ≡ office_schema → IfOk result (λ count. (r : Register) → Tables r (state S.Store conn.old).now.trees → count ≡ length (file_rows r side no)) }
+    ensures answer { HasCleanDisk (state S.Store conn.new) → conn.old.schema ≡ office_schema
+        → IfOk result (λ count. (r : Register) → Tables r (state S.Store conn.old).now.trees → count ≡ length (file_rows r side no)) }
     ensures few { IfOk result (λ count. count ≤ 1000000) }
 {
     match ask(conn, last_row_text(side), params![number(no)]) {
@@ -113,7 +114,8 @@ pub(crate) fn find_rows<S: Alter>(
 ) -> Result<Vec<oftp_vfile::Row>, OfficeFault>
     requires { no < 2 ^ 63 }
     ensures looks { Looks (state S.Store conn.old) (state S.Store conn.new) result }
-    ensures answer { HasCleanDisk (state S.Store conn.new) → conn.old.schema ≡ office_schema → IfOk result (λ rows. (r : Register) → Tables r (state S.Store conn.old).now.trees → rows.items ≡ take most (drop from (file_rows r side no))) }
+    ensures answer { HasCleanDisk (state S.Store conn.new) → conn.old.schema ≡ office_schema
+        → IfOk result (λ rows. (r : Register) → Tables r (state S.Store conn.old).now.trees → rows.items ≡ take most (drop from (file_rows r side no))) }
 {
     match ask(conn, some_rows_text(side), params![number(no), from, most]) {
         Ok(rows) => bodies_told(alloc, rows.as_slice()),

@@ -12,19 +12,22 @@ pub returns-then-count-gt0 : goal.returns-then-count-gt0
 returns-then-count-gt0 g c =
     let a = c.args in
     commits_refused a.limits (Start a.identity.now a.format a.longest a.description.now a.count) _ _ _ cause.State c.in-Ok-Full.ensures.looks
-    (λ k stands. late_start_full _ a.identity.now a.format a.longest a.description.now a.count ((rw c.in-Ok-Full.field-0-is at c.in-Ok-Full.ensures.answer) k stands.holds.schema _ refl stands.holds.tables) c.if-count-gt0.true)
+    (λ k stands. late_start_full _ a.identity.now a.format a.longest a.description.now a.count
+    ((rw c.in-Ok-Full.field-0-is at c.in-Ok-Full.ensures.answer) k stands.holds.schema _ refl stands.holds.tables) c.if-count-gt0.true)
 
 pub returns-else-count-gt0 : goal.returns-else-count-gt0
 returns-else-count-gt0 g c =
     let a = c.args in
     commits_refused a.limits (Start a.identity.now a.format a.longest a.description.now a.count) _ _ _ cause.Full c.in-Ok-Full.ensures.looks
-    (λ k stands. full_start _ a.identity.now a.format a.longest a.description.now a.count ((rw c.in-Ok-Full.field-0-is at c.in-Ok-Full.ensures.answer) k stands.holds.schema _ refl stands.holds.tables) c.if-count-gt0.false)
+    (λ k stands. full_start _ a.identity.now a.format a.longest a.description.now a.count
+    ((rw c.in-Ok-Full.field-0-is at c.in-Ok-Full.ensures.answer) k stands.holds.schema _ refl stands.holds.tables) c.if-count-gt0.false)
 
 pub returns-then-count-gt0-2 : goal.returns-then-count-gt0-2
 returns-then-count-gt0-2 g c =
     let a = c.args in
     commits_refused a.limits (Start a.identity.now a.format a.longest a.description.now a.count) _ _ _ cause.State c.in-Ok-New.ensures.looks
-    (λ k stands. late_start _ a.identity.now a.format a.longest a.description.now a.count c.in-Ok-New.no ((rw c.in-Ok-New.field-0-is at c.in-Ok-New.ensures.answer) k stands.holds.schema _ refl stands.holds.tables) c.if-count-gt0-2.true)
+    (λ k stands. late_start _ a.identity.now a.format a.longest a.description.now a.count c.in-Ok-New.no
+    ((rw c.in-Ok-New.field-0-is at c.in-Ok-New.ensures.answer) k stands.holds.schema _ refl stands.holds.tables) c.if-count-gt0-2.true)
 
 pub returns-else-count-gt0-2 : goal.returns-else-count-gt0-2
 returns-else-count-gt0-2 g c =
@@ -32,7 +35,8 @@ returns-else-count-gt0-2 g c =
     let edit : Edit = record { no = c.in-Ok-New.no; deed = AddIncoming a.identity a.format a.longest a.description } in
     commits_by (edit ∷ []) a.limits (Start a.identity.now a.format a.longest a.description.now a.count) (state g.S.Store a.conn.now) (state g.S.Store c.find_arrival.new.conn)
     (state g.S.Store c.make_edits.new.conn) _ c.make_edits.result c.in-Ok-New.ensures.looks
-    (λ k stands. made_by_begin _ a.identity a.format a.longest a.description a.count c.in-Ok-New.no ((rw c.in-Ok-New.field-0-is at c.in-Ok-New.ensures.answer) k stands.holds.schema _ refl stands.holds.tables) c.if-count-gt0-2.false) c.make_edits.ensures
+    (λ k stands. made_by_begin _ a.identity a.format a.longest a.description a.count c.in-Ok-New.no
+    ((rw c.in-Ok-New.field-0-is at c.in-Ok-New.ensures.answer) k stands.holds.schema _ refl stands.holds.tables) c.if-count-gt0-2.false) c.make_edits.ensures
 
 pub returns-then-not-goes_on : goal.returns-then-not-goes_on
 returns-then-not-goes_on g c =

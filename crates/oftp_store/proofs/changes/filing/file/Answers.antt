@@ -12,15 +12,18 @@ pub returns-in-Ok-Known : goal.returns-in-Ok-Known
 returns-in-Ok-Known g c limits =
     let a = c.args in
     commits_refused limits (File a.kind a.identity.now a.reason a.creator.now a.text.now) _ _ _ cause.Duplicate c.in-Ok-Known.ensures.looks
-    (λ k stands. duplicate_file _ a.kind a.identity.now a.reason a.creator.now a.text.now ((rw c.in-Ok-Known.field-0-is at c.in-Ok-Known.ensures.answer) k stands.holds.schema _ stands.holds.tables stands.holds.sound))
+    (λ k stands. duplicate_file _ a.kind a.identity.now a.reason a.creator.now a.text.now
+    ((rw c.in-Ok-Known.field-0-is at c.in-Ok-Known.ensures.answer) k stands.holds.schema _ stands.holds.tables stands.holds.sound))
 
 pub returns-in-Ok-Alone : goal.returns-in-Ok-Alone
 returns-in-Ok-Alone g c limits =
     let a = c.args in
     let response : Edit = record { no = c.in-Ok-Alone.no; deed = AddReceived a.kind a.identity a.reason a.creator a.text } in
-    commits_by (response ∷ []) limits (File a.kind a.identity.now a.reason a.creator.now a.text.now) (state g.S.Store a.conn.now) (state g.S.Store c.find_filing.new.conn) (state g.S.Store c.make_edits.new.conn) _
+    commits_by (response ∷ []) limits (File a.kind a.identity.now a.reason a.creator.now a.text.now) (state g.S.Store a.conn.now) (state g.S.Store c.find_filing.new.conn)
+    (state g.S.Store c.make_edits.new.conn) _
     c.make_edits.result c.in-Ok-Alone.ensures.looks
-    (λ k stands. made_by_file _ a.kind a.identity a.reason a.creator a.text c.in-Ok-Alone.no ((rw c.in-Ok-Alone.field-0-is at c.in-Ok-Alone.ensures.answer) k stands.holds.schema _ stands.holds.tables stands.holds.sound)) c.make_edits.ensures
+    (λ k stands. made_by_file _ a.kind a.identity a.reason a.creator a.text c.in-Ok-Alone.no
+    ((rw c.in-Ok-Alone.field-0-is at c.in-Ok-Alone.ensures.answer) k stands.holds.schema _ stands.holds.tables stands.holds.sound)) c.make_edits.ensures
 
 pub returns-in-Ok-With : goal.returns-in-Ok-With
 returns-in-Ok-With g c limits =

@@ -11,16 +11,21 @@ use Rattle.oftp_store.proofs.changes.response.issue.Goals as goal
 pub returns-in-Ok-None : goal.returns-in-Ok-None
 returns-in-Ok-None g c limits =
     commits_refused limits (Issue c.args.no c.args.kind c.args.reason c.args.text.now) _ _ _ cause.Unknown c.in-Ok-None.ensures.looks
-    (λ k stands. unknown_issue c.args.no _ c.args.kind c.args.reason c.args.text.now ((rw c.in-Ok-None.field-0-is at c.in-Ok-None.ensures.answer) k stands.holds.schema _ stands.holds.tables stands.holds.sound))
+    (λ k stands. unknown_issue c.args.no _ c.args.kind c.args.reason c.args.text.now
+    ((rw c.in-Ok-None.field-0-is at c.in-Ok-None.ensures.answer) k stands.holds.schema _ stands.holds.tables stands.holds.sound))
 
 pub returns-else-is_answerable : goal.returns-else-is_answerable
 returns-else-is_answerable g c limits =
     commits_refused limits (Issue c.args.no c.args.kind c.args.reason c.args.text.now) _ _ _ cause.State c.in-Ok-Some.ensures.looks
-    (λ k stands. unfit_issue c.args.no _ c.args.kind c.args.reason c.args.text.now c.in-Ok-Some.answered ((rw c.in-Ok-Some.field-0-is at c.in-Ok-Some.ensures.answer) k stands.holds.schema _ stands.holds.tables stands.holds.sound) (sym c.is_answerable.ensures ∙ c.if-is_answerable.false))
+    (λ k stands. unfit_issue c.args.no _ c.args.kind c.args.reason c.args.text.now c.in-Ok-Some.answered
+    ((rw c.in-Ok-Some.field-0-is at c.in-Ok-Some.ensures.answer) k stands.holds.schema _ stands.holds.tables stands.holds.sound) (sym c.is_answerable.ensures ∙ c.if-is_answerable.false))
 
 pub returns-then-is_answerable : goal.returns-then-is_answerable
 returns-then-is_answerable g c limits =
     let edit : Edit = record { no = c.args.no; deed = AddIssued c.args.kind c.args.reason c.args.text } in
-    commits_by (edit ∷ []) limits (Issue c.args.no c.args.kind c.args.reason c.args.text.now) (state g.S.Store c.args.conn.now) (state g.S.Store c.find_answered.new.conn) (state g.S.Store c.make_edits.new.conn) _ c.make_edits.result
+    commits_by (edit ∷ []) limits (Issue c.args.no c.args.kind c.args.reason c.args.text.now) (state g.S.Store c.args.conn.now) (state g.S.Store c.find_answered.new.conn)
+    (state g.S.Store c.make_edits.new.conn) _ c.make_edits.result
     c.in-Ok-Some.ensures.looks
-    (λ k stands. made_by_issue c.args.no _ c.args.kind c.args.reason c.args.text c.in-Ok-Some.answered ((rw c.in-Ok-Some.field-0-is at c.in-Ok-Some.ensures.answer) k stands.holds.schema _ stands.holds.tables stands.holds.sound) (sym c.is_answerable.ensures ∙ c.if-is_answerable.true)) c.make_edits.ensures
+    (λ k stands. made_by_issue c.args.no _ c.args.kind c.args.reason c.args.text c.in-Ok-Some.answered
+    ((rw c.in-Ok-Some.field-0-is at c.in-Ok-Some.ensures.answer) k stands.holds.schema _ stands.holds.tables stands.holds.sound) (sym c.is_answerable.ensures ∙ c.if-is_answerable.true))
+    c.make_edits.ensures

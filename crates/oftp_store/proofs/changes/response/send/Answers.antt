@@ -16,11 +16,14 @@ returns-in-Ok-None g c limits =
 pub returns-else-is_sendable : goal.returns-else-is_sendable
 returns-else-is_sendable g c limits =
     commits_refused limits (Send c.args.no) _ _ _ cause.State c.in-Ok-Some.ensures.looks
-    (λ k stands. unfit_send c.args.no _ c.in-Ok-Some.answered ((rw c.in-Ok-Some.field-0-is at c.in-Ok-Some.ensures.answer) k stands.holds.schema _ stands.holds.tables stands.holds.sound) (sym c.is_sendable.ensures ∙ c.if-is_sendable.false))
+    (λ k stands. unfit_send c.args.no _ c.in-Ok-Some.answered
+    ((rw c.in-Ok-Some.field-0-is at c.in-Ok-Some.ensures.answer) k stands.holds.schema _ stands.holds.tables stands.holds.sound) (sym c.is_sendable.ensures ∙ c.if-is_sendable.false))
 
 pub returns-then-is_sendable : goal.returns-then-is_sendable
 returns-then-is_sendable g c limits =
     let edit : Edit = record { no = c.args.no; deed = SetSent } in
     commits_by (edit ∷ []) limits (Send c.args.no) (state g.S.Store c.args.conn.now) (state g.S.Store c.find_answered.new.conn) (state g.S.Store c.make_edits.new.conn) _ c.make_edits.result
     c.in-Ok-Some.ensures.looks
-    (λ k stands. made_by_send c.args.no _ c.in-Ok-Some.answered ((rw c.in-Ok-Some.field-0-is at c.in-Ok-Some.ensures.answer) k stands.holds.schema _ stands.holds.tables stands.holds.sound) (sym c.is_sendable.ensures ∙ c.if-is_sendable.true)) c.make_edits.ensures
+    (λ k stands. made_by_send c.args.no _ c.in-Ok-Some.answered
+    ((rw c.in-Ok-Some.field-0-is at c.in-Ok-Some.ensures.answer) k stands.holds.schema _ stands.holds.tables stands.holds.sound) (sym c.is_sendable.ensures ∙ c.if-is_sendable.true))
+    c.make_edits.ensures

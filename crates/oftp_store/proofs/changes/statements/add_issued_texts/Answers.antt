@@ -15,7 +15,8 @@ returns-clause-done g c clean inside reason small is =
     let old = state g.S.Store c.args.tx.now.conn.now in
     let new = state g.S.Store c.execute.new.self.conn.now in
     let back = number_bound c.args.no c.number.result c.number.ensures c.requires in
-    let runs : IsTrue old.in_transaction → ExecutesInside 0 add_issued_text params old new c.execute.result = simp (c.as_bytes.ensures.value, c.kind_text.ensures, back, is, c.as_bytes-2.ensures.value, c.text.ensures.value) at (c.execute.ensures.runs clean) in
+    let runs : IsTrue old.in_transaction → ExecutesInside 0 add_issued_text params old new c.execute.result =
+    simp (c.as_bytes.ensures.value, c.kind_text.ensures, back, is, c.as_bytes-2.ensures.value, c.text.ensures.value) at (c.execute.ensures.runs clean) in
     ran_on add_issued_text params old new _ _ _ (λ past. (c.execute.ensures.ended past).0) runs (λ count h. issued_added old new c.args.no c.args.kind reason c.args.text count small inside.schema h)
 
 pub returns-clause-failed : goal.returns-clause-failed

@@ -15,7 +15,8 @@ returns-clause-done g c clean inside =
     let old = state g.S.Store c.args.tx.now.conn.now in
     let new = state g.S.Store c.execute.new.self.conn.now in
     let back = number_bound c.args.no c.number.result c.number.ensures c.requires in
-    let runs : IsTrue old.in_transaction → ExecutesInside 0 add_note_text params old new c.execute.result = simp (c.octets.ensures.value, back, c.as_bytes.ensures.value, c.text.ensures.value) at (c.execute.ensures.runs clean) in
+    let runs : IsTrue old.in_transaction → ExecutesInside 0 add_note_text params old new c.execute.result =
+    simp (c.octets.ensures.value, back, c.as_bytes.ensures.value, c.text.ensures.value) at (c.execute.ensures.runs clean) in
     ran_on add_note_text params old new _ _ _ (λ past. (c.execute.ensures.ended past).0) runs (λ count h. note_added old new c.args.no c.args.creator.now c.args.text.now count inside.schema h)
 
 pub returns-clause-failed : goal.returns-clause-failed

@@ -13,8 +13,20 @@ returns-clause-done g c clean inside reason small is =
     let old = state g.S.Store c.args.tx.now.conn.now in
     let new = state g.S.Store c.execute.new.self.conn.now in
     let back = number_bound c.args.no c.number.result c.number.ensures c.requires in
-    let runs : IsTrue old.in_transaction → ExecutesInside 0 add_received_text params old new c.execute.result = simp (c.octets.ensures.value, c.octets-2.ensures.value, c.octets-3.ensures.value, c.octets-4.ensures.value, c.octets-5.ensures.value, c.as_bytes.ensures.value, c.kind_text.ensures, back, is) at (c.execute.ensures.runs clean) in
-    ran_on add_received_text params old new _ _ _ (λ past. (c.execute.ensures.ended past).0) runs (λ count h. received_added old new c.args.no c.args.kind c.args.identity.now reason count small inside.schema h)
+    let runs : IsTrue old.in_transaction → ExecutesInside 0 add_received_text params old new c.execute.result =
+    simp (
+      c.octets.ensures.value,
+      c.octets-2.ensures.value,
+      c.octets-3.ensures.value,
+      c.octets-4.ensures.value,
+      c.octets-5.ensures.value,
+      c.as_bytes.ensures.value,
+      c.kind_text.ensures,
+      back,
+      is,
+    ) at (c.execute.ensures.runs clean) in
+    ran_on add_received_text params old new _ _ _ (λ past. (c.execute.ensures.ended past).0) runs
+    (λ count h. received_added old new c.args.no c.args.kind c.args.identity.now reason count small inside.schema h)
 
 pub returns-clause-failed : goal.returns-clause-failed
 returns-clause-failed g c clean =

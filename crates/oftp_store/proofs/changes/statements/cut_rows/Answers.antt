@@ -13,7 +13,8 @@ returns-clause-done g c clean inside =
     let old = state g.S.Store c.args.tx.now.conn.now in
     let new = state g.S.Store c.execute.new.self.conn.now in
     let back = number_bound c.args.no c.number.result c.number.ensures c.requires in
-    let runs : IsTrue old.in_transaction → ExecutesInside 0 cut_rows_text params old new c.execute.result = rw (c.params-to_sql.ensures, c.params-to_sql-2.ensures, back) at (c.execute.ensures.runs clean) in
+    let runs : IsTrue old.in_transaction → ExecutesInside 0 cut_rows_text params old new c.execute.result =
+    rw (c.params-to_sql.ensures, c.params-to_sql-2.ensures, back) at (c.execute.ensures.runs clean) in
     ran_on cut_rows_text params old new _ _ _ (λ past. (c.execute.ensures.ended past).0) runs (λ count h. rows_cut old new c.args.no c.args.count count inside.schema h)
 
 pub returns-clause-failed : goal.returns-clause-failed

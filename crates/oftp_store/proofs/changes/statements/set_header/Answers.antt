@@ -15,8 +15,18 @@ returns-clause-done g c clean inside =
     let old = state g.S.Store c.args.tx.now.conn.now in
     let new = state g.S.Store c.execute.new.self.conn.now in
     let back = number_bound c.args.no c.number.result c.number.ensures c.requires in
-    let runs : IsTrue old.in_transaction → ExecutesInside 0 set_header_text params old new c.execute.result = simp (c.params-to_sql.ensures, c.params-to_sql-2.ensures, c.params-to_sql-3.ensures, c.params-to_sql-4.ensures, back, c.format_text.ensures, c.text.ensures.value) at (c.execute.ensures.runs clean) in
-    ran_on set_header_text params old new _ _ _ (λ past. (c.execute.ensures.ended past).0) runs (λ count h. header_set old new c.args.no c.args.format c.args.longest c.args.description count inside.schema h)
+    let runs : IsTrue old.in_transaction → ExecutesInside 0 set_header_text params old new c.execute.result =
+    simp (
+      c.params-to_sql.ensures,
+      c.params-to_sql-2.ensures,
+      c.params-to_sql-3.ensures,
+      c.params-to_sql-4.ensures,
+      back,
+      c.format_text.ensures,
+      c.text.ensures.value,
+    ) at (c.execute.ensures.runs clean) in
+    ran_on set_header_text params old new _ _ _ (λ past. (c.execute.ensures.ended past).0) runs
+    (λ count h. header_set old new c.args.no c.args.format c.args.longest c.args.description count inside.schema h)
 
 pub returns-clause-failed : goal.returns-clause-failed
 returns-clause-failed g c clean =

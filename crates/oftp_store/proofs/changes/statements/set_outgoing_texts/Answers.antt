@@ -16,7 +16,8 @@ returns-clause-done g c clean inside to is reason_is refusal =
     let new = state g.S.Store c.execute.new.self.conn.now in
     let back = number_bound c.args.no c.number.result c.number.ensures c.requires in
     let back_mark = count_bound c.args.mark c.ranges.mark.fits in
-    let runs : IsTrue old.in_transaction → ExecutesInside 0 set_outgoing_text params old new c.execute.result = simp (back, c.from.ensures, back_mark, is, reason_is) at (c.execute.ensures.runs clean) in
+    let runs : IsTrue old.in_transaction → ExecutesInside 0 set_outgoing_text params old new c.execute.result =
+    simp (back, c.from.ensures, back_mark, is, reason_is) at (c.execute.ensures.runs clean) in
     ran_on set_outgoing_text params old new _ _ _ (λ past. (c.execute.ensures.ended past).0) runs (λ count h. outgoing_set old new c.args.no c.args.mark to count refusal inside.schema h)
 
 pub returns-clause-failed : goal.returns-clause-failed

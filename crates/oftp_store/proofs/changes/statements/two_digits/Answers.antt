@@ -8,4 +8,5 @@ two n small = let tens : n / 10 % 10 ≡ n / 10 = omega (arith, small) in rw ten
 
 pub returns-clause-digits : goal.returns-clause-digits
 returns-clause-digits c =
-    c.push-2.ensures.items ∙ ap (λ xs. xs ++ (48 + c.get-value.result % 10) ∷ []) (c.push.ensures.items ∙ ap (λ xs. xs ++ (48 + c.get-value.result / 10) ∷ []) c.new-digits.ensures) ∙ two _ c.get-value.ensures.fits ∙ ap (decimal 2) c.get-value.ensures.value
+    c.push-2.ensures.items ∙ ap (λ xs. xs ++ (48 + c.get-value.result % 10) ∷ []) (c.push.ensures.items ∙ ap (λ xs. xs ++ (48 + c.get-value.result / 10) ∷ []) c.new-digits.ensures)
+    ∙ two _ c.get-value.ensures.fits ∙ ap (decimal 2) c.get-value.ensures.value

@@ -16,11 +16,15 @@ returns-in-Ok-None g c limits =
 pub returns-else-is_allowed : goal.returns-else-is_allowed
 returns-else-is_allowed g c limits =
     commits_refused limits (change_by c.args.no c.args.step.now) _ _ _ cause.State c.in-Ok-Some.ensures.looks
-    (λ k stands. unfit_step c.args.step.now c.args.no _ c.in-Ok-Some.stage ((rw c.in-Ok-Some.field-0-is at c.in-Ok-Some.ensures.answer) k stands.holds.schema _ stands.holds.tables) (sym c.is_allowed.ensures ∙ c.if-is_allowed.false))
+    (λ k stands. unfit_step c.args.step.now c.args.no _ c.in-Ok-Some.stage
+    ((rw c.in-Ok-Some.field-0-is at c.in-Ok-Some.ensures.answer) k stands.holds.schema _ stands.holds.tables) (sym c.is_allowed.ensures ∙ c.if-is_allowed.false))
 
 pub returns-then-is_allowed : goal.returns-then-is_allowed
 returns-then-is_allowed g c limits =
     let edit : Edit = record { no = c.args.no; deed = SetOutgoing c.mark_after.result c.state_after.result } in
-    commits_by (edit ∷ []) limits (change_by c.args.no c.args.step.now) (state g.S.Store c.args.conn.now) (state g.S.Store c.find_stage.new.conn) (state g.S.Store c.make_edits.new.conn) _ c.make_edits.result
+    commits_by (edit ∷ []) limits (change_by c.args.no c.args.step.now) (state g.S.Store c.args.conn.now) (state g.S.Store c.find_stage.new.conn)
+    (state g.S.Store c.make_edits.new.conn) _ c.make_edits.result
     c.in-Ok-Some.ensures.looks
-    (λ k stands. rw (c.mark_after.ensures, c.state_after.ensures) (made_by_step c.args.step.now c.args.no _ c.in-Ok-Some.stage ((rw c.in-Ok-Some.field-0-is at c.in-Ok-Some.ensures.answer) k stands.holds.schema _ stands.holds.tables) (sym c.is_allowed.ensures ∙ c.if-is_allowed.true))) c.make_edits.ensures
+    (λ k stands. rw (c.mark_after.ensures, c.state_after.ensures)
+    (made_by_step c.args.step.now c.args.no _ c.in-Ok-Some.stage
+    ((rw c.in-Ok-Some.field-0-is at c.in-Ok-Some.ensures.answer) k stands.holds.schema _ stands.holds.tables) (sym c.is_allowed.ensures ∙ c.if-is_allowed.true))) c.make_edits.ensures

@@ -13,13 +13,15 @@ pub returns-in-Ok-Taken : goal.returns-in-Ok-Taken
 returns-in-Ok-Taken g c =
     let a = c.args in
     commits_refused a.limits (Submit a.identity.now a.format a.longest a.description.now a.rows.now) _ _ _ cause.Duplicate c.in-Ok-Taken.ensures.looks
-    (λ k stands. duplicate_submit _ a.identity.now a.format a.longest a.description.now a.rows.now _ ((rw c.in-Ok-Taken.field-0-is at c.in-Ok-Taken.ensures.answer) k stands.holds.schema _ refl stands.holds.tables))
+    (λ k stands. duplicate_submit _ a.identity.now a.format a.longest a.description.now a.rows.now _
+    ((rw c.in-Ok-Taken.field-0-is at c.in-Ok-Taken.ensures.answer) k stands.holds.schema _ refl stands.holds.tables))
 
 pub returns-in-Ok-Full : goal.returns-in-Ok-Full
 returns-in-Ok-Full g c =
     let a = c.args in
     commits_refused a.limits (Submit a.identity.now a.format a.longest a.description.now a.rows.now) _ _ _ cause.Full c.in-Ok-Full.ensures.looks
-    (λ k stands. full_submit _ a.identity.now a.format a.longest a.description.now a.rows.now ((rw c.in-Ok-Full.field-0-is at c.in-Ok-Full.ensures.answer) k stands.holds.schema _ refl stands.holds.tables))
+    (λ k stands. full_submit _ a.identity.now a.format a.longest a.description.now a.rows.now
+    ((rw c.in-Ok-Full.field-0-is at c.in-Ok-Full.ensures.answer) k stands.holds.schema _ refl stands.holds.tables))
 
 pub returns-in-Ok-Free : goal.returns-in-Ok-Free
 returns-in-Ok-Free g c =
@@ -28,4 +30,5 @@ returns-in-Ok-Free g c =
     let all : Edit = record { no = c.in-Ok-Free.no; deed = AddRows side.Outgoing 0 a.rows } in
     commits_by (header ∷ all ∷ []) a.limits (Submit a.identity.now a.format a.longest a.description.now a.rows.now) (state g.S.Store a.conn.now) (state g.S.Store c.find_slot.new.conn)
     (state g.S.Store c.make_edits.new.conn) _ c.make_edits.result c.in-Ok-Free.ensures.looks
-    (λ k stands. made_by_submit _ a.identity a.format a.longest a.description a.rows c.in-Ok-Free.no ((rw c.in-Ok-Free.field-0-is at c.in-Ok-Free.ensures.answer) k stands.holds.schema _ refl stands.holds.tables)) c.make_edits.ensures
+    (λ k stands. made_by_submit _ a.identity a.format a.longest a.description a.rows c.in-Ok-Free.no
+    ((rw c.in-Ok-Free.field-0-is at c.in-Ok-Free.ensures.answer) k stands.holds.schema _ refl stands.holds.tables)) c.make_edits.ensures

@@ -45,7 +45,8 @@ returns-clause-survives g c ours =
     let same : end ≡ c.conn-2-1.given.0 = search rules in
     let P = MayLeave Made (state g.S.Store old) in
     let moved = λ (later : HasCleanDisk (state g.S.Store last)).
-    let m : Moves Made (record (state g.S.Store old) { in_transaction = true }) (state g.S.Store last) = (rw begun at c.in_ok-perform_all.ensures.done) later (begins (state g.S.Store old) ours) in m in
+    let m : Moves Made (record (state g.S.Store old) { in_transaction = true }) (state g.S.Store last) =
+    (rw begun at c.in_ok-perform_all.ensures.done) later (begins (state g.S.Store old) ours) in m in
     let inside = survives_begin g.S.Store old (state g.S.Store last) _ (rw begun at c.perform_all.ensures.survives) in
     let whole = survives_then (state g.S.Store old) (state g.S.Store last) (state g.S.Store end) _ _ P (λ _ db none. absurd none)
     (λ clean db is. leaves Made (state g.S.Store old) (state g.S.Store last) (state g.S.Store end) (moved (omega (arith, c.commit.ensures.survives.clean))) db is) inside c.commit.ensures.survives in

@@ -5,12 +5,3 @@ returns-in_ok-set_header-in-SetHeader-clause-done g c clean inside = rw c.in-Set
 
 pub returns-in_ok-add_issued-in-AddIssued-clause-done : goal.returns-in_ok-add_issued-in-AddIssued-clause-done
 returns-in_ok-add_issued-in-AddIssued-clause-done g c clean inside = rw c.in-AddIssued.is (c.in_ok-add_issued-in-AddIssued.ensures.done clean inside)
-
-pub returns-in_ok-add_incoming-in-AddIncoming-clause-done : goal.returns-in_ok-add_incoming-in-AddIncoming-clause-done
-returns-in_ok-add_incoming-in-AddIncoming-clause-done g c clean inside = rw c.in-AddIncoming.is (c.in_ok-add_incoming-in-AddIncoming.ensures.done clean inside)
-
-pub returns-in_ok-add_outgoing-in-AddOutgoing-clause-done : goal.returns-in_ok-add_outgoing-in-AddOutgoing-clause-done
-returns-in_ok-add_outgoing-in-AddOutgoing-clause-done g c clean inside = rw c.in-AddOutgoing.is (c.in_ok-add_outgoing-in-AddOutgoing.ensures.done clean inside)
-
-pub returns-in_ok-add_received-in-AddReceived-clause-done : goal.returns-in_ok-add_received-in-AddReceived-clause-done
-returns-in_ok-add_received-in-AddReceived-clause-done g c clean inside = rw c.in-AddReceived.is (c.in_ok-add_received-in-AddReceived.ensures.done clean inside)

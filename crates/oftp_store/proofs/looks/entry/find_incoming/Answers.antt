@@ -18,4 +18,5 @@ returns-in-Ok-find_response-clause-answer g c clean has r kept sound =
     let was = after_look r old first one has kept in
     let two : IsUnchanged first second = c.in-Ok.ensures.looks.same later was.0 in
     let is = after_look r first second two was.0 was.1 in
-    incoming_told r c.args.no _ c.in-Ok-Some.header c.in-Ok-find_response.response (rw c.in-Ok-Some.field-0-is at (c.in-Ok-Some.ensures.answer early has r kept)) (c.from.ensures ∙ c.in-Ok.ensures.answer later was.0 r was.1) (c.in-Ok-find_response.ensures.answer clean is.0 r is.1 sound)
+    incoming_told r c.args.no _ c.in-Ok-Some.header c.in-Ok-find_response.response (rw c.in-Ok-Some.field-0-is at (c.in-Ok-Some.ensures.answer early has r kept))
+    (c.from.ensures ∙ c.in-Ok.ensures.answer later was.0 r was.1) (c.in-Ok-find_response.ensures.answer clean is.0 r is.1 sound)

@@ -14,4 +14,5 @@ returns-else-header-rows-clause-answer g c clean has r kept =
     let early : HasCleanDisk first = omega (arith, c.in-Ok.ensures.looks.clean, clean) in
     let one : IsUnchanged old first = c.in-Ok-Some.ensures.looks.same early has in
     let was = after_look r old first one has kept in
-    rw c.from-in-Ok.ensures (outgoing_told r c.args.no c.from.result c.in-Ok-Some.header (rw c.in-Ok-Some.field-0-is at (c.in-Ok-Some.ensures.answer early has r kept)) (c.from.ensures ∙ c.in-Ok.ensures.answer clean was.0 r was.1))
+    rw c.from-in-Ok.ensures (outgoing_told r c.args.no c.from.result c.in-Ok-Some.header (rw c.in-Ok-Some.field-0-is at (c.in-Ok-Some.ensures.answer early has r kept))
+    (c.from.ensures ∙ c.in-Ok.ensures.answer clean was.0 r was.1))

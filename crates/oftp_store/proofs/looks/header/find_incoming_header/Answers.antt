@@ -17,4 +17,6 @@ pub returns-in-Ok-clause-answer : goal.returns-in-Ok-clause-answer
 returns-in-Ok-clause-answer g c clean has =
     let back = number_bound c.args.no c.number.result c.number.ensures c.requires in
     let shown = rw (c.params-to_sql.ensures, back) at (c.in-Ok.ensures.shown clean) in
-    IfOk-weaker c.incoming_header_told.result _ _ (λ found told r kept. subst (IsToldOf incoming_header_of r.incoming c.args.no) (sym (rw c.as_slice.ensures.value at told)) (finds_in_header _ _ c.args.no _ has shown r kept)) c.incoming_header_told.ensures.told
+    IfOk-weaker c.incoming_header_told.result _ _
+    (λ found told r kept. subst (IsToldOf incoming_header_of r.incoming c.args.no) (sym (rw c.as_slice.ensures.value at told)) (finds_in_header _ _ c.args.no _ has shown r kept))
+    c.incoming_header_told.ensures.told

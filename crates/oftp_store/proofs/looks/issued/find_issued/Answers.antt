@@ -16,4 +16,5 @@ returns-in-Ok-Some-find_incoming_header-clause-answer g c clean has r kept sound
     let same : IsUnchanged old mid = c.in-Ok-Some.ensures.looks.same early has in
     let was = after_look r old mid same has kept in
     issued_some r c.args.no c.in-Ok-Some-find_incoming_header.header c.in-Ok-Some.response
-    (rw c.in-Ok-Some-find_incoming_header.field-0-is at (c.in-Ok-Some-find_incoming_header.ensures.answer clean was.0 r was.1)) (rw c.in-Ok-Some.field-0-is at (c.in-Ok-Some.ensures.answer early has r kept sound))
+    (rw c.in-Ok-Some-find_incoming_header.field-0-is at (c.in-Ok-Some-find_incoming_header.ensures.answer clean was.0 r was.1))
+    (rw c.in-Ok-Some.field-0-is at (c.in-Ok-Some.ensures.answer early has r kept sound))

@@ -18,7 +18,8 @@ returns-in-Err-add_if_any-clause-looks g c = looks_then _ _ _ _ (looks_both _ _ 
 
 pub files-preserved : goal.files-preserved
 files-preserved g c =
-    goes_on_known _ _ (λ r found. found ≡ issued_by_no r (c.files.before + 1)) _ _ _ c.in-Ok-find_issued.found c.files.invariant c.in-Ok-find_issued.ensures.looks c.in-Ok-find_issued.ensures.answer (λ r kept sound known said. (
+    goes_on_known _ _ (λ r found. found ≡ issued_by_no r (c.files.before + 1)) _ _ _ c.in-Ok-find_issued.found c.files.invariant c.in-Ok-find_issued.ensures.looks c.in-Ok-find_issued.ensures.answer
+    (λ r kept sound known said. (
       known.0,
       c.in-Ok-add_if_any.ensures.added ∙ ap (λ es. es ++ listed c.in-Ok-find_issued.found) known.1 ∙ sym (issued_more c.files.before r.incoming c.in-Ok-find_issued.found said),
     ))

@@ -11,7 +11,8 @@ returns-in-Ok-None-find_response-clause-answer g c clean has r kept sound =
     let early : HasCleanDisk mid = omega (arith, c.in-Ok-None-find_response.ensures.looks.clean, clean) in
     let same : IsUnchanged old mid = c.in-Ok-Some.ensures.looks.same early has in
     let was = after_look r old mid same has kept in
-    answered_told r c.args.no c.in-Ok-Some.header None (rw c.in-Ok-Some.field-0-is at (c.in-Ok-Some.ensures.answer early has r kept)) (rw c.in-Ok-None-find_response.field-0-is at (c.in-Ok-None-find_response.ensures.answer clean was.0 r was.1 sound))
+    answered_told r c.args.no c.in-Ok-Some.header None (rw c.in-Ok-Some.field-0-is at (c.in-Ok-Some.ensures.answer early has r kept))
+    (rw c.in-Ok-None-find_response.field-0-is at (c.in-Ok-None-find_response.ensures.answer clean was.0 r was.1 sound))
 
 pub returns-clause-answer : goal.returns-clause-answer
 returns-clause-answer g c clean has r kept sound =
@@ -20,4 +21,6 @@ returns-clause-answer g c clean has r kept sound =
     let early : HasCleanDisk mid = omega (arith, c.in-Ok-Some-find_response.ensures.looks.clean, clean) in
     let same : IsUnchanged old mid = c.in-Ok-Some.ensures.looks.same early has in
     let was = after_look r old mid same has kept in
-    answered_told r c.args.no c.in-Ok-Some.header (Some c.in-Ok-Some-find_response.response) (rw c.in-Ok-Some.field-0-is at (c.in-Ok-Some.ensures.answer early has r kept)) (rw c.in-Ok-Some-find_response.field-0-is at (c.in-Ok-Some-find_response.ensures.answer clean was.0 r was.1 sound))
+    answered_told r c.args.no c.in-Ok-Some.header (Some c.in-Ok-Some-find_response.response)
+    (rw c.in-Ok-Some.field-0-is at (c.in-Ok-Some.ensures.answer early has r kept))
+    (rw c.in-Ok-Some-find_response.field-0-is at (c.in-Ok-Some-find_response.ensures.answer clean was.0 r was.1 sound))

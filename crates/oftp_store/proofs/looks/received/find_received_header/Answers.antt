@@ -16,4 +16,6 @@ pub returns-in-Ok-clause-answer : goal.returns-in-Ok-clause-answer
 returns-in-Ok-clause-answer g c clean has =
     let back = number_bound c.args.no c.number.result c.number.ensures c.requires in
     let shown = rw (c.params-to_sql.ensures, back) at (c.in-Ok.ensures.shown clean) in
-    IfOk-weaker c.header_told.result _ _ (λ found told r kept sound. subst (IsToldOf received_header_of r.received c.args.no) (sym (rw c.as_slice.ensures.value at told)) (finds_received _ _ c.args.no _ has shown r kept sound)) c.header_told.ensures.told
+    IfOk-weaker c.header_told.result _ _
+    (λ found told r kept sound. subst (IsToldOf received_header_of r.received c.args.no) (sym (rw c.as_slice.ensures.value at told)) (finds_received _ _ c.args.no _ has shown r kept sound))
+    c.header_told.ensures.told

@@ -16,4 +16,5 @@ pub returns-in-Ok-clause-answer : goal.returns-in-Ok-clause-answer
 returns-in-Ok-clause-answer g c clean has =
     let back = number_bound c.args.no c.number.result c.number.ensures c.requires in
     let shown = rw (c.params-to_sql.ensures, back) at (c.in-Ok.ensures.shown clean) in
-    IfOk-weaker c.response_told.result _ _ (λ found told r kept sound. subst (IsResponseTo r c.args.no) (sym (rw c.as_slice.ensures.value at told)) (finds_response _ _ c.args.no _ has shown r kept sound)) c.response_told.ensures.told
+    IfOk-weaker c.response_told.result _ _
+    (λ found told r kept sound. subst (IsResponseTo r c.args.no) (sym (rw c.as_slice.ensures.value at told)) (finds_response _ _ c.args.no _ has shown r kept sound)) c.response_told.ensures.told

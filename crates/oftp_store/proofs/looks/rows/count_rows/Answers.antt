@@ -20,4 +20,5 @@ pub returns-in-Ok-clause-answer : goal.returns-in-Ok-clause-answer
 returns-in-Ok-clause-answer g c clean has =
     let back = number_bound c.args.no c.number.result c.number.ensures c.requires in
     let shown = rw (c.last_row_text.ensures, c.params-to_sql.ensures, back) at (c.in-Ok.ensures.shown clean) in
-    IfOk_then c.count_told.result c.count_told.ensures.told (λ told tells r kept. count_is_told _ told _ (finds_last c.args.side _ _ c.args.no _ has shown r kept) (rw c.as_slice.ensures.value at tells))
+    IfOk_then c.count_told.result c.count_told.ensures.told
+    (λ told tells r kept. count_is_told _ told _ (finds_last c.args.side _ _ c.args.no _ has shown r kept) (rw c.as_slice.ensures.value at tells))

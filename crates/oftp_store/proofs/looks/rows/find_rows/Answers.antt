@@ -23,4 +23,5 @@ returns-in-Ok-clause-answer g c clean has =
     let back = number_bound c.args.no c.number.result c.number.ensures c.requires in
     let shown = rw (c.some_rows_text.ensures, c.params-to_sql.ensures, back, c.params-to_sql-2.ensures, c.params-to_sql-3.ensures) at (c.in-Ok.ensures.shown clean) in
     IfOk-weaker c.bodies_told.result _ _ (λ out told r kept.
-    told ∙ ap (map (λ (row : Row). bytes (column row 0))) (c.as_slice.ensures.value ∙ finds_rows c.args.side _ _ c.args.no c.args.from c.args.most _ has shown r kept) ∙ bodies_back _) c.bodies_told.ensures.told
+    told ∙ ap (map (λ (row : Row). bytes (column row 0))) (c.as_slice.ensures.value ∙ finds_rows c.args.side _ _ c.args.no c.args.from c.args.most _ has shown r kept) ∙ bodies_back _)
+    c.bodies_told.ensures.told

@@ -19,7 +19,8 @@ returns-in-Err-add_units-clause-looks g c = looks_then _ _ _ _ (looks_both _ _ _
 
 pub pages-preserved : goal.pages-preserved
 pages-preserved g c = record {
-  known = goes_on_known _ _ (λ r rows. rows.items ≡ take 64 (drop (c.pages.page * 64) (file_rows r c.args.side c.args.no))) _ _ _ c.in-Ok-find_rows.rows c.pages.invariant.known c.in-Ok-find_rows.ensures.looks
+  known = goes_on_known _ _ (λ r rows. rows.items ≡ take 64 (drop (c.pages.page * 64) (file_rows r c.args.side c.args.no))) _ _ _ c.in-Ok-find_rows.rows
+      c.pages.invariant.known c.in-Ok-find_rows.ensures.looks
       (λ k has r kept sound. c.in-Ok-find_rows.ensures.answer k has r kept) (λ r kept sound known said. (
         known.0,
         c.in-Ok-add_units.ensures.told ∙ ap (λ bodies. c.pages.units + units_in bodies) (c.as_slice.ensures.value ∙ said)

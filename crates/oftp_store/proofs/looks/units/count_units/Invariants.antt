@@ -10,6 +10,7 @@ use Rattle.oftp_store.proofs.looks.units.count_units.Given as goal
 -- the pages so far are counted
 abbrev pub invariant-pages : goal.invariant-pages
 invariant-pages g l = record {
-  known : IsKnown (λ (r : Register). (l.count ≡ length (file_rows r l.side l.no)) × (l.units ≡ units_in (take (l.page * 64) (file_rows r l.side l.no)))) (state g.S.Store l.fn.conn) (state g.S.Store l.conn);
+  known : IsKnown (λ (r : Register). (l.count ≡ length (file_rows r l.side l.no)) × (l.units ≡ units_in (take (l.page * 64) (file_rows r l.side l.no))))
+      (state g.S.Store l.fn.conn) (state g.S.Store l.conn);
   within : l.units ≤ MOST_UNITS;
 }

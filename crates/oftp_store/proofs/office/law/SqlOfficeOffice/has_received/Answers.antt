@@ -7,6 +7,7 @@ use Rattle.oftp_store.proofs.office.law.SqlOfficeOffice.has_received.Goals as go
 pub returns : goal.returns
 returns g c =
     record {
-      looks = rw c.counted.ensures.same (looks_up (λ r there. there
-          ≡ has_received r c.args.kind c.args.identity.now) _ _ _ _ _ c.has_filed-there.result (settled_alone g.S.Store g.met.S.Store.settled _ c.args.self.now.conn) c.has_filed-there.ensures.looks (λ k has. IfOk-weaker c.has_filed-there.result _ _ (λ x told r kept sound. told r kept) (c.has_filed-there.ensures.answer k has)) c.counted.ensures.counts);
+      looks = rw c.counted.ensures.same (looks_up (λ r there. there ≡ has_received r c.args.kind c.args.identity.now) _ _ _ _ _ c.has_filed-there.result
+          (settled_alone g.S.Store g.met.S.Store.settled _ c.args.self.now.conn) c.has_filed-there.ensures.looks
+          (λ k has. IfOk-weaker c.has_filed-there.result _ _ (λ x told r kept sound. told r kept) (c.has_filed-there.ensures.answer k has)) c.counted.ensures.counts);
     }

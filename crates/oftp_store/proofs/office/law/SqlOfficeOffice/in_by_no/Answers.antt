@@ -7,9 +7,10 @@ use Rattle.oftp_store.proofs.office.law.SqlOfficeOffice.in_by_no.Goals as goal
 
 pub returns-then-no-ge-FIRST_FAR-clause-looks : goal.returns-then-no-ge-FIRST_FAR-clause-looks
 returns-then-no-ge-FIRST_FAR-clause-looks g c = looks_nowhere (λ r found. found ≡ in_by_no r c.args.no) _ _ _ None (settled_alone g.S.Store g.met.S.Store.settled _ c.args.self.now.conn)
-    (λ stands. sym (far_incoming (register_in c.args.self.now.limits (state g.S.Store c.args.self.now.conn).now.trees) c.args.no stands.holds.tables.incoming.few (omega (arith, c.if-no-ge-FIRST_FAR.true))))
+    (λ stands. sym (far_incoming (register_in c.args.self.now.limits (state g.S.Store c.args.self.now.conn).now.trees) c.args.no stands.holds.tables.incoming.few
+    (omega (arith, c.if-no-ge-FIRST_FAR.true))))
 
 pub returns-clause-looks : goal.returns-clause-looks
 returns-clause-looks g c =
-    rw c.counted.ensures.same (looks_up (λ r found. found
-    ≡ in_by_no r c.args.no) _ _ _ _ _ c.find_incoming-found.result (settled_alone g.S.Store g.met.S.Store.settled _ c.args.self.now.conn) c.find_incoming-found.ensures.looks c.find_incoming-found.ensures.answer c.counted.ensures.counts)
+    rw c.counted.ensures.same (looks_up (λ r found. found ≡ in_by_no r c.args.no) _ _ _ _ _ c.find_incoming-found.result
+    (settled_alone g.S.Store g.met.S.Store.settled _ c.args.self.now.conn) c.find_incoming-found.ensures.looks c.find_incoming-found.ensures.answer c.counted.ensures.counts)

@@ -8,9 +8,11 @@ use Rattle.oftp_store.proofs.office.law.SqlOfficeOffice.out_by_no.Goals as goal
 
 pub returns-then-no-ge-FIRST_FAR-clause-looks : goal.returns-then-no-ge-FIRST_FAR-clause-looks
 returns-then-no-ge-FIRST_FAR-clause-looks g c = looks_nowhere (λ r found. found ≡ out_by_no r c.args.no) _ _ _ None (settled_alone g.S.Store g.met.S.Store.settled _ c.args.self.now.conn)
-    (λ stands. sym (far_outgoing (register_in c.args.self.now.limits (state g.S.Store c.args.self.now.conn).now.trees) c.args.no stands.holds.tables.outgoing.few (omega (arith, c.if-no-ge-FIRST_FAR.true))))
+    (λ stands. sym (far_outgoing (register_in c.args.self.now.limits (state g.S.Store c.args.self.now.conn).now.trees) c.args.no stands.holds.tables.outgoing.few
+    (omega (arith, c.if-no-ge-FIRST_FAR.true))))
 
 pub returns-clause-looks : goal.returns-clause-looks
 returns-clause-looks g c =
-    rw c.counted.ensures.same (looks_up (λ r found. found
-    ≡ out_by_no r c.args.no) _ _ _ _ _ c.find_outgoing-found.result (settled_alone g.S.Store g.met.S.Store.settled _ c.args.self.now.conn) c.find_outgoing-found.ensures.looks (λ k has. IfOk-weaker c.find_outgoing-found.result _ _ (λ x told r kept sound. told r kept) (c.find_outgoing-found.ensures.answer k has)) c.counted.ensures.counts)
+    rw c.counted.ensures.same (looks_up (λ r found. found ≡ out_by_no r c.args.no) _ _ _ _ _ c.find_outgoing-found.result
+    (settled_alone g.S.Store g.met.S.Store.settled _ c.args.self.now.conn) c.find_outgoing-found.ensures.looks
+    (λ k has. IfOk-weaker c.find_outgoing-found.result _ _ (λ x told r kept sound. told r kept) (c.find_outgoing-found.ensures.answer k has)) c.counted.ensures.counts)

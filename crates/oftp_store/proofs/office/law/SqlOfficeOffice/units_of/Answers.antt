@@ -9,5 +9,5 @@ returns-then-no-ge-FIRST_FAR-clause-looks g c = looks_nowhere (λ r units. units
 
 pub returns-clause-looks : goal.returns-clause-looks
 returns-clause-looks g c =
-    rw c.counted.ensures.same (looks_up (λ r units. units
-    ≡ units_of r c.args.side c.args.no) _ _ _ _ _ c.count_units-found.result (settled_alone g.S.Store g.met.S.Store.settled _ c.args.self.now.conn) c.count_units-found.ensures.looks c.count_units-found.ensures.answer c.counted.ensures.counts)
+    rw c.counted.ensures.same (looks_up (λ r units. units ≡ units_of r c.args.side c.args.no) _ _ _ _ _ c.count_units-found.result
+    (settled_alone g.S.Store g.met.S.Store.settled _ c.args.self.now.conn) c.count_units-found.ensures.looks c.count_units-found.ensures.answer c.counted.ensures.counts)
