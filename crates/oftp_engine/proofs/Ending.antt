@@ -1,5 +1,5 @@
 -- What a served session leaves, from how far it came.
-use Rattle.std.proofs.Common.{◌≡◌, ℕ, zero, suc, ◌+◌, ◌-◌, ◌≤◌, ◌<◌, true, false, List, [], ◌∷◌, ◌++◌, length, take, drop, Option, None, Some, Ok, refl, sym, ap, ◌∙◌, subst, arith, length-append, inl, inr}
+use Rattle.std.proofs.Common.{◌≡◌, ℕ, zero, suc, ◌+◌, ◌-◌, ◌≤◌, ◌<◌, ◌⊎◌, true, false, List, [], ◌∷◌, ◌++◌, length, take, drop, Option, None, Some, Ok, refl, sym, ap, ◌∙◌, subst, arith, length-append, inl, inr}
 use Rattle.std.proofs.Math.Seq.{take-add}
 use Rattle.std.proofs.lemmas.List.{append-nil, take_at, drop_at}
 use Rattle.std.proofs.lemmas.Bool.{le-ltb, lt-ltb}
@@ -19,7 +19,7 @@ use Rattle.oftp_engine.specs.declared.serving.RunFault.{RunFault}
 use Rattle.oftp_engine.specs.declared.serving.RunFault.TheVariants as fault
 use Rattle.oftp_engine.specs.Runs.{Course, Output, run, started, octets_of, answered, advance, is_stopped, with_change}
 use Rattle.oftp_engine.specs.Serving.{Grows, Leads, Reaches, Scene, Took, BreaksOff, OfficeFails, IsShort, Fails, Comes, IsOver, Sound, Counted, last_frame}
-use Rattle.oftp_engine.specs.Served.{whole, broken_off, IsPrefix, LeavesPrefix, IsWhole, IsBrokenOff, IsOfficeFault, IsOutOfMemory, ServesErr}
+use Rattle.oftp_engine.specs.Served.{whole, broken_off, IsPrefix, LeavesPrefix, IsWhole, IsBrokenOff, IsOfficeFault, IsOutOfMemory, ServesErr, StopsWithin}
 use Rattle.oftp_engine.proofs.Courses.{grows_on, grows_step, run_grows, run_over, run_waits, run_stopped, sound_start}
 use Rattle.oftp_engine.proofs.Phases.{over_from}
 use Rattle.oftp_engine.proofs.Progress.{octets_step}
@@ -197,6 +197,22 @@ leaves_prefix r d w step (Some change) least left e g h sd se le only = λ k l.
           }
     ]
 
+stops_within : (setting : Setting) (given : List ℕ) (r : Register) (d : Course) (step : Step) (made : ℕ) → Reaches (started setting r) given d (advance d step)
+    → Grows d (whole setting given r) → Sound r d → (made ≡ length d.changes) ⊎ (made ≡ length (advance d step).changes) → StopsWithin setting given r d.outputs made
+unfolding is_stopped
+stops_within setting given r d step made reaches g sd which =
+    let h = reaches.same [] None refl in
+    record {
+      at = d;
+      step = step;
+      rest = h.0;
+      goes_on = ap (λ (x : List ℕ). run None x (started setting r)) (sym (append-nil given)) ∙ h.1;
+      outputs = refl;
+      changes = sym (front_changes d (whole setting given r) g);
+      register = sd.replay;
+      within = which;
+    }
+
 pub is_office_fault : (setting : Setting) (given : List ℕ) (old new : Scene)
     → IsSound old.office.register → OfficeFails (started setting old.office.register) given old new → IsOfficeFault setting given old new
 is_office_fault setting given old new sound h =
@@ -210,6 +226,8 @@ is_office_fault setting given old new sound h =
     let out : Took old new (octets_of h.at.outputs ++ take h.count last_frame) = subst (λ (x : List ℕ). Took old new (x ++ take h.count last_frame)) (sym h.outputs) h.took in
     let kept : answered h.at.outputs (length (octets_of h.at.outputs)) ≤ length h.at.changes = answered_most h.at.outputs (length (octets_of h.at.outputs)) (length h.at.changes) sd.counted in
     let more : length h.at.changes ≤ length (advance h.at h.step).changes = few h.at (advance h.at h.step) step in
+    let within : (made : ℕ) → (made ≡ length h.at.changes) ⊎ (made ≡ length (advance h.at h.step).changes) → StopsWithin setting given r h.at.outputs made =
+    λ made which. stops_within setting given r h.at h.step made h.reaches g sd which in
     elim h.cases [
       | inl x ↦ record {
         outs = h.at.outputs;
@@ -221,6 +239,7 @@ is_office_fault setting given old new sound h =
         made = length h.at.changes;
         kept = kept;
         few = few h.at w g;
+        stopped = within (length h.at.changes) (inl refl);
         register = λ s. replayed r h.at w g sd ∙ ap Ok (sym (x.same s));
         left = leaves_prefix r h.at w h.step h.step.change (answered h.at.outputs (length (octets_of h.at.outputs))) new.office refl g ge sd se kept x.left;
         faults = h.faults;
@@ -235,6 +254,7 @@ is_office_fault setting given old new sound h =
         made = length (advance h.at h.step).changes;
         kept = omega arith;
         few = few (advance h.at h.step) w ge;
+        stopped = within (length (advance h.at h.step).changes) (inr refl);
         register = λ s. replayed r (advance h.at h.step) w ge se ∙ ap Ok (sym (x.same s));
         left = λ k l. prefix_at r (advance h.at h.step) w _ new.office.holds k ge se (omega arith) (x.left k l);
         faults = h.faults;

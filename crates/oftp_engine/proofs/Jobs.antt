@@ -93,6 +93,7 @@ module _ {R W : Type 0} (remaining : R → Option (List ℕ)) (contents : W → 
           outs = h.outs;
           later = h.later;
           outputs = h.outputs;
+          stopped = h.stopped;
           count = h.count;
           out = record { contents = h.out.contents; moved = h.out.taken };
           said = h.said;

@@ -38,7 +38,7 @@ use Rattle.oftp_engine.specs.declared.submitting.Fields.{Fields}
 use Rattle.oftp_engine.specs.declared.submitting.Offer.{Offer}
 use Rattle.oftp_engine.specs.declared.submitting.Submission.{Submission}
 use Rattle.oftp_engine.specs.Operating.{Deed, IsFileOf, Submits, decided, done_line, identity_of, is_too_big, refuses, registered}
-use Rattle.oftp_engine.specs.Operated.{Attempts, came_out_as}
+use Rattle.oftp_engine.specs.Operated.{Attempts, came_out_as, Registers}
 use Rattle.oftp_engine.specs.Offers.{AreFieldsOf, IsOffer, came_big, came_numbered, named_by}
 use Rattle.oftp_engine.proofs.Deciding.{decides}
 
@@ -187,6 +187,7 @@ module _ (identity : Identity) (s : Submission) (rows : List (List ℕ)) (old mi
         refl,
         record {
           cases = inr (record {
+            registers = subst (λ (deed : Deed). Registers deed.change) (sym is) tt;
             after = mid.register;
             made = subst (λ (deed : Deed). Makes deed.change old.register mid.register) (sym is) made;
             register = same;

@@ -20,7 +20,7 @@ use Rattle.oftp_engine.specs.declared.serving.RunFault.TheVariants as fault
 use Rattle.oftp_engine.specs.Ports.{Wrote}
 use Rattle.oftp_engine.specs.Runs.{Course, Output, answered, ending, octets_of, run, started, with_change}
 use Rattle.oftp_engine.specs.Serving.{last_frame}
-use Rattle.oftp_engine.specs.Served.{Gave, InputEnded, IsNeeded, IsPrefix, ReaderTold, StopsBetween, setting_of, whole}
+use Rattle.oftp_engine.specs.Served.{Gave, InputEnded, IsNeeded, IsPrefix, ReaderTold, StopsBetween, StopsWithin, setting_of, whole}
 use Rattle.oftp_engine.specs.Operating.{Deed, IsDeed, NeedsMemory}
 
 -- A job as its ports tell. Of a session: the octets that its reader gave, and how many its writer had taken if it told a fault. Of an
@@ -119,6 +119,7 @@ pub record SessionRefused {R W : Type 0} (remaining : R → Option (List ℕ)) (
   pub outs : List Output
   pub later : List Output
   pub outputs : (whole (setting_of book old.role) given r).outputs ≡ outs ++ later
+  pub stopped : StopsWithin (setting_of book old.role) given r outs stop.made
   pub count : ℕ
   pub out : Wrote contents old.writer new.writer (octets_of outs ++ take count last_frame)
   pub said : ((count ≡ length last_frame) × (new.writer.faults ≡ old.writer.faults)) ⊎ ((count < length last_frame) × (new.writer.faults ≡ next_count old.writer.faults))

@@ -1,7 +1,8 @@
 -- What an operator's call leaves, and what it has out.
-use Rattle.std.specs.Prelude.{◌≡◌, ℕ, ◌<◌, ◌⊎◌, ⊤, List, [], length, take, Option, Result, Ok, Err}
+use Rattle.std.specs.Prelude.{◌≡◌, ℕ, ◌<◌, ◌⊎◌, ⊤, List, [], length, take, Option, Some, Result, Ok, Err}
 use Rattle.oftp_partners.specs.Book.{BookData}
 use Rattle.oftp_register.specs.declared.change.Change.{Change}
+use Rattle.oftp_register.specs.declared.change.Change.TheVariants as change
 use Rattle.oftp_register.specs.Register.{Register}
 use Rattle.oftp_register.specs.declared.office.OfficeFault.{OfficeFault}
 use Rattle.oftp_register.specs.declared.office.OfficeFault.TheVariants as office
@@ -17,8 +18,14 @@ use Rattle.oftp_engine.specs.declared.serving.RunFault.TheVariants as fault
 use Rattle.oftp_engine.specs.Operating.{Deed, IsDeed, NeedsMemory, done_line, refusal_line, refusal_of}
 use Rattle.oftp_engine.specs.Serving.{Scene, Took}
 
+-- the change registers a file, whose number is looked up once it is made
+abbrev pub Registers : Option Change → Type 0
+Registers (Some (change.Submit identity format longest description rows)) = ⊤
+Registers _ = ⊥
+
 -- the office told a fault after the change was made: in a look-up of the file's number
 pub record IsMadeBefore (change : Option Change) (old new : View) : Type 0 where
+  pub registers : Registers change
   pub after : Register
   pub made : Makes change old.register after
   pub register : new.stands → new.register ≡ after

@@ -1,7 +1,7 @@
 -- What a served session leaves, and what it has out: the whole run over the octets that the reader gave.
 use Rattle.std.specs.Prelude.{◌≡◌, false, ℕ, ◌+◌, ◌-◌, ◌<◌, ◌≤◌, ◌⊎◌, List, ◌++◌, length, take, Option, None, Some, Result, Ok, Err}
 use Rattle.std.specs.Io.KnownBytes.{Consumes}
-use Rattle.oftp_session.specs.Phases.{is_over}
+use Rattle.oftp_session.specs.Phases.{Step, is_over}
 use Rattle.oftp_register.specs.declared.change.Change.{Change}
 use Rattle.oftp_register.specs.Register.{Register}
 use Rattle.oftp_register.specs.Changes.{apply_all}
@@ -17,7 +17,7 @@ use Rattle.oftp_engine.specs.declared.port.Port.{Port}
 use Rattle.oftp_engine.specs.declared.serving.RunFault.{RunFault}
 use Rattle.oftp_engine.specs.declared.serving.RunFault.TheVariants as fault
 use Rattle.oftp_engine.specs.Ports.{IsDone}
-use Rattle.oftp_engine.specs.Runs.{Course, Output, run, started, octets_of, ending, answered}
+use Rattle.oftp_engine.specs.Runs.{Course, Output, advance, run, started, octets_of, ending, answered}
 use Rattle.oftp_engine.specs.Serving.{MayRunOut, Scene, Took, IsSaid, last_frame}
 
 -- the octets that a reader gave in a call: as many as its port counts, at most as many as the port's limit left, and the next
@@ -80,6 +80,18 @@ pub record IsBrokenOff (setting : Setting) (given : List ℕ) (old new : Scene) 
   pub faults : new.office.told ≡ old.office.told
   pub told : new.told ≡ next_count old.told
 
+-- the session stopped within a step, after these outputs and so many changes, that of the step made or not: with the octets that come
+-- behind it would have gone on so
+pub record StopsWithin (setting : Setting) (given : List ℕ) (r : Register) (outs : List Output) (made : ℕ) : Type 0 where
+  pub at : Course
+  pub step : Step
+  pub rest : List ℕ
+  pub goes_on : whole setting given r ≡ run None rest (advance at step)
+  pub outputs : at.outputs ≡ outs
+  pub changes : at.changes ≡ take (length at.changes) (whole setting given r).changes
+  pub register : apply_all r at.changes ≡ Ok at.register
+  pub within : (made ≡ length at.changes) ⊎ (made ≡ length (advance at step).changes)
+
 -- the office told a fault: whole outputs are out, and after them ESID 08 or as much of it as the writer took before it told a fault.
 -- The register is the one after some changes, at least those that were answered
 pub record IsOfficeFault (setting : Setting) (given : List ℕ) (old new : Scene) : Type 0 where
@@ -92,6 +104,7 @@ pub record IsOfficeFault (setting : Setting) (given : List ℕ) (old new : Scene
   pub made : ℕ
   pub kept : answered outs (length (octets_of outs)) ≤ made
   pub few : made ≤ length (whole setting given old.office.register).changes
+  pub stopped : StopsWithin setting given old.office.register outs made
   pub register : new.office.stands → apply_all old.office.register (take made (whole setting given old.office.register).changes) ≡ Ok new.office.register
   pub left : LeavesPrefix (whole setting given old.office.register) old.office.register (answered outs (length (octets_of outs))) made new.office
   pub faults : new.office.told ≡ next_count old.office.told
