@@ -140,7 +140,7 @@ class Partner:
         else:
             file = {**self.names(), "format": chance.choice("FVUT"), "longest": chance.choice(RECORDS), "rows": []}
             file["longest"] *= file["format"] in "FV"
-        if chance.random() < 0.15:
+        if chance.random() < (0.3 if file["rows"] else 0.1):
             other = [file["format"]] * 2 + ["F", "V"]
             file = {**file, "format": chance.choice(other), "longest": chance.choice([0, 1, 3, 64, 300, 16384, 16385, 99999])}
             file["longest"] *= file["format"] in "FV"
@@ -244,7 +244,9 @@ def change_field(chance, command):
         places.append((form, at, at + size))
         at += size
         if form == "text" and command[at - size : at].isdigit():
-            at += int(command[at - size : at])
+            length = int(command[at - size : at])
+            places += [("octets", at, at + length)] * 2
+            at += length
     form, begin, end = chance.choice(places)
     old, size = command[begin:end], end - begin
     station = STATIONS[0].encode().ljust(size)[:size]
@@ -255,6 +257,7 @@ def change_field(chance, command):
         "nothing": [b"\0\1", b"\1\0", b"\xff\xff", b"  "],
         "return": [b"\r", b"\x8d", b"\n", b" "],
         "reserved": [bytes(size), b"\xff" * size],
+        "octets": [b"\xff" * size, b"\xc3" * size, (b"a" * size + b"\xed\xa0\x80")[-size:] if size else b"a", bytes(size)],
     }
     numbers = [b"0" * size, b"9" * size, b" " * size, old[:-1] + b"x", *(number.rjust(size, b"0") for number in (b"1", b"-1", b"+1"))]
     if old.isdigit():
