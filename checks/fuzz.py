@@ -9,7 +9,7 @@ what the model of the station has out, but for mistakes of every kind; and submi
 octets of a session are then changed here and there, and given to `feed` in a file, or through a pipe in pieces of random sizes. Each
 time the octets out, the lines, the exit status and the tables that are left have to be the model's. A life has a seed of its own; where
 something differs, the seed is printed, with all that was done in words, and `--seed N --sessions 1` plays that life again. It fails also
-where 3,000 sessions don't take each step of the step tables. The last line is `N passed, M failed`, which counts sessions.
+where 5,000 sessions don't take each step of the step tables. The last line is `N passed, M failed`, which counts sessions.
 """
 
 import argparse
@@ -39,7 +39,7 @@ RECORDS = [1, 2, 3, 3, 10, 62, 63, 64, 65, 127, 128, 300, 2000, 16384]
 BREAKS = {"receives": 0.08, "sends": 0.1, "awaits EFPA": 0.3, "awaits RTR": 0.1, "offers": 0.05}
 TEXTS = ["", "", "", "OK", "NO PLANT", "ü€\U0001f600", "a" * 999, "€" * 333, "\n\x1b[2J\x7f", "'; DROP TABLE in_file; --"]
 # What has to come about in so many sessions: each step of the step tables, these answers and turns, and these changes of a file's state.
-ENOUGH = 3000
+ENOUGH = 5000
 REASONS = {"SFNA": "01 02 03 05 06 13 14 99", "ESID": "01 02 03 04 06 07 10 12"}
 TURNS = "SSRM,SSID,SFPA,SFPA later,DATA,CDT,EFID,EFPA N,EFPA Y,EFNA 10,EFNA 11,RTR,EERP,NERP 09,SFID,SFID later,CD,ESID 00".split(",")
 REFUSALS = [f"{kind} {reason}" for kind, reasons in REASONS.items() for reason in reasons.split()]
@@ -140,7 +140,7 @@ class Partner:
         else:
             file = {**self.names(), "format": chance.choice("FVUT"), "longest": chance.choice(RECORDS), "rows": []}
             file["longest"] *= file["format"] in "FV"
-        if chance.random() < 0.15:
+        if chance.random() < (0.3 if file["rows"] else 0.1):
             other = [file["format"]] * 2 + ["F", "V"]
             file = {**file, "format": chance.choice(other), "longest": chance.choice([0, 1, 3, 64, 300, 16384, 16385, 99999])}
             file["longest"] *= file["format"] in "FV"
@@ -244,7 +244,9 @@ def change_field(chance, command):
         places.append((form, at, at + size))
         at += size
         if form == "text" and command[at - size : at].isdigit():
-            at += int(command[at - size : at])
+            length = int(command[at - size : at])
+            places += [("octets", at, at + length)] * 2
+            at += length
     form, begin, end = chance.choice(places)
     old, size = command[begin:end], end - begin
     station = STATIONS[0].encode().ljust(size)[:size]
@@ -255,6 +257,7 @@ def change_field(chance, command):
         "nothing": [b"\0\1", b"\1\0", b"\xff\xff", b"  "],
         "return": [b"\r", b"\x8d", b"\n", b" "],
         "reserved": [bytes(size), b"\xff" * size],
+        "octets": [b"\xff" * size, b"\xc3" * size, (b"a" * size + b"\xed\xa0\x80")[-size:] if size else b"a", bytes(size)],
     }
     numbers = [b"0" * size, b"9" * size, b" " * size, old[:-1] + b"x", *(number.rjust(size, b"0") for number in (b"1", b"-1", b"+1"))]
     if old.isdigit():
@@ -297,7 +300,7 @@ def change(chance, partner, frames):
 
 
 class Life:
-    """A register of the program and one of the model, and what is done to both."""
+    """A register of the program and one of the model, and what is done to both; or ten sessions in memory."""
 
     def __init__(self, seed, room):
         self.chance = random.Random(seed)
@@ -313,8 +316,10 @@ class Life:
     def live(self):
         chance = self.chance
         self.take_book()
-        if chance.random() < 0.2:
-            self.hold_session(None)
+        if chance.random() < 0.3:
+            for _ in range(10):
+                self.register = model.Register()
+                self.hold_session(None)
             return
         for _ in range(chance.choice([3, 10, 25, 50])):
             if chance.random() < 0.05:
@@ -512,8 +517,9 @@ def play_life(seed, room):
     life = Life(seed, room)
     try:
         life.live()
-    except (Differs, tables.Damaged, subprocess.SubprocessError) as why:
-        return life, f"seed {seed}:\n  " + "\n  ".join([*life.told, f"BUT {why}"])
+    except (Differs, tables.Damaged, subprocess.SubprocessError, OSError, LookupError, ValueError) as why:
+        said = why if isinstance(why, Differs) else repr(why)
+        return life, f"seed {seed}:\n  " + "\n  ".join([*life.told, f"BUT {said}"])
     return life, None
 
 

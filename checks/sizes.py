@@ -114,7 +114,7 @@ ABOVE = {
     "F of 1, a row more": Size("F", 1, MOST_ROWS + 1, 1),
     "V of 0 and 1, a row more": Size("V", 1, MOST_ROWS + 1, 0, 1),
 }
-IN_SHORT = ["U", "V, an octet more", "F of 1, a row more"]
+IN_SHORT = ["F of 16,384", "V, an octet more", "F of 1, a row more"]
 
 
 class Station:
