@@ -34,7 +34,7 @@ module _ {R W : Type 0} (remaining : R → Option (List ℕ)) (contents : W → 
 
   went_through : (answer : Result End RunFault) → b.role ≡ a.role → b.result ≡ Some answer → (given : List ℕ) → Gave remaining a.reader b.reader given
       → IsWhole setting' given (scene contents x a.writer) (scene contents y b.writer) → SessionEnds setting' x.register given None answer
-      → ReaderTold a.reader b.reader answer → InputEnded remaining b.reader answer
+      → ReaderTold a.reader b.reader answer → InputEnded remaining a.reader b.reader answer
       → IsJobDone remaining contents book x y (job.Session a) (job.Session b)
   went_through answer role left given gave all ends told input = record {
     entry = Session setting' given None;

@@ -1,6 +1,6 @@
 //! Why a store is not opened.
 
-ghost use Rattle.std.specs.Prelude.{◌≢◌};
+ghost use Rattle.std.specs.Prelude.{◌≡◌, ◌≢◌, ◌↔◌};
 
 use sqlite::{Error, ErrorCode};
 
@@ -17,7 +17,8 @@ pub enum StoreFault {
 
 /// The fault that a failed call of the store is.
 pub fn fault_of(error: Error) -> StoreFault
-    ensures { result ≢ StoreFault.WrongSchema }
+    ensures named { result ≢ StoreFault.WrongSchema }
+    ensures memory { (result ≡ StoreFault.Memory) ↔ (error ≡ Error.SqliteFailure ErrorCode.OutOfMemory) }
 {
     match error {
         Error::SqliteFailure(ErrorCode::OutOfMemory) => StoreFault::Memory,

@@ -1,6 +1,6 @@
 //! Statements over the office's tables.
 
-ghost use Rattle.std.specs.Prelude.{◌≡◌, ◌<◌, ◌^◌, pos, IfOk};
+ghost use Rattle.std.specs.Prelude.{◌≡◌, ◌↔◌, ◌⊎◌, ◌<◌, ◌^◌, pos, IfOk};
 ghost use Rattle.sqlite.specs.Held.{state};
 ghost use Rattle.sqlite.specs.Given.{IsPlain};
 ghost use Rattle.sqlite.specs.Listing.{understood};
@@ -24,7 +24,8 @@ pub fn number(no: u64) -> i64
 
 /// An error of the store as the office tells it: want of memory, and where no number is left, is [`OfficeFault::Memory`].
 pub fn fault_of(error: Error) -> OfficeFault
-    ensures { IsFailure result }
+    ensures fails { IsFailure result }
+    ensures memory { (result ≡ OfficeFault.Memory) ↔ ((error ≡ Error.SqliteFailure ErrorCode.OutOfMemory) ⊎ (error ≡ Error.SqliteFailure ErrorCode.NoRowid)) }
 {
     match error {
         Error::SqliteFailure(ErrorCode::OutOfMemory) | Error::SqliteFailure(ErrorCode::NoRowid) => {
