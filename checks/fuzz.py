@@ -73,13 +73,19 @@ class Partner:
     def talk(self):
         """The commands that it sends."""
         spoken = []
-        while self.session.end is None and len(spoken) < self.patience and self.chance.random() > BREAKS.get(self.session.phase, 0):
+        while self.session.end is None and len(spoken) < self.patience and not self.breaks():
             command = self.mistake() if self.chance.random() < self.mistakes else self.next_command()
             spoken.append(command)
             self.session.take(command)
         if self.session.end is None and self.chance.random() < 0.8:
             spoken.append(self.spell("ESID", reason=self.chance.choice(["00", "00", "08", "99"]), text=self.chance.choice(TEXTS)))
         return spoken
+
+    def breaks(self):
+        """A transfer breaks more often once a part of the file is kept, or covered by credit."""
+        session = self.session
+        is_kept = session.phase == "receives" and session.taker.file["rows"] or session.phase == "sends" and session.file["mark"]
+        return self.chance.random() < BREAKS.get(session.phase, 0) * (4 if is_kept else 1)
 
     def spell(self, kind, **fields):
         return oftp.spell(kind, {name: value if isinstance(value, (str, bytes)) else str(value) for name, value in fields.items()})
@@ -118,7 +124,7 @@ class Partner:
             code=self.code,
             password=PARTNERS[self.code] if chance.random() < 0.97 else chance.choice(["", "carpw".upper(), "X" * 8]),
             buffer=chance.choice([128, 129, 190, 193, 500, 2048, 2048, 16384, 99999]),
-            credit=chance.choice([1, 1, 1, 2, 2, 3, 5, 99, 999]),
+            credit=chance.choice([1, 1, 1, 1, 2, 2, 3, 5, 99, 999]),
             mode="B" if chance.random() < 0.9 else chance.choice("SR"),
             restart=chance.choice("YYYYN"),
             level=5 if agreed else chance.choice([4, 5, 9]),
