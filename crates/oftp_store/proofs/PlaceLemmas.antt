@@ -83,57 +83,43 @@ no_incoming r k none = entry_unknown incoming_entry (λ (e : IncomingEntry). e.n
 pub no_outgoing : (r : Register) (k : ℕ) → entry_at k r.outgoing ≡ None → out_by_no r k ≡ None
 no_outgoing r k none = entry_unknown outgoing_entry (λ (e : OutgoingEntry). e.no) (λ n x. refl) k r.outgoing none
 
+-- the entry of an incoming file of which these are told
+abbrev incoming_as : ℕ → IncomingHeader → ℕ → Option IssuedResponse → IncomingEntry
+incoming_as k h rows response = record {
+  no = k;
+  identity = h.identity;
+  format = h.format;
+  longest = h.longest;
+  description = h.description;
+  state = h.state;
+  rows = rows;
+  response = response;
+}
+
 pub incoming_told : (r : Register) (k count : ℕ) (h : IncomingHeader) (response : Option IssuedResponse) → IsToldOf incoming_header_of r.incoming k (Some h)
-    → count ≡ length (file_rows r side.Incoming k) → IsResponseTo r k response
-    → (let e : IncomingEntry = record { no = k; identity = h.identity; format = h.format; longest = h.longest; description = h.description; state = h.state; rows = count; response = response } in
-    Some e ≡ in_by_no r k)
+    → count ≡ length (file_rows r side.Incoming k) → IsResponseTo r k response → Some (incoming_as k h count response) ≡ in_by_no r k
 incoming_told r k count h response (before, f, after, placed, header) counted answered =
-    ap (λ (h : IncomingHeader). let e : IncomingEntry = record {
-      no = k;
-      identity = h.identity;
-      format = h.format;
-      longest = h.longest;
-      description = h.description;
-      state = h.state;
-      rows = count;
-      response = response;
-    } in Some e) header
-    ∙ ap (λ m. let e : IncomingEntry = record {
-      no = k;
-      identity = f.identity;
-      format = f.format;
-      longest = f.longest;
-      description = f.description;
-      state = f.state;
-      rows = m;
-      response = response;
-    } in Some e) (counted ∙ ap length (in_rows_placed r k before f after placed))
-    ∙ ap (λ o. let e : IncomingEntry = record {
-      no = k;
-      identity = f.identity;
-      format = f.format;
-      longest = f.longest;
-      description = f.description;
-      state = f.state;
-      rows = length f.rows;
-      response = o;
-    } in Some e) (answered before f after placed)
+    ap (λ (h : IncomingHeader). Some (incoming_as k h count response)) header
+    ∙ ap (λ m. Some (incoming_as k (incoming_header_of f) m response)) (counted ∙ ap length (in_rows_placed r k before f after placed))
+    ∙ ap (λ o. Some (incoming_as k (incoming_header_of f) (length f.rows) o)) (answered before f after placed)
     ∙ sym (entry_known incoming_entry (λ (e : IncomingEntry). e.no) (λ n x. refl) k r.incoming before f after placed)
 
+-- the entry of an outgoing file of which these are told
+abbrev outgoing_as : ℕ → OutgoingHeader → ℕ → OutgoingEntry
+outgoing_as k h rows = record {
+  no = k;
+  identity = h.identity;
+  format = h.format;
+  longest = h.longest;
+  description = h.description;
+  rows = rows;
+  mark = h.mark;
+  state = h.state;
+}
+
 pub outgoing_told : (r : Register) (k count : ℕ) (h : OutgoingHeader) → IsToldOf outgoing_header_of r.outgoing k (Some h) → count ≡ length (file_rows r side.Outgoing k)
-    → (let e : OutgoingEntry = record { no = k; identity = h.identity; format = h.format; longest = h.longest; description = h.description; rows = count; mark = h.mark; state = h.state } in
-    Some e ≡ out_by_no r k)
+    → Some (outgoing_as k h count) ≡ out_by_no r k
 outgoing_told r k count h (before, f, after, placed, header) counted =
-    ap (λ (h : OutgoingHeader). let e : OutgoingEntry = record {
-      no = k;
-      identity = h.identity;
-      format = h.format;
-      longest = h.longest;
-      description = h.description;
-      rows = count;
-      mark = h.mark;
-      state = h.state;
-    } in Some e) header
-    ∙ ap (λ m. let e : OutgoingEntry = record { no = k; identity = f.identity; format = f.format; longest = f.longest; description = f.description; rows = m; mark = f.mark; state = f.state } in
-    Some e) (counted ∙ ap length (out_rows_placed r k before f after placed))
+    ap (λ (h : OutgoingHeader). Some (outgoing_as k h count)) header
+    ∙ ap (λ m. Some (outgoing_as k (outgoing_header_of f) m)) (counted ∙ ap length (out_rows_placed r k before f after placed))
     ∙ sym (entry_known outgoing_entry (λ (e : OutgoingEntry). e.no) (λ n x. refl) k r.outgoing before f after placed)
