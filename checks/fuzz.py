@@ -145,7 +145,7 @@ class Partner:
             file = chance.choice([file for file in begun if file["rows"]] or begun or known)
         else:
             file = {**self.names(), "format": chance.choice("FVUT"), "longest": chance.choice(RECORDS), "rows": []}
-            file["longest"] *= file["format"] in "FV"
+            file["longest"] *= file["format"] in "FV" or chance.random() < 0.03
         if chance.random() < (0.3 if file["rows"] else 0.1):
             other = [file["format"]] * 2 + ["F", "V"]
             file = {**file, "format": chance.choice(other), "longest": chance.choice([0, 1, 3, 64, 300, 16384, 16385, 99999])}
@@ -277,7 +277,7 @@ def change(chance, partner, frames):
     other = chance.randrange(len(frames))
     frame = frames[at]
     place = chance.randrange(len(frame))
-    how = chance.choice(["field", "insert", "remove", "double", "swap", "flip", "length", "truncate", "glue", "octets"])
+    how = chance.choice(["field", "field", "field", "field", "insert", "remove", "double", "swap", "flip", "length", "truncate", "glue", "octets"])
     if how == "field":
         frames[at] = oftp.frame(change_field(chance, frame[4:]))
     elif how == "insert":
