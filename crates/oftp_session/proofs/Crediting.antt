@@ -74,6 +74,7 @@ credited_ships contact t s new mark at none is = subst (Ships contact (credited_
   room = at.room;
   most = at.most;
   sent = at.sent;
+  page = record { first = at.page.first; place = at.page.place };
 })
   where
     w : ℕ

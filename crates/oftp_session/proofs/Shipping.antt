@@ -1,135 +1,160 @@
 -- The steps of a session that sends a file.
-use Rattle.std.proofs.Common.{◌≡◌, ℕ, suc, zero, ◌+◌, ◌-◌, ◌*◌, ◌<◌, ◌≤◌, Bool, true, false, cond, eqb, nat_lt, min, All, List, [], ◌∷◌, ◌++◌, length, take, slice_get, Option, None, Some, Result, Ok, Err, inl, inr, refl, sym, ap, ◌∙◌, subst, arith}
+use Rattle.std.proofs.Common.{◌≡◌, ℕ, All, ◌+◌, ◌-◌, ◌*◌, ◌<◌, ◌≤◌, Bool, true, false, cond, nat_lt, max, min, List, [], ◌++◌, length, drop, slice_get, Option, None, Some, Result, Ok, Err, inl, inr, refl, sym, ap, ◌∙◌, subst, arith}
+use Rattle.std.specs.Result.{IsErrAnd}
 use Rattle.std.proofs.lemmas.Bool.{cases_lt, eqb-false}
+use Rattle.std.proofs.lemmas.List.{drop_all, length-append}
 use Rattle.std.proofs.lemmas.Option.{slice_get_within}
 use Rattle.oftp_wire.specs.declared.command.Command.{Command}
 use Rattle.oftp_wire.specs.declared.command.Command.TheVariants as command
+use Rattle.oftp_vfile.specs.declared.format.Filled.TheVariants.{Buffer, Done, More}
 use Rattle.oftp_vfile.specs.VirtualFile.{is_stream}
-use Rattle.oftp_vfile.specs.Filling.{Filling, AreLent, AsksForMore, IsInRows, Sent}
+use Rattle.oftp_vfile.specs.Filling.{Filling}
 use Rattle.oftp_vfile.proofs.LendLemmas.{stream_some}
 use Rattle.oftp_vfile.proofs.MoreLemmas.{more_few}
-use Rattle.oftp_register.specs.declared.change.Change.{Change}
-use Rattle.oftp_register.specs.declared.change.Change.TheVariants.{BeginClosing, Mark}
 use Rattle.oftp_register.specs.declared.entries.Side.TheVariants as side
 use Rattle.oftp_register.specs.LookUps.{rows_of}
 use Rattle.oftp_register.specs.Register.{Register}
 use Rattle.oftp_register.specs.Soundness.{IsSound}
 use Rattle.oftp_register.specs.Offices.{View}
+use Rattle.oftp_session.specs.declared.sending.Shipment.{Shipment}
+use Rattle.oftp_session.specs.declared.sending.TheConstants.{FIRST_ROWS}
 use Rattle.oftp_session.specs.declared.session.SessionFault.{SessionFault}
 use Rattle.oftp_session.specs.declared.session.SessionFault.TheVariants as fault
-use Rattle.oftp_session.specs.declared.sending.Shipment.{Shipment}
 use Rattle.oftp_session.specs.declared.state.Contact.{Contact}
 use Rattle.oftp_session.specs.declared.state.State.{State}
 use Rattle.oftp_session.specs.declared.state.State.TheVariants as state
-use Rattle.oftp_session.specs.Phases.{Sending, Step, Transfer, frame_of, quiet}
+use Rattle.oftp_session.specs.Phases.{Sending, Step, Transfer, quiet}
 use Rattle.oftp_session.specs.Receiving.{window}
-use Rattle.oftp_session.specs.Sending.{closing_transfer, credit_left, credited, credited_transfer, efid_of, marking, new_mark, payload_size, payloads_in, rows_from, sends_next, turned_sending, with_sent}
+use Rattle.oftp_session.specs.Sending.{credit_left, payload_size, payloads_in, sends_next, turned_sending, with_sent}
 use Rattle.oftp_session.specs.Steps.{IsSent}
-use Rattle.oftp_session.specs.Standings.{Awaits, Ships, standing_of}
-use Rattle.oftp_session.specs.Calls.{DoesNot, IsAccepted, IsMade, Takes}
-use Rattle.oftp_session.specs.Payloads.{IsAllSent, IsDataSaid, IsNextData, MayLend}
-use Rattle.oftp_session.proofs.Lending.{are_lent, data_said, nothing_left}
+use Rattle.oftp_session.specs.Standings.{Ships, at_hand, without}
+use Rattle.oftp_session.specs.Calls.{DoesNot, IsMade, Takes}
+use Rattle.oftp_session.specs.Payloads.{FillsFrom, IsDataSaid, IsFilledFrom, IsSameShipment, MayLend, SaysNext, is_last, next_row}
+use Rattle.oftp_session.proofs.Lending.{are_lent, data_said, looked_up, may_lend, nothing_left}
 use Rattle.oftp_session.proofs.Views.{then_made}
 use Rattle.oftp_session.proofs.Speaking.{then_takes}
 
--- while rows are asked for, nothing is changed, and fewer are asked for than the payload has octets
-pub record IsAsking (old new : View) (before now : Shipment) (size asked : ℕ) : Type 0 where
-  pub clean : new.clean → old.clean
-  pub same : now ≡ before
-  pub kept : new.clean → old.stands → IsMade None None old new []
-  pub some : 0 < asked
-  pub few : asked ≤ size
+-- rows of a stream aren't empty
+pub some_rows : (s : Shipment) (lent : List (List ℕ)) → MayLend s (at_hand s.page) → lent ≡ at_hand s.page → is_stream s.filler.format ≡ true → All (λ (r : List ℕ). 0 < length r) lent
+some_rows s lent may e h =
+    subst (λ (x : List (List ℕ)). All (λ (r : List ℕ). 0 < length r) x) (sym e) (stream_some s.filler.format s.longest (at_hand s.page) may.fits h)
 
--- nothing is asked yet
-pub asks_first : (now : View) (s : Shipment) (size most : ℕ) → 0 < most → most ≤ size → IsAsking now now s s size most
-asks_first now s size most some h = record {
-  clean = λ c. c;
-  same = refl;
-  kept = λ c stands. record { said = refl; register = refl; stands = stands; faults = refl };
-  some = some;
-  few = h;
-}
+-- while rows are looked up, nothing is changed but the page, whose rows are those of the file
+pub record IsAsking (old new : View) (before now : Shipment) : Type 0 where
+  pub clean : new.clean → old.clean
+  pub same : now ≡ record before { page = now.page }
+  pub kept : new.clean → old.stands → IsMade None None old new []
+  pub ships : new.clean → old.stands → (contact : Contact) (t : Transfer) → IsSent old.register t → Ships contact t before → Ships contact t now
 
 -- an office that keeps its register has the file still
 still_sent : (old mid : View) (t : Transfer) → IsMade None None old mid [] → IsSent old.register t → IsSent mid.register t
 still_sent old mid t m holds = subst (λ (r : Register). IsSent r t) (sym m.register) holds
 
--- rows of a stream aren't empty
-pub some_rows : (s : Shipment) (most : ℕ) (rows lent : List (List ℕ)) → MayLend s most rows → lent ≡ rows → is_stream s.filler.format ≡ true → All (λ (r : List ℕ). 0 < length r) lent
-some_rows s most rows lent may e h =
-    subst (λ (x : List (List ℕ)). All (λ (r : List ℕ). 0 < length r) x) (sym e) (stream_some s.filler.format s.longest rows may.fits h)
+-- a filler that stays where it is leaves the rows at hand
+without_none : (page : Option (List (List ℕ))) → without 0 page ≡ page
+without_none None = refl
+without_none (Some rows) = refl
 
--- the test whether these are the last rows
-pub told_last : (row' row count' count all' all : ℕ) → row' ≡ row → count' ≡ count → all' ≡ all → eqb (row' + count') all' ≡ eqb (row + count) all
-told_last row' row count' count all' all r c a = ap (λ n. eqb (n + count') all') r ∙ ap (λ n. eqb (row + n) all') c ∙ ap (λ n. eqb (row + count) n) a
+filled_same : (s new : Shipment) → new ≡ record s { filler = new.filler; page = without (new.filler.row - s.filler.row) s.page } → new.filler ≡ s.filler → new ≡ s
+filled_same s new same e =
+    let none : s.filler.row - s.filler.row ≡ 0 = omega arith in
+    same ∙ ap (λ (f : Filling). let y : Shipment = record s { filler = f; page = without (f.row - s.filler.row) s.page } in y) e
+    ∙ ap (λ (n : ℕ). let y : Shipment = record s { page = without n s.page } in y) none
+    ∙ ap (λ (p : Option (List (List ℕ))). let y : Shipment = record s { page = p } in y) (without_none s.page)
 
--- all rows that were asked for came, where they aren't the last
-all_came : (s : Shipment) (most : ℕ) (rows : List (List ℕ)) → MayLend s most rows → eqb (s.filler.row + length rows) s.rows ≡ false → length rows ≡ most
-all_came s most rows may h =
+pub more_same : (size : ℕ) (s filled : Shipment) (frame : List ℕ) → IsFilledFrom size s filled frame More → filled ≡ s
+more_same size s filled frame f = filled_same s filled f.same f.fills.0.same
+
+-- more rows are asked for where the payload has room for them and they are to come
+record HasRoom (size : ℕ) (s : Shipment) : Type 0 where
+  some : next_row s < s.rows
+  few : length (at_hand s.page) < size
+
+has_room : (size : ℕ) (s filled : Shipment) (frame : List ℕ) → IsFilledFrom size s filled frame More → HasRoom size s
+has_room size s filled frame f =
+    let may = f.may in
     let within = may.within in
-    let count = may.count in
-    elim (cases_lt most (s.rows - s.filler.row)) [
-      | inl l ↦ omega (arith, l, count)
-      | inr l ↦ absurd (eqb-false (s.filler.row + length rows) s.rows h (omega (arith, l, count, within)))
-    ]
+    let asks = f.fills.0 in
+    let not = eqb-false (next_row s) s.rows asks.coming in
+    record {
+      some = elim (cases_lt (next_row s) s.rows) [ inl l ↦ l | inr g ↦ absurd (not (omega (arith, g, within))) ];
+      few = more_few s.filler size (at_hand s.page) may.place (some_rows s (at_hand s.page) may refl) asks.reaches;
+    }
 
--- more rows are asked for, and still fewer than the payload has octets
-pub asks_more : (old mid now : View) (before s : Shipment) (next : Filling) (size most asked : ℕ) (rows lent : List (List ℕ)) (last : Bool) → IsAsking old mid before s size most
-    → (now.clean → mid.clean) → (now.clean → mid.stands → IsMade None None mid now []) → MayLend s most rows → lent ≡ rows → last ≡ eqb (s.filler.row + length rows) s.rows
-    → AsksForMore size s.filler next lent last → asked ≡ min size (2 * most)
-    → IsAsking old now before (record s { filler = next }) size asked × (size - asked < size - most)
-asks_more old mid now before s next size most asked rows lent last i clean stays may e is more twice =
-    let came = all_came s most rows may (sym is ∙ more.coming) in
-    let place = subst (λ (x : List (List ℕ)). IsInRows s.filler x) (sym e) may.place in
-    let few = more_few s.filler size lent place (some_rows s most rows lent may e) more.reaches in
-    let count : length lent ≡ most = ap length e ∙ came in
-    let some = i.some in (
-      record {
-        clean = λ c. i.clean (clean c);
-        same = ap (λ (f : Filling). let x : Shipment = record s { filler = f } in x) more.same ∙ i.same;
-        kept = λ c stands. let was = i.kept (clean c) stands in then_made None None [] old mid now was (stays c was.stands);
-        some = omega (arith, some, twice, few);
-        few = omega (arith, twice);
-      },
-      omega (arith, some, twice, few, count),
-    )
+-- rows that are looked up leave less room
+pub asks_on : (size most : ℕ) (s filled : Shipment) (frame : List ℕ) (rows more : List (List ℕ)) → IsFilledFrom size s filled frame More
+    → most ≡ min size (max FIRST_ROWS (2 * length (at_hand filled.page))) → length more ≡ min most (filled.rows - next_row filled) → rows ≡ at_hand filled.page ++ more
+    → size - length rows < size - length (at_hand s.page)
+asks_on size most s filled frame rows more f twice count is =
+    let room = has_room size s filled frame f in
+    let some = room.some in
+    let few = room.few in
+    let same = more_same size s filled frame f in
+    let page : length (at_hand filled.page) ≡ length (at_hand s.page) = ap (λ (x : Shipment). length (at_hand x.page)) same in
+    let row : filled.filler.row ≡ s.filler.row = ap (λ (x : Shipment). x.filler.row) same in
+    let all : filled.rows ≡ s.rows = ap (λ (x : Shipment). x.rows) same in
+    let total : length rows ≡ length (at_hand filled.page) + length more = ap length is ∙ length-append (at_hand filled.page) more in
+    omega (arith, some, few, page, row, all, total, twice, count)
 
--- the lent rows are those of the file
-lent_now : (contact : Contact) (t : Transfer) (before s : Shipment) (size most : ℕ) (rows lent : List (List ℕ)) (last : Bool) (old mid now : View) → IsAsking old mid before s size most
-    → IsSound mid.register → IsMade None None old mid [] → IsSent old.register t → Ships contact t before
-    → ((u : Transfer) → IsSent mid.register u → Ships contact u s → (rows ≡ rows_of mid.register side.Outgoing s.number s.filler.row most) × IsMade None None mid now [])
-    → lent ≡ rows → last ≡ eqb (s.filler.row + length rows) s.rows
-    → Ships contact t s × AreLent s.filler t.from (rows_from t) lent last × IsMade None None old now []
-lent_now contact t before s size most rows lent last old mid now i sound was holds at finds e is =
-    let holds' = still_sent old mid t was holds in
-    let at' = subst (Ships contact t) (sym i.same) at in
-    let found = finds t holds' at' in
-    let are = are_lent mid.register contact t s most rows last sound holds' at' i.some found.0 is in (
-      at',
-      subst (λ (x : List (List ℕ)). AreLent s.filler t.from (rows_from t) x last) (sym e) are,
-      then_made None None [] old mid now was found.1,
-    )
+-- the rows that were looked up are those of the file
+pub asks_more : (old mid now : View) (before s filled : Shipment) (size most : ℕ) (frame : List ℕ) (rows more : List (List ℕ)) → IsAsking old mid before s
+    → IsFilledFrom size s filled frame More → (now.clean → mid.clean) → (now.clean → mid.stands → IsMade None None mid now [])
+    → (now.clean → mid.stands → (contact : Contact) (t : Transfer) → IsSent mid.register t → Ships contact t filled
+    → (more ≡ rows_of mid.register side.Outgoing filled.number (next_row filled) most) × IsMade None None mid now [])
+    → rows ≡ at_hand filled.page ++ more → IsAsking old now before (record filled { page = Some rows })
+asks_more old mid now before s filled size most frame rows more i f clean stays finds is =
+    let same = more_same size s filled frame f in record {
+      clean = λ c. i.clean (clean c);
+      same = ap (λ (x : Shipment). let y : Shipment = record x { page = Some rows } in y) (same ∙ i.same);
+      kept = λ c stands. let was = i.kept (clean c) stands in then_made None None [] old mid now was (stays c was.stands);
+      ships = λ c stands contact t holds at.
+          let was = i.kept (clean c) stands in
+          let holds' = still_sent old mid t was holds in
+          let at' = subst (Ships contact t) (sym same) (i.ships (clean c) stands contact t holds at) in
+          looked_up mid.register contact t filled most rows more holds' at' (finds c was.stands contact t holds' at').0 is;
+    }
+
+at_hand_without : (n : ℕ) (page : Option (List (List ℕ))) → at_hand (without n page) ≡ drop n (at_hand page)
+at_hand_without n None = sym (drop_all n [] (omega arith))
+at_hand_without n (Some rows) = refl
 
 -- the next payload is said
-pub says_data : (contact : Contact) (t : Transfer) (before s : Shipment) (next : Filling) (size most : ℕ) (rows lent : List (List ℕ)) (last : Bool) (frame : List ℕ) (old mid now : View)
-    → IsAsking old mid before s size most → IsSound mid.register → IsMade None None old mid [] → IsSent old.register t → Ships contact t before → size ≡ payload_size contact
-    → ((u : Transfer) → IsSent mid.register u → Ships contact u s → (rows ≡ rows_of mid.register side.Outgoing s.number s.filler.row most) × IsMade None None mid now [])
-    → lent ≡ rows → last ≡ eqb (s.filler.row + length rows) s.rows → IsNextData size s.filler next lent last frame
-    → IsDataSaid contact t (record s { filler = next }) frame × IsMade None None old now []
-says_data contact t before s next size most rows lent last frame old mid now i sound was holds at room finds e is n =
-    let l = lent_now contact t before s size most rows lent last old mid now i sound was holds at finds e is in
-    (data_said contact t s next size lent last frame l.0 room l.1 n, l.2)
+pub says_data : (contact : Contact) (t : Transfer) (before s new : Shipment) (size count : ℕ) (frame : List ℕ) (old mid : View) → IsAsking old mid before s → IsSound mid.register
+    → mid.clean → old.stands → IsSent old.register t → Ships contact t before → size ≡ payload_size contact → IsFilledFrom size s new frame (Buffer count)
+    → SaysNext contact t new old mid frame (Ok true)
+says_data contact t before s new size count frame old mid i sound clean stands holds at room f =
+    let was = i.kept clean stands in
+    let at' = i.ships clean stands contact t holds at in
+    let lent = are_lent mid.register contact t s sound (still_sent old mid t was holds) at' in
+    let page = ap (λ (x : Shipment). at_hand x.page) f.same ∙ at_hand_without (new.filler.row - s.filler.row) s.page in
+    (data_said contact t s new size (is_last s) frame at' room lent page f.fills, was)
 
 -- nothing is left
-pub says_none : (contact : Contact) (t : Transfer) (before s : Shipment) (next : Filling) (size most : ℕ) (rows lent : List (List ℕ)) (last : Bool) (old mid now : View)
-    → IsAsking old mid before s size most → IsSound mid.register → IsMade None None old mid [] → IsSent old.register t → Ships contact t before → size ≡ payload_size contact
-    → ((u : Transfer) → IsSent mid.register u → Ships contact u s → (rows ≡ rows_of mid.register side.Outgoing s.number s.filler.row most) × IsMade None None mid now [])
-    → lent ≡ rows → last ≡ eqb (s.filler.row + length rows) s.rows → IsAllSent size s.filler next lent last
-    → (Ships contact t (record s { filler = next }) × (slice_get (payloads_in contact t) t.sent ≡ None)) × IsMade None None old now []
-says_none contact t before s next size most rows lent last old mid now i sound was holds at room finds e is n =
-    let l = lent_now contact t before s size most rows lent last old mid now i sound was holds at finds e is in
-    let same : s ≡ (record s { filler = next }) = ap (λ (f : Filling). let x : Shipment = record s { filler = f } in x) (sym n.same) in
-    ((subst (Ships contact t) same l.0, nothing_left contact t s next size lent last l.0 room l.1 n), l.2)
+pub says_none : (contact : Contact) (t : Transfer) (before s new : Shipment) (size : ℕ) (frame : List ℕ) (old mid : View) → IsAsking old mid before s → IsSound mid.register
+    → mid.clean → old.stands → IsSent old.register t → Ships contact t before → size ≡ payload_size contact → IsFilledFrom size s new frame Done
+    → SaysNext contact t new old mid frame (Ok false)
+says_none contact t before s new size frame old mid i sound clean stands holds at room f =
+    let was = i.kept clean stands in
+    let at' = i.ships clean stands contact t holds at in
+    let lent = are_lent mid.register contact t s sound (still_sent old mid t was holds) at' in
+    let none = f.fills.0 in
+    ((subst (Ships contact t) (sym (filled_same s new f.same none.same)) at', nothing_left contact t s new.filler size (at_hand s.page) (is_last s) at' room lent none), was)
+
+-- memory is refused: rows of a sound register aren't at fault
+fails_not : (contact : Contact) (t : Transfer) (s new : Shipment) (size : ℕ) (frame : List ℕ) (told : SessionFault) (old now : View) → IsMade None None old now []
+    → MayLend s (at_hand s.page) → FillsFrom size s new frame (Err told) → DoesNot None old now told
+fails_not contact t s new size frame fault.Ended old now m may f = absurd f
+fails_not contact t s new size frame fault.Office old now m may f = absurd (f.0 may)
+fails_not contact t s new size frame fault.Memory old now m may f = record { register = m.register; stands = m.stands; faults = m.faults }
+
+pub says_fault : (contact : Contact) (t : Transfer) (before s new : Shipment) (size : ℕ) (frame : List ℕ) (told : SessionFault) (result : Result Bool SessionFault) (old mid : View)
+    → IsErrAnd result (λ (y : SessionFault). y ≡ told) → IsAsking old mid before s → IsSound mid.register → mid.clean → old.stands → IsSent old.register t → Ships contact t before
+    → FillsFrom size s new frame (Err told) → SaysNext contact t new old mid frame result
+says_fault contact t before s new size frame told (Ok left) old mid is i sound clean stands holds at f = absurd is
+says_fault contact t before s new size frame told (Err y) old mid is i sound clean stands holds at f =
+    let was = i.kept clean stands in
+    let may = may_lend mid.register contact t s sound (still_sent old mid t was holds) (i.ships clean stands contact t holds at) in
+    subst (DoesNot None old mid) (sym is) (fails_not contact t s new size frame told old mid was may f)
 
 -- where credit is left, the next payload or the end goes out
 pub turned_next : (contact : Contact) (t : Transfer) (s : Shipment) (next : Option (List ℕ)) → Ships contact t s → 0 < s.credit → slice_get (payloads_in contact t) t.sent ≡ next
@@ -144,7 +169,7 @@ turned_next contact t s next at some e =
 counted : (c w sent credit : ℕ) → credit ≡ (c + 1) * w - sent → 0 < credit → (credit - 1 ≡ (c + 1) * w - (sent + 1)) × (sent + 1 ≤ (c + 1) * w)
 counted c w sent credit e h = let all : ℕ = (c + 1) * w in (omega arith, omega arith)
 
-ships_next : (contact : Contact) (t : Transfer) (s new : Shipment) (frame : List ℕ) → Ships contact t s → 0 < s.credit → 2 ≤ payload_size contact → new ≡ (record s { filler = new.filler })
+ships_next : (contact : Contact) (t : Transfer) (s new : Shipment) (frame : List ℕ) → Ships contact t s → 0 < s.credit → 2 ≤ payload_size contact → IsSameShipment s new
     → IsDataSaid contact t new frame → Ships contact (with_sent t) (record new { credit = new.credit - 1 })
 ships_next contact t s new frame at some room same d =
     let next : Filling = new.filler in
@@ -162,10 +187,11 @@ ships_next contact t s new frame at some room same d =
       room = λ _. room;
       most = omega (arith, within);
       sent = d.sent;
+      page = record { first = d.page.first; place = d.page.place };
     }
 
 pub sent_takes : (contact : Contact) (t : Transfer) (s new : Shipment) (old now : View) (frame : List ℕ) → Ships contact t s → 0 < s.credit → 2 ≤ payload_size contact
-    → new ≡ (record s { filler = new.filler }) → IsDataSaid contact t new frame → IsMade None None old now []
+    → IsSameShipment s new → IsDataSaid contact t new frame → IsMade None None old now []
     → Takes (turned_sending contact t) old now frame (Ok (state.Sending contact (record new { credit = new.credit - 1 })))
 sent_takes contact t s new old now frame at some room same d m =
     let made : IsMade None (Some (command.Data d.payload)) old now frame = record { said = d.said; register = m.register; stands = m.stands; faults = m.faults } in

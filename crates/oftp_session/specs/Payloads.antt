@@ -1,23 +1,23 @@
 -- What becomes of the buffer that DATA frames are written in.
-use Rattle.std.specs.Prelude.{◌≡◌, ◌+◌, ◌-◌, ◌<◌, ◌≤◌, ℕ, Bool, true, false, min, List, [], ◌∷◌, ◌++◌, length, take, slice_get, Option, None, Some, Result, Ok, Err}
+use Rattle.std.specs.Prelude.{◌≡◌, ◌==◌, ◌+◌, ◌-◌, ◌≤◌, ℕ, Bool, true, false, List, [], ◌∷◌, ◌++◌, length, take, slice_get, None, Some, Result, Ok, Err}
 use Rattle.oftp_wire.specs.declared.command.Command.TheVariants as command
 use Rattle.oftp_vfile.specs.declared.format.TheConstants.{MOST_ROWS}
 use Rattle.oftp_vfile.specs.declared.format.Filled.{Filled}
 use Rattle.oftp_vfile.specs.declared.format.Filled.TheVariants.{Buffer, Done, More}
 use Rattle.oftp_vfile.specs.Fill.{payloads_of}
-use Rattle.oftp_vfile.specs.Filling.{Filling, AreLent, AsksForMore, IsInRows, Sent}
+use Rattle.oftp_vfile.specs.Filling.{Filling, AreLent, AsksForMore, IsInRows, Moves, Sent}
 use Rattle.oftp_vfile.specs.VirtualFile.{AreRows}
 use Rattle.oftp_register.specs.Offices.{View}
 use Rattle.oftp_session.specs.declared.frame.TheConstants.{DATA_HEAD}
 use Rattle.oftp_session.specs.declared.frame.Said.{Said}
 use Rattle.oftp_session.specs.declared.frame.Said.TheVariants as said
 use Rattle.oftp_session.specs.declared.session.SessionFault.{SessionFault}
-use Rattle.oftp_session.specs.declared.session.SessionFault.TheVariants.{Memory}
+use Rattle.oftp_session.specs.declared.session.SessionFault.TheVariants.{Ended, Memory, Office}
 use Rattle.oftp_session.specs.declared.sending.Shipment.{Shipment}
 use Rattle.oftp_session.specs.declared.state.Contact.{Contact}
 use Rattle.oftp_session.specs.Phases.{Transfer, frame_of}
 use Rattle.oftp_session.specs.Sending.{payload_size, payloads_in, rows_from}
-use Rattle.oftp_session.specs.Standings.{Ships}
+use Rattle.oftp_session.specs.Standings.{AreAtHand, Ships, at_hand, without}
 use Rattle.oftp_session.specs.Calls.{DoesNot, IsMade}
 
 -- the frame that is said: a command in the one buffer, or a DATA in the other
@@ -34,7 +34,7 @@ IsSpokenIn (said.Data n) octets buffer = n ≤ length buffer
 pub record IsNextData (size : ℕ) (old new : Filling) (rows : List (List ℕ)) (last : Bool) (frame : List ℕ) : Type 0 where
   pub payload : List ℕ
   pub said : frame ≡ frame_of (command.Data payload)
-  pub format : new.format ≡ old.format
+  pub moves : Moves old new rows last
   pub sent : (from : ℕ) (file payloads : List (List ℕ)) → Sent old size from file payloads → AreLent old from file rows last
       → Sent new size from file (payloads ++ payload ∷ [])
 
@@ -61,13 +61,33 @@ FillsInto size old new rows last buffer (Buffer n) = (n ≤ size) × IsNextData 
 FillsInto size old new rows last buffer Done = IsAllSent size old new rows last
 FillsInto size old new rows last buffer More = AsksForMore size old new rows last
 
--- rows that may be lent: so many from where the filler is, or all that are left, as a file of its format has them
-pub record MayLend (s : Shipment) (most : ℕ) (rows : List (List ℕ)) : Type 0 where
-  pub within : s.filler.row ≤ s.rows
-  pub count : length rows ≡ min most (s.rows - s.filler.row)
+-- rows that may be lent: from where the filler is, as a file of its format has them
+pub record MayLend (s : Shipment) (rows : List (List ℕ)) : Type 0 where
+  pub within : s.filler.row + length rows ≤ s.rows
   pub few : s.filler.row + length rows ≤ MOST_ROWS
   pub fits : AreRows s.filler.format s.longest rows
   pub place : IsInRows s.filler rows
+
+-- the first row that isn't at hand
+abbrev pub next_row : Shipment → ℕ
+next_row s = s.filler.row + length (at_hand s.page)
+
+-- the rows at hand are the last ones
+abbrev pub is_last : Shipment → Bool
+is_last s = next_row s == s.rows
+
+-- a payload of the rows at hand, where one is made of them: those that are wholly sent are no longer at hand
+pub record IsFilledFrom (size : ℕ) (old new : Shipment) (frame : List ℕ) (filled : Filled) : Type 0 where
+  pub may : MayLend old (at_hand old.page)
+  pub same : new ≡ record old { filler = new.filler; page = without (new.filler.row - old.filler.row) old.page }
+  pub fills : Fills size old.filler new.filler (at_hand old.page) (is_last old) frame filled
+
+-- the same, or the rows may not be lent, or memory was refused, and then nothing was done
+abbrev pub FillsFrom : ℕ → Shipment → Shipment → List ℕ → Result Filled SessionFault → Type 0
+FillsFrom size old new frame (Ok filled) = IsFilledFrom size old new frame filled
+FillsFrom size old new frame (Err Office) = (MayLend old (at_hand old.page) → ⊥) × (new ≡ old)
+FillsFrom size old new frame (Err Memory) = new ≡ old
+FillsFrom size old new frame (Err Ended) = ⊥
 
 -- a payload is left, and was said
 pub record IsDataSaid (contact : Contact) (t : Transfer) (new : Shipment) (frame : List ℕ) : Type 0 where
@@ -76,6 +96,7 @@ pub record IsDataSaid (contact : Contact) (t : Transfer) (new : Shipment) (frame
   pub said : frame ≡ frame_of (command.Data payload)
   pub format : new.filler.format ≡ t.file.format
   pub sent : Sent new.filler (payload_size contact) t.from (rows_from t) (take (t.sent + 1) (payloads_in contact t))
+  pub page : AreAtHand t.file.rows new
 
 -- whether a payload is left, which then was said
 abbrev pub SaysPayload : Contact → Transfer → Shipment → List ℕ → Bool → Type 0
@@ -87,6 +108,6 @@ abbrev pub SaysNext : Contact → Transfer → Shipment → View → View → Li
 SaysNext contact t shipment old new frame (Ok left) = SaysPayload contact t shipment frame left × IsMade None None old new []
 SaysNext contact t shipment old new frame (Err fault) = DoesNot None old new fault
 
--- a shipment but for what its filler did
+-- a shipment but for what its filler did and which rows are at hand
 abbrev pub IsSameShipment : Shipment → Shipment → Type 0
-IsSameShipment old new = new ≡ record old { filler = new.filler }
+IsSameShipment old new = new ≡ record old { filler = new.filler; page = new.page }

@@ -1,8 +1,8 @@
 -- Where a session stands, as contracts see it.
-use Rattle.std.specs.Prelude.{◌≡◌, ℕ, ◌+◌, ◌-◌, ◌*◌, ◌%◌, ◌<◌, ◌≤◌, nat_lt, max, length, take, Bool, true, false, Option, None, Some}
+use Rattle.std.specs.Prelude.{◌≡◌, ℕ, ◌+◌, ◌-◌, ◌*◌, ◌%◌, ◌<◌, ◌≤◌, nat_lt, max, List, [], length, take, drop, Bool, true, false, Option, None, Some}
 use Rattle.oftp_session.specs.declared.session.Ending.{Ending}
 use Rattle.oftp_vfile.specs.Reading.{shed}
-use Rattle.oftp_vfile.specs.Filling.{Sent}
+use Rattle.oftp_vfile.specs.Filling.{IsInRows, Sent}
 use Rattle.oftp_vfile.specs.VirtualFile.{units_in}
 use Rattle.oftp_register.specs.Changes.{is_closing}
 use Rattle.oftp_session.specs.declared.receiving.Reception.{Reception}
@@ -53,8 +53,23 @@ offering_of offer = record {
   from = offer.from;
 }
 
+-- the rows that were looked up and aren't wholly sent
+abbrev pub at_hand : Option (List (List ℕ)) → List (List ℕ)
+at_hand None = []
+at_hand (Some rows) = rows
+
+-- the same without the first ones
+abbrev pub without : ℕ → Option (List (List ℕ)) → Option (List (List ℕ))
+without n None = None
+without n (Some rows) = Some (drop n rows)
+
+-- they are the first of those of the file that are left, and the filler's place is in them
+pub record AreAtHand (file : List (List ℕ)) (s : Shipment) : Type 0 where
+  pub first : at_hand s.page ≡ take (length (at_hand s.page)) (drop s.filler.row file)
+  pub place : IsInRows s.filler (at_hand s.page)
+
 -- a shipment stands where the phase says: so much credit is left, no payload went out without, nor without room for a subrecord,
--- and its filler made the payloads that were sent
+-- its filler made the payloads that were sent, and the rows at hand are those of the file
 pub record Ships (contact : Contact) (t : Transfer) (s : Shipment) : Type 0 where
   pub number : s.number ≡ t.number
   pub format : s.filler.format ≡ t.file.format
@@ -67,6 +82,7 @@ pub record Ships (contact : Contact) (t : Transfer) (s : Shipment) : Type 0 wher
   pub room : 0 < t.sent → 2 ≤ payload_size contact
   pub most : t.sent ≤ length (payloads_in contact t)
   pub sent : Sent s.filler (payload_size contact) t.from (rows_from t) (take t.sent (payloads_in contact t))
+  pub page : AreAtHand t.file.rows s
 
 -- a session that stands so is in this phase
 abbrev pub StandsIn : Phase → Standing → Type 0

@@ -34,6 +34,7 @@ fn shipment(link: &Link, offering: &Offering, from: u64) -> Shipment
             offering.mark
         },
         filler: Filler::new(offering.format, from as usize),
+        page: None,
     }
 }
 

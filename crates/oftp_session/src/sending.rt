@@ -1,13 +1,15 @@
 //! A file that goes out: the answer to SFID, DATA, EFID and its answer (RFC 5024, sections 5.3.4 to 5.3.10).
 
-ghost use Rattle.std.specs.Prelude.{◌≡◌, ◌↔◌, ◌-◌, ◌<◌, ◌≤◌, [], None, IfErr, IfOk, OnErr, OnOk, IsTrue, length, slice_get};
+ghost use Rattle.std.specs.Prelude.{◌≡◌, ◌↔◌, ◌-◌, ◌*◌, ◌<◌, ◌≤◌, ◌++◌, [], None, IfErr, IfOk, OnErr, OnOk, IsTrue, length, max, min, slice_get};
+ghost use Rattle.oftp_vfile.specs.declared.format.TheConstants.{MOST_ROWS};
 ghost use Rattle.oftp_register.specs.LookUps.{rows_of};
 ghost use Rattle.oftp_session.specs.Phases.{Transfer};
 ghost use Rattle.oftp_session.specs.Sending.{came_sending, credited, marking, new_mark, payload_size, payloads_in, turned_sending};
 ghost use Rattle.oftp_session.specs.Steps.{IsSent};
-ghost use Rattle.oftp_session.specs.Standings.{Ships, standing_of, turns_left};
+ghost use Rattle.oftp_session.specs.Standings.{Ships, at_hand, standing_of, turns_left, without};
 ghost use Rattle.oftp_session.specs.Calls.{Files, Finds, IsFailure, IsMade, Takes};
-ghost use Rattle.oftp_session.specs.Payloads.{IsSameShipment, MayLend, SaysNext};
+ghost use Rattle.oftp_session.specs.Payloads.{FillsFrom, IsSameShipment, MayLend, SaysNext, next_row};
+ghost use Rattle.oftp_session.specs.declared.sending.TheConstants.{FIRST_ROWS};
 
 use crate::commands::efid;
 use crate::frame::Frame;
@@ -34,7 +36,8 @@ pub(crate) struct Offering {
 }
 
 /// A file that is being sent: its number, how many commands may go out before credit is awaited, its longest record, how many rows
-/// it has and how many octets these have, the mark that the register holds, and what makes its payloads.
+/// it has and how many octets these have, the mark that the register holds, what makes its payloads, and the rows that were looked
+/// up and aren't wholly sent.
 #[derive(Drop)]
 pub(crate) struct Shipment {
     pub(crate) number: u64,
@@ -44,9 +47,10 @@ pub(crate) struct Shipment {
     pub(crate) units: Count<17>,
     pub(crate) mark: u64,
     pub(crate) filler: Filler,
+    pub(crate) page: Option<Rows>,
 }
 
-/// How many rows a filler is lent at first.
+/// How many rows are looked up at first.
 const FIRST_ROWS: usize = 64;
 
 /// The most octets of a payload: a DATA is its command octet and a payload (RFC 5024, section 5.3.6).
@@ -57,49 +61,121 @@ pub(crate) fn payload_size(link: &Link) -> usize
     link.buffer.get().saturating_sub(1) as usize
 }
 
-/// Whether these rows may be lent to the filler: so many from where it is, or all that are left, as a file of its format has them.
-fn may_lend(shipment: &Shipment, most: usize, rows: &[Row]) -> bool
-    ensures { IsTrue result ↔ MayLend shipment.now most rows.now }
+/// The rows that were looked up and aren't wholly sent.
+fn at_hand(page: &Option<Rows>) -> &[Row]
+    ensures { result.now ≡ at_hand page.now }
+{
+    match page {
+        Some(rows) => rows.as_slice(),
+        None => &[],
+    }
+}
+
+/// Gives up the first of these rows.
+fn without(page: Option<Rows>, count: usize) -> Option<Rows>
+    ensures { result ≡ without count page }
+{
+    let mut rows = page?.into_vec();
+    drop(rows.drain(..count.min(rows.len())));
+    Some(Rows::new(rows))
+}
+
+/// These rows, and others behind them.
+///
+/// # Errors
+///
+/// [`SessionFault::Memory`] where memory is refused.
+fn joined(page: Option<Rows>, more: Rows) -> Result<Rows, SessionFault>
+    ensures value { IfOk result (λ rows. rows ≡ at_hand page ++ more) }
+    ensures err { IfErr result (λ fault. fault ≡ SessionFault.Memory) }
+{
+    let Some(rows) = page else {
+        return Ok(more);
+    };
+    let mut rows = rows.into_vec();
+    let mut more = more.into_vec();
+    match rows.append(&mut more) {
+        Ok(()) => Ok(Rows::new(rows)),
+        Err(_) => Err(SessionFault::Memory),
+    }
+}
+
+/// Whether the rows at hand may be lent to the filler, as a file of its format has them from where it is.
+fn may_lend(shipment: &Shipment) -> bool
+    ensures { IsTrue result ↔ MayLend shipment.now (at_hand shipment.now.page) }
 {
     let filler = &shipment.filler;
+    let rows = at_hand(&shipment.page);
     let row = filler.row();
     let all = shipment.rows.get() as usize;
     row <= all
-        && rows.len() == most.min(all - row)
+        && rows.len() <= all - row
         && rows.len() <= MOST_ROWS
         && row <= MOST_ROWS - rows.len()
         && are_rows(filler.format(), shipment.longest, rows)
         && filler.is_in(rows)
 }
 
-/// Looks up so many rows from where the filler is, or all that are left.
-fn rows_to_lend<O: Office>(
+/// Says the next payload of the rows at hand, and gives up those that are wholly sent.
+///
+/// # Errors
+///
+/// [`SessionFault::Office`] where the rows aren't as the file has them, and [`SessionFault::Memory`] where there is no buffer.
+fn fill(shipment: &mut Shipment, size: usize, frame: &mut Frame) -> Result<Filled, SessionFault>
+    requires room { 2 ≤ size }
+    requires size { size ≤ 99998 }
+    ensures { FillsFrom size shipment.old shipment.new frame.new result }
+{
+    if !may_lend(shipment) {
+        return Err(SessionFault::Office);
+    }
+    let row = shipment.filler.row();
+    let rows = at_hand(&shipment.page);
+    let last = row + rows.len() == shipment.rows.get() as usize;
+    let filled = frame.fill(&mut shipment.filler, rows, last, size)?;
+    let sent = shipment.filler.row().saturating_sub(row);
+    shipment.page = without(shipment.page.take(), sent);
+    Ok(filled)
+}
+
+/// Looks up so many rows behind those at hand, or all that are left.
+fn look_up<O: Office>(
     shipment: &Shipment,
     most: usize,
     office: &mut O,
 ) -> Result<Rows, SessionFault>
+    requires { next_row shipment.now ≤ MOST_ROWS }
     ensures clean { (O.view office.new).clean → (O.view office.old).clean }
-    ensures finds { (O.view office.new).clean → (O.view office.old).stands → 0 < most
+    ensures finds { (O.view office.new).clean → (O.view office.old).stands
         → (contact : Contact) (t : Transfer) → IsSent (O.view office.old).register t → Ships contact t shipment.now
-        → Finds (λ r. rows_of r Side.Outgoing shipment.now.number shipment.now.filler.row most)
+        → Finds (λ r. rows_of r Side.Outgoing shipment.now.number (next_row shipment.now) most)
         (O.view office.old) (O.view office.new) result }
     ensures stays { (O.view office.new).clean → (O.view office.old).stands
         → OnOk result (IsMade None None (O.view office.old) (O.view office.new) []) }
     // It holds of any store.
-    ensures may { IfOk result (MayLend shipment.now most) }
+    ensures count { IfOk result (λ rows. length rows ≡ min most (shipment.now.rows - next_row shipment.now)) }
     ensures err { IfErr result (λ fault. fault ≡ SessionFault.Office) }
 {
-    let row = shipment.filler.row() as u64;
-    let Ok(rows) = office.rows_of(Side::Outgoing, shipment.number, row, most as u64) else {
+    let next = shipment.filler.row() + at_hand(&shipment.page).len();
+    let left = (shipment.rows.get() as usize).saturating_sub(next);
+    let Ok(rows) = office.rows_of(Side::Outgoing, shipment.number, next as u64, most as u64) else {
         return Err(SessionFault::Office);
     };
-    if !may_lend(shipment, most, rows.as_slice()) {
+    if rows.len() != most.min(left) {
         return Err(SessionFault::Office);
     }
     Ok(rows)
 }
 
-/// Says the next payload of a file, where one is left. Rows are looked up until they fill it, or are the last.
+/// How many rows are looked up where those at hand don't fill a payload: twice as many, and no more than a payload has octets.
+fn next_count(shipment: &Shipment, size: usize) -> usize
+    requires { next_row shipment.now ≤ MOST_ROWS }
+    ensures { result ≡ min size (max FIRST_ROWS (2 * length (at_hand shipment.now.page))) }
+{
+    size.min(FIRST_ROWS.max(2 * at_hand(&shipment.page).len()))
+}
+
+/// Says the next payload of a file, where one is left. Rows are looked up where those at hand don't fill it and aren't the last.
 fn say_payload<O: Office>(
     shipment: &mut Shipment,
     size: usize,
@@ -115,18 +191,18 @@ fn say_payload<O: Office>(
         → SaysNext contact t shipment.new (O.view office.old) (O.view office.new) frame.new result }
     // It holds of any store.
     ensures same { IsSameShipment shipment.old shipment.new }
-    ensures kept { OnErr result (shipment.new ≡ shipment.old) }
+    ensures kept { OnErr result (shipment.new ≡ record shipment.old { page = shipment.new.page }) }
     ensures err { IfErr result IsFailure }
 {
-    let mut most = FIRST_ROWS.min(size);
     loop {
-        let rows = rows_to_lend(shipment, most, office)?;
-        let last = shipment.filler.row() + rows.len() == shipment.rows.get() as usize;
-        match frame.fill(&mut shipment.filler, rows.as_slice(), last, size)? {
+        match fill(shipment, size, frame)? {
             Filled::Buffer(_) => return Ok(true),
             Filled::Done => return Ok(false),
-            Filled::More => most = size.min(2 * most),
+            Filled::More => {}
         }
+        let most = next_count(shipment, size);
+        let more = look_up(shipment, most, office)?;
+        shipment.page = Some(joined(shipment.page.take(), more)?);
     }
 }
 

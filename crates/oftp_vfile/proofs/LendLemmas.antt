@@ -42,7 +42,7 @@ some_behind Variable longest (r ∷ rs) l a h = tt
 some_behind Unstructured longest (r ∷ rs) l a h = blocks_some BLOCK (r ∷ rs) (omega arith) a 0 [] (omega arith)
 some_behind Text longest (r ∷ rs) l a h = blocks_some BLOCK (r ∷ rs) (omega arith) a 0 [] (omega arith)
 
-behind_lent : (format : Format) (longest : ℕ) (last : Bool) (more : List (List ℕ)) → IsLongest format longest → AreRows format longest more → (last ≡ true → length more ≡ 0)
+pub behind_lent : (format : Format) (longest : ℕ) (last : Bool) (more : List (List ℕ)) → IsLongest format longest → AreRows format longest more → (last ≡ true → length more ≡ 0)
     → (last ≡ false → 0 < length more) → AreBehind format last more
 behind_lent format longest true more l a e h = nil_from_length more (e refl)
 behind_lent format longest false more l a e h = some_behind format longest more l a (h refl)

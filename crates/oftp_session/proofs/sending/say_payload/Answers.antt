@@ -1,49 +1,44 @@
-use Rattle.oftp_session.proofs.Shipping.{asks_more, says_data, says_none, some_rows, told_last}
+use Rattle.std.proofs.Common.{List, ℕ, Option, ◌++◌, ◌∙◌, ap}
+use Rattle.oftp_session.specs.Standings.{at_hand}
+use Rattle.oftp_session.proofs.Shipping.{asks_more, asks_on, says_data, says_fault, says_none}
 use Rattle.oftp_session.proofs.sending.say_payload.Goals as goal
-
-pub fill-requires-clause-some : goal.fill-requires-clause-some
-fill-requires-clause-some g c = some_rows c.loop-rows.shipment c.loop-rows.most c.in_ok-rows.rows c.as_slice.result.now c.in_ok-rows.ensures.may c.as_slice.ensures
 
 pub returns-in-Buffer-clause-says : goal.returns-in-Buffer-clause-says
 returns-in-Buffer-clause-says g c = λ clean stands contact t holds at room.
     let view = g.O.Office.view in
-    let i = c.loop-rows.invariant in
-    let before = c.rows_to_lend.ensures.clean clean in
-    let was = i.kept before stands in
-    let sound = g.met.O.Office.sound c.loop-rows.office before was.stands in
-    let next = rw c.in-Buffer.is at c.in_ok-fill.ensures in
-    says_data contact t c.args.shipment.now c.loop-rows.shipment c.fill.new.filler c.args.size c.loop-rows.most c.in_ok-rows.rows c.as_slice.result.now _ c.fill.new.self
-    (view c.args.office.now) (view c.loop-rows.office) (view c.rows_to_lend.new.office) i sound was holds at room
-    (λ u sent ships. c.in_ok-rows.ensures.finds clean was.stands i.some contact u sent ships) c.as_slice.ensures
-    (told_last _ _ _ _ _ _ c.row.ensures c.len.ensures c.get.ensures.value) next
+    let i = c.loop-shipment.invariant in
+    let sound = g.met.O.Office.sound c.loop-shipment.office clean (i.kept clean stands).stands in
+    says_data contact t c.args.shipment.now c.loop-shipment.shipment c.fill.new.shipment c.args.size c.in-Buffer.field-0 c.fill.new.frame
+    (view c.args.office.now) (view c.loop-shipment.office) i sound clean stands holds at room (rw c.in-Buffer.is at c.in_ok-fill.ensures)
 
 pub returns-in-Done-clause-says : goal.returns-in-Done-clause-says
 returns-in-Done-clause-says g c = λ clean stands contact t holds at room.
     let view = g.O.Office.view in
-    let i = c.loop-rows.invariant in
-    let before = c.rows_to_lend.ensures.clean clean in
-    let was = i.kept before stands in
-    let sound = g.met.O.Office.sound c.loop-rows.office before was.stands in
-    let none = rw c.in-Done.is at c.in_ok-fill.ensures in
-    says_none contact t c.args.shipment.now c.loop-rows.shipment c.fill.new.filler c.args.size c.loop-rows.most c.in_ok-rows.rows c.as_slice.result.now _
-    (view c.args.office.now) (view c.loop-rows.office) (view c.rows_to_lend.new.office) i sound was holds at room
-    (λ u sent ships. c.in_ok-rows.ensures.finds clean was.stands i.some contact u sent ships) c.as_slice.ensures
-    (told_last _ _ _ _ _ _ c.row.ensures c.len.ensures c.get.ensures.value) none.0
+    let i = c.loop-shipment.invariant in
+    let sound = g.met.O.Office.sound c.loop-shipment.office clean (i.kept clean stands).stands in
+    says_none contact t c.args.shipment.now c.loop-shipment.shipment c.fill.new.shipment c.args.size c.fill.new.frame
+    (view c.args.office.now) (view c.loop-shipment.office) i sound clean stands holds at room (rw c.in-Done.is at c.in_ok-fill.ensures)
 
-pub loop-rows-smaller : goal.loop-rows-smaller
-loop-rows-smaller g c =
+pub returns-in_err-fill-clause-says : goal.returns-in_err-fill-clause-says
+returns-in_err-fill-clause-says g c = λ clean stands contact t holds at room.
     let view = g.O.Office.view in
-    let more = rw c.in-More.is at c.in_ok-fill.ensures in
-    let asks = asks_more (view c.args.office.now) (view c.loop-rows.office) (view c.rows_to_lend.new.office) c.args.shipment.now c.loop-rows.shipment c.fill.new.filler c.args.size c.loop-rows.most
-    c.min-most-in-More.result c.in_ok-rows.rows c.as_slice.result.now _ c.loop-rows.invariant c.rows_to_lend.ensures.clean c.in_ok-rows.ensures.stays c.in_ok-rows.ensures.may
-    c.as_slice.ensures (told_last _ _ _ _ _ _ c.row.ensures c.len.ensures c.get.ensures.value) more.0 c.min-most-in-More.ensures in
-    asks.1
+    let i = c.loop-shipment.invariant in
+    let sound = g.met.O.Office.sound c.loop-shipment.office clean (i.kept clean stands).stands in
+    says_fault contact t c.args.shipment.now c.loop-shipment.shipment c.fill.new.shipment c.args.size c.fill.new.frame c.in_err-fill.field-0.0 c.from_residual.result
+    (view c.args.office.now) (view c.loop-shipment.office) c.from_residual.ensures.1 i sound clean stands holds at c.in_err-fill.ensures
 
-pub loop-rows-preserved : goal.loop-rows-preserved
-loop-rows-preserved g c =
+pub loop-shipment-smaller : goal.loop-shipment-smaller
+loop-shipment-smaller g c =
+    let more = c.in_ok-more.more in
+    let rows = c.in_ok-joined.ensures.value ∙ ap (λ (p : Option (List (List ℕ))). at_hand p ++ more) c.take.ensures.value in
+    asks_on c.args.size c.next_count-most.result c.loop-shipment.shipment c.fill.new.shipment c.fill.new.frame c.in_ok-joined.field-0 more
+    (rw c.in-More.is at c.in_ok-fill.ensures) c.next_count-most.ensures c.in_ok-more.ensures.count rows
+
+pub loop-shipment-preserved : goal.loop-shipment-preserved
+loop-shipment-preserved g c =
     let view = g.O.Office.view in
-    let more = rw c.in-More.is at c.in_ok-fill.ensures in
-    let asks = asks_more (view c.args.office.now) (view c.loop-rows.office) (view c.rows_to_lend.new.office) c.args.shipment.now c.loop-rows.shipment c.fill.new.filler c.args.size c.loop-rows.most
-    c.min-most-in-More.result c.in_ok-rows.rows c.as_slice.result.now _ c.loop-rows.invariant c.rows_to_lend.ensures.clean c.in_ok-rows.ensures.stays c.in_ok-rows.ensures.may
-    c.as_slice.ensures (told_last _ _ _ _ _ _ c.row.ensures c.len.ensures c.get.ensures.value) more.0 c.min-most-in-More.ensures in
-    asks.0
+    let more = c.in_ok-more.more in
+    let rows = c.in_ok-joined.ensures.value ∙ ap (λ (p : Option (List (List ℕ))). at_hand p ++ more) c.take.ensures.value in
+    asks_more (view c.args.office.now) (view c.loop-shipment.office) (view c.look_up.new.office) c.args.shipment.now c.loop-shipment.shipment c.fill.new.shipment
+    c.args.size c.next_count-most.result c.fill.new.frame c.in_ok-joined.field-0 more c.loop-shipment.invariant (rw c.in-More.is at c.in_ok-fill.ensures)
+    c.look_up.ensures.clean c.in_ok-more.ensures.stays c.in_ok-more.ensures.finds rows
