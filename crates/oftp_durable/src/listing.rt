@@ -59,7 +59,8 @@ pub struct Ran<S: Alter> {
     pub result: Result<(), RunFault>,
 }
 
-/// Opens the office that the files at a path hold, and does a list of jobs by it: [`open_durable`] and [`run_durable`] in one.
+/// Opens the office that the files at a path hold, and does a list of jobs by it: [`open_durable`] and [`run_durable`] in one. The limits
+/// are as `open_durable` wants them.
 ///
 /// # Errors
 ///
