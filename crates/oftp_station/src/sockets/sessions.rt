@@ -72,30 +72,20 @@ fn serve(
     let Ok(connection) = Connection::new(stream, station.patience) else {
         return Err(Trouble::from(RunFault::Read));
     };
-    let served = serve_traced(rt, &connection, role, station);
+    let served = serve_over(rt, &connection, role, station);
+    end_trace(station, served);
     if let Ok(End::Own(_)) | Err(Trouble::OfService(Fault::Run(RunFault::Office))) = served {
         let _ = connection.part(rt);
     }
     served
 }
 
-/// One session over a connection, whose end is the last line of its trace.
-fn serve_traced(
-    rt: &HostRuntime,
-    connection: &Connection,
-    role: Role<'_>,
-    station: &Station<'_>,
-) -> Result<End, Trouble> {
-    let served = serve_over(rt, connection, role, station);
+/// Appends how a session ended to its trace, where one is kept.
+fn end_trace(station: &Station<'_>, served: Result<End, Trouble>) {
+    let ended = served.map_err(Trouble::fault);
     if let Some(trace) = station.trace {
-        tell_end(trace, served);
+        trace.tell_end(&ended);
     }
-    served
-}
-
-/// Appends how a session ended to its trace.
-fn tell_end(trace: &Trace<'_>, served: Result<End, Trouble>) {
-    trace.tell_end(&served.map_err(Trouble::fault));
 }
 
 /// One session over a connection.
