@@ -73,23 +73,39 @@ fn serve(
         return Err(Trouble::from(RunFault::Read));
     };
     let served = serve_over(rt, &connection, role, station);
-    end_trace(station, served);
     if let Ok(End::Own(_)) | Err(Trouble::OfService(Fault::Run(RunFault::Office))) = served {
         let _ = connection.part(rt);
     }
     served
 }
 
-/// Appends how a session ended to its trace, where one is kept.
-fn end_trace(station: &Station<'_>, served: Result<End, Trouble>) {
-    let ended = served.map_err(Trouble::fault);
+/// One session over a connection, whose end is the last line of its trace.
+fn serve_over(
+    rt: &HostRuntime,
+    connection: &Connection,
+    role: Role<'_>,
+    station: &Station<'_>,
+) -> Result<End, Trouble> {
+    let served = serve_commands(rt, connection, role, station);
     if let Some(trace) = station.trace {
-        trace.tell_end(&ended);
+        tell_end(trace, &served);
+    }
+    served
+}
+
+/// Appends how a session ended to its trace.
+fn tell_end(trace: &Trace<'_>, served: &Result<End, Trouble>) {
+    match served {
+        Ok(end) => trace.tell(&Outcome::Ended(*end)),
+        Err(trouble) => {
+            let trouble = *trouble;
+            trace.tell(&trouble.fault());
+        }
     }
 }
 
 /// One session over a connection.
-fn serve_over(
+fn serve_commands(
     rt: &HostRuntime,
     connection: &Connection,
     role: Role<'_>,
