@@ -8,6 +8,7 @@ all run at once, so it takes some twelve seconds. The last line is `N passed, M 
 """
 
 import fcntl
+import itertools
 import os
 import re
 import select
@@ -51,10 +52,19 @@ def steps_of(row):
     return session.steps, session.end[1]
 
 
+# Below the ports that the machine gives to those who connect, so that none of them takes one before a service binds it, and apart from
+# those of a script that runs beside this one.
+PORTS = itertools.count(20000 + os.getpid() * 101 % 10000)
+
+
 def free_port(host="127.0.0.1"):
-    with socket.socket(socket.AF_INET6 if ":" in host else socket.AF_INET) as probe:
-        probe.bind((host, 0))
-        return probe.getsockname()[1]
+    for port in PORTS:
+        with socket.socket(socket.AF_INET6 if ":" in host else socket.AF_INET) as probe:
+            try:
+                probe.bind((host, port))
+            except OSError:
+                continue
+            return port
 
 
 class Service:
@@ -436,6 +446,25 @@ def calls(room):
     expect(told(call(room, address, partner="O0099OTHER")), (1, b"refused: 2 unknown\n", b""), "the call of a stranger")
 
 
+def partner_who_does_not_answer(room):
+    """A partner's machine leaves a connection without an answer: the call is given up in time, and holds no database until then."""
+    with socket.socket() as partner, socket.socket() as other:
+        partner.bind(("127.0.0.1", 0))
+        # With one who waits to be accepted the queue is full, and whoever comes next isn't answered.
+        partner.listen(0)
+        other.connect(partner.getsockname())
+        begin = time.monotonic()
+        with call(room, f"127.0.0.1:{partner.getsockname()[1]}", "--patience", "4") as program:
+            time.sleep(1)
+            words = [PROGRAM, "report", "--db", room / "database", "out"]
+            report = subprocess.run(words, capture_output=True, timeout=LONG, check=False)
+            expect((report.returncode, report.stderr, program.poll()), (0, b"", None), "a report while it connects")
+            expect(told(program), (1, b"", b"fault: 8 socket\n"), "the call of one who doesn't answer")
+        took = time.monotonic() - begin
+        if not 4 <= took < 4 + SOON:
+            raise Wrong(f"the call took {took:.1f} s")
+
+
 def two_programs(room):
     """A car maker calls a supplier, who has a file for it."""
     port = free_port()
@@ -556,6 +585,7 @@ CASES = [
     other_addresses,
     sockets_that_fail,
     calls,
+    partner_who_does_not_answer,
     two_programs,
     requests,
     slow_request,

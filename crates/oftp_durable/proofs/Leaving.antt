@@ -17,7 +17,7 @@ use Rattle.oftp_tables.specs.Tables.{register_in}
 use Rattle.oftp_store.specs.Views.{view_of}
 use Rattle.oftp_engine.specs.declared.operating.Operator.{Operator}
 use Rattle.oftp_engine.specs.declared.operating.Told.{Told}
-use Rattle.oftp_engine.specs.declared.port.Port.{Port}
+use Rattle.oftp_ports.specs.declared.port.Port.{Port}
 use Rattle.oftp_engine.specs.declared.serving.End.{End}
 use Rattle.oftp_engine.specs.declared.serving.RunFault.{RunFault}
 use Rattle.oftp_engine.specs.declared.serving.RunFault.TheVariants as fault
@@ -25,7 +25,7 @@ use Rattle.oftp_engine.specs.Jobs.{LeavesSome, call_share}
 use Rattle.oftp_engine.specs.Operated.{Operates}
 use Rattle.oftp_engine.specs.Operating.{Deed, IsDeed}
 use Rattle.oftp_engine.specs.Parts.{IsLeft, Leaves, Operates as Calls, course_of}
-use Rattle.oftp_engine.specs.Ports.{Wrote}
+use Rattle.oftp_ports.specs.Ports.{Wrote}
 use Rattle.oftp_engine.specs.Runs.{Course, Output, answered, octets_of, with_change}
 use Rattle.oftp_engine.specs.Served.{IsPrefix, IsWhole, Serves}
 use Rattle.oftp_engine.specs.Serving.{Took, last_frame, scene}

@@ -37,7 +37,7 @@ ends_from old new fault.Office h = record { faults = h.faults }
 ends_from old new fault.Memory h = record { faults = h.faults; stands = h.stands; left = h.left }
 
 -- the first register counts alone, of what an office shows before a list
-pub runs_from : {R W T : Type 0} (remaining : R → Option (List ℕ)) (contents : W → Option (List ℕ)) (book : BookData) (old new : View) (olds news : List (Job R W))
+runs_from : {R W T : Type 0} (remaining : R → Option (List ℕ)) (contents : W → Option (List ℕ)) (book : BookData) (old new : View) (olds news : List (Job R W))
     (result : Result T RunFault) → Runs remaining contents book old new olds news result → Runs remaining contents book (beginning old.register old.told) new olds news result
 runs_from remaining contents book old new olds news (Ok x) h = record {
   entries = h.entries;
@@ -149,7 +149,7 @@ module _ {R W : Type 0} (remaining : R → Option (List ℕ)) (contents : W → 
   abbrev now : View
   now = view_of limits faults s
 
-  pub list_leaves : {T : Type 0} (result : Result T RunFault) → Runs remaining contents book (beginning r told) now olds news result
+  list_leaves : {T : Type 0} (result : Result T RunFault) → Runs remaining contents book (beginning r told) now olds news result
       → ListLeaves remaining contents book r told now olds news limits s result
   list_leaves (Ok x) run = record {
     run = run;
@@ -175,10 +175,22 @@ module _ {R W : Type 0} (remaining : R → Option (List ℕ)) (contents : W → 
             (q.register, q.holds, last.so_far);
       }
 
-  pub list_alone : {T : Type 0} (result : Result T RunFault) → Runs remaining contents book (beginning r told) now olds news result
+  list_alone : {T : Type 0} (result : Result T RunFault) → Runs remaining contents book (beginning r told) now olds news result
       → ButForOffice result (LeavesAlone limits s (register_in limits s.now.trees))
   list_alone (Ok x) run = record { has = (run.stands, refl); left = run.left }
   list_alone (Err fault.Read) run = absurd run.ends
   list_alone (Err fault.Write) run = absurd run.ends
   list_alone (Err fault.Office) run = tt
   list_alone (Err fault.Memory) run = record { has = (run.ends.stands, refl); left = run.ends.left }
+
+-- a list over an office that has a register: what it leaves, and what it lets alone
+pub list_ends : {R W T : Type 0} (remaining : R → Option (List ℕ)) (contents : W → Option (List ℕ)) (book : BookData) (old : View) (r : Register) (limits : Limits) (faults : ℕ) (s : State)
+    (olds news : List (Job R W)) (result : Result T RunFault) → old.register ≡ r → IsSound old.register → Runs remaining contents book old (view_of limits faults s) olds news result
+    → ListLeaves remaining contents book r old.told (view_of limits faults s) olds news limits s result × ButForOffice result (LeavesAlone limits s (register_in limits s.now.trees))
+list_ends remaining contents book old r limits faults s olds news result is sound runs =
+    let now = view_of limits faults s in
+    let sound_so = subst IsSound is sound in
+    let so = subst (λ (x : Register). Runs remaining contents book (beginning x old.told) now olds news result) is (runs_from remaining contents book old now olds news result runs) in (
+      list_leaves remaining contents book r sound_so old.told limits faults s olds news result so,
+      list_alone remaining contents book r sound_so old.told limits faults s olds news result so,
+    )

@@ -15,14 +15,14 @@ use Rattle.oftp_open.specs.Stands.{IsContentOf, Stands}
 use Rattle.oftp_store.specs.Opens.{Has}
 use Rattle.oftp_engine.specs.declared.operating.Operator.{Operator}
 use Rattle.oftp_engine.specs.declared.operating.Told.{Told}
-use Rattle.oftp_engine.specs.declared.port.Port.{Port}
+use Rattle.oftp_ports.specs.declared.port.Port.{Port}
 use Rattle.oftp_engine.specs.declared.serving.End.{End}
 use Rattle.oftp_engine.specs.declared.serving.RunFault.{RunFault}
 use Rattle.oftp_engine.specs.declared.serving.RunFault.TheVariants as fault
 use Rattle.oftp_engine.specs.Jobs.{call_share}
 use Rattle.oftp_engine.specs.Operating.{Deed, IsDeed}
 use Rattle.oftp_engine.specs.Parts.{BringsParts, File, IsSoFar, Session, course_of}
-use Rattle.oftp_engine.specs.Ports.{Wrote}
+use Rattle.oftp_ports.specs.Ports.{Wrote}
 use Rattle.oftp_engine.specs.Runs.{answered, octets_of}
 use Rattle.oftp_engine.specs.Served.{IsPrefix}
 use Rattle.oftp_engine.specs.Serving.{last_frame}

@@ -1,15 +1,14 @@
-pub mod Bytes
 pub mod Courses
 pub mod Ending
 pub mod Folding
 pub mod Queues
 pub mod Phases
+pub mod Underway
 pub mod Progress
 pub mod Reading
 pub mod Pumping
-pub mod Sending
 pub mod Stepping
-pub mod Puts
+pub mod Telling
 pub mod Served
 pub mod Deciding
 pub mod Offers
@@ -38,4 +37,5 @@ pub mod TurnLinks
 pub mod ListenLinks
 pub mod TakeLinks
 pub mod TwoStations
+pub mod Pieces
 pub mod Fetching

@@ -9,14 +9,14 @@ use Rattle.oftp_wire.specs.Stream.{Stream}
 use Rattle.oftp_session.specs.declared.session.Ending.{Ending}
 use Rattle.oftp_session.specs.Settings.{Setting}
 use Rattle.oftp_session.specs.Calls.{Seen}
-use Rattle.oftp_engine.specs.declared.port.Port.{Port}
-use Rattle.oftp_engine.specs.Ports.{Gives, GivesNothing}
+use Rattle.oftp_ports.specs.declared.port.Port.{Port}
+use Rattle.oftp_ports.specs.Ports.{Gives, GivesNothing}
 use Rattle.oftp_engine.specs.Runs.{Course, started, run}
 use Rattle.oftp_engine.specs.Serving.{Leads, Scene, Comes, IsOver, IsWaiting, IsShort}
 use Rattle.oftp_engine.proofs.Pumping.{IsPumping}
 use Rattle.oftp_engine.specs.Served.{Gave, IsNeeded}
 use Rattle.oftp_engine.proofs.Ending.{whole_waits}
-use Rattle.oftp_engine.proofs.Bytes.{consumes_on, keeps_consumes}
+use Rattle.oftp_ports.proofs.Bytes.{consumes_on, keeps_consumes}
 use Rattle.oftp_engine.proofs.Progress.{went_on}
 
 -- while it reads: how far it came where the office is clean and stood

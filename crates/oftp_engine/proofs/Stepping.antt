@@ -20,11 +20,11 @@ use Rattle.oftp_session.proofs.Standings.{phase_sent}
 use Rattle.oftp_session.specs.Steps.{Suits}
 use Rattle.oftp_session.specs.Settings.{Setting}
 use Rattle.oftp_session.specs.Calls.{Makes, IsMade, IsBefore, IsAfter, IsBroken, IsUndone, Does, DoesNot, Seen, Stands, said as said_of}
-use Rattle.oftp_engine.proofs.Bytes.{appends_none}
-use Rattle.oftp_engine.specs.declared.port.Port.{Port}
+use Rattle.oftp_ports.proofs.Bytes.{appends_none}
+use Rattle.oftp_ports.specs.declared.port.Port.{Port}
 use Rattle.oftp_engine.specs.declared.serving.RunFault.{RunFault}
 use Rattle.oftp_engine.specs.declared.serving.RunFault.TheVariants as fault
-use Rattle.oftp_engine.specs.Ports.{Sent}
+use Rattle.oftp_ports.specs.Ports.{Sent}
 use Rattle.oftp_engine.specs.Runs.{Course, advance}
 use Rattle.oftp_engine.specs.Serving.{BrokeOff, IsOwn, LastWords, last_frame, run_fault, NotMade, NoMemory, Stepped, StepFails, Scene, scene, Took, IsAt, StaysBefore, StaysAfter}
 

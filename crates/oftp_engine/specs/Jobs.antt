@@ -8,7 +8,7 @@ use Rattle.oftp_register.specs.Offices.{Only, View, next_count}
 use Rattle.oftp_session.specs.Calls.{Makes}
 use Rattle.oftp_session.specs.Phases.{is_over, register_after}
 use Rattle.oftp_session.specs.Settings.{Setting}
-use Rattle.oftp_engine.specs.declared.port.Port.{Port}
+use Rattle.oftp_ports.specs.declared.port.Port.{Port}
 use Rattle.oftp_engine.specs.declared.operating.Told.{Told}
 use Rattle.oftp_engine.specs.declared.running.CallJob.{CallJob}
 use Rattle.oftp_engine.specs.declared.running.Job.{Job}
@@ -17,7 +17,7 @@ use Rattle.oftp_engine.specs.declared.running.SessionJob.{SessionJob}
 use Rattle.oftp_engine.specs.declared.serving.End.{End}
 use Rattle.oftp_engine.specs.declared.serving.RunFault.{RunFault}
 use Rattle.oftp_engine.specs.declared.serving.RunFault.TheVariants as fault
-use Rattle.oftp_engine.specs.Ports.{Wrote}
+use Rattle.oftp_ports.specs.Ports.{Wrote}
 use Rattle.oftp_engine.specs.Runs.{Course, Output, answered, ending, octets_of, run, started, with_change}
 use Rattle.oftp_engine.specs.Serving.{last_frame}
 use Rattle.oftp_engine.specs.Served.{Gave, InputEnded, IsNeeded, IsPrefix, ReaderTold, StopsBetween, StopsWithin, setting_of, whole}

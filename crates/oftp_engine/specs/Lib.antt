@@ -1,5 +1,4 @@
 pub mod Runs
-pub mod Ports
 pub mod Serving
 pub mod Served
 pub mod Frames

@@ -13,10 +13,10 @@ use Rattle.oftp_partners.specs.declared.partner.Partner.{Partner as Entry}
 use Rattle.oftp_engine.specs.declared.serving.Role.{Role}
 use Rattle.oftp_engine.specs.declared.serving.Role.TheVariants.{Responder, Initiator}
 use Rattle.oftp_engine.specs.declared.serving.End.TheVariants.{Own, Partner, Input}
-use Rattle.oftp_engine.specs.declared.port.Port.{Port}
+use Rattle.oftp_ports.specs.declared.port.Port.{Port}
 use Rattle.oftp_engine.specs.declared.serving.RunFault.{RunFault}
 use Rattle.oftp_engine.specs.declared.serving.RunFault.TheVariants as fault
-use Rattle.oftp_engine.specs.Ports.{IsDone}
+use Rattle.oftp_ports.specs.Ports.{IsDone}
 use Rattle.oftp_engine.specs.Runs.{Course, Output, advance, run, started, octets_of, ending, answered}
 use Rattle.oftp_engine.specs.Serving.{MayRunOut, Scene, Took, IsSaid, last_frame}
 

@@ -16,8 +16,8 @@ use Rattle.oftp_session.specs.declared.session.Ending.{Ending}
 use Rattle.oftp_session.specs.declared.session.SessionFault.{SessionFault}
 use Rattle.oftp_session.specs.declared.session.SessionFault.TheVariants as session
 use Rattle.oftp_engine.specs.Runs.{Course, Output, run, is_stopped, advance, octets_of}
-use Rattle.oftp_engine.specs.declared.port.Port.{Port}
-use Rattle.oftp_engine.specs.Ports.{Sent}
+use Rattle.oftp_ports.specs.declared.port.Port.{Port}
+use Rattle.oftp_ports.specs.Ports.{Sent}
 use Rattle.oftp_engine.specs.declared.serving.RunFault.{RunFault}
 use Rattle.oftp_engine.specs.declared.serving.RunFault.TheVariants as fault
 

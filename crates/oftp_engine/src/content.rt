@@ -1,50 +1,46 @@
 //! The content of a file that came, as a file of its own.
 
-ghost use Rattle.std.specs.Prelude.{◌≡◌, IfOk, IsTrue, OnOk};
-ghost use Rattle.std.specs.Io.KnownBytes.{Appends};
-ghost use Rattle.oftp_register.specs.Soundness.{IsFile};
-ghost use Rattle.oftp_engine.specs.Fetched.{fetched, piece_of};
+ghost use Rattle.std.specs.Prelude.{◌≡◌, ◌≢◌, ◌+◌, ◌≤◌, ◌↔◌, IfErr, IfOk, IsTrue};
+ghost use Rattle.oftp_ports.specs.Ports.{Puts};
+ghost use Rattle.oftp_engine.specs.Fetched.{FetchedOut, FetchesFrom, IsPiece, fetched, piece_of};
+ghost use Rattle.oftp_engine.specs.Served.{WriterTold};
+ghost use Rattle.oftp_engine.specs.declared.serving.RunFault.TheVariants as RunFault;
 
 use crate::serving::RunFault;
+use oftp_ports::Port;
 use oftp_register::{IncomingEntry, Office, Side, are_full_rows, is_file};
 use oftp_vfile::{Row, VFile};
 use std::alloc::Global;
-use std::io::{self, ErrorKind, Write};
+use std::io::Write;
 
 /// How many rows are held at once.
 const WINDOW: u64 = 64;
 
-// Want of memory is no fault of the writer.
-fn write_fault(error: &io::Error) -> RunFault {
-    if error.kind() == ErrorKind::OutOfMemory {
-        RunFault::Memory
-    } else {
-        RunFault::Write
-    }
-}
-
-/// Writes the local form of an incoming file, some rows at a time.
+/// Writes the local form of an incoming file, some rows at a time. The register stays as it was.
 ///
 /// # Errors
-/// [`RunFault::Office`] where the office told a fault, or rows that are none of the file; [`RunFault::Write`] where the writer told one;
-/// [`RunFault::Memory`] where memory ran out. What was written before stays written.
-#[tactic(auto, using(crate::proofs::Fetching::fetched_none, crate::proofs::Fetching::fetched_on, crate::proofs::Fetching::fetched_whole))]
+/// [`RunFault::Office`] where the office told a fault, or rows that are none of the file, which no office does that has the file;
+/// [`RunFault::Write`] where the writer told one; [`RunFault::Memory`] where memory ran out. A beginning of the file is written then.
+#[tactic(auto, using(crate::proofs::Fetching::fetched_none, crate::proofs::Fetching::fetched_whole, crate::proofs::Fetching::fetches_err, crate::proofs::Fetching::unwritten))]
 pub fn write_content<O: Office, W: Write>(
     alloc: Global,
     office: &mut O,
     entry: &IncomingEntry,
-    out: &mut W,
+    out: &mut Port<W>,
 ) -> Result<(), RunFault>
-    ensures { (O.view office.new).clean → (O.view office.old).stands
-        → OnOk result (Appends (W.contents out.old) (W.contents out.new) (fetched (O.view office.old).register entry.now)) }
+    ensures text { (O.view office.new).clean → (O.view office.old).stands
+        → FetchedOut (fetched (O.view office.old).register entry.now) (W.contents out.old.inner) (W.contents out.new.inner) result }
+    ensures out { Puts W.contents out.old out.new }
+    ensures writer { WriterTold out.old out.new result }
+    ensures clean { (O.view office.new).clean → (O.view office.old).clean }
+    ensures office { FetchesFrom entry.now (O.view office.old) (O.view office.new) result }
 {
     let mut from = 0;
     'rows: while from < entry.rows {
         let most = WINDOW.min(entry.rows - from);
-        let is_last = most == entry.rows - from;
-        let piece = piece_of(alloc, office, entry, from, most, is_last)?;
-        if let Err(error) = out.write_all(piece.as_slice()) {
-            return Err(write_fault(&error));
+        let piece = piece_of(alloc, office, entry, from, most)?;
+        if !out.send(piece.as_slice()) {
+            return Err(RunFault::Write);
         }
         from += most;
     }
@@ -52,24 +48,25 @@ pub fn write_content<O: Office, W: Write>(
 }
 
 // The local form of so many rows of a file from one on. Rows that are none of its file are a fault of the office.
+#[tactic(auto, using(crate::proofs::Pieces::answered_once, crate::proofs::Pieces::misfits, crate::proofs::Pieces::unanswered_once))]
 fn piece_of<O: Office>(
     alloc: Global,
     office: &mut O,
     entry: &IncomingEntry,
     from: u64,
     most: u64,
-    is_last: bool,
 ) -> Result<Vec<u8>, RunFault>
-    ensures clean { (O.view office.new).clean → (O.view office.old).clean }
-    ensures stays { (O.view office.new).clean → (O.view office.old).stands → OnOk result ((O.view office.new).stands
-        × ((O.view office.new).register ≡ (O.view office.old).register)) }
+    requires { from + most ≤ entry.now.rows }
     ensures piece { (O.view office.new).clean → (O.view office.old).stands
         → IfOk result (λ piece. piece.items ≡ piece_of (O.view office.old).register entry.now from most) }
+    ensures unwritten { IfErr result (λ fault. fault ≢ RunFault.Write) }
+    ensures clean { (O.view office.new).clean → (O.view office.old).clean }
+    ensures office { FetchesFrom entry.now (O.view office.old) (O.view office.new) result }
 {
     let Ok(rows) = office.rows_of(Side::Incoming, entry.no, from, most) else {
         return Err(RunFault::Office);
     };
-    if rows.len() as u64 != most || !fit(entry, rows.as_slice(), is_last) {
+    if !is_piece(entry, rows.as_slice(), from, most) {
         return Err(RunFault::Office);
     }
     let piece = VFile {
@@ -83,10 +80,12 @@ fn piece_of<O: Office>(
     }
 }
 
-// Whether rows are ones of a file; all but the last of a stream are full.
-fn fit(entry: &IncomingEntry, rows: &[Row], are_last: bool) -> bool
-    ensures { IsTrue result → IsFile entry.now.format entry.now.longest rows.now }
+// Whether these are so many rows of a file from one on; all but the last of a file are full.
+fn is_piece(entry: &IncomingEntry, rows: &[Row], from: u64, most: u64) -> bool
+    requires { from + most ≤ entry.now.rows }
+    ensures { IsTrue result ↔ IsPiece entry.now from most rows.now }
 {
-    is_file(entry.format, entry.longest, rows)
-        && (are_last || are_full_rows(entry.format, entry.longest, rows))
+    rows.len() as u64 == most
+        && is_file(entry.format, entry.longest, rows)
+        && (most == entry.rows - from || are_full_rows(entry.format, entry.longest, rows))
 }

@@ -4,7 +4,6 @@
 mod content;
 mod laws;
 mod operating;
-mod port;
 mod running;
 mod serving;
 mod submitting;
@@ -14,8 +13,8 @@ pub use laws::{
     changes_are_made, folds_over_frames, jobs_make_the_file, no_count_passes, parts_make_the_file,
     two_stations,
 };
+pub use oftp_ports::Port;
 pub use operating::{Operator, Refusal, Told, operate};
-pub use port::Port;
 pub use running::{CallJob, Job, SessionJob, run};
 pub use serving::{End, Role, RunFault, serve, serve_in_memory};
 pub use submitting::Submission;

@@ -4,9 +4,9 @@ ghost use Rattle.std.specs.Prelude.{◌≡◌, None};
 ghost use Rattle.oftp_engine.specs.Jobs.{DoesJob, IsGoneOn, Runs};
 
 use crate::operating::{Operator, Told, operate};
-use crate::port::Port;
 use crate::serving::{End, Role, RunFault, serve};
 use oftp_partners::Book;
+use oftp_ports::Port;
 use oftp_register::Office;
 use std::alloc::Global;
 use std::io::{Read, Write};

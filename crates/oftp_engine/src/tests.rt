@@ -13,9 +13,12 @@ use oftp_register::{
 use oftp_vfile::{Limits, Rows};
 use std::test::Fail;
 
+mod answers;
 mod asking;
 mod lists;
+mod noting;
 mod operators;
+mod stations;
 
 const BOOK: &str =
     "[station]\ncode = 'O0013SUPPLIER'\nbuffer = 128\ncredit = 2\nrestart = true\n[[partner]]\ncode = 'O0177CARMAKER'\nexpects = 'CARPW'\nsends = 'SUPPW'\nmode = 'B'\naddress = '127.0.0.1:3305'\n";

@@ -1,7 +1,9 @@
 -- The reports, line by line.
-use Rattle.std.specs.Prelude.{◌≡◌, ℕ, List, [], ◌∷◌, ◌++◌, codes, decimal, Result, Ok, Err, if◌then◌else◌}
+use Rattle.std.specs.Prelude.{◌≡◌, ℕ, List, [], ◌∷◌, ◌++◌, codes, decimal, Option, Result, Ok, Err, if◌then◌else◌}
 use Rattle.std.specs.List.{flat_map}
 use Rattle.csv.specs.Writing.{default_writer, row_text}
+use Rattle.oftp_ports.specs.declared.port.Port.{Port}
+use Rattle.oftp_ports.specs.Ports.{SentAll, SentPart}
 use Rattle.oftp_register.specs.Register.{Register}
 use Rattle.oftp_register.specs.LookUps.{list_in, list_issued, list_out, list_received, look_out, units_of}
 use Rattle.oftp_register.specs.Offices.{next_count}
@@ -75,8 +77,8 @@ lines_of Received r = flat_map (received_line r) (list_received r)
 abbrev pub report_of : ReportKind → Register → List ℕ
 report_of kind r = heading kind ++ lines_of kind r
 
--- How the count of faults told goes on over a report: where the office is named it told one. Nothing is written where the office is
--- named, or memory ran out.
+-- How the count of faults that the office told goes on over a report: where the office is named it told one. Nothing is written where
+-- the office is named, or memory ran out.
 abbrev pub ReportsFault : ℕ → ℕ → (unwritten : Type 0) → ListFault → Type 0
 ReportsFault old new unwritten Incomplete = ⊥
 ReportsFault old new unwritten Memory = (new ≡ old) × unwritten
@@ -86,3 +88,22 @@ ReportsFault old new unwritten Write = new ≡ old
 abbrev pub Reports : {T : Type 0} → ℕ → ℕ → (unwritten : Type 0) → Result T ListFault → Type 0
 Reports old new unwritten (Ok x) = new ≡ old
 Reports old new unwritten (Err fault) = ReportsFault old new unwritten fault
+
+-- what a report has out, by what it answers: the text, or a beginning of it where the writer told a fault, else nothing
+abbrev pub TextOut : {T W : Type 0} → (W → Option (List ℕ)) → Port W → Port W → List ℕ → Result T ListFault → Type 0
+TextOut contents old new text (Ok x) = SentAll contents old new text
+TextOut contents old new text (Err Incomplete) = ⊥
+TextOut contents old new text (Err Memory) = new ≡ old
+TextOut contents old new text (Err Office) = new ≡ old
+TextOut contents old new text (Err Write) = SentPart contents old new text
+
+-- what the writer told in a report that answers this
+abbrev pub WriterErr : {W : Type 0} → Port W → Port W → ListFault → Type 0
+WriterErr old new Incomplete = ⊥
+WriterErr old new Memory = new.faults ≡ old.faults
+WriterErr old new Office = new.faults ≡ old.faults
+WriterErr old new Write = new.faults ≡ next_count old.faults
+
+abbrev pub WriterTold : {T W : Type 0} → Port W → Port W → Result T ListFault → Type 0
+WriterTold old new (Ok x) = new.faults ≡ old.faults
+WriterTold old new (Err fault) = WriterErr old new fault

@@ -22,6 +22,11 @@ pub enum ListFault {
 }
 
 impl fmt::Display for ListFault {
+    ghost use Rattle.std.specs.Prelude.{Some};
+    ghost use Rattle.oftp_listing.specs.FaultTexts.{fault_text};
+
+    ghost output = { λ fault. Some (fault_text fault) };
+
     fn fmt<W: fmt::Write>(&self, f: &mut fmt::Formatter<W>) -> fmt::Result {
         f.write_str(match self {
             ListFault::Incomplete => "the request isn't whole",

@@ -1,12 +1,12 @@
 //! The reports.
 
-ghost use Rattle.std.specs.Prelude.{◌≡◌, ◌++◌, IfErr, IfOk, OnOk};
+ghost use Rattle.std.specs.Prelude.{◌≡◌, ◌++◌, IfErr, IfOk};
 ghost use Rattle.std.specs.List.{flat_map};
-ghost use Rattle.std.specs.Io.KnownBytes.{Appends};
 ghost use Rattle.csv.specs.Records.{fields_of};
+ghost use Rattle.oftp_ports.specs.Ports.{Puts};
 ghost use Rattle.oftp_listing.specs.declared.fault.ListFault.TheVariants.{Memory};
 ghost use Rattle.oftp_listing.specs.Finding.{Finds};
-ghost use Rattle.oftp_listing.specs.Reports.{Reports, heading, incoming_fields, issued_fields, line, outgoing_fields, received_fields, report_of};
+ghost use Rattle.oftp_listing.specs.Reports.{Reports, TextOut, WriterTold, heading, incoming_fields, issued_fields, line, outgoing_fields, received_fields, report_of};
 ghost use Rattle.oftp_listing.specs.Texts.{Asks};
 
 use crate::fault::ListFault;
@@ -16,6 +16,7 @@ use crate::names::{
     refusal_name, response_name,
 };
 use csv::{ByteRecord, WriterBuilder};
+use oftp_ports::Port;
 use oftp_register::{IncomingEntry, IssuedEntry, Office, OutgoingEntry, ReceivedEntry};
 use std::alloc::Global;
 use std::io::Write;
@@ -193,22 +194,25 @@ fn report_text<O: Office>(
 ///
 /// # Errors
 ///
-/// [`ListFault::Office`] where the office told a fault, and [`ListFault::Memory`]: nothing is written then. [`ListFault::Write`] where
-/// the writer told a fault: it may have taken a beginning of the report.
+/// [`ListFault::Office`] where the office told a fault, and [`ListFault::Memory`]: nothing is written then. [`ListFault::Write`] only
+/// where the writer told a fault in this call: it took a beginning of the report.
 pub fn report<O: Office, W: Write>(
     alloc: Global,
     kind: ReportKind,
     office: &mut O,
-    writer: &mut W,
+    writer: &mut Port<W>,
 ) -> Result<(), ListFault>
     ensures text { (O.view office.new).clean → (O.view office.old).stands
-        → OnOk result (Appends (W.contents writer.old) (W.contents writer.new) (report_of kind (O.view office.old).register)) }
+        → TextOut W.contents writer.old writer.new (report_of kind (O.view office.old).register) result }
     ensures asks { Asks (O.view office.old) (O.view office.new) }
-    ensures told { Reports (O.view office.old).told (O.view office.new).told (W.contents writer.new ≡ W.contents writer.old) result }
+    ensures told { Reports (O.view office.old).told (O.view office.new).told (writer.new ≡ writer.old) result }
+    ensures out { Puts W.contents writer.old writer.new }
+    ensures writer_told { WriterTold writer.old writer.new result }
 {
     let text = report_text(alloc, kind, office)?;
-    match writer.write_all(text.as_slice()) {
-        Ok(()) => Ok(()),
-        Err(_) => Err(ListFault::Write),
+    if writer.send(text.as_slice()) {
+        Ok(())
+    } else {
+        Err(ListFault::Write)
     }
 }

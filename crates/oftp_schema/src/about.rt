@@ -1,12 +1,12 @@
 //! What the table `about` tells.
 
-ghost use Rattle.std.specs.Prelude.{◌≡◌, ◌↔◌, ◌<◌, ◌≤◌, false, length, pos, IfOk, OnOk, OnErr, IsTrue};
+ghost use Rattle.std.specs.Prelude.{◌≡◌, ◌↔◌, ◌<◌, ◌≤◌, [], codes, false, length, pos, IfErr, IfOk, OnOk, OnErr, IsTrue};
 ghost use Rattle.sqlite.specs.declared.types.Value.TheVariants.{Int};
 ghost use Rattle.sqlite.specs.Order.{column};
 ghost use Rattle.sqlite.specs.Held.{state};
 ghost use Rattle.sqlite.specs.Tree.{Trees};
 ghost use Rattle.sqlite.specs.View.{doubt};
-ghost use Rattle.sqlite.specs.State.{HasCleanDisk, IsUnchanged};
+ghost use Rattle.sqlite.specs.State.{FailsToQuery, HasCleanDisk, IsUnchanged};
 ghost use Rattle.oftp_schema.specs.Calls.{IsSpared};
 ghost use Rattle.oftp_schema.specs.Making.{HasAbout, about_rows, about_told};
 
@@ -35,6 +35,10 @@ fn tells(rows: &[Row], schema: u32) -> bool
 }
 
 /// Whether `about` tells a schema. The database has schema 1 or 2, and the connection is outside a transaction.
+///
+/// # Errors
+///
+/// That of the query.
 pub fn about_tells<S: Alter>(conn: &mut Connection<S>, schema: u32) -> Result<bool, Error>
     requires has { HasAbout conn.old.schema }
     requires autocommit { conn.old.in_transaction ≡ false }
@@ -44,6 +48,7 @@ pub fn about_tells<S: Alter>(conn: &mut Connection<S>, schema: u32) -> Result<bo
     ensures failed { HasCleanDisk (state S.Store conn.new) → OnErr result (IsSpared (state S.Store conn.old) (state S.Store conn.new)) }
     ensures left { HasCleanDisk (state S.Store conn.new) → (db : Trees) → (state S.Store conn.new).may_leave db → (state S.Store conn.old).may_leave db }
     ensures answer { HasCleanDisk (state S.Store conn.new) → IfOk result (λ right. IsTrue right ↔ (about_told (state S.Store conn.old).now.trees ≡ about_rows schema)) }
+    ensures error { HasCleanDisk (state S.Store conn.new) → IfErr result (FailsToQuery (codes "SELECT id, schema FROM about") [] (state S.Store conn.old) (state S.Store conn.new)) }
 {
     match conn.query_all("SELECT id, schema FROM about", &[]) {
         Ok(rows) => Ok(tells(rows.as_slice(), schema)),

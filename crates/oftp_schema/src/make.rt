@@ -1,7 +1,8 @@
 //! The making of the tables.
 
-ghost use Rattle.std.specs.Prelude.{◌≡◌, ◌<◌, false};
+ghost use Rattle.std.specs.Prelude.{◌≡◌, ◌<◌, [], false, IsTrue};
 ghost use Rattle.sqlite.specs.Held.{state};
+ghost use Rattle.sqlite.specs.State.{ExecutesInside, HasCleanDisk};
 ghost use Rattle.oftp_schema.specs.Schema.{text_at};
 ghost use Rattle.oftp_schema.specs.Calls.{Runs, Transacts};
 ghost use Rattle.oftp_schema.specs.Making.{Creates, HasEmptyTables, HasTables, IsEmpty, IsNew};
@@ -41,11 +42,13 @@ fn text_of(at: usize) -> &'static str
     }
 }
 
-/// Makes one table, which its place in the order of making names, below 8.
+/// Makes one table, which its place in the order of making names, below 8. It tells what the statement does, its errors too.
 pub fn make_table<S: Alter>(tx: &mut Transaction<'_, S>, at: usize) -> Result<usize, Error>
     requires { at < 8 }
     ensures same_reference { tx.new.conn.ghost_name ≡ tx.old.conn.ghost_name }
     ensures runs { Runs (HasTables at) (Creates at) (state S.Store tx.old.conn.now) (state S.Store tx.new.conn.now) result }
+    ensures statement { HasCleanDisk (state S.Store tx.new.conn.now) → IsTrue (state S.Store tx.old.conn.now).in_transaction
+        → ExecutesInside 0 (text_at at) [] (state S.Store tx.old.conn.now) (state S.Store tx.new.conn.now) result }
 {
     tx.execute(text_of(at), &[])
 }

@@ -1,5 +1,5 @@
 -- What a start makes of a register.
-use Rattle.std.proofs.Common.{◌≡◌, ◌+◌, ◌<◌, ◌≤◌, ℕ, suc, Bool, true, false, cond, nat_le, nat_lt, List, [], ◌∷◌, ◌++◌, length, take, set, slice_get, Option, Some, None, Result, Ok, Err, inl, inr, refl, sym, ap, ◌∙◌, arith, Bor}
+use Rattle.std.proofs.Common.{◌≡◌, ◌+◌, ◌<◌, ◌≤◌, ℕ, suc, true, false, nat_le, nat_lt, List, [], ◌∷◌, ◌++◌, length, take, set, Some, None, Result, Ok, Err, inl, inr, refl, sym, ap, ◌∙◌, arith, Bor}
 use Rattle.std.proofs.lemmas.Bool.{cond-true, cond-false}
 use Rattle.std.proofs.lemmas.Bool.Decides.{nat_tests}
 use Rattle.std.proofs.Math.Seq.{set-append_seam}
@@ -15,13 +15,12 @@ use Rattle.oftp_register.specs.declared.entry.IncomingState.TheVariants.{Open, W
 use Rattle.oftp_register.specs.declared.entries.IncomingEntry.{IncomingEntry}
 use Rattle.oftp_register.specs.declared.entries.Side.TheVariants as side
 use Rattle.oftp_register.specs.Register.{Register, Incoming}
-use Rattle.oftp_register.specs.Changes.{apply, begun, gone_on, mapped, new_incoming, started, started_in}
+use Rattle.oftp_register.specs.Changes.{apply, begun, gone_on, mapped, new_incoming, started}
 use Rattle.oftp_register.specs.LookUps.{entry_at}
 use Rattle.oftp_register.proofs.NameLemmas.{same_identity-true}
 use Rattle.oftp_register.proofs.StartLemmas.{IsNew, StandsAt, where_is}
 use Rattle.oftp_store.specs.Numbers.{no_of}
-use Rattle.oftp_store.specs.Places.{place_of}
-use Rattle.oftp_store.specs.Reads.{IsPlaced, IsToldOf}
+use Rattle.oftp_store.specs.Reads.{IsPlaced}
 use Rattle.oftp_store.specs.Slots.{IsArrivalOf, goes_on, goes_on_in}
 use Rattle.oftp_store.specs.declared.changes.edit.Edit.{Edit}
 use Rattle.oftp_store.specs.declared.changes.edit.Deed.TheVariants.{AddIncoming, CutRows, SetHeader}

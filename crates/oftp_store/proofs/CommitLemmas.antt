@@ -1,5 +1,5 @@
 -- How look-ups and a transaction make a commit.
-use Rattle.std.proofs.Common.{List, IfErr, ◌≡◌, ◌≤◌, ◌⊎◌, false, Result, Ok, Err, IsTrue, OnOk, OnErr, inl, inr, sym, ap, subst, ◌∙◌, arith}
+use Rattle.std.proofs.Common.{List, ◌≡◌, ◌≤◌, ◌⊎◌, false, Result, Ok, Err, IsTrue, OnOk, OnErr, inl, inr, sym, ap, subst, ◌∙◌, arith}
 use Rattle.sqlite.specs.Tree.{Trees}
 use Rattle.sqlite.specs.Effect.{Database}
 use Rattle.sqlite.specs.View.{doubt}

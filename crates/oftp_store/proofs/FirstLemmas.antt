@@ -14,9 +14,6 @@ use Rattle.sqlite.specs.Query.{Query, IsAnswer, Output, output, output_cmp}
 use Rattle.sqlite.specs.Program.{overlay}
 use Rattle.std.specs.List.Sorted.{IsPermutation}
 use Rattle.std.proofs.lemmas.List.Sorted.{IsPermutation-refl}
-use Rattle.sqlite.specs.Effect.{Database}
-use Rattle.sqlite.specs.State.{State, IsUnchanged}
-use Rattle.oftp_schema.specs.Schema.{office_schema}
 use Rattle.oftp_schema.proofs.TermLemmas.{number_cmp}
 use Rattle.oftp_register.specs.LookUps.{numbered}
 use Rattle.oftp_tables.specs.Tables.{number_value, rows_from}
@@ -132,10 +129,6 @@ any_told [] rows is = ap (λ (rows : List Row). is_some (slice_get rows 0)) is
 any_told (n ∷ ns) rows is = ap (λ (rows : List Row). is_some (slice_get rows 0)) is
 
 -- ---- an entry by its number
-
--- the tables are the office's after a look-up
-pub still : (old new : State) → IsUnchanged old new → old.now.schema ≡ office_schema → new.now.schema ≡ office_schema
-still old new same has = ap (λ (d : Database). d.schema) same.0.now_is ∙ has
 
 pub none_told : {E : Type 0} (number : E → ℕ) (found : Option E) → None ≡ option_map number found → None ≡ found
 none_told number None is = refl

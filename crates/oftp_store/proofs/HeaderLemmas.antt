@@ -1,5 +1,5 @@
 -- Headers and responses are read back.
-use Rattle.std.proofs.Common.{◌≡◌, ◌+◌, ℕ, false, List, [], ◌∷◌, ◌++◌, codes, Option, Some, None, All, refl, sym, ap, subst, ◌∙◌}
+use Rattle.std.proofs.Common.{◌≡◌, ◌+◌, ℕ, List, [], ◌∷◌, ◌++◌, codes, Option, Some, None, All, refl, ap, subst, ◌∙◌}
 use Rattle.std.specs.List.{AllByRecursion}
 use Rattle.std.specs.List.Sorted.{IsPermutation}
 use Rattle.std.specs.Option.{option_map}
@@ -9,9 +9,9 @@ use Rattle.sqlite.specs.Order.{Row}
 use Rattle.sqlite.specs.Term.{Term, col, eval_all}
 use Rattle.sqlite.specs.Command.{Command}
 use Rattle.sqlite.specs.Command.TheVariants.{Select}
-use Rattle.sqlite.specs.Listing.{understood, reads_listing}
+use Rattle.sqlite.specs.Listing.{understood}
 use Rattle.sqlite.specs.State.{State, Shown}
-use Rattle.sqlite.proofs.Callers.{IsPlain, command_of, reads_as, one_permutation}
+use Rattle.sqlite.proofs.Callers.{one_permutation}
 use Rattle.oftp_schema.specs.Schema.{in_file_tree, issued_tree, office_schema, out_file_tree}
 use Rattle.oftp_schema.proofs.QueryLemmas.{answers, chosen, plain_query}
 use Rattle.oftp_register.specs.Register.{Register, Incoming, Issued, Outgoing}
@@ -25,25 +25,22 @@ use Rattle.oftp_store.specs.Texts.{in_header_text, out_header_text, response_tex
 use Rattle.oftp_store.specs.declared.looks.header.IncomingHeader.{IncomingHeader}
 use Rattle.oftp_store.specs.declared.looks.header.OutgoingHeader.{OutgoingHeader}
 use Rattle.oftp_store.proofs.EditLemmas.{issued_number, issued_piece, issued_pieces}
-use Rattle.oftp_store.proofs.NumberLemmas.{OneRow, no_rows, nowhere, one_row, somewhere}
+use Rattle.oftp_store.proofs.NumberLemmas.{no_rows}
+use Rattle.oftp_store.proofs.ReadLemmas.{IsRead, finds_told, read_so}
 
 -- ---- incoming files
 
-abbrev in_project : List Term
+abbrev pub in_project : List Term
 in_project = col 1 2 ∷ col 1 3 ∷ col 1 4 ∷ col 1 5 ∷ col 1 6 ∷ col 1 7 ∷ col 1 8 ∷ col 1 9 ∷ col 1 10 ∷ []
 
-abbrev in_select : Command
+abbrev pub in_select : Command
 in_select =
     Select (record { lets = []; body = plain_query in_file_tree by_number in_project })
     (codes "dataset" ∷ codes "date" ∷ codes "time" ∷ codes "originator" ∷ codes "destination" ∷ codes "format" ∷ codes "longest" ∷ codes "description" ∷ codes "state" ∷ [])
 
-in_is : (command_of (understood office_schema in_header_text) ≡ in_select) × (reads_listing office_schema in_header_text ≡ false)
+pub in_header_read : IsRead in_header_text in_select
 unfolding understood everything
-in_is = (refl, refl)
-
-pub in_header_plain : IsPlain (understood office_schema in_header_text)
-unfolding understood everything
-in_header_plain = (refl, refl)
+in_header_read = record { is = refl; unlisted = refl; plain = (refl, refl) }
 
 in_back : (k : ℕ) (f : Incoming) → incoming_header_in (eval_all in_project ((number_value k ∷ []) ∷ in_file_row k f ∷ [])) ≡ incoming_header_of f
 in_back k f =
@@ -54,33 +51,23 @@ in_back k f =
 pub finds_in_header : (old new : State) (k : ℕ) (rows : List Row) → old.now.schema ≡ office_schema → Shown in_header_text (number_value k ∷ []) old new rows → (r : Register) → Tables r old.now.trees
     → IsToldOf incoming_header_of r.incoming k (first_told incoming_header_in rows)
 finds_in_header old new k rows has h r kept =
-    let params = number_value k ∷ [] in
-    let read = reads_as in_header_text params old new office_schema has in_select in_is.0 in_header_plain in_is.1 rows h in
-    go (one_row in_file_row (λ n x. refl) r.incoming k in_project rows
-    (subst (λ table. IsPermutation (chosen by_number in_project params table) rows) kept.incoming.headers (answers old.now.trees in_file_tree by_number in_project params rows (read.answer Null))))
-  where
-    go : OneRow in_file_row r.incoming k in_project rows → IsToldOf incoming_header_of r.incoming k (first_told incoming_header_in rows)
-    go (nowhere none unknown) = subst (λ rows. IsToldOf incoming_header_of r.incoming k (first_told incoming_header_in rows)) (sym none) unknown
-    go (somewhere before f after placed one) = subst (λ rows. IsToldOf incoming_header_of r.incoming k (first_told incoming_header_in rows)) (sym one) (before, f, after, placed, in_back k f)
+    finds_told in_file_row (λ n x. refl) in_file_tree in_project in_header_text _ in_header_read incoming_header_in incoming_header_of old new r.incoming k rows has h kept.incoming.headers
+    (λ before f after placed. in_back k f)
 
 -- ---- outgoing files
 
-abbrev out_project : List Term
+abbrev pub out_project : List Term
 out_project = col 1 2 ∷ col 1 3 ∷ col 1 4 ∷ col 1 5 ∷ col 1 6 ∷ col 1 7 ∷ col 1 8 ∷ col 1 9 ∷ col 1 10 ∷ col 1 11 ∷ col 1 12 ∷ []
 
-abbrev out_select : Command
+abbrev pub out_select : Command
 out_select =
     Select (record { lets = []; body = plain_query out_file_tree by_number out_project })
     (codes "dataset" ∷ codes "date" ∷ codes "time" ∷ codes "originator" ∷ codes "destination" ∷ codes "format" ∷ codes "longest" ∷ codes "description" ∷ codes "mark"
     ∷ codes "state" ∷ codes "reason" ∷ [])
 
-out_is : (command_of (understood office_schema out_header_text) ≡ out_select) × (reads_listing office_schema out_header_text ≡ false)
+pub out_header_read : IsRead out_header_text out_select
 unfolding understood everything
-out_is = (refl, refl)
-
-pub out_header_plain : IsPlain (understood office_schema out_header_text)
-unfolding understood everything
-out_header_plain = (refl, refl)
+out_header_read = record { is = refl; unlisted = refl; plain = (refl, refl) }
 
 out_back : (k : ℕ) (f : Outgoing) → HasRefusal f.state → outgoing_header_in (eval_all out_project ((number_value k ∷ []) ∷ out_file_row k f ∷ [])) ≡ outgoing_header_of f
 out_back k f small =
@@ -98,40 +85,29 @@ out_back k f small =
 pub finds_out_header : (old new : State) (k : ℕ) (rows : List Row) → old.now.schema ≡ office_schema → Shown out_header_text (number_value k ∷ []) old new rows → (r : Register) → Tables r old.now.trees
     → IsToldOf outgoing_header_of r.outgoing k (first_told outgoing_header_in rows)
 finds_out_header old new k rows has h r kept =
-    let params = number_value k ∷ [] in
-    let read = reads_as out_header_text params old new office_schema has out_select out_is.0 out_header_plain out_is.1 rows h in
-    go (one_row out_file_row (λ n x. refl) r.outgoing k out_project rows
-    (subst (λ table. IsPermutation (chosen by_number out_project params table) rows) kept.outgoing.headers
-    (answers old.now.trees out_file_tree by_number out_project params rows (read.answer Null))))
-  where
-    go : OneRow out_file_row r.outgoing k out_project rows → IsToldOf outgoing_header_of r.outgoing k (first_told outgoing_header_in rows)
-    go (nowhere none unknown) = subst (λ rows. IsToldOf outgoing_header_of r.outgoing k (first_told outgoing_header_in rows)) (sym none) unknown
-    go (somewhere before f after placed one) =
-        let small = at_place (λ (x : Outgoing). HasRefusal x.state) before f after (subst (AllByRecursion (λ (x : Outgoing). HasRefusal x.state)) placed.here kept.outgoing.reasons) in
-        subst (λ rows. IsToldOf outgoing_header_of r.outgoing k (first_told outgoing_header_in rows)) (sym one) (before, f, after, placed, out_back k f small)
+    finds_told out_file_row (λ n x. refl) out_file_tree out_project out_header_text _ out_header_read outgoing_header_in outgoing_header_of old new r.outgoing k rows has h kept.outgoing.headers
+    (λ before f after placed.
+    let small = at_place (λ (x : Outgoing). HasRefusal x.state) before f after (subst (AllByRecursion (λ (x : Outgoing). HasRefusal x.state)) placed.here kept.outgoing.reasons) in
+    out_back k f small)
 
 -- ---- responses
 
-abbrev response_project : List Term
+abbrev pub response_project : List Term
 response_project = col 1 2 ∷ col 1 3 ∷ col 1 4 ∷ col 1 5 ∷ []
 
-abbrev response_select : Command
+abbrev pub response_select : Command
 response_select = Select (record { lets = []; body = plain_query issued_tree by_number response_project }) (codes "kind" ∷ codes "reason" ∷ codes "note" ∷ codes "sent" ∷ [])
 
-response_is : (command_of (understood office_schema response_text) ≡ response_select) × (reads_listing office_schema response_text ≡ false)
+pub response_read : IsRead response_text response_select
 unfolding understood everything
-response_is = (refl, refl)
-
-pub response_plain : IsPlain (understood office_schema response_text)
-unfolding understood everything
-response_plain = (refl, refl)
+response_read = record { is = refl; unlisted = refl; plain = (refl, refl) }
 
 pub finds_response : (old new : State) (k : ℕ) (rows : List Row) → old.now.schema ≡ office_schema → Shown response_text (number_value k ∷ []) old new rows
     → (r : Register) → Tables r old.now.trees → IsSound r
     → IsResponseTo r k (first_told response_in rows)
 finds_response old new k rows has h r kept sound before f after placed =
     let params = number_value k ∷ [] in
-    let read = reads_as response_text params old new office_schema has response_select response_is.0 response_plain response_is.1 rows h in
+    let read = read_so response_text params old new _ rows response_read has h in
     let perm = answers old.now.trees issued_tree by_number response_project params rows (read.answer Null) in
     let place = among issued_piece issued_number k before f after placed.number in
     let table : old.now.trees issued_tree ≡ _ = kept.incoming.responses ∙ ap (issued_from 1) placed.here ∙ issued_pieces 1 (before ++ f ∷ after) ∙ place.rows in

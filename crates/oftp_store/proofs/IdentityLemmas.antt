@@ -1,5 +1,5 @@
 -- What the queries by identity answer.
-use Rattle.std.proofs.Common.{◌≡◌, ℕ, false, List, [], ◌∷◌, codes, is_some, slice_get, Option, refl, ◌∙◌}
+use Rattle.std.proofs.Common.{◌≡◌, ℕ, List, [], ◌∷◌, codes, is_some, slice_get, Option, refl, ◌∙◌}
 use Rattle.std.specs.List.{list_all}
 use Rattle.sqlite_tied.specs.Compute.{everything}
 use Rattle.sqlite.specs.declared.types.Value.TheVariants.{Null, Text}
@@ -10,9 +10,8 @@ use Rattle.sqlite.specs.Query.{IsAnswer}
 use Rattle.sqlite.specs.Program.{overlay}
 use Rattle.sqlite.specs.Command.{Command}
 use Rattle.sqlite.specs.Command.TheVariants.{Select}
-use Rattle.sqlite.specs.Listing.{understood, reads_listing}
+use Rattle.sqlite.specs.Listing.{understood}
 use Rattle.sqlite.specs.State.{State, Shown}
-use Rattle.sqlite.proofs.Callers.{IsPlain, command_of, reads_as}
 use Rattle.oftp_schema.specs.Schema.{in_file_tree, office_schema, out_file_tree, received_tree}
 use Rattle.oftp_schema.proofs.TermLemmas.{equal, equal_texts, and_true}
 use Rattle.oftp_register.specs.declared.entry.Identity.{Identity}
@@ -27,28 +26,24 @@ use Rattle.oftp_register.specs.LookUps.{incoming_entry, outgoing_entry}
 use Rattle.oftp_tables.specs.Tables.{Tables, identity_values, in_file_row, kind_text, out_file_row, received_row}
 use Rattle.oftp_store.specs.Numbers.{TellsNo, has_filed_text, no_of, no_of_text}
 use Rattle.oftp_store.proofs.FirstLemmas.{answers_first, any_told, any_wanted, first_query, first_wanted, number_told}
+use Rattle.oftp_store.proofs.ReadLemmas.{IsRead, read_so}
 
 -- ---- files
 
-abbrev by_identity : List Term
+abbrev pub by_identity : List Term
 by_identity = equal (col 1 2) (col 0 0) ∷ equal (col 1 3) (col 0 1) ∷ equal (col 1 4) (col 0 2) ∷ equal (col 1 5) (col 0 3) ∷ equal (col 1 6) (col 0 4) ∷ []
 
-abbrev tree_of : Side → ℕ
+abbrev pub tree_of : Side → ℕ
 tree_of side.Incoming = in_file_tree
 tree_of side.Outgoing = out_file_tree
 
-abbrev no_of_select : Side → Command
+abbrev pub no_of_select : Side → Command
 no_of_select which = Select (record { lets = []; body = first_query (tree_of which) by_identity }) (codes "no" ∷ [])
 
-no_of_is : (which : Side) → (command_of (understood office_schema (no_of_text which)) ≡ no_of_select which) × (reads_listing office_schema (no_of_text which) ≡ false)
+pub no_of_read : (which : Side) → IsRead (no_of_text which) (no_of_select which)
 unfolding understood everything
-no_of_is side.Incoming = (refl, refl)
-no_of_is side.Outgoing = (refl, refl)
-
-pub no_of_plain : (which : Side) → IsPlain (understood office_schema (no_of_text which))
-unfolding understood everything
-no_of_plain side.Incoming = (refl, refl)
-no_of_plain side.Outgoing = (refl, refl)
+no_of_read side.Incoming = record { is = refl; unlisted = refl; plain = (refl, refl) }
+no_of_read side.Outgoing = record { is = refl; unlisted = refl; plain = (refl, refl) }
 
 incoming_passes : (it : Identity) (n : ℕ) (f : Incoming) → list_all (holds (identity_values it ∷ in_file_row n f ∷ [])) by_identity ≡ same_identity f.identity it
 incoming_passes it n f = simp (equal_texts, and_true)
@@ -73,27 +68,22 @@ pub finds_no : (which : Side) (old new : State) (it : Identity) (rows : List Row
     → Shown (no_of_text which) (identity_values it) old new rows → TellsNo rows told
     → (r : Register) → Tables r old.now.trees → told ≡ no_of r which it
 finds_no which old new it rows told has h tells r kept =
-    let read = reads_as (no_of_text which) (identity_values it) old new office_schema has (no_of_select which) (no_of_is which).0 (no_of_plain which) (no_of_is which).1 rows h in
+    let read = read_so (no_of_text which) (identity_values it) old new _ rows (no_of_read which) has h in
     no_there which it rows told r old.now.trees tells kept (read.answer Null)
 
 -- ---- responses that came
 
-abbrev by_response : ResponseKind → List Term
+abbrev pub by_response : ResponseKind → List Term
 by_response kind = equal (col 1 2) (lit (Text (kind_text kind))) ∷ equal (col 1 3) (col 0 0) ∷ equal (col 1 4) (col 0 1) ∷ equal (col 1 5) (col 0 2) ∷ equal (col 1 6) (col 0 3) ∷ equal
     (col 1 7) (col 0 4) ∷ []
 
-abbrev filed_select : ResponseKind → Command
+abbrev pub filed_select : ResponseKind → Command
 filed_select kind = Select (record { lets = []; body = first_query received_tree (by_response kind) }) (codes "no" ∷ [])
 
-filed_is : (kind : ResponseKind) → (command_of (understood office_schema (has_filed_text kind)) ≡ filed_select kind) × (reads_listing office_schema (has_filed_text kind) ≡ false)
+pub filed_read : (kind : ResponseKind) → IsRead (has_filed_text kind) (filed_select kind)
 unfolding understood everything
-filed_is EndResponse = (refl, refl)
-filed_is NegativeEndResponse = (refl, refl)
-
-pub filed_plain : (kind : ResponseKind) → IsPlain (understood office_schema (has_filed_text kind))
-unfolding understood everything
-filed_plain EndResponse = (refl, refl)
-filed_plain NegativeEndResponse = (refl, refl)
+filed_read EndResponse = record { is = refl; unlisted = refl; plain = (refl, refl) }
+filed_read NegativeEndResponse = record { is = refl; unlisted = refl; plain = (refl, refl) }
 
 same_kinds : (a b : ResponseKind) → Rattle.std.specs.Str.bytes_eq (kind_text a) (kind_text b) ≡ Rattle.oftp_register.specs.Register.same_kind a b
 same_kinds EndResponse EndResponse = refl
@@ -107,7 +97,7 @@ response_passes kind it n x = simp (equal_texts, and_true, same_kinds)
 pub finds_filed : (kind : ResponseKind) (old new : State) (it : Identity) (rows : List Row) → old.now.schema ≡ office_schema → Shown (has_filed_text kind) (identity_values it) old new rows
     → (r : Register) → Tables r old.now.trees → is_some (slice_get rows 0) ≡ has_received r kind it
 finds_filed kind old new it rows has h r kept =
-    let read = reads_as (has_filed_text kind) (identity_values it) old new office_schema has (filed_select kind) (filed_is kind).0 (filed_plain kind) (filed_is kind).1 rows h in
+    let read = read_so (has_filed_text kind) (identity_values it) old new _ rows (filed_read kind) has h in
     any_told _ rows (answers_first received_row (λ n x. refl) (by_response kind) (identity_values it) (λ n x. is_response_to kind it x)
     (response_passes kind it) old.now.trees received_tree rows r.received kept.received.responses_are (read.answer Null))
     ∙ any_wanted (is_response_to kind it) 1 r.received

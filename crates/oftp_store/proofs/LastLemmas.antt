@@ -1,5 +1,5 @@
 -- What a query answers that asks for the last number of a table.
-use Rattle.std.proofs.Common.{◌≡◌, ◌+◌, ◌≤◌, ◌++◌, ℕ, zero, suc, pos, false, true, List, [], ◌∷◌, length, map, take, codes, Less, refl, sym, ap, subst, ◌∙◌, arith}
+use Rattle.std.proofs.Common.{◌≡◌, ◌+◌, ◌≤◌, ◌++◌, ℕ, zero, suc, pos, true, List, [], ◌∷◌, length, map, take, codes, Less, refl, sym, ap, subst, ◌∙◌, arith}
 use Rattle.std.specs.List.{AllByRecursion}
 use Rattle.std.specs.List.Sorted.{IsPermutation}
 use Rattle.std.proofs.lemmas.List.Sorted.{IsPermutation-refl, IsPermutation-trans, IsPermutation-cons, IsPermutation-sym, IsPermutation-to_front}
@@ -15,9 +15,8 @@ use Rattle.sqlite.specs.Query.{Query, IsAnswer, Output, output, output_cmp}
 use Rattle.sqlite.specs.Program.{overlay}
 use Rattle.sqlite.specs.Command.{Command}
 use Rattle.sqlite.specs.Command.TheVariants.{Select}
-use Rattle.sqlite.specs.Listing.{understood, reads_listing}
+use Rattle.sqlite.specs.Listing.{understood}
 use Rattle.sqlite.specs.State.{State, Shown}
-use Rattle.sqlite.proofs.Callers.{IsPlain, command_of, reads_as}
 use Rattle.oftp_schema.specs.Schema.{in_file_tree, office_schema, out_file_tree, received_tree}
 use Rattle.oftp_register.specs.Register.{Register}
 use Rattle.oftp_tables.specs.Tables.{Tables, in_file_row, number_value, out_file_row, received_row, rows_from}
@@ -26,11 +25,12 @@ use Rattle.oftp_store.specs.Numbers.{TellsLast, entries_in, last_text}
 use Rattle.oftp_store.specs.declared.looks.last.Table.{Table}
 use Rattle.oftp_store.specs.declared.looks.last.Table.TheVariants as table
 use Rattle.oftp_store.proofs.FirstLemmas.{less_number, shown}
+use Rattle.oftp_store.proofs.ReadLemmas.{IsRead, read_so}
 
 abbrev falling : Key
 falling = record { collation = Binary; descending = true }
 
-abbrev last_query : ℕ → Query
+abbrev pub last_query : ℕ → Query
 last_query tree = ordered_query tree [] (col 1 0 ∷ []) ((col 1 0, falling) ∷ []) (lit (Int (pos 1)))
 
 -- so many numbers from one on, and the numbers from one down to 1
@@ -83,25 +83,19 @@ module _ {X : Type 0} (row : ℕ → X → Row) (numbers : (n : ℕ) (x : X) →
       (subst (IsPermutation (numbers_down (length xs))) (sym all) (turned_over (length xs)))
       ∙ first_down (length xs)
 
-abbrev tree_of : Table → ℕ
+abbrev pub tree_of : Table → ℕ
 tree_of table.IncomingFiles = in_file_tree
 tree_of table.OutgoingFiles = out_file_tree
 tree_of table.ReceivedResponses = received_tree
 
-abbrev last_select : Table → Command
+abbrev pub last_select : Table → Command
 last_select which = Select (record { lets = []; body = last_query (tree_of which) }) (codes "no" ∷ [])
 
-last_is : (which : Table) → (command_of (understood office_schema (last_text which)) ≡ last_select which) × (reads_listing office_schema (last_text which) ≡ false)
+pub last_read : (which : Table) → IsRead (last_text which) (last_select which)
 unfolding understood everything
-last_is table.IncomingFiles = (refl, refl)
-last_is table.OutgoingFiles = (refl, refl)
-last_is table.ReceivedResponses = (refl, refl)
-
-pub last_plain : (which : Table) → IsPlain (understood office_schema (last_text which))
-unfolding understood everything
-last_plain table.IncomingFiles = (refl, refl)
-last_plain table.OutgoingFiles = (refl, refl)
-last_plain table.ReceivedResponses = (refl, refl)
+last_read table.IncomingFiles = record { is = refl; unlisted = refl; plain = (refl, refl) }
+last_read table.OutgoingFiles = record { is = refl; unlisted = refl; plain = (refl, refl) }
+last_read table.ReceivedResponses = record { is = refl; unlisted = refl; plain = (refl, refl) }
 
 last_there : (which : Table) (r : Register) (db : Trees) (rows : List Row) → Tables r db → IsAnswer (last_query (tree_of which)) (overlay db []) [] rows → rows ≡ last_row (entries_in r which)
 last_there table.IncomingFiles r db rows kept = answers_last in_file_row (λ n x. refl) db in_file_tree rows r.incoming kept.incoming.headers
@@ -118,5 +112,5 @@ last_is_told (suc m) told rows is tells = subst (λ rows. TellsLast rows told �
 pub finds_last_no : (which : Table) (old new : State) (rows : List Row) (told : ℕ) → old.now.schema ≡ office_schema → Shown (last_text which) [] old new rows → TellsLast rows told
     → (r : Register) → Tables r old.now.trees → told ≡ entries_in r which
 finds_last_no which old new rows told has h tells r kept =
-    let read = reads_as (last_text which) [] old new office_schema has (last_select which) (last_is which).0 (last_plain which) (last_is which).1 rows h in
+    let read = read_so (last_text which) [] old new _ rows (last_read which) has h in
     last_is_told (entries_in r which) told rows (last_there which r old.now.trees rows kept (read.answer Null)) tells

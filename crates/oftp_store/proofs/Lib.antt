@@ -8,6 +8,7 @@ mod LastLemmas
 mod IdentityLemmas
 mod NextLemmas
 mod NumberLemmas
+mod ReadLemmas
 mod HeaderLemmas
 mod RowLookLemmas
 mod CommitLemmas
@@ -15,9 +16,11 @@ mod ChangeLemmas
 mod PlaceLemmas
 mod ListLemmas
 mod ReceivedLemmas
+mod LookLemmas
 mod LoopLemmas
 mod PageLemmas
 mod OfficeLemmas
+mod OpenLemmas
 mod SlotLemmas
 mod SubmissionLemmas
 mod BeginningLemmas

@@ -206,30 +206,25 @@ no_file : (partner : List ℕ) (tried n : ℕ) (fs : List Outgoing) → n + leng
 no_file partner tried n [] h = refl
 no_file partner tried n (f ∷ fs) h = let low : nat_lt tried n ≡ false = grind (arith, nat_tests, h) in rw low (no_file partner tried (n + 1) fs (omega (arith, h)))
 
--- the number where the database can hold it, and else one that is as far
-pub record IsWithin (tried given : ℕ) : Type 0 where
-  pub same : tried < 2 ^ 63 → given ≡ tried
-  pub far : 2 ^ 63 ≤ tried → given + 1 ≡ 2 ^ 63
-
-pub response_within : (r : Register) (partner : List ℕ) (tried given : ℕ) → length r.incoming < 2 ^ 63 → IsWithin tried given → next_response r partner given ≡ next_response r partner tried
-response_within r partner tried given few within =
+-- what is next behind a number is next behind the one that is given in its place: that number where the database can hold it, and else one that is as far
+same_within : {E : Type 0} (next : ℕ → Option E) (entries tried given : ℕ) → entries < 2 ^ 63 → ((at : ℕ) → 1 + entries ≤ at + 1 → next at ≡ None)
+    → (tried < 2 ^ 63 → given ≡ tried) → (2 ^ 63 ≤ tried → given + 1 ≡ 2 ^ 63) → next given ≡ next tried
+same_within next entries tried given few none same far =
     elim (cases_Bool (nat_lt tried (2 ^ 63))) [
-      | inl low ↦ ap (next_response r partner) (within.same (grind (arith, nat_tests, low)))
+      | inl low ↦ ap next (same (grind (arith, nat_tests, low)))
       | inr high ↦
           let above : 2 ^ 63 ≤ tried = grind (arith, nat_tests, high) in
-          let far = within.far above in
-          no_response partner given 1 r.incoming (omega (arith, few, far)) ∙ sym (no_response partner tried 1 r.incoming (omega (arith, few, above)))
+          let past = far above in
+          none given (omega (arith, few, past)) ∙ sym (none tried (omega (arith, few, above)))
     ]
 
-pub file_within : (r : Register) (partner : List ℕ) (tried given : ℕ) → length r.outgoing < 2 ^ 63 → IsWithin tried given → next_file r partner given ≡ next_file r partner tried
-file_within r partner tried given few within =
-    elim (cases_Bool (nat_lt tried (2 ^ 63))) [
-      | inl low ↦ ap (next_file r partner) (within.same (grind (arith, nat_tests, low)))
-      | inr high ↦
-          let above : 2 ^ 63 ≤ tried = grind (arith, nat_tests, high) in
-          let far = within.far above in
-          no_file partner given 1 r.outgoing (omega (arith, few, far)) ∙ sym (no_file partner tried 1 r.outgoing (omega (arith, few, above)))
-    ]
+pub response_within : (r : Register) (partner : List ℕ) (tried given : ℕ) → length r.incoming < 2 ^ 63 → (tried < 2 ^ 63 → given ≡ tried) → (2 ^ 63 ≤ tried → given + 1 ≡ 2 ^ 63)
+    → next_response r partner given ≡ next_response r partner tried
+response_within r partner tried given few = same_within (next_response r partner) (length r.incoming) tried given few (λ at. no_response partner at 1 r.incoming)
+
+pub file_within : (r : Register) (partner : List ℕ) (tried given : ℕ) → length r.outgoing < 2 ^ 63 → (tried < 2 ^ 63 → given ≡ tried) → (2 ^ 63 ≤ tried → given + 1 ≡ 2 ^ 63)
+    → next_file r partner given ≡ next_file r partner tried
+file_within r partner tried given few = same_within (next_file r partner) (length r.outgoing) tried given few (λ at. no_file partner at 1 r.outgoing)
 
 -- ---- the response to one file
 

@@ -1,5 +1,5 @@
 -- A list that look-ups in turn make, entry by entry.
-use Rattle.std.proofs.Common.{◌≡◌, ℕ, Ok, arith}
+use Rattle.std.proofs.Common.{◌≡◌, ℕ, Ok}
 use Rattle.sqlite.specs.State.{State, HasCleanDisk}
 use Rattle.oftp_schema.specs.Schema.{office_schema}
 use Rattle.oftp_register.specs.Register.{Register}
@@ -8,7 +8,7 @@ use Rattle.oftp_tables.specs.Calls.{Looks}
 use Rattle.oftp_tables.specs.Tables.{Tables}
 use Rattle.oftp_store.specs.Tells.{Tells}
 use Rattle.oftp_store.proofs.CommitLemmas.{looks_both}
-use Rattle.oftp_store.proofs.PlaceLemmas.{after_look}
+use Rattle.oftp_store.proofs.LookLemmas.{left_by}
 
 -- so far this is known of the register, by look-ups alone
 pub record IsKnown (Known : Register → Type 0) (old now : State) : Type 0 where
@@ -29,9 +29,8 @@ pub goes_on_known : {T : Type 0} (Known Next : Register → Type 0) (says : Regi
 goes_on_known Known Next says old mid now x is looks told next = record {
   looks = looks_both old mid now 0 (Ok 0) is.looks (looks_other mid now x 0 looks);
   known = λ k has r kept sound.
-      let early : HasCleanDisk mid = omega (arith, looks.clean, k) in
-      let was = after_look r old mid (is.looks.same early has) has kept in
-      next r kept sound (is.known early has r kept sound) (told k was.0 r was.1 sound);
+      let here = left_by r old mid now 0 (Ok x) is.looks looks k has kept in
+      next r kept sound (is.known here.clean has r kept sound) (told k here.schema r here.tables sound);
 }
 
 pub ends_known : {T : Type 0} (Known : Register → Type 0) (says : Register → T → Type 0) (old now : State) (x : T) → IsKnown Known old now

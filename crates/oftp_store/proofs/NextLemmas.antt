@@ -1,5 +1,5 @@
 -- What the queries for what is sent next answer.
-use Rattle.std.proofs.Common.{◌≡◌, ◌==◌, ◌&&◌, ◌+◌, ◌<◌, ◌++◌, ℕ, pos, nat_lt, Bool, true, false, cond, List, [], ◌∷◌, length, map, flat_map, find, slice_get, codes, Option, Some, None, is_gt, inl, inr, refl, sym, ap, subst, ◌∙◌, arith}
+use Rattle.std.proofs.Common.{◌≡◌, ◌==◌, ◌&&◌, ◌+◌, ◌<◌, ◌++◌, ◌^◌, ℕ, ℤ, pos, w64, to_z, of_z, nat_lt, Bool, true, false, cond, List, [], ◌∷◌, length, map, flat_map, find, slice_get, codes, Option, Some, None, is_gt, inl, inr, refl, sym, ap, subst, ◌∙◌, arith}
 use Rattle.std.specs.List.{list_all, filter_map}
 use Rattle.std.specs.List.Sorted.{IsPermutation}
 use Rattle.std.specs.Option.{option_map}
@@ -21,9 +21,8 @@ use Rattle.sqlite.specs.Query.{Query, IsAnswer, Output, output, output_cmp, inne
 use Rattle.sqlite.specs.Program.{overlay}
 use Rattle.sqlite.specs.Command.{Command}
 use Rattle.sqlite.specs.Command.TheVariants.{Select}
-use Rattle.sqlite.specs.Listing.{understood, reads_listing}
+use Rattle.sqlite.specs.Listing.{understood}
 use Rattle.sqlite.specs.State.{State, Shown}
-use Rattle.sqlite.proofs.Callers.{IsPlain, command_of, reads_as}
 use Rattle.sqlite_sql.specs.declared.ops.BinaryOp.TheVariants as by
 use Rattle.sqlite_sql.specs.declared.ops.CompareOp.TheVariants as compare
 use Rattle.oftp_schema.specs.Schema.{in_file_tree, issued_tree, office_schema, out_file_tree}
@@ -38,14 +37,21 @@ use Rattle.oftp_register.specs.declared.entries.OutgoingEntry.{OutgoingEntry}
 use Rattle.oftp_register.specs.Register.{Register, Incoming, Issued, Outgoing}
 use Rattle.oftp_register.specs.LookUps.{is_due, is_next_file, is_next_response, is_on_its_way, issued_entry, issued_response, numbered, outgoing_entry}
 use Rattle.oftp_tables.specs.Tables.{Tables, in_file_row, issued_from, issued_if_any, issued_row, number_value, out_file_row, out_state_text, rows_from, sent_number}
+use Rattle.oftp_tables.proofs.BindLemmas.{number_bound}
 use Rattle.oftp_store.specs.Numbers.{TellsNo, next_file_no, next_file_text, next_response_no, next_response_text}
 use Rattle.oftp_store.proofs.FirstLemmas.{answers_first, ascending, first_query, first_row, first_shown, first_wanted, number_told, passing, rising, shown}
+use Rattle.oftp_store.proofs.ReadLemmas.{IsRead, read_so}
 
 abbrev above : Term → Term → Term
 above = op2 (by.Compare compare.Gt Binary)
 
-abbrev next_params : ℕ → List ℕ → Row
+abbrev pub next_params : ℕ → List ℕ → Row
 next_params tried partner = number_value tried ∷ Text partner ∷ []
+
+-- a number and a partner are given to a query as they are
+pub next_given : {tried : ℕ} {value : ℤ} {given partner : List ℕ} (text : List ℕ) (old new : State) (rows : List Row) → tried < 2 ^ 63 → value ≡ pos tried → given ≡ partner
+    → Shown text (Int (to_z w64 (of_z w64 value)) ∷ Text given ∷ []) old new rows → Shown text (next_params tried partner) old new rows
+next_given {tried} {value} text old new rows small value_is is h = rw (number_bound tried value value_is small, is) at h
 
 gt_of_cmp : (m n : ℕ) → is_gt (nat_cmp m n) ≡ nat_lt n m
 gt_of_cmp m n =
@@ -71,16 +77,12 @@ greater_numbers m n = truth_of (is_gt (value_cmp (Int (pos m)) (Int (pos n)))) �
 abbrev next_file_filter : List Term
 next_file_filter = above (col 1 0) (col 0 0) ∷ op2 by.Or (equal (col 1 11) (lit (Text (codes "waiting")))) (equal (col 1 11) (lit (Text (codes "closing")))) ∷ equal (col 1 6) (col 0 1) ∷ []
 
-abbrev next_file_select : Command
+abbrev pub next_file_select : Command
 next_file_select = Select (record { lets = []; body = first_query out_file_tree next_file_filter }) (codes "no" ∷ [])
 
-next_file_is : (command_of (understood office_schema next_file_text) ≡ next_file_select) × (reads_listing office_schema next_file_text ≡ false)
+pub next_file_read : IsRead next_file_text next_file_select
 unfolding understood everything
-next_file_is = (refl, refl)
-
-pub next_file_plain : IsPlain (understood office_schema next_file_text)
-unfolding understood everything
-next_file_plain = (refl, refl)
+next_file_read = record { is = refl; unlisted = refl; plain = (refl, refl) }
 
 on_its_way : (s : OutgoingState) → is_true (binary by.Or (binary (by.Compare compare.Eq Binary) (Text (out_state_text s)) (Text (codes "waiting"))) (binary (by.Compare compare.Eq Binary)
     (Text (out_state_text s)) (Text (codes "closing")))) ≡ is_on_its_way s
@@ -98,12 +100,12 @@ is_next partner tried n f = nat_lt tried n && (is_on_its_way f.state && bytes_eq
 file_passes : (partner : List ℕ) (tried n : ℕ) (f : Outgoing) → list_all (holds (next_params tried partner ∷ out_file_row n f ∷ [])) next_file_filter ≡ is_next partner tried n f
 file_passes partner tried n f = simp (greater_numbers, on_its_way, equal_texts, and_true)
 
-pub finds_next_file : (old new : State) (partner : List ℕ) (tried : ℕ) (rows : List Row) (told : Option ℕ) → old.now.schema ≡ office_schema
-    → Shown next_file_text (next_params tried partner) old new rows → TellsNo rows told
+pub finds_next_file : (old new : State) (partner : List ℕ) (tried : ℕ) (rows : List Row) → old.now.schema ≡ office_schema
+    → Shown next_file_text (next_params tried partner) old new rows → (told : Option ℕ) → TellsNo rows told
     → (r : Register) → Tables r old.now.trees → told ≡ next_file_no r partner tried
-finds_next_file old new partner tried rows told has h tells r kept =
+finds_next_file old new partner tried rows has h told tells r kept =
     let params = next_params tried partner in
-    let read = reads_as next_file_text params old new office_schema has next_file_select next_file_is.0 next_file_plain next_file_is.1 rows h in
+    let read = read_so next_file_text params old new _ rows next_file_read has h in
     number_told _ rows told (answers_first out_file_row (λ n x. refl) next_file_filter params (is_next partner tried)
     (file_passes partner tried) old.now.trees out_file_tree rows r.outgoing kept.outgoing.headers (read.answer Null)) tells
     ∙ first_wanted outgoing_entry (λ (e : OutgoingEntry). e.no) (λ n x. refl) (is_next_file partner tried) (is_next partner tried) (λ n x. refl) 1 r.outgoing
@@ -116,16 +118,12 @@ due_filter = equal (col 2 0) (col 1 0) ∷ above (col 1 0) (col 0 0) ∷ equal (
 abbrev due_query : Query
 due_query = record (first_query issued_tree due_filter) { from = inner issued_tree (inner in_file_tree end) }
 
-abbrev due_select : Command
+abbrev pub due_select : Command
 due_select = Select (record { lets = []; body = due_query }) (codes "no" ∷ [])
 
-due_is : (command_of (understood office_schema next_response_text) ≡ due_select) × (reads_listing office_schema next_response_text ≡ false)
+pub due_read : IsRead next_response_text due_select
 unfolding understood everything
-due_is = (refl, refl)
-
-pub due_plain : IsPlain (understood office_schema next_response_text)
-unfolding understood everything
-due_plain = (refl, refl)
+due_read = record { is = refl; unlisted = refl; plain = (refl, refl) }
 
 -- a file's response is the next
 abbrev is_due_in : List ℕ → ℕ → ℕ → Incoming → Option Issued → Bool
@@ -254,11 +252,11 @@ first_due partner tried n (f ∷ files) = go f.response (first_due partner tried
     go None more = more
     go (Some x) more = pick (is_due_in partner tried n f (Some x)) x more
 
-pub finds_next_response : (old new : State) (partner : List ℕ) (tried : ℕ) (rows : List Row) (told : Option ℕ) → old.now.schema ≡ office_schema
-    → Shown next_response_text (next_params tried partner) old new rows → TellsNo rows told
+pub finds_next_response : (old new : State) (partner : List ℕ) (tried : ℕ) (rows : List Row) → old.now.schema ≡ office_schema
+    → Shown next_response_text (next_params tried partner) old new rows → (told : Option ℕ) → TellsNo rows told
     → (r : Register) → Tables r old.now.trees → told ≡ next_response_no r partner tried
-finds_next_response old new partner tried rows told has h tells r kept =
+finds_next_response old new partner tried rows has h told tells r kept =
     let params = next_params tried partner in
-    let read = reads_as next_response_text params old new office_schema has due_select due_is.0 due_plain due_is.1 rows h in
+    let read = read_so next_response_text params old new _ rows due_read has h in
     number_told _ rows told (due_rows old.now.trees partner tried rows r.incoming kept.incoming.responses kept.incoming.headers (read.answer Null)) tells
     ∙ first_due partner tried 1 r.incoming

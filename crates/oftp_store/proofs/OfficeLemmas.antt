@@ -1,12 +1,12 @@
 -- A look-up and a commit of the connection are those of the office.
-use Rattle.std.proofs.Common.{◌≡◌, ◌≤◌, ◌<◌, ◌^◌, ◌⊎◌, ◌||◌, nat_le, nat_lt, true, ℕ, zero, suc, List, [], length, map, take, drop, Result, Ok, Err, IsTrue, IfOk, OnOk, OnErr, Option, None, unwrap_or, inl, inr, refl, sym, ap, ◌∙◌, arith}
+use Rattle.std.proofs.Common.{◌≡◌, ◌≤◌, ◌<◌, ◌^◌, ◌||◌, nat_le, nat_lt, true, ℕ, zero, suc, List, [], length, map, take, drop, Result, Ok, Err, IsTrue, OnOk, OnErr, None, unwrap_or, inl, inr, refl, sym, ap, ◌∙◌, arith}
 use Rattle.std.proofs.lemmas.Bool.{cases_Bool}
 use Rattle.std.proofs.lemmas.Bool.Decides.{nat_tests}
 use Rattle.std.proofs.lemmas.List.{length-map, drop_all}
 use Rattle.std.proofs.lemmas.Result.{IfOk-weaker, on_err_weaker, on_ok_weaker}
 use Rattle.sqlite.specs.Tree.{Trees}
 use Rattle.sqlite.specs.Effect.{Database}
-use Rattle.sqlite.specs.State.{State, HasCleanDisk, IsUnchanged}
+use Rattle.sqlite.specs.State.{State, IsUnchanged}
 use Rattle.sqlite.specs.Held.{Held, state}
 use Rattle.sqlite_trees.specs.declared.store.Store.{Ghosts}
 use Rattle.oftp_vfile.specs.declared.format.Limits.{Limits}
@@ -19,7 +19,7 @@ use Rattle.oftp_register.specs.Register.{Register}
 use Rattle.oftp_register.specs.Soundness.{IsSound}
 use Rattle.oftp_register.proofs.FileRowLemmas.{few_rows}
 use Rattle.oftp_vfile.specs.VirtualFile.{units_in}
-use Rattle.oftp_register.specs.LookUps.{entry_at, file_rows, in_by_no, out_by_no, rows_of, units_of}
+use Rattle.oftp_register.specs.LookUps.{file_rows, in_by_no, out_by_no, rows_of, units_of}
 use Rattle.oftp_register.specs.Offices.{Commits, Counts, LooksUp, View}
 use Rattle.oftp_schema.specs.Calls.{IsSpared}
 use Rattle.oftp_tables.specs.Calls.{Looks}

@@ -1,17 +1,14 @@
 -- What changes ask of the file with a number, from its header, its rows and its response.
-use Rattle.std.proofs.Common.{◌≡◌, ℕ, List, [], ◌∷◌, length, map, Option, Some, None, unwrap_or, refl, sym, ap, subst, ◌∙◌, arith}
+use Rattle.std.proofs.Common.{◌≡◌, ℕ, List, [], ◌∷◌, length, map, Option, Some, None, unwrap_or, refl, sym, ap, ◌∙◌, arith}
 use Rattle.std.specs.Option.{option_map}
 use Rattle.std.proofs.lemmas.List.{map-append, length-map}
-use Rattle.sqlite.specs.Effect.{Database}
-use Rattle.sqlite.specs.State.{State, IsUnchanged}
-use Rattle.oftp_schema.specs.Schema.{office_schema}
 use Rattle.oftp_register.specs.declared.entries.IssuedResponse.{IssuedResponse}
 use Rattle.oftp_register.specs.declared.entries.Side.TheVariants as side
 use Rattle.oftp_register.specs.Register.{Register, Incoming, Issued, Outgoing}
 use Rattle.oftp_register.specs.LookUps.{entry_at, file_rows, in_by_no, incoming_entry, issued_response, out_by_no, outgoing_entry}
 use Rattle.oftp_register.specs.declared.entries.IncomingEntry.{IncomingEntry}
 use Rattle.oftp_register.specs.declared.entries.OutgoingEntry.{OutgoingEntry}
-use Rattle.oftp_tables.specs.Tables.{Tables, rows_in, rows_out}
+use Rattle.oftp_tables.specs.Tables.{rows_in, rows_out}
 use Rattle.oftp_store.specs.Reads.{IsPlaced, IsResponseTo, IsToldOf, incoming_header_of, outgoing_header_of}
 use Rattle.oftp_store.specs.Places.{answered_of, dispatch_of, place_of, stage_of}
 use Rattle.oftp_store.specs.declared.looks.header.IncomingHeader.{IncomingHeader}
@@ -20,10 +17,6 @@ use Rattle.oftp_store.specs.declared.looks.place.Place.{Place}
 use Rattle.oftp_store.specs.declared.looks.place.Stage.{Stage}
 use Rattle.oftp_store.specs.declared.looks.place.Answered.{Answered}
 use Rattle.oftp_store.proofs.NumberLemmas.{entry_known, entry_placed, entry_unknown}
-
--- what a look-up leaves
-pub after_look : (r : Register) (old new : State) → IsUnchanged old new → old.now.schema ≡ office_schema → Tables r old.now.trees → (new.now.schema ≡ office_schema) × Tables r new.now.trees
-after_look r old new same has kept = (ap (λ (d : Database). d.schema) same.0.now_is ∙ has, subst (λ (d : Database). Tables r d.trees) (sym same.0.now_is) kept)
 
 -- what each entry has, at a number
 mapped_placed : {X Y : Type 0} (f : X → Y) (k : ℕ) (xs before : List X) (x : X) (after : List X) → IsPlaced xs k before x after → entry_at k (map f xs) ≡ Some (f x)

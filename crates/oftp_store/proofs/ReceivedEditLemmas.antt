@@ -5,7 +5,7 @@ use Rattle.sqlite.specs.Order.{Row}
 use Rattle.sqlite.specs.Tree.{Trees}
 use Rattle.sqlite.specs.Table.{Table}
 use Rattle.sqlite.specs.State.{State, ExecutesInside}
-use Rattle.oftp_schema.specs.Schema.{note_tree, office_schema, received, received_note, received_tree}
+use Rattle.oftp_schema.specs.Schema.{about_tree, in_file_tree, in_row_tree, issued_tree, note_tree, office_schema, out_file_tree, out_row_tree, received, received_note, received_tree}
 use Rattle.oftp_schema.proofs.TermLemmas.{cast_null, cast_int}
 use Rattle.std.proofs.Common.{Bor}
 use Rattle.oftp_wire.specs.declared.field.Text.{Text as Words}
@@ -14,9 +14,9 @@ use Rattle.oftp_register.specs.declared.entry.ResponseKind.{ResponseKind}
 use Rattle.oftp_register.specs.declared.entry.ResponseKind.TheVariants.{EndResponse, NegativeEndResponse}
 use Rattle.oftp_register.specs.Register.{Register, Received}
 use Rattle.oftp_tables.specs.Calls.{Moves}
-use Rattle.oftp_tables.specs.Tables.{HoldIncoming, HoldOutgoing, Tables, identity_values, kind_text, note_if_negative, notes_from, number_value, reason_text, received_row}
+use Rattle.oftp_tables.specs.Tables.{HoldIncoming, HoldOutgoing, Tables, about_row, identity_values, kind_text, note_if_negative, notes_from, number_value, reason_text, received_row}
 use Rattle.oftp_tables.proofs.SplitLemmas.{HaveNumber, IsSplit, among, pieces_below, pieces_from}
-use Rattle.oftp_tables.proofs.StatementLemmas.{PutsIn, inserts_row}
+use Rattle.oftp_tables.proofs.StatementLemmas.{Others, PutsIn, inserts_row}
 use Rattle.oftp_register.specs.declared.name.Name.{Name}
 use Rattle.oftp_store.specs.Edits.{HoldNoteless, Makes, MakesNote, MakesNoteless}
 use Rattle.oftp_store.specs.declared.changes.edit.Deed.TheVariants.{AddReceived}
@@ -33,24 +33,39 @@ our_note = record received_note { tree = note_tree }
 abbrev received_source : ℕ → ResponseKind → Identity → ℕ → Row
 received_source n kind identity reason = number_value n ∷ Null ∷ Text (kind_text kind) ∷ identity_values identity ++ Text (reason_text kind reason) ∷ []
 
+-- what the tables but those of the responses that came hold
+record HoldFiles (r : Register) (db : Trees) : Type 0 where
+  about : db about_tree ≡ about_row ∷ []
+  incoming : HoldIncoming r.incoming (db in_file_tree) (db in_row_tree) (db issued_tree)
+  outgoing : HoldOutgoing r.outgoing (db out_file_tree) (db out_row_tree)
+
+-- they hold it still, where another table is written
+files_stay : (r : Register) (tree : ℕ) (old new : Trees) → issued_tree < tree → Others tree old new → old about_tree ≡ about_row ∷ []
+    → HoldIncoming r.incoming (old in_file_tree) (old in_row_tree) (old issued_tree) → HoldOutgoing r.outgoing (old out_file_tree) (old out_row_tree) → HoldFiles r new
+files_stay r tree old new past others about incoming outgoing = record {
+  about = others.0 (λ e. omega (arith, e, past)) ∙ about;
+  incoming =
+      subst (λ issued. HoldIncoming r.incoming (new 1) (new 3) issued) (sym (others.1.1.1.1.1.0 (λ e. omega (arith, e, past))))
+      (subst (λ in_row. HoldIncoming r.incoming (new 1) in_row (old 9)) (sym (others.1.1.0 (λ e. omega (arith, e, past))))
+      (subst (λ in_file. HoldIncoming r.incoming in_file (old 3) (old 9)) (sym (others.1.0 (λ e. omega (arith, e, past)))) incoming));
+  outgoing =
+      subst (HoldOutgoing r.outgoing (new 5)) (sym (others.1.1.1.1.0 (λ e. omega (arith, e, past))))
+      (subst (λ out_file. HoldOutgoing r.outgoing out_file (old 7)) (sym (others.1.1.1.0 (λ e. omega (arith, e, past)))) outgoing);
+}
+
 makes_noteless : (n : ℕ) (kind : ResponseKind) (identity : Identity) (reason : ℕ) → reason < 100 → (old new : Trees)
     → PutsIn n our_received (received_source n kind identity reason) old new → MakesNoteless n kind identity reason old new
 makes_noteless n kind identity reason small old new made r creator text next kept =
     let x : Received = record { kind = kind; identity = identity; reason = reason; creator = creator; text = text } in
     let place = behind received_row (λ k x. refl) n r.received next.number in
     let row = made.rows place.lo [] (received_row n x) place.split refl (simp (cast_null, cast_int)) (kept.received.responses_are ∙ place.was) in
-    let o = made.others in
+    let files = files_stay r received_tree old new (omega arith) made.others kept.about kept.incoming kept.outgoing in
     record {
-      about = o.0 (λ e. omega (arith, e)) ∙ kept.about;
-      incoming =
-          subst (λ issued. HoldIncoming r.incoming (new 1) (new 3) issued) (sym (o.1.1.1.1.1.0 (λ e. omega (arith, e))))
-          (subst (λ in_row. HoldIncoming r.incoming (new 1) in_row (old 9)) (sym (o.1.1.0 (λ e. omega (arith, e))))
-          (subst (λ in_file. HoldIncoming r.incoming in_file (old 3) (old 9)) (sym (o.1.0 (λ e. omega (arith, e)))) kept.incoming));
-      outgoing =
-          subst (HoldOutgoing r.outgoing (new 5)) (sym (o.1.1.1.1.0 (λ e. omega (arith, e))))
-          (subst (λ out_file. HoldOutgoing r.outgoing out_file (old 7)) (sym (o.1.1.1.0 (λ e. omega (arith, e)))) kept.outgoing);
+      about = files.about;
+      incoming = files.incoming;
+      outgoing = files.outgoing;
       responses_are = row ∙ sym (place.is x);
-      notes_are = o.1.1.1.1.1.1.1.0 (λ e. omega (arith, e)) ∙ kept.received.notes_are;
+      notes_are = made.others.1.1.1.1.1.1.1.0 (λ e. omega (arith, e)) ∙ kept.received.notes_are;
       reasons = all_and_last (λ (y : Received). y.reason < 100) r.received x kept.received.reasons small;
     }
 
@@ -86,18 +101,13 @@ makes_note n creator text old new made r identity reason next held =
     let lo = pieces_from note_piece 1 r.received in
     let split : IsSplit n lo [] = record { below = pieces_below note_piece note_number n 1 r.received (omega (arith, next.number)); above = tt } in
     let row = made.rows lo [] (number_value n ∷ Null ∷ Text creator ∷ Text text ∷ []) split refl (simp (cast_null, cast_int)) (held.notes_are ∙ notes_pieces 1 r.received ∙ sym (append-nil lo)) in
-    let o = made.others in
+    let files = files_stay r note_tree old new (omega arith) made.others held.about held.incoming held.outgoing in
     record {
-      about = o.0 (λ e. omega (arith, e)) ∙ held.about;
-      incoming =
-          subst (λ issued. HoldIncoming r.incoming (new 1) (new 3) issued) (sym (o.1.1.1.1.1.0 (λ e. omega (arith, e))))
-          (subst (λ in_row. HoldIncoming r.incoming (new 1) in_row (old 9)) (sym (o.1.1.0 (λ e. omega (arith, e))))
-          (subst (λ in_file. HoldIncoming r.incoming in_file (old 3) (old 9)) (sym (o.1.0 (λ e. omega (arith, e)))) held.incoming));
-      outgoing =
-          subst (HoldOutgoing r.outgoing (new 5)) (sym (o.1.1.1.1.0 (λ e. omega (arith, e))))
-          (subst (λ out_file. HoldOutgoing r.outgoing out_file (old 7)) (sym (o.1.1.1.0 (λ e. omega (arith, e)))) held.outgoing);
+      about = files.about;
+      incoming = files.incoming;
+      outgoing = files.outgoing;
       received = record {
-        responses_are = o.1.1.1.1.1.1.0 (λ e. omega (arith, e)) ∙ held.responses_are;
+        responses_are = made.others.1.1.1.1.1.1.0 (λ e. omega (arith, e)) ∙ held.responses_are;
         notes_are = row ∙ sym (notes_pieces 1 (r.received ++ x ∷ []) ∙ found.rows);
         reasons = held.reasons;
       };

@@ -1,5 +1,5 @@
 -- Responses that came are read back.
-use Rattle.std.proofs.Common.{◌≡◌, ◌+◌, ◌<◌, ℕ, false, List, [], ◌∷◌, ◌++◌, codes, Some, None, All, refl, sym, ap, subst, ◌∙◌}
+use Rattle.std.proofs.Common.{◌≡◌, ◌+◌, ◌<◌, ℕ, List, [], ◌∷◌, ◌++◌, codes, Some, None, All, refl, sym, ap, subst, ◌∙◌}
 use Rattle.std.specs.List.{AllByRecursion}
 use Rattle.std.specs.List.Sorted.{IsPermutation}
 use Rattle.sqlite_tied.specs.Compute.{everything}
@@ -8,9 +8,9 @@ use Rattle.sqlite.specs.Order.{Row}
 use Rattle.sqlite.specs.Term.{Term, col, eval_all}
 use Rattle.sqlite.specs.Command.{Command}
 use Rattle.sqlite.specs.Command.TheVariants.{Select}
-use Rattle.sqlite.specs.Listing.{understood, reads_listing}
+use Rattle.sqlite.specs.Listing.{understood}
 use Rattle.sqlite.specs.State.{State, Shown}
-use Rattle.sqlite.proofs.Callers.{IsPlain, command_of, reads_as, one_permutation}
+use Rattle.sqlite.proofs.Callers.{one_permutation}
 use Rattle.oftp_wire.specs.Octets.{number}
 use Rattle.oftp_schema.specs.Schema.{note_tree, office_schema, received_tree}
 use Rattle.oftp_schema.proofs.QueryLemmas.{answers, chosen, plain_query}
@@ -29,26 +29,23 @@ use Rattle.oftp_store.specs.Tells.{received_by_no}
 use Rattle.oftp_store.specs.Texts.{received_text, remark_text}
 use Rattle.oftp_store.specs.declared.looks.received.ReceivedHeader.{ReceivedHeader}
 use Rattle.oftp_store.specs.declared.looks.received.Remark.{Remark}
-use Rattle.oftp_store.proofs.NumberLemmas.{OneRow, entry_known, entry_unknown, nowhere, one_row, somewhere}
+use Rattle.oftp_store.proofs.NumberLemmas.{entry_known, entry_unknown}
+use Rattle.oftp_store.proofs.ReadLemmas.{IsRead, finds_told, read_so}
 use Rattle.oftp_store.proofs.ReceivedEditLemmas.{note_number, note_piece, notes_pieces}
 
 -- ---- without the texts
 
-abbrev received_project : List Term
+abbrev pub received_project : List Term
 received_project = col 1 2 ∷ col 1 3 ∷ col 1 4 ∷ col 1 5 ∷ col 1 6 ∷ col 1 7 ∷ col 1 8 ∷ []
 
-abbrev received_select : Command
+abbrev pub received_select : Command
 received_select =
     Select (record { lets = []; body = plain_query received_tree by_number received_project })
     (codes "kind" ∷ codes "dataset" ∷ codes "date" ∷ codes "time" ∷ codes "originator" ∷ codes "destination" ∷ codes "reason" ∷ [])
 
-received_is : (command_of (understood office_schema received_text) ≡ received_select) × (reads_listing office_schema received_text ≡ false)
+pub received_read : IsRead received_text received_select
 unfolding understood everything
-received_is = (refl, refl)
-
-pub received_plain : IsPlain (understood office_schema received_text)
-unfolding understood everything
-received_plain = (refl, refl)
+received_read = record { is = refl; unlisted = refl; plain = (refl, refl) }
 
 textless : (kind : ResponseKind) (reason : ℕ) (creator text : List ℕ) → IsResponse kind reason creator text → IsResponse kind reason [] []
 textless EndResponse reason creator text h = (h.0, refl, refl)
@@ -68,40 +65,29 @@ pub finds_received : (old new : State) (k : ℕ) (rows : List Row) → old.now.s
     → (r : Register) → Tables r old.now.trees → IsSound r
     → IsToldOf received_header_of r.received k (first_told received_header_in rows)
 finds_received old new k rows has h r kept sound =
-    let params = number_value k ∷ [] in
-    let read = reads_as received_text params old new office_schema has received_select received_is.0 received_plain received_is.1 rows h in
-    go (one_row received_row (λ n x. refl) r.received k received_project rows
-    (subst (λ table. IsPermutation (chosen by_number received_project params table) rows) kept.received.responses_are
-    (answers old.now.trees received_tree by_number received_project params rows (read.answer Null))))
-  where
-    go : OneRow received_row r.received k received_project rows → IsToldOf received_header_of r.received k (first_told received_header_in rows)
-    go (nowhere none unknown) = subst (λ rows. IsToldOf received_header_of r.received k (first_told received_header_in rows)) (sym none) unknown
-    go (somewhere before x after placed one) =
-        let small = at_place (λ (y : Received). y.reason < 100) before x after (subst (AllByRecursion (λ (y : Received). y.reason < 100)) placed.here kept.received.reasons) in
-        let right = all_at_place IsSoundReceived before x after (subst (All IsSoundReceived) placed.here sound.received) in
-        subst (λ rows. IsToldOf received_header_of r.received k (first_told received_header_in rows)) (sym one) (before, x, after, placed, header_back k x small right)
+    finds_told received_row (λ n x. refl) received_tree received_project received_text _ received_read received_header_in received_header_of old new r.received k rows has h kept.received.responses_are
+    (λ before x after placed.
+    let small = at_place (λ (y : Received). y.reason < 100) before x after (subst (AllByRecursion (λ (y : Received). y.reason < 100)) placed.here kept.received.reasons) in
+    let right = all_at_place IsSoundReceived before x after (subst (All IsSoundReceived) placed.here sound.received) in
+    header_back k x small right)
 
 -- ---- the texts
 
-abbrev remark_project : List Term
+abbrev pub remark_project : List Term
 remark_project = col 1 2 ∷ col 1 3 ∷ []
 
-abbrev remark_select : Command
+abbrev pub remark_select : Command
 remark_select = Select (record { lets = []; body = plain_query note_tree by_number remark_project }) (codes "creator" ∷ codes "note" ∷ [])
 
-remark_is : (command_of (understood office_schema remark_text) ≡ remark_select) × (reads_listing office_schema remark_text ≡ false)
+pub remark_read : IsRead remark_text remark_select
 unfolding understood everything
-remark_is = (refl, refl)
-
-pub remark_plain : IsPlain (understood office_schema remark_text)
-unfolding understood everything
-remark_plain = (refl, refl)
+remark_read = record { is = refl; unlisted = refl; plain = (refl, refl) }
 
 pub finds_remark : (old new : State) (k : ℕ) (rows : List Row) → old.now.schema ≡ office_schema → Shown remark_text (number_value k ∷ []) old new rows → (r : Register) → Tables r old.now.trees
     → (before : List Received) (x : Received) (after : List Received) → IsPlaced r.received k before x after → x.kind ≡ NegativeEndResponse → first_told remark_in rows ≡ Some (remark_of x)
 finds_remark old new k rows has h r kept before x after placed negative =
     let params = number_value k ∷ [] in
-    let read = reads_as remark_text params old new office_schema has remark_select remark_is.0 remark_plain remark_is.1 rows h in
+    let read = read_so remark_text params old new _ rows remark_read has h in
     let perm = answers old.now.trees note_tree by_number remark_project params rows (read.answer Null) in
     let place = among note_piece note_number k before x after placed.number in
     let table : old.now.trees note_tree ≡ lo ++ (note_if_negative k x NegativeEndResponse ++ hi) =

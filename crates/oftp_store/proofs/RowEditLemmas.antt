@@ -39,7 +39,7 @@ use Rattle.oftp_tables.proofs.PlaceLemmas.{place}
 use Rattle.oftp_tables.proofs.RowLemmas.{from_filter, from_passes, from_same, from_test, put_fresh, put_numbered}
 use Rattle.oftp_tables.proofs.StatementLemmas.{Others}
 use Rattle.oftp_tables.proofs.TxLemmas.{moves_then}
-use Rattle.oftp_store.specs.Edits.{Makes, MakesRows}
+use Rattle.oftp_store.specs.Edits.{AddsRowsTo, Makes, MakesRows}
 use Rattle.oftp_store.specs.Texts.{add_row_text, cut_rows_text}
 use Rattle.oftp_store.specs.declared.changes.edit.Deed.TheVariants.{CutRows}
 use Rattle.oftp_store.proofs.EditLemmas.{all_but, length_but}
@@ -209,42 +209,45 @@ row_added which old new n at body count has h =
 
 -- ---- a loop
 
--- the rows in two parts
-add_apart : {X : Type 0} (xs : List X) (i : ℕ) (x : X) → i < length xs → x ≡ get_or xs i x → take (i + 1) xs ≡ take i xs ++ x ∷ []
-add_apart xs i x within item = take_more xs i x within ∙ ap (λ b. take i xs ++ b ∷ []) (sym item)
+-- bodies behind rows, and one body more behind those
+more_rows : (rows bodies : List (List ℕ)) (i : ℕ) (body : List ℕ) → i < length bodies → body ≡ get_or bodies i body → rows ++ take (i + 1) bodies ≡ (rows ++ take i bodies) ++ body ∷ []
+more_rows rows bodies i body within item =
+    ap (λ more. rows ++ more) (take_more bodies i body within ∙ ap (λ b. take i bodies ++ b ∷ []) (sym item)) ∙ sym (append_assoc rows (take i bodies) (body ∷ []))
+
+-- so many rows there are before it
+rows_so_far : (rows bodies : List (List ℕ)) (from i at : ℕ) → length rows ≡ from → i < length bodies → at ≡ from + i → length (rows ++ take i bodies) ≡ at
+rows_so_far rows bodies from i at was within place = omega (arith, length-append rows (take i bodies), was, length-take i bodies, place, within)
+
+-- the last of the rows that are added
+record EndsWithRow (which : Side) (n from at : ℕ) (rows : List (List ℕ)) (body : List ℕ) (r s : Register) : Type 0 where
+  mid : Register
+  first : AddsRowsTo which n from rows r mid
+  last : AddsRowsTo which n at (body ∷ []) mid s
+
+ends_with_row : (which : Side) (n from i at : ℕ) (bodies : List (List ℕ)) (body : List ℕ) (r s : Register) → i < length bodies → body ≡ get_or bodies i body → at ≡ from + i
+    → AddsRowsTo which n from (take (i + 1) bodies) r s → EndsWithRow which n from at (take i bodies) body r s
+ends_with_row side.Incoming n from i at bodies body r s within item place did =
+    let g : Incoming = record did.file { rows = did.file.rows ++ take i bodies } in
+    let now = did.now ∙ ap (λ rows. let q : Register = record r { incoming = did.before ++ (record g { rows = rows }) ∷ did.after } in q) (more_rows did.file.rows bodies i body within item) in
+    record {
+      mid = record r { incoming = did.before ++ g ∷ did.after };
+      first = record { before = did.before; file = did.file; after = did.after; here = did.here; number = did.number; was = did.was; now = refl };
+      last = record { before = did.before; file = g; after = did.after; here = refl; number = did.number; was = rows_so_far did.file.rows bodies from i at did.was within place; now = now };
+    }
+ends_with_row side.Outgoing n from i at bodies body r s within item place did =
+    let g : Outgoing = record did.file { rows = did.file.rows ++ take i bodies } in
+    let now = did.now ∙ ap (λ rows. let q : Register = record r { outgoing = did.before ++ (record g { rows = rows }) ∷ did.after } in q) (more_rows did.file.rows bodies i body within item) in
+    record {
+      mid = record r { outgoing = did.before ++ g ∷ did.after };
+      first = record { before = did.before; file = did.file; after = did.after; here = did.here; number = did.number; was = did.was; now = refl };
+      last = record { before = did.before; file = g; after = did.after; here = refl; number = did.number; was = rows_so_far did.file.rows bodies from i at did.was within place; now = now };
+    }
 
 makes_more : (which : Side) (n from i at : ℕ) (bodies : List (List ℕ)) (body : List ℕ) (a b c : Trees) → i < length bodies → body ≡ get_or bodies i body → at ≡ from + i
     → MakesRows which n from (take i bodies) a b → MakesRows which n at (body ∷ []) b c → MakesRows which n from (take (i + 1) bodies) a c
-makes_more side.Incoming n from i at bodies body a b c within item place one two r s did kept =
-    let f = did.file in
-    let some = take i bodies in
-    let g : Incoming = record f { rows = f.rows ++ some } in
-    let mid : Register = record r { incoming = did.before ++ g ∷ did.after } in
-    let all : f.rows ++ take (i + 1) bodies ≡ g.rows ++ body ∷ [] = ap (λ rows. f.rows ++ rows) (add_apart bodies i body within item) ∙ sym (append_assoc f.rows some (body ∷ [])) in
-    two mid s (record {
-      before = did.before;
-      file = g;
-      after = did.after;
-      here = refl;
-      number = did.number;
-      was = omega (arith, length-append f.rows some, did.was, length-take i bodies, place, within);
-      now = did.now ∙ ap (λ rows. let q : Register = record r { incoming = did.before ++ (record f { rows = rows }) ∷ did.after } in q) all;
-    }) (one r mid (record { before = did.before; file = f; after = did.after; here = did.here; number = did.number; was = did.was; now = refl }) kept)
-makes_more side.Outgoing n from i at bodies body a b c within item place one two r s did kept =
-    let f = did.file in
-    let some = take i bodies in
-    let g : Outgoing = record f { rows = f.rows ++ some } in
-    let mid : Register = record r { outgoing = did.before ++ g ∷ did.after } in
-    let all : f.rows ++ take (i + 1) bodies ≡ g.rows ++ body ∷ [] = ap (λ rows. f.rows ++ rows) (add_apart bodies i body within item) ∙ sym (append_assoc f.rows some (body ∷ [])) in
-    two mid s (record {
-      before = did.before;
-      file = g;
-      after = did.after;
-      here = refl;
-      number = did.number;
-      was = omega (arith, length-append f.rows some, did.was, length-take i bodies, place, within);
-      now = did.now ∙ ap (λ rows. let q : Register = record r { outgoing = did.before ++ (record f { rows = rows }) ∷ did.after } in q) all;
-    }) (one r mid (record { before = did.before; file = f; after = did.after; here = did.here; number = did.number; was = did.was; now = refl }) kept)
+makes_more which n from i at bodies body a b c within item place one two r s did kept =
+    let parts = ends_with_row which n from i at bodies body r s within item place did in
+    two parts.mid s parts.last (one r parts.mid parts.first kept)
 
 -- one more row of the file
 pub adds_more : (which : Side) (n from i at : ℕ) (bodies : List (List ℕ)) (body : List ℕ) (old mid new : State) → i < length bodies → body ≡ get_or bodies i body → at ≡ from + i

@@ -17,9 +17,8 @@ use Rattle.sqlite.specs.Query.{Query, IsAnswer, Output, output, output_cmp}
 use Rattle.sqlite.specs.Program.{overlay}
 use Rattle.sqlite.specs.Command.{Command}
 use Rattle.sqlite.specs.Command.TheVariants.{Select}
-use Rattle.sqlite.specs.Listing.{understood, reads_listing}
+use Rattle.sqlite.specs.Listing.{understood}
 use Rattle.sqlite.specs.State.{State, Shown}
-use Rattle.sqlite.proofs.Callers.{IsPlain, command_of, reads_as}
 use Rattle.sqlite_sql.specs.declared.ops.BinaryOp.TheVariants as by
 use Rattle.sqlite_sql.specs.declared.ops.CompareOp.TheVariants as compare
 use Rattle.oftp_schema.specs.Schema.{in_row_tree, office_schema, out_row_tree}
@@ -37,8 +36,9 @@ use Rattle.oftp_tables.proofs.ManyLemmas.{without_rowids, rows_from_place, no_ro
 use Rattle.oftp_store.specs.Reads.{TellsCount, place_told}
 use Rattle.oftp_store.specs.Texts.{last_row_text, some_rows_text}
 use Rattle.oftp_store.proofs.NumberLemmas.{entry_beyond, entry_placed}
+use Rattle.oftp_store.proofs.ReadLemmas.{IsRead, read_so}
 
-abbrev tree_of : Side → ℕ
+abbrev pub tree_of : Side → ℕ
 tree_of side.Incoming = in_row_tree
 tree_of side.Outgoing = out_row_tree
 
@@ -55,18 +55,13 @@ falling = record { collation = Binary; descending = true }
 abbrev some_query : ℕ → Query
 some_query tree = ordered_query tree from_filter (col 1 3 ∷ []) ((col 1 2, rising) ∷ []) (col 0 2)
 
-abbrev some_select : ℕ → Command
+abbrev pub some_select : ℕ → Command
 some_select tree = Select (record { lets = []; body = some_query tree }) (codes "body" ∷ [])
 
-some_is : (which : Side) → (command_of (understood office_schema (some_rows_text which)) ≡ some_select (tree_of which)) × (reads_listing office_schema (some_rows_text which) ≡ false)
+pub some_read : (which : Side) → IsRead (some_rows_text which) (some_select (tree_of which))
 unfolding understood everything
-some_is side.Incoming = (refl, refl)
-some_is side.Outgoing = (refl, refl)
-
-pub some_plain : (which : Side) → IsPlain (understood office_schema (some_rows_text which))
-unfolding understood everything
-some_plain side.Incoming = (refl, refl)
-some_plain side.Outgoing = (refl, refl)
+some_read side.Incoming = record { is = refl; unlisted = refl; plain = (refl, refl) }
+some_read side.Outgoing = record { is = refl; unlisted = refl; plain = (refl, refl) }
 
 abbrev pub some_params : ℕ → ℕ → ℕ → Row
 some_params n from most = number_value n ∷ number_value from ∷ number_value most ∷ []
@@ -132,7 +127,7 @@ pub finds_rows : (which : Side) (old new : State) (n from most : ℕ) (rows : Li
     → rows ≡ map (λ b. Blob b ∷ []) (take most (drop from (file_rows r which n)))
 finds_rows which old new n from most rows has h r kept =
     let params = some_params n from most in
-    let read = reads_as (some_rows_text which) params old new office_schema has (some_select (tree_of which)) (some_is which).0 (some_plain which) (some_is which).1 rows h in
+    let read = read_so (some_rows_text which) params old new _ rows (some_read which) has h in
     go (subst (Bodies n from (files_of which r)) (sym (own_rows which r n)) (bodies_at n from (files_of which r))) (read.answer Null)
   where
     take_map : (m : ℕ) (bs : List (List ℕ)) → take m (map (λ b. Blob b ∷ []) bs) ≡ map (λ b. Blob b ∷ []) (take m bs)
@@ -164,18 +159,13 @@ last_filter = equal (col 1 1) (col 0 0) ∷ []
 abbrev last_query : ℕ → Query
 last_query tree = ordered_query tree last_filter (col 1 2 ∷ []) ((col 1 2, falling) ∷ []) (lit (Int (pos 1)))
 
-abbrev last_select : ℕ → Command
+abbrev pub last_select : ℕ → Command
 last_select tree = Select (record { lets = []; body = last_query tree }) (codes "pos" ∷ [])
 
-last_is : (which : Side) → (command_of (understood office_schema (last_row_text which)) ≡ last_select (tree_of which)) × (reads_listing office_schema (last_row_text which) ≡ false)
+pub last_read : (which : Side) → IsRead (last_row_text which) (last_select (tree_of which))
 unfolding understood everything
-last_is side.Incoming = (refl, refl)
-last_is side.Outgoing = (refl, refl)
-
-pub last_plain : (which : Side) → IsPlain (understood office_schema (last_row_text which))
-unfolding understood everything
-last_plain side.Incoming = (refl, refl)
-last_plain side.Outgoing = (refl, refl)
+last_read side.Incoming = record { is = refl; unlisted = refl; plain = (refl, refl) }
+last_read side.Outgoing = record { is = refl; unlisted = refl; plain = (refl, refl) }
 
 abbrev last_test : ℕ → Row → Bool
 last_test n row = is_true (binary (by.Compare compare.Eq Binary) (column row 0) (number_value n)) && true
@@ -242,7 +232,7 @@ pub finds_last : (which : Side) (old new : State) (n : ℕ) (rows : List Row) �
     → Shown (last_row_text which) (number_value n ∷ []) old new rows → (r : Register) → Tables r old.now.trees
     → rows ≡ last_rows (length (file_rows r which n))
 finds_last which old new n rows has h r kept =
-    let read = reads_as (last_row_text which) (number_value n ∷ []) old new office_schema has (last_select (tree_of which)) (last_is which).0 (last_plain which) (last_is which).1 rows h in
+    let read = read_so (last_row_text which) (number_value n ∷ []) old new _ rows (last_read which) has h in
     go (subst (Bodies n 0 (files_of which r)) (sym (own_rows which r n)) (bodies_at n 0 (files_of which r))) (read.answer Null)
   where
     first_place : (m : ℕ) → take 1 (map (λ (o : Output). o.1) (places_down m)) ≡ last_rows m

@@ -1,5 +1,5 @@
 -- What a submission makes of a register.
-use Rattle.std.proofs.Common.{◌≡◌, ◌+◌, ℕ, List, [], ◌∷◌, ◌++◌, length, is_some, Result, Ok, Err, refl, sym, ap, ◌∙◌, arith, Bor}
+use Rattle.std.proofs.Common.{◌≡◌, ◌+◌, ℕ, List, [], ◌∷◌, ◌++◌, length, is_some, Err, refl, sym, ap, ◌∙◌, arith, Bor}
 use Rattle.std.proofs.lemmas.Bool.{cond-true, cond-false}
 use Rattle.oftp_vfile.specs.declared.format.Format.{Format}
 use Rattle.oftp_wire.specs.declared.field.Text.{Text as Words}

@@ -9,6 +9,7 @@ ghost use Rattle.oftp_register.specs.Register.{Register};
 ghost use Rattle.oftp_register.specs.Soundness.{IsSound};
 ghost use Rattle.oftp_register.specs.declared.fit.TheConstants.{MOST_FILES, MOST_OCTETS};
 ghost use Rattle.oftp_open.specs.Opening.{IsFirstOf, IsStoreOf};
+ghost use Rattle.oftp_open.specs.Stands.{IsContentOf};
 ghost use Rattle.oftp_store.specs.Opens.{Has};
 
 use crate::office::SqlOffice;
@@ -81,9 +82,14 @@ pub fn migrate_at<S: Start>(
 ) -> Result<SqlOffice<FileStore<FileFrom<S>>>, PathFault>
     requires files { limits.files ≤ MOST_FILES }
     requires octets { limits.octets ≤ MOST_OCTETS }
+    ensures limits { IfOk result (λ o. o.limits ≡ limits) }
+    ensures faults { IfOk result (λ o. o.faults ≡ 0) }
     // The office has the register whose tables of schema 1 the files hold.
-    ensures { IfOk result (λ o. HasCleanDisk (file_state o.conn) → (r : Register) (db : Trees) → r.limits ≡ limits
+    ensures migrated { IfOk result (λ o. HasCleanDisk (file_state o.conn) → (r : Register) (db : Trees) → r.limits ≡ limits
         → HoldsDatabase (image_at S.Start) db → IsFirstOf r db → Has limits r (file_state o.conn)) }
+    // It has the register whose tables of schema 2 they hold.
+    ensures found { IfOk result (λ o. HasCleanDisk (file_state o.conn) → (r : Register) (db : Trees) → r.limits ≡ limits
+        → HoldsDatabase (image_at S.Start) db → IsContentOf db r → Has limits r (file_state o.conn)) }
 {
     match Connection::open_from(rt, path, false, start) {
         Err((error, _)) => Err(path_fault_of(error)),

@@ -2,6 +2,7 @@ pub mod CallLemmas
 pub mod PlaceLemmas
 pub mod BodyLemmas
 pub mod BackLemmas
+pub mod ReaderLemmas
 pub mod SortedLemmas
 pub mod OrderedLemmas
 pub mod CutLemmas

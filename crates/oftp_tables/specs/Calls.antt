@@ -1,5 +1,8 @@
 -- What the statements do to a connection over the office's tables.
-use Rattle.std.specs.Prelude.{◌≤◌, Result, OnOk, OnErr, IfErr, false, ◌≡◌, IsTrue, true}
+use Rattle.std.specs.Prelude.{◌≤◌, ◌↔◌, ◌⊎◌, Result, OnOk, OnErr, IfErr, false, ◌≡◌, IsTrue, true}
+use Rattle.sqlite.specs.declared.error.Error.{Error}
+use Rattle.sqlite.specs.declared.error.Error.TheVariants.{SqliteFailure}
+use Rattle.sqlite.specs.declared.error.ErrorCode.TheVariants as code
 use Rattle.sqlite.specs.View.{doubt}
 use Rattle.sqlite.specs.Tree.{Trees}
 use Rattle.sqlite.specs.Effect.{IsDatabase}
@@ -8,6 +11,7 @@ use Rattle.sqlite_catalog.specs.Listing.{IsSound}
 use Rattle.oftp_schema.specs.Schema.{office_schema}
 use Rattle.oftp_schema.specs.Calls.{IsSpared}
 use Rattle.oftp_register.specs.declared.office.OfficeFault.{OfficeFault}
+use Rattle.oftp_register.specs.declared.office.OfficeFault.TheVariants.{Memory}
 use Rattle.oftp_register.specs.Offices.{IsFailure}
 
 -- a transaction over the office's tables is open
@@ -49,3 +53,8 @@ pub record Looks {T : Type 0} (old new : State) (result : Result T OfficeFault) 
   pub failed : HasCleanDisk new → old.now.schema ≡ office_schema → OnErr result (IsSpared old new)
   pub left : HasCleanDisk new → old.now.schema ≡ office_schema → (db : Trees) → new.may_leave db → old.may_leave db
   pub unrefused : IfErr result IsFailure
+
+-- the fault as which an error is told, of which this holds
+abbrev pub IsFaultOf : (Error → Type 0) → OfficeFault → Type 0
+IsFaultOf Was fault =
+    (e : Error) × Was e × IsFailure fault × ((fault ≡ Memory) ↔ ((e ≡ SqliteFailure code.OutOfMemory) ⊎ (e ≡ SqliteFailure code.NoRowid)))

@@ -13,7 +13,7 @@ use Rattle.sqlite.specs.Edit.{id_in}
 use Rattle.oftp_vfile.specs.declared.format.Format.{Format}
 use Rattle.oftp_vfile.specs.declared.format.Format.TheVariants as format
 use Rattle.oftp_vfile.specs.declared.format.Limits.{Limits}
-use Rattle.oftp_wire.specs.Octets.{decimal, number}
+use Rattle.oftp_wire.specs.Octets.{IsDigits, IsName, decimal, number}
 use Rattle.oftp_register.specs.declared.entry.Identity.{Identity}
 use Rattle.oftp_register.specs.declared.entry.ResponseKind.{ResponseKind}
 use Rattle.oftp_register.specs.declared.entry.ResponseKind.TheVariants.{EndResponse, NegativeEndResponse}
@@ -230,6 +230,14 @@ identity_in at row = record {
   originator = bytes (column row (at + 3));
   destination = bytes (column row (at + 4));
 }
+
+-- a row tells an identity, in five columns from a place on
+pub record TellsIdentity (it : Identity) (at : ℕ) (row : Row) : Type 0 where
+  pub dataset : IsName 26 it.dataset × (column row at ≡ Text it.dataset)
+  pub date : IsDigits 8 it.date × (column row (at + 1) ≡ Text it.date)
+  pub time : IsDigits 10 it.time × (column row (at + 2) ≡ Text it.time)
+  pub originator : IsName 25 it.originator × (column row (at + 3) ≡ Text it.originator)
+  pub destination : IsName 25 it.destination × (column row (at + 4) ≡ Text it.destination)
 
 abbrev pub has_number : ℕ → Row → Bool
 has_number n row = number_in (column row 0) == n

@@ -1,14 +1,14 @@
 //! Statements over the office's tables.
 
-ghost use Rattle.std.specs.Prelude.{◌≡◌, ◌↔◌, ◌⊎◌, ◌<◌, ◌^◌, pos, IfOk};
+ghost use Rattle.std.specs.Prelude.{◌≡◌, ◌↔◌, ◌⊎◌, ◌<◌, ◌^◌, pos, IfErr, IfOk};
 ghost use Rattle.sqlite.specs.Held.{state};
 ghost use Rattle.sqlite.specs.Given.{IsPlain};
 ghost use Rattle.sqlite.specs.Listing.{understood};
 ghost use Rattle.sqlite.specs.Values.{bound};
-ghost use Rattle.sqlite.specs.State.{HasCleanDisk, Shown};
+ghost use Rattle.sqlite.specs.State.{FailsToQuery, HasCleanDisk, Shown};
 ghost use Rattle.oftp_register.specs.Offices.{IsFailure};
 ghost use Rattle.oftp_schema.specs.Schema.{office_schema};
-ghost use Rattle.oftp_tables.specs.Calls.{Looks};
+ghost use Rattle.oftp_tables.specs.Calls.{IsFaultOf, Looks};
 
 use oftp_register::OfficeFault;
 use sqlite::types::ValueRef;
@@ -39,7 +39,7 @@ pub fn fault_of(error: Error) -> OfficeFault
 ///
 /// # Errors
 ///
-/// [`OfficeFault::Memory`] where a growth was refused, and else [`OfficeFault::Store`].
+/// That of the query as [`fault_of`] tells it.
 pub fn ask<S: Alter>(
     conn: &mut Connection<S>,
     sql: &str,
@@ -47,6 +47,7 @@ pub fn ask<S: Alter>(
 ) -> Result<Vec<Row>, OfficeFault>
     ensures looks { IsPlain (understood office_schema sql.now) → Looks (state S.Store conn.old) (state S.Store conn.new) result }
     ensures shown { HasCleanDisk (state S.Store conn.new) → IfOk result (λ rows. Shown sql.now (bound params.now) (state S.Store conn.old) (state S.Store conn.new) rows.items) }
+    ensures error { HasCleanDisk (state S.Store conn.new) → IfErr result (IsFaultOf (FailsToQuery sql.now (bound params.now) (state S.Store conn.old) (state S.Store conn.new))) }
 {
     match conn.query_all(sql, params) {
         Ok(rows) => Ok(rows),

@@ -1,11 +1,12 @@
 //! The values that rows tell. A value that fits no part of an entry is `None`, and counts as a failure of the store.
 
-ghost use Rattle.std.specs.Prelude.{◌≡◌, ◌+◌, ◌<◌, ℕ, List, IfOk, IfSome, IfErr, pos};
+ghost use Rattle.std.specs.Prelude.{◌≡◌, ◌⊎◌, ◌+◌, ◌<◌, ◌≤◌, ◌^◌, ℕ, List, [], codes, false, length, IfOk, IfSome, IfErr, IsSome, pos};
+ghost use Rattle.std.specs.Str.{IsUtf8, bytes_eq};
 ghost use Rattle.sqlite.specs.declared.types.Value.TheVariants as value;
 ghost use Rattle.sqlite.specs.Order.{bytes, column};
-ghost use Rattle.oftp_wire.specs.Octets.{number};
+ghost use Rattle.oftp_wire.specs.Octets.{IsDigits, IsName, number};
 ghost use Rattle.oftp_register.specs.Offices.{IsFailure};
-ghost use Rattle.oftp_tables.specs.Tables.{dispatch_in, format_in, format_text, identity_in, in_state_in, in_state_text, kind_in, kind_text, number_in, out_state_in, out_state_text, sent_number};
+ghost use Rattle.oftp_tables.specs.Tables.{HasRefusal, TellsIdentity, dispatch_in, format_in, format_text, identity_in, in_state_in, in_state_text, kind_in, kind_text, number_in, out_state_in, out_state_text, refusal_text, sent_number};
 
 use oftp_register::{
     DigitString, Dispatch, Identity, IncomingState, Name, Note, OfficeFault, OutgoingState,
@@ -21,6 +22,7 @@ use std::alloc::Global;
 pub fn name_at<const N: usize>(row: &Row, at: usize) -> Option<Name<N>>
     ensures told { IfSome result (λ name. name ≡ bytes (column row.now at)) }
     ensures fits { IfSome result (λ name. column row.now at ≡ value.Text name) }
+    ensures found { (name : List ℕ) → IsName N name → column row.now at ≡ value.Text name → IsSome result }
 {
     match row.get_ref(at) {
         Ok(ValueRef::Text(text)) => match X::new(text) {
@@ -35,6 +37,7 @@ pub fn name_at<const N: usize>(row: &Row, at: usize) -> Option<Name<N>>
 pub fn digits_at<const N: usize>(row: &Row, at: usize) -> Option<DigitString<N>>
     ensures told { IfSome result (λ digits. digits ≡ bytes (column row.now at)) }
     ensures fits { IfSome result (λ digits. column row.now at ≡ value.Text digits) }
+    ensures found { (digits : List ℕ) → IsDigits N digits → column row.now at ≡ value.Text digits → IsSome result }
 {
     match row.get_ref(at) {
         Ok(ValueRef::Text(text)) => match Digits::new(text) {
@@ -48,7 +51,8 @@ pub fn digits_at<const N: usize>(row: &Row, at: usize) -> Option<DigitString<N>>
 /// The identity that a row tells, in five columns from a place on. The place is below 100.
 pub fn identity_at(row: &Row, at: usize) -> Option<Identity>
     requires { at < 100 }
-    ensures { IfSome result (λ identity. identity ≡ identity_in at row.now) }
+    ensures told { IfSome result (λ identity. identity ≡ identity_in at row.now) }
+    ensures found { (identity : Identity) → TellsIdentity identity at row.now → IsSome result }
 {
     Some(Identity {
         dataset: name_at(row, at)?,
@@ -63,6 +67,7 @@ pub fn identity_at(row: &Row, at: usize) -> Option<Identity>
 pub fn format_at(row: &Row, at: usize) -> Option<Format>
     ensures told { IfSome result (λ format. format ≡ format_in (bytes (column row.now at))) }
     ensures fits { IfSome result (λ format. column row.now at ≡ value.Text (format_text format)) }
+    ensures found { (format : Format) → column row.now at ≡ value.Text (format_text format) → IsSome result }
 {
     match row.get_ref(at) {
         Ok(ValueRef::Text(text)) => {
@@ -86,6 +91,7 @@ pub fn format_at(row: &Row, at: usize) -> Option<Format>
 pub fn number_at(row: &Row, at: usize) -> Option<u32>
     ensures told { IfSome result (λ n. n ≡ number_in (column row.now at)) }
     ensures fits { IfSome result (λ n. column row.now at ≡ value.Int (pos n)) }
+    ensures found { (n : ℕ) → n < 2 ^ 32 → column row.now at ≡ value.Int (pos n) → IsSome result }
 {
     match row.get_ref(at) {
         Ok(ValueRef::Int(n)) => match u32::try_from(n) {
@@ -98,7 +104,8 @@ pub fn number_at(row: &Row, at: usize) -> Option<u32>
 
 /// The number of an entry that a row tells at a place.
 pub fn no_at(row: &Row, at: usize) -> Option<u64>
-    ensures { IfSome result (λ n. column row.now at ≡ value.Int (pos n)) }
+    ensures fits { IfSome result (λ n. column row.now at ≡ value.Int (pos n)) }
+    ensures found { (n : ℕ) → column row.now at ≡ value.Int (pos n) → IsSome result }
 {
     match row.get_ref(at) {
         Ok(ValueRef::Int(n)) => match u64::try_from(n) {
@@ -117,6 +124,7 @@ pub fn no_at(row: &Row, at: usize) -> Option<u64>
 pub fn text_at(alloc: Global, row: &Row, at: usize) -> Result<Note, OfficeFault>
     ensures told { IfOk result (λ note. note ≡ bytes (column row.now at)) }
     ensures fits { IfOk result (λ note. column row.now at ≡ value.Text note) }
+    ensures found { (note : List ℕ) → IsUtf8 note → length note ≤ 999 → column row.now at ≡ value.Text note → IfErr result (λ fault. fault ≡ OfficeFault.Memory) }
     ensures fails { IfErr result IsFailure }
 {
     match row.get_ref(at) {
@@ -138,6 +146,7 @@ pub fn text_at(alloc: Global, row: &Row, at: usize) -> Result<Note, OfficeFault>
 pub fn incoming_state_at(row: &Row, at: usize) -> Option<IncomingState>
     ensures told { IfSome result (λ state. state ≡ in_state_in (bytes (column row.now at))) }
     ensures fits { IfSome result (λ state. column row.now at ≡ value.Text (in_state_text state)) }
+    ensures found { (state : IncomingState) → column row.now at ≡ value.Text (in_state_text state) → IsSome result }
 {
     match row.get_ref(at) {
         Ok(ValueRef::Text(text)) => {
@@ -157,6 +166,7 @@ pub fn incoming_state_at(row: &Row, at: usize) -> Option<IncomingState>
 fn unrefused_state_of(text: &[u8]) -> Option<OutgoingState>
     ensures told { IfSome result (λ state. (reason : List ℕ) → state ≡ out_state_in text.now reason) }
     ensures fits { IfSome result (λ state. text.now ≡ out_state_text state) }
+    ensures found { (state : OutgoingState) → bytes_eq text.now (codes "refused") ≡ false → text.now ≡ out_state_text state → IsSome result }
 {
     if text == b"waiting".as_slice() {
         Some(OutgoingState::Waiting)
@@ -178,6 +188,8 @@ pub fn outgoing_state_at(row: &Row, at: usize) -> Option<OutgoingState>
     requires { at < 100 }
     ensures told { IfSome result (λ state. state ≡ out_state_in (bytes (column row.now at)) (bytes (column row.now (at + 1)))) }
     ensures fits { IfSome result (λ state. column row.now at ≡ value.Text (out_state_text state)) }
+    ensures found { (state : OutgoingState) → HasRefusal state → column row.now at ≡ value.Text (out_state_text state)
+        → column row.now (at + 1) ≡ value.Text (refusal_text state) → IsSome result }
 {
     match row.get_ref(at) {
         Ok(ValueRef::Text(text)) => {
@@ -198,6 +210,7 @@ pub fn outgoing_state_at(row: &Row, at: usize) -> Option<OutgoingState>
 pub fn kind_at(row: &Row, at: usize) -> Option<ResponseKind>
     ensures told { IfSome result (λ kind. kind ≡ kind_in (bytes (column row.now at))) }
     ensures fits { IfSome result (λ kind. column row.now at ≡ value.Text (kind_text kind)) }
+    ensures found { (kind : ResponseKind) → column row.now at ≡ value.Text (kind_text kind) → IsSome result }
 {
     match row.get_ref(at) {
         Ok(ValueRef::Text(text)) => {
@@ -215,7 +228,8 @@ pub fn kind_at(row: &Row, at: usize) -> Option<ResponseKind>
 
 // The number that two digits make, 0 where there is none.
 fn reason_of(text: &[u8]) -> Option<Count<2>>
-    ensures { IfSome result (λ reason. reason ≡ number text.now) }
+    ensures told { IfSome result (λ reason. reason ≡ number text.now) }
+    ensures found { (text.now ≡ []) ⊎ IsDigits 2 text.now → IsSome result }
 {
     match text {
         [] => Some(Count::new(0)),
@@ -234,7 +248,8 @@ fn reason_of(text: &[u8]) -> Option<Count<2>>
 
 /// The reason that a row tells at a place, 0 where it is empty.
 pub fn reason_at(row: &Row, at: usize) -> Option<Count<2>>
-    ensures { IfSome result (λ reason. reason ≡ number (bytes (column row.now at))) }
+    ensures told { IfSome result (λ reason. reason ≡ number (bytes (column row.now at))) }
+    ensures found { (text : List ℕ) → (text ≡ []) ⊎ IsDigits 2 text → column row.now at ≡ value.Text text → IsSome result }
 {
     match row.get_ref(at) {
         Ok(ValueRef::Text(text)) => reason_of(text),
@@ -246,6 +261,7 @@ pub fn reason_at(row: &Row, at: usize) -> Option<Count<2>>
 pub fn dispatch_at(row: &Row, at: usize) -> Option<Dispatch>
     ensures told { IfSome result (λ dispatch. dispatch ≡ dispatch_in (number_in (column row.now at))) }
     ensures fits { IfSome result (λ dispatch. column row.now at ≡ value.Int (pos (sent_number dispatch))) }
+    ensures found { (dispatch : Dispatch) → column row.now at ≡ value.Int (pos (sent_number dispatch)) → IsSome result }
 {
     match number_at(row, at) {
         Some(0) => Some(Dispatch::Due),
@@ -262,6 +278,7 @@ pub fn dispatch_at(row: &Row, at: usize) -> Option<Dispatch>
 pub fn body_at(alloc: Global, row: &Row, at: usize) -> Result<oftp_vfile::Row, OfficeFault>
     ensures told { IfOk result (λ body. body ≡ bytes (column row.now at)) }
     ensures fits { IfOk result (λ body. column row.now at ≡ value.Blob body) }
+    ensures found { (body : List ℕ) → column row.now at ≡ value.Blob body → IfErr result (λ fault. fault ≡ OfficeFault.Memory) }
     ensures fails { IfErr result IsFailure }
 {
     match row.get_ref(at) {

@@ -1,119 +1,16 @@
 //! Files that a station sends over an office that notes how many rows it is asked for, and may lose one. The partner's octets are
 //! spelled by hand from RFC 5024.
 
-ghost use Rattle.std.specs.Prelude.{◌≡◌};
-
 use super::BOOK;
-use super::operators::{FILE, LIMITS};
+use super::noting::Noting;
+use super::operators::FILE;
 use crate::{End, Operator, Port, Role, RunFault, Submission, Told, operate, serve};
 use oftp_partners::read;
-use oftp_register::{
-    Change, Cursor, Identity, IncomingEntry, IssuedEntry, Item, Name, Office, OfficeFault,
-    OutgoingEntry, PlainOffice, ReceivedEntry, ResponseKind, Side,
-};
-use oftp_vfile::{Format, Limits, Rows};
+use oftp_vfile::Format;
 use oftp_wire::Count;
 use std::alloc::Global;
 use std::process::Abort;
 use std::test::Fail;
-
-/// An office in memory. To contracts it reads nothing that was written, so nothing more is to be proved of it than its faults.
-#[derive(Drop)]
-struct Noting {
-    office: PlainOffice,
-    /// How many rows it was asked for at most.
-    most: u64,
-    /// Whether it loses the last of the rows that it is asked for.
-    loses: bool,
-}
-
-impl Office for Noting {
-    ghost use Rattle.oftp_register.specs.Plain.{view_of};
-
-    ghost view = { λ o. record (view_of o.office) { clean = ⊥ } };
-
-    ghost sound = { λ o clean stood. absurd clean };
-
-    ghost alone = { λ o clean stood. absurd clean };
-
-    ghost leaves = { λ o clean. absurd clean };
-
-    fn limits(&self) -> Limits {
-        self.office.limits()
-    }
-
-    fn look_in(&mut self, identity: &Identity) -> Result<Option<IncomingEntry>, OfficeFault> {
-        self.office.look_in(identity)
-    }
-
-    fn look_out(&mut self, identity: &Identity) -> Result<Option<OutgoingEntry>, OfficeFault> {
-        self.office.look_out(identity)
-    }
-
-    fn in_by_no(&mut self, no: u64) -> Result<Option<IncomingEntry>, OfficeFault> {
-        self.office.in_by_no(no)
-    }
-
-    fn out_by_no(&mut self, no: u64) -> Result<Option<OutgoingEntry>, OfficeFault> {
-        self.office.out_by_no(no)
-    }
-
-    fn files_full(&mut self, side: Side) -> Result<bool, OfficeFault> {
-        self.office.files_full(side)
-    }
-
-    fn has_received(
-        &mut self,
-        kind: ResponseKind,
-        identity: &Identity,
-    ) -> Result<bool, OfficeFault> {
-        self.office.has_received(kind, identity)
-    }
-
-    fn next_item(
-        &mut self,
-        partner: &Name<25>,
-        cursor: Cursor,
-        files: bool,
-    ) -> Result<Option<Item>, OfficeFault> {
-        self.office.next_item(partner, cursor, files)
-    }
-
-    fn rows_of(&mut self, side: Side, no: u64, from: u64, most: u64) -> Result<Rows, OfficeFault> {
-        self.most = self.most.max(most);
-        let rows = self.office.rows_of(side, no, from, most)?;
-        if !self.loses {
-            return Ok(rows);
-        }
-        let mut rows = rows.into_vec();
-        rows.truncate(rows.len().saturating_sub(1));
-        Ok(Rows::new(rows))
-    }
-
-    fn units_of(&mut self, side: Side, no: u64) -> Result<u64, OfficeFault> {
-        self.office.units_of(side, no)
-    }
-
-    fn list_in(&mut self) -> Result<Vec<IncomingEntry>, OfficeFault> {
-        self.office.list_in()
-    }
-
-    fn list_out(&mut self) -> Result<Vec<OutgoingEntry>, OfficeFault> {
-        self.office.list_out()
-    }
-
-    fn list_issued(&mut self) -> Result<Vec<IssuedEntry>, OfficeFault> {
-        self.office.list_issued()
-    }
-
-    fn list_received(&mut self) -> Result<Vec<ReceivedEntry>, OfficeFault> {
-        self.office.list_received()
-    }
-
-    fn commit(&mut self, change: Change<'_>) -> Result<(), OfficeFault> {
-        self.office.commit(change)
-    }
-}
 
 /// The partner's ready message, its SSID, SFPA from row 0 on, CDT, EFPA and ESID 00.
 const PARTNER: &[u8] =
@@ -153,11 +50,7 @@ fn send(
 /// The speaker asks for 64 rows and, as there is room for more, for twice as many, but never for more than a DATA can carry.
 #[test]
 fn rows_asked_for(rt: HostRuntime) -> Result<(), Fail> {
-    let mut office = Noting {
-        office: PlainOffice::new(rt.alloc(), LIMITS),
-        most: 0,
-        loses: false,
-    };
+    let mut office = Noting::new(rt.alloc(), None);
     // SSID, SFID, DATA of 127, 127 and 46 records, EFID and CD.
     let octets = 65 + 178 + 132 + 132 + 51 + 39 + 5;
     let end = send(rt.alloc(), &rt, &mut office, RECORDS, octets)?;
@@ -169,11 +62,8 @@ fn rows_asked_for(rt: HostRuntime) -> Result<(), Fail> {
 /// A store that loses a row ends the session by ESID 08, before a payload of the other rows goes out.
 #[test]
 fn row_lost_by_the_store(rt: HostRuntime) -> Result<(), Fail> {
-    let mut office = Noting {
-        office: PlainOffice::new(rt.alloc(), LIMITS),
-        most: 0,
-        loses: true,
-    };
+    let mut office = Noting::new(rt.alloc(), None);
+    office.loses = true;
     let end = send(rt.alloc(), &rt, &mut office, FILE, 65 + 178 + 11)?;
     assert_eq!(rt; end, Err(RunFault::Office));
     Ok(())

@@ -13,9 +13,9 @@ use std::test::Fail;
 
 /// A reader that gives one octet at a call, and at the end tells it or fails.
 #[derive(Drop)]
-struct Line<'a> {
-    octets: &'a [u8],
-    breaks: bool,
+pub(crate) struct Line<'a> {
+    pub(crate) octets: &'a [u8],
+    pub(crate) breaks: bool,
 }
 
 impl Read for Line<'_> {

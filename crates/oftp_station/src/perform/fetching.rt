@@ -2,7 +2,7 @@
 
 use crate::database::{self, PATIENCE};
 use crate::perform::replacing::{Place, draft_of, place_of, settle};
-use oftp_engine::{RunFault, write_content};
+use oftp_engine::{Port, RunFault, write_content};
 use oftp_register::{IncomingEntry, IncomingState, Office};
 use oftp_words::{Fault, Fetch, Outcome};
 use std::alloc::Global;
@@ -51,7 +51,7 @@ fn write_to<O: Office, W: Write>(
     entry: &IncomingEntry,
     out: &mut W,
 ) -> Result<(), Fault> {
-    match write_content(alloc, office, entry, out) {
+    match write_content(alloc, office, entry, &mut Port::new(out, 0)) {
         Err(RunFault::Write) => Err(Fault::File),
         written => written.map_err(Fault::Run),
     }

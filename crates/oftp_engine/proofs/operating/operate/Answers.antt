@@ -1,8 +1,8 @@
 use Rattle.std.proofs.Common.{List, ℕ, is_ok, subst}
 use Rattle.oftp_engine.specs.Operated.{line_as}
-use Rattle.oftp_engine.specs.Ports.{Sent}
+use Rattle.oftp_ports.specs.Ports.{Sent}
 use Rattle.oftp_engine.proofs.Deciding.{operated, undecided}
-use Rattle.oftp_engine.proofs.Puts.{handed_on}
+use Rattle.oftp_engine.proofs.Telling.{handed_on}
 use Rattle.oftp_engine.proofs.operating.operate.Goals as goal
 
 pub returns-in_err-outcome-clause-operates : goal.returns-in_err-outcome-clause-operates

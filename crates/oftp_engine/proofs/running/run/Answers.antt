@@ -1,7 +1,7 @@
 use Rattle.std.proofs.Common.{sym, subst, arith, set}
 use Rattle.oftp_engine.specs.Jobs.{Runs}
 use Rattle.oftp_engine.proofs.Jobs.{running_all, running_none, running_on, running_stops}
-use Rattle.oftp_engine.proofs.Puts.{handed_on}
+use Rattle.oftp_engine.proofs.Telling.{handed_on}
 use Rattle.oftp_engine.proofs.running.run.Goals as goal
 
 pub loop-i-init : goal.loop-i-init

@@ -2,7 +2,8 @@ use Rattle.std.proofs.Common.{refl, ◌∙◌}
 use Rattle.oftp_engine.specs.Serving.{scene}
 use Rattle.oftp_engine.proofs.Progress.{went_none}
 use Rattle.oftp_engine.proofs.Pumping.{has_ended, obey_fails, obeyed, refuse_fails, refused_bad, shorter, turn_fails, waits}
-use Rattle.oftp_engine.proofs.Puts.{handed_on, puts_none, puts_on, told_err}
+use Rattle.oftp_engine.proofs.Telling.{handed_on, told_err}
+use Rattle.oftp_ports.proofs.Puts.{puts_none, puts_on}
 use Rattle.oftp_engine.proofs.Stepping.{stepped_refuse}
 use Rattle.oftp_engine.proofs.serving.pump.Goals as goal
 
@@ -12,7 +13,7 @@ frames-init g c = record {
   told = refl;
   unbroken = c.requires;
   clean = λ h. h;
-  pumps = λ clean stood k lim told at.
+  goes = λ clean stood k lim told at.
       let first = scene g.W.Write.contents (g.O.Office.view c.args.office.now) c.args.writer.now in
       record { come = record { at = k; went = went_none k c.args.stream.now.rest first; now = at }; limit = lim; told = told };
 }
@@ -29,40 +30,40 @@ frames-preserved g c =
       told = c.in_ok-take_command-in-Ok-Some.ensures.told ∙ c.in_ok-take_turns.ensures.told ∙ c.frames.invariant.told;
       unbroken = c.in_ok-take_command-in-Ok-Some.ensures.unbroken;
       clean = λ h. c.frames.invariant.clean (c.take_turns.ensures.clean (c.take_command.ensures.clean h));
-      pumps = λ clean stood k lim told at.
+      goes = λ clean stood k lim told at.
           let before = c.take_command.ensures.clean clean in
-          obeyed _ _ _ _ _ _ (c.frames.invariant.pumps (c.take_turns.ensures.clean before) stood k lim told at) stood
+          obeyed _ _ _ _ _ _ (c.frames.invariant.goes (c.take_turns.ensures.clean before) stood k lim told at) stood
           _ _ (c.in_ok-take_turns.ensures.steps before) _ c.ended.ensures.phase c.in_default.is _ c.next.follows.holds-at-none
           _ c.in-Ok-Some.octets c.in-Ok-Some.ensures.value c.in-Ok-Some.field-0-is _ _ (c.in_ok-take_command-in-Ok-Some.ensures.steps clean);
     }
 
 pub returns-in_err-take_turns-clause-steps : goal.returns-in_err-take_turns-clause-steps
 returns-in_err-take_turns-clause-steps g c = λ clean stood k lim told at.
-    turn_fails _ _ _ _ _ _ (c.frames.invariant.pumps (c.take_turns.ensures.clean clean) stood k lim told at) stood
+    turn_fails _ _ _ _ _ _ (c.frames.invariant.goes (c.take_turns.ensures.clean clean) stood k lim told at) stood
     _ _ _ _ _ (c.in_err-take_turns.ensures.steps clean) (handed_on _ _ c.from_residual.ensures.1)
 
 pub returns-in-Some-clause-steps : goal.returns-in-Some-clause-steps
 returns-in-Some-clause-steps g c = λ clean stood k lim told at.
-    has_ended _ _ _ _ _ _ (c.frames.invariant.pumps (c.take_turns.ensures.clean clean) stood k lim told at) stood
+    has_ended _ _ _ _ _ _ (c.frames.invariant.goes (c.take_turns.ensures.clean clean) stood k lim told at) stood
     _ _ (c.in_ok-take_turns.ensures.steps clean) _ c.ended.ensures.phase _ c.in-Some.is
 
 pub returns-in_err-take_command-in-Ok-Some-clause-steps : goal.returns-in_err-take_command-in-Ok-Some-clause-steps
 returns-in_err-take_command-in-Ok-Some-clause-steps g c = λ clean stood k lim told at.
     let before = c.take_command.ensures.clean clean in
-    obey_fails _ _ _ _ _ _ (c.frames.invariant.pumps (c.take_turns.ensures.clean before) stood k lim told at) stood
+    obey_fails _ _ _ _ _ _ (c.frames.invariant.goes (c.take_turns.ensures.clean before) stood k lim told at) stood
     _ _ (c.in_ok-take_turns.ensures.steps before) _ c.ended.ensures.phase c.in_default.is _ c.next.follows.holds-at-none
     _ c.in-Ok-Some.octets c.in-Ok-Some.ensures.value c.in-Ok-Some.field-0-is _ _ _ _ (c.in_err-take_command-in-Ok-Some.ensures.steps clean)
     (handed_on _ _ c.from_residual-in_err-take_command-in-Ok-Some.ensures.1)
 
 pub returns-in-Ok-None-clause-steps : goal.returns-in-Ok-None-clause-steps
 returns-in-Ok-None-clause-steps g c = λ clean stood k lim told at.
-    waits _ _ _ _ _ _ (c.frames.invariant.pumps (c.take_turns.ensures.clean clean) stood k lim told at) stood
+    waits _ _ _ _ _ _ (c.frames.invariant.goes (c.take_turns.ensures.clean clean) stood k lim told at) stood
     _ _ (c.in_ok-take_turns.ensures.steps clean) _ c.ended.ensures.phase c.in_default.is _ c.next.follows.holds-at-none
     _ c.in-Ok-None.ensures.value c.in-Ok-None.field-0-is
 
 pub returns-in-Err-clause-steps : goal.returns-in-Err-clause-steps
 returns-in-Err-clause-steps g c = λ clean stood k lim told at.
-    refused_bad _ _ _ _ _ _ (c.frames.invariant.pumps (c.take_turns.ensures.clean clean) stood k lim told at) stood
+    refused_bad _ _ _ _ _ _ (c.frames.invariant.goes (c.take_turns.ensures.clean clean) stood k lim told at) stood
     _ _ (c.in_ok-take_turns.ensures.steps clean) _ c.ended.ensures.phase c.in_default.is _ c.next.follows.holds-at-none
     _ c.in-Err.ensures.value _ _ _
     (stepped_refuse _ _ _ _ _ _ _ _ c.refuse.ensures.setting c.refuse.ensures.over c.refuse.ensures.sent c.refuse.ensures.err)
@@ -70,7 +71,7 @@ returns-in-Err-clause-steps g c = λ clean stood k lim told at.
 
 pub returns-in_err-refuse-in-Err-clause-steps : goal.returns-in_err-refuse-in-Err-clause-steps
 returns-in_err-refuse-in-Err-clause-steps g c = λ clean stood k lim told at.
-    refuse_fails _ _ _ _ _ _ (c.frames.invariant.pumps (c.take_turns.ensures.clean clean) stood k lim told at) stood
+    refuse_fails _ _ _ _ _ _ (c.frames.invariant.goes (c.take_turns.ensures.clean clean) stood k lim told at) stood
     _ _ (c.in_ok-take_turns.ensures.steps clean) _ c.ended.ensures.phase c.in_default.is _ c.next.follows.holds-at-none
     _ c.in-Err.ensures.value _ _ _
     (stepped_refuse _ _ _ _ _ _ _ _ c.refuse.ensures.setting c.refuse.ensures.over c.refuse.ensures.sent c.refuse.ensures.err)

@@ -4,11 +4,12 @@ use Rattle.oftp_session.proofs.Phases.{opening_suits}
 use Rattle.oftp_engine.specs.Runs.{started}
 use Rattle.oftp_engine.specs.Served.{setting_of, Serves}
 use Rattle.oftp_engine.specs.Serving.{IsAt, scene}
-use Rattle.oftp_engine.proofs.Bytes.{consumes_none}
+use Rattle.oftp_ports.proofs.Bytes.{consumes_none}
 use Rattle.oftp_engine.proofs.Ending.{lawful}
 use Rattle.oftp_engine.proofs.Progress.{went_none}
 use Rattle.oftp_engine.proofs.Pumping.{IsPumping}
-use Rattle.oftp_engine.proofs.Puts.{handed_on, puts_none, puts_on, told_err}
+use Rattle.oftp_engine.proofs.Telling.{handed_on, told_err}
+use Rattle.oftp_ports.proofs.Puts.{puts_none, puts_on}
 use Rattle.oftp_engine.proofs.Reading.{gave_on, gave_zero, gave_kept, read_on, fed_from}
 use Rattle.oftp_engine.proofs.Served.{cut_short, fails_over, out_of_room, served_input, served_over, waits_on}
 use Rattle.oftp_engine.proofs.serving.serve.Goals as goal
@@ -23,7 +24,7 @@ pieces-init g c =
       told = refl;
       unbroken = c.opened-session.ensures.unbroken;
       clean = λ h. h;
-      reads = record {
+      goes = record {
         given = [];
         gave = record { bytes = consumes_none (g.R.Read.remaining c.args.reader.now.inner) []; count = omega arith; within = omega arith; most = refl };
         faults = refl;
@@ -46,7 +47,7 @@ pub returns-in_err-ending-clause-serves : goal.returns-in_err-ending-clause-serv
 returns-in_err-ending-clause-serves g c =
     let first = scene g.W.Write.contents (g.O.Office.view c.args.office.now) c.args.writer.now in
     let new = scene g.W.Write.contents (g.O.Office.view c.pump.new.office) c.pump.new.writer in
-    let h = c.pieces.invariant.reads in (
+    let h = c.pieces.invariant.goes in (
       h.given,
       h.gave,
       λ clean stood.
@@ -60,7 +61,7 @@ returns-in_err-ending-clause-serves g c =
 
 pub returns-in-Some-clause-serves : goal.returns-in-Some-clause-serves
 returns-in-Some-clause-serves g c =
-    let h = c.pieces.invariant.reads in (
+    let h = c.pieces.invariant.goes in (
       h.given,
       h.gave,
       λ clean stood.
@@ -73,9 +74,9 @@ returns-in-Some-clause-serves g c =
 
 pub returns-in-None-clause-serves : goal.returns-in-None-clause-serves
 returns-in-None-clause-serves g c =
-    let h = c.pieces.invariant.reads in (
+    let h = c.pieces.invariant.goes in (
       h.given,
-      gave_kept g.R.Read.remaining c.args.reader.now c.pieces.reader c.read.new.port h.given h.gave c.in-None.ensures,
+      gave_kept g.R.Read.remaining c.args.reader.now c.pieces.reader c.read.new.self h.given h.gave c.in-None.ensures,
       λ clean stood.
           let before = c.pump.ensures.clean clean in
           let law = lawful g.O.Office.view g.met.O.Office.sound g.met.O.Office.alone c.args.office.now c.pump.new.office (c.pieces.invariant.clean before) clean stood in
@@ -86,9 +87,9 @@ returns-in-None-clause-serves g c =
 
 pub returns-in-Some-eq0-clause-serves : goal.returns-in-Some-eq0-clause-serves
 returns-in-Some-eq0-clause-serves g c =
-    let h = c.pieces.invariant.reads in (
+    let h = c.pieces.invariant.goes in (
       h.given,
-      gave_zero g.R.Read.remaining c.args.reader.now c.pieces.reader c.read.new.port h.given c.read.new.piece c.in-Some-eq0.field-0 h.gave c.in-Some-eq0.ensures (search rules),
+      gave_zero g.R.Read.remaining c.args.reader.now c.pieces.reader c.read.new.self h.given c.read.new.piece c.in-Some-eq0.field-0 h.gave c.in-Some-eq0.ensures (search rules),
       λ clean stood.
           let before = c.pump.ensures.clean clean in
           let law = lawful g.O.Office.view g.met.O.Office.sound g.met.O.Office.alone c.args.office.now c.pump.new.office (c.pieces.invariant.clean before) clean stood in
@@ -99,9 +100,9 @@ returns-in-Some-eq0-clause-serves g c =
 
 pub returns-then-is_err-clause-serves : goal.returns-then-is_err-clause-serves
 returns-then-is_err-clause-serves g c =
-    let h = c.pieces.invariant.reads in (
+    let h = c.pieces.invariant.goes in (
       h.given ++ take c.in-Some-read.n c.read.new.piece,
-      gave_on g.R.Read.remaining c.args.reader.now c.pieces.reader c.read.new.port h.given c.read.new.piece c.in-Some-read.n h.gave c.in-Some-read.ensures,
+      gave_on g.R.Read.remaining c.args.reader.now c.pieces.reader c.read.new.self h.given c.read.new.piece c.in-Some-read.n h.gave c.in-Some-read.ensures,
       λ clean stood.
           let before = c.pump.ensures.clean clean in
           let law = lawful g.O.Office.view g.met.O.Office.sound g.met.O.Office.alone c.args.office.now c.pump.new.office (c.pieces.invariant.clean before) clean stood in
@@ -115,13 +116,13 @@ pieces-preserved g c =
     let setting = setting_of c.args.book.now c.args.role in
     let first = scene g.W.Write.contents (g.O.Office.view c.args.office.now) c.args.writer.now in
     let new = scene g.W.Write.contents (g.O.Office.view c.pump.new.office) c.pump.new.writer in
-    let h = c.pieces.invariant.reads in
+    let h = c.pieces.invariant.goes in
     record {
       out = puts_on _ _ _ _ c.pieces.invariant.out c.pump.ensures.out;
       told = c.in_ok-ending.ensures.told ∙ c.pieces.invariant.told;
       unbroken = c.in_ok-ending.ensures.unbroken;
       clean = λ h. c.pieces.invariant.clean (c.pump.ensures.clean h);
-      reads = read_on g.R.Read.remaining c.args.reader.now c.pieces.reader c.read.new.port h.given c.read.new.piece c.in-Some-read.n
+      goes = read_on g.R.Read.remaining c.args.reader.now c.pieces.reader c.read.new.self h.given c.read.new.piece c.in-Some-read.n
           ((g.O.Office.view c.pump.new.office).clean) ((g.O.Office.view c.args.office.now).stands) setting c.pump.new.stream c.feed.new.self c.pump.new.session first new
           h.gave h.faults h.on c.in-Some-read.ensures (search rules)
           (λ clean stood.

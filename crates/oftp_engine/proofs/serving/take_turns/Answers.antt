@@ -1,5 +1,6 @@
 use Rattle.std.proofs.Common.{[], inr, refl, sym, ◌∙◌, subst}
-use Rattle.oftp_engine.proofs.Puts.{handed_on, puts_none, puts_on, told_err}
+use Rattle.oftp_engine.proofs.Telling.{handed_on, told_err}
+use Rattle.oftp_ports.proofs.Puts.{puts_none, puts_on}
 use Rattle.oftp_session.specs.Steps.{turned}
 use Rattle.oftp_engine.specs.Runs.{turned_in}
 use Rattle.oftp_engine.specs.Serving.{scene, TurnsTaken}
@@ -14,7 +15,7 @@ turns-init g c = record {
   told = refl;
   unbroken = c.requires;
   clean = λ h. h;
-  comes = λ clean stood k at.
+  goes = λ clean stood k at.
       record { at = k; went = went_none k [] (scene g.W.Write.contents (g.O.Office.view c.args.office.now) c.args.writer.now); now = at };
 }
 
@@ -24,11 +25,11 @@ turns-preserved g c = record {
   told = c.in_ok-take_turn.ensures.told ∙ c.turns.invariant.told;
   unbroken = c.in_ok-take_turn.ensures.unbroken;
   clean = λ h. c.turns.invariant.clean (c.take_turn.ensures.clean h);
-  comes = λ clean stood k at.
+  goes = λ clean stood k at.
       let first = scene g.W.Write.contents (g.O.Office.view c.args.office.now) c.args.writer.now in
       let old = scene g.W.Write.contents (g.O.Office.view c.turns.office) c.turns.writer in
       let new = scene g.W.Write.contents (g.O.Office.view c.take_turn.new.office) c.take_turn.new.writer in
-      let t = c.turns.invariant.comes (c.take_turn.ensures.clean clean) stood k at in
+      let t = c.turns.invariant.goes (c.take_turn.ensures.clean clean) stood k at in
       let due = sym (c.turns-test.ensures.phase t.at.phase t.now.stands) in
       let made = c.in_ok-take_turn.ensures.steps clean (t.went.stands stood) t.at due t.now in
       let step = turned t.at.setting t.at.phase t.at.register in
@@ -45,7 +46,7 @@ returns-in_err-take_turn-clause-steps g c = λ clean stood k at.
     let first = scene g.W.Write.contents (g.O.Office.view c.args.office.now) c.args.writer.now in
     let old = scene g.W.Write.contents (g.O.Office.view c.turns.office) c.turns.writer in
     let new = scene g.W.Write.contents (g.O.Office.view c.take_turn.new.office) c.take_turn.new.writer in
-    let t = c.turns.invariant.comes (c.take_turn.ensures.clean clean) stood k at in
+    let t = c.turns.invariant.goes (c.take_turn.ensures.clean clean) stood k at in
     let due = sym (c.turns-test.ensures.phase t.at.phase t.now.stands) in
     let step = turned t.at.setting t.at.phase t.at.register in
     let proceeds = turned_proceeds t.at.setting t.at.phase t.at.register t.now.suits in

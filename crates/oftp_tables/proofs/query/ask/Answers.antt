@@ -24,3 +24,6 @@ returns-in-Err-clause-looks g c plain =
     queries_failed office_schema c.args.sql.now (bound c.args.params.now) _ _ (plain_at c.args.sql.now plain) e.survives.clean e.mode e.survives c.fault_of.result _
     (λ clean. c.in-Err.ensures.err clean) in
     looks_of _ _ _ failed c.fault_of.ensures.fails
+
+pub returns-in-Err-clause-error : goal.returns-in-Err-clause-error
+returns-in-Err-clause-error g c clean = (_, c.in-Err.ensures.err clean, c.fault_of.ensures.fails, c.fault_of.ensures.memory)

@@ -1,9 +1,9 @@
 use Rattle.std.proofs.Common.{arith, ◌∙◌, refl}
-use Rattle.sqlite.specs.State.{HasCleanDisk}
 use Rattle.sqlite.specs.Held.{state}
 use Rattle.sqlite.proofs.StateLemmas.{survives_then}
-use Rattle.oftp_tables.proofs.TxLemmas.{stays_inside, survives_none}
+use Rattle.oftp_tables.proofs.TxLemmas.{survives_none}
 use Rattle.oftp_store.proofs.RowEditLemmas.{adds_at_first, adds_more}
+use Rattle.oftp_store.proofs.TransactionLemmas.{goes_on}
 use Rattle.oftp_store.proofs.changes.statements.add_rows.Goals as goal
 
 pub rows-init : goal.rows-init
@@ -18,10 +18,7 @@ pub rows-preserved : goal.rows-preserved
 rows-preserved g c = record {
   same_reference = c.in_ok-add_row.ensures.same_reference ∙ c.rows.invariant.same_reference;
   survives = survives_then _ _ _ _ _ (λ _. ⊥) (λ _ db none. none) (λ _ db none. none) c.rows.invariant.survives c.add_row.ensures.survives;
-  kept = λ clean inside.
-      let early : HasCleanDisk (state g.S.Store c.rows.tx.conn.now) = omega (arith, c.add_row.ensures.survives.clean) in
-      let one = c.rows.invariant.kept early inside in
-      let two = c.in_ok-add_row.ensures.done clean (stays_inside _ _ _ one) in
-      adds_more c.args.side c.args.no c.args.from c.rows.row-index c.rows.at c.args.rows.now c.row-item.result _ _ _ c.rows-test.true c.row-item.is c.rows.invariant.place one two;
+  kept = goes_on _ _ _ _ _ _ c.add_row.ensures.survives.clean c.rows.invariant.kept c.in_ok-add_row.ensures.done
+      (adds_more c.args.side c.args.no c.args.from c.rows.row-index c.rows.at c.args.rows.now c.row-item.result _ _ _ c.rows-test.true c.row-item.is c.rows.invariant.place);
   place = omega arith;
 }

@@ -1,4 +1,3 @@
-use Rattle.std.proofs.Common.{refl}
 use Rattle.oftp_tables.proofs.BindLemmas.{count_bound, number_bound}
 use Rattle.oftp_store.proofs.changes.statements.header_values.Goals as goal
 

@@ -1,8 +1,5 @@
-use Rattle.std.proofs.Common.{refl, IsTrue, [], ◌∷◌}
-use Rattle.sqlite.specs.Held.{state}
-use Rattle.sqlite.specs.State.{ExecutesInside}
+use Rattle.std.proofs.Common.{refl}
 use Rattle.oftp_tables.proofs.BindLemmas.{number_bound}
-use Rattle.oftp_tables.specs.Tables.{number_value}
 use Rattle.oftp_schema.proofs.TxLemmas.{ran_on, keeps_on}
 use Rattle.oftp_store.specs.Texts.{set_sent_text}
 use Rattle.oftp_store.proofs.EditLemmas.{sent_set}
@@ -10,12 +7,8 @@ use Rattle.oftp_store.proofs.changes.statements.set_sent.Goals as goal
 
 pub returns-clause-done : goal.returns-clause-done
 returns-clause-done g c clean inside =
-    let params = number_value c.args.no ∷ [] in
-    let old = state g.S.Store c.args.tx.now.conn.now in
-    let new = state g.S.Store c.execute.new.self.conn.now in
-    let back = number_bound c.args.no c.number.result c.number.ensures c.requires in
-    let runs : IsTrue old.in_transaction → ExecutesInside 0 set_sent_text params old new c.execute.result = rw (c.params-to_sql.ensures, back) at (c.execute.ensures.runs clean) in
-    ran_on set_sent_text params old new _ _ _ (λ past. (c.execute.ensures.ended past).0) runs (λ count h. sent_set old new c.args.no count inside.schema h)
+    let runs = rw (c.params-to_sql.ensures, number_bound c.args.no _ c.number.ensures c.requires) at (c.execute.ensures.runs clean) in
+    ran_on set_sent_text _ _ _ _ _ _ (λ past. (c.execute.ensures.ended past).0) runs (λ count h. sent_set _ _ c.args.no count inside.schema h)
 
 pub returns-clause-failed : goal.returns-clause-failed
 returns-clause-failed g c clean =

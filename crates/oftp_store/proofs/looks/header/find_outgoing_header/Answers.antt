@@ -1,21 +1,15 @@
-use Rattle.std.proofs.Common.{subst, sym}
-use Rattle.std.proofs.lemmas.Result.{IfOk-weaker}
-use Rattle.oftp_store.specs.Reads.{IsToldOf, outgoing_header_of}
-use Rattle.oftp_tables.proofs.BindLemmas.{number_bound}
 use Rattle.oftp_tables.proofs.CallLemmas.{looks_as, looks_then}
-use Rattle.oftp_store.proofs.HeaderLemmas.{out_header_plain, finds_out_header}
+use Rattle.oftp_store.proofs.HeaderLemmas.{finds_out_header, out_header_read}
+use Rattle.oftp_store.proofs.ReadLemmas.{number_given, told_as}
 use Rattle.oftp_store.proofs.looks.header.find_outgoing_header.Goals as goal
 
 pub returns-in-Ok-clause-looks : goal.returns-in-Ok-clause-looks
-returns-in-Ok-clause-looks g c = looks_then _ _ _ c.outgoing_header_told.result (c.in-Ok.ensures.looks out_header_plain) c.outgoing_header_told.ensures.fails
+returns-in-Ok-clause-looks g c = looks_then _ _ _ c.outgoing_header_told.result (c.in-Ok.ensures.looks out_header_read.plain) c.outgoing_header_told.ensures.fails
 
 pub returns-in-Err-clause-looks : goal.returns-in-Err-clause-looks
-returns-in-Err-clause-looks g c = looks_as _ _ _ (c.in-Err.ensures.looks out_header_plain)
+returns-in-Err-clause-looks g c = looks_as _ _ _ (c.in-Err.ensures.looks out_header_read.plain)
 
 pub returns-in-Ok-clause-answer : goal.returns-in-Ok-clause-answer
 returns-in-Ok-clause-answer g c clean has =
-    let back = number_bound c.args.no c.number.result c.number.ensures c.requires in
-    let shown = rw (c.params-to_sql.ensures, back) at (c.in-Ok.ensures.shown clean) in
-    IfOk-weaker c.outgoing_header_told.result _ _
-    (λ found told r kept. subst (IsToldOf outgoing_header_of r.outgoing c.args.no) (sym (rw c.as_slice.ensures.value at told)) (finds_out_header _ _ c.args.no _ has shown r kept))
-    c.outgoing_header_told.ensures.told
+    let shown = number_given _ _ _ _ c.requires c.number.ensures c.params-to_sql.ensures (c.in-Ok.ensures.shown clean) in
+    told_as _ _ _ (rw c.as_slice.ensures.value at c.outgoing_header_told.ensures.told) (finds_out_header _ _ _ _ has shown)

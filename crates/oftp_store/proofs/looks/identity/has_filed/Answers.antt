@@ -1,14 +1,13 @@
 use Rattle.std.proofs.Common.{◌∙◌}
-use Rattle.oftp_store.specs.Numbers.{has_filed_text}
 use Rattle.oftp_tables.proofs.CallLemmas.{looks_as, looks_then}
-use Rattle.oftp_store.proofs.IdentityLemmas.{filed_plain, finds_filed}
+use Rattle.oftp_store.proofs.IdentityLemmas.{filed_read, finds_filed}
 use Rattle.oftp_store.proofs.looks.identity.has_filed.Goals as goal
 
 pub returns-in-Ok-clause-looks : goal.returns-in-Ok-clause-looks
-returns-in-Ok-clause-looks g c = looks_then _ _ _ _ (rw c.has_filed_text.ensures at c.in-Ok.ensures.looks (filed_plain c.args.kind)) tt
+returns-in-Ok-clause-looks g c = looks_then _ _ _ _ (rw c.has_filed_text.ensures at c.in-Ok.ensures.looks (filed_read c.args.kind).plain) tt
 
 pub returns-in-Err-clause-looks : goal.returns-in-Err-clause-looks
-returns-in-Err-clause-looks g c = looks_as _ _ _ (rw c.has_filed_text.ensures at c.in-Err.ensures.looks (filed_plain c.args.kind))
+returns-in-Err-clause-looks g c = looks_as _ _ _ (rw c.has_filed_text.ensures at c.in-Err.ensures.looks (filed_read c.args.kind).plain)
 
 pub returns-in-Ok-clause-answer : goal.returns-in-Ok-clause-answer
 returns-in-Ok-clause-answer g c clean has r kept =

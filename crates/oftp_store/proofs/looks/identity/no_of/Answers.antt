@@ -1,14 +1,13 @@
 use Rattle.std.proofs.lemmas.Result.{IfOk-weaker}
-use Rattle.oftp_store.specs.Numbers.{no_of_text}
 use Rattle.oftp_tables.proofs.CallLemmas.{looks_as, looks_then}
-use Rattle.oftp_store.proofs.IdentityLemmas.{finds_no, no_of_plain}
+use Rattle.oftp_store.proofs.IdentityLemmas.{finds_no, no_of_read}
 use Rattle.oftp_store.proofs.looks.identity.no_of.Goals as goal
 
 pub returns-in-Ok-clause-looks : goal.returns-in-Ok-clause-looks
-returns-in-Ok-clause-looks g c = looks_then _ _ _ c.no_told.result (rw c.no_of_text.ensures at c.in-Ok.ensures.looks (no_of_plain c.args.side)) c.no_told.ensures.fails
+returns-in-Ok-clause-looks g c = looks_then _ _ _ c.no_told.result (rw c.no_of_text.ensures at c.in-Ok.ensures.looks (no_of_read c.args.side).plain) c.no_told.ensures.fails
 
 pub returns-in-Err-clause-looks : goal.returns-in-Err-clause-looks
-returns-in-Err-clause-looks g c = looks_as _ _ _ (rw c.no_of_text.ensures at c.in-Err.ensures.looks (no_of_plain c.args.side))
+returns-in-Err-clause-looks g c = looks_as _ _ _ (rw c.no_of_text.ensures at c.in-Err.ensures.looks (no_of_read c.args.side).plain)
 
 pub returns-in-Ok-clause-answer : goal.returns-in-Ok-clause-answer
 returns-in-Ok-clause-answer g c clean has =

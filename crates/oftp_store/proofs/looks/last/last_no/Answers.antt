@@ -1,16 +1,13 @@
-use Rattle.std.proofs.Common.{◌≡◌, subst, sym}
 use Rattle.std.proofs.lemmas.Result.{IfOk-weaker}
-use Rattle.oftp_store.specs.Numbers.{last_text}
-use Rattle.oftp_store.specs.declared.looks.last.Table.{Table}
 use Rattle.oftp_tables.proofs.CallLemmas.{looks_as, looks_then}
-use Rattle.oftp_store.proofs.LastLemmas.{finds_last_no, last_plain}
+use Rattle.oftp_store.proofs.LastLemmas.{finds_last_no, last_read}
 use Rattle.oftp_store.proofs.looks.last.last_no.Goals as goal
 
 pub returns-in-Ok-clause-looks : goal.returns-in-Ok-clause-looks
-returns-in-Ok-clause-looks g c = looks_then _ _ _ c.last_told.result (rw c.last_text.ensures at c.in-Ok.ensures.looks (last_plain c.args.table)) c.last_told.ensures.fails
+returns-in-Ok-clause-looks g c = looks_then _ _ _ c.last_told.result (rw c.last_text.ensures at c.in-Ok.ensures.looks (last_read c.args.table).plain) c.last_told.ensures.fails
 
 pub returns-in-Err-clause-looks : goal.returns-in-Err-clause-looks
-returns-in-Err-clause-looks g c = looks_as _ _ _ (rw c.last_text.ensures at c.in-Err.ensures.looks (last_plain c.args.table))
+returns-in-Err-clause-looks g c = looks_as _ _ _ (rw c.last_text.ensures at c.in-Err.ensures.looks (last_read c.args.table).plain)
 
 pub returns-in-Ok-clause-answer : goal.returns-in-Ok-clause-answer
 returns-in-Ok-clause-answer g c clean has =

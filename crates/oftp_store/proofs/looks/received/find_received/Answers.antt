@@ -1,7 +1,5 @@
-use Rattle.std.proofs.Common.{◌∙◌, Some, ap, sym, arith}
-use Rattle.sqlite.specs.Held.{state}
-use Rattle.sqlite.specs.State.{HasCleanDisk, IsUnchanged}
-use Rattle.oftp_store.proofs.PlaceLemmas.{after_look}
+use Rattle.std.proofs.Common.{◌∙◌, Some, ap, sym}
+use Rattle.oftp_store.proofs.LookLemmas.{left_by}
 use Rattle.oftp_store.proofs.ReceivedLemmas.{no_received, received_told, textless_remark}
 use Rattle.oftp_store.proofs.looks.received.find_received.Goals as goal
 
@@ -15,11 +13,7 @@ returns-in-Ok-clause-answer g c clean has r kept sound =
 
 pub returns-in-Ok-find_remark-clause-answer : goal.returns-in-Ok-find_remark-clause-answer
 returns-in-Ok-find_remark-clause-answer g c clean has r kept sound =
-    let old = state g.S.Store c.args.conn.now in
-    let mid = state g.S.Store c.find_received_header.new.conn in
-    let early : HasCleanDisk mid = omega (arith, c.in-Ok-find_remark.ensures.looks.clean, clean) in
-    let same : IsUnchanged old mid = c.in-Ok-Some.ensures.looks.same early has in
-    let was = after_look r old mid same has kept in
+    let mid = left_by r _ _ _ _ _ c.in-Ok-Some.ensures.looks c.in-Ok-find_remark.ensures.looks clean has kept in
     ap Some c.entry_of-in-Ok-find_remark.ensures
-    ∙ received_told r c.args.no c.in-Ok-Some.header c.in-Ok-find_remark.remark (rw c.in-Ok-Some.field-0-is at (c.in-Ok-Some.ensures.answer early has r kept sound))
-    (λ before x after placed kind. c.in-Ok-find_remark.ensures.answer clean was.0 r was.1 sound before x after placed (sym kind ∙ c.in-NegativeEndResponse.is))
+    ∙ received_told r c.args.no c.in-Ok-Some.header c.in-Ok-find_remark.remark (rw c.in-Ok-Some.field-0-is at (c.in-Ok-Some.ensures.answer mid.clean has r kept sound))
+    (λ before x after placed kind. c.in-Ok-find_remark.ensures.answer clean mid.schema r mid.tables sound before x after placed (sym kind ∙ c.in-NegativeEndResponse.is))

@@ -1,9 +1,7 @@
 use Rattle.std.proofs.Common.{Result, Ok, Err, IfOk}
-use Rattle.oftp_register.specs.declared.entries.Side.{Side}
-use Rattle.oftp_store.specs.Texts.{last_row_text}
 use Rattle.oftp_tables.proofs.BindLemmas.{number_bound}
 use Rattle.oftp_tables.proofs.CallLemmas.{looks_as, looks_then}
-use Rattle.oftp_store.proofs.RowLookLemmas.{last_plain, finds_last, count_is_told}
+use Rattle.oftp_store.proofs.RowLookLemmas.{last_read, finds_last, count_is_told}
 use Rattle.oftp_store.proofs.looks.rows.count_rows.Goals as goal
 
 IfOk_then : {A E : Type 0} {P Q : A → Type 0} (r : Result A E) → IfOk r P → ((x : A) → P x → Q x) → IfOk r Q
@@ -11,10 +9,10 @@ IfOk_then (Ok x) p f = f x p
 IfOk_then (Err e) p f = tt
 
 pub returns-in-Ok-clause-looks : goal.returns-in-Ok-clause-looks
-returns-in-Ok-clause-looks g c = looks_then _ _ _ c.count_told.result (rw c.last_row_text.ensures at c.in-Ok.ensures.looks (last_plain c.args.side)) c.count_told.ensures.fails
+returns-in-Ok-clause-looks g c = looks_then _ _ _ c.count_told.result (rw c.last_row_text.ensures at c.in-Ok.ensures.looks (last_read c.args.side).plain) c.count_told.ensures.fails
 
 pub returns-in-Err-clause-looks : goal.returns-in-Err-clause-looks
-returns-in-Err-clause-looks g c = looks_as _ _ _ (rw c.last_row_text.ensures at c.in-Err.ensures.looks (last_plain c.args.side))
+returns-in-Err-clause-looks g c = looks_as _ _ _ (rw c.last_row_text.ensures at c.in-Err.ensures.looks (last_read c.args.side).plain)
 
 pub returns-in-Ok-clause-answer : goal.returns-in-Ok-clause-answer
 returns-in-Ok-clause-answer g c clean has =

@@ -2,10 +2,9 @@ use Rattle.std.proofs.Common.{◌≡◌, refl, ap, ◌∙◌, [], ◌∷◌, Lis
 use Rattle.std.proofs.lemmas.Result.{IfOk-weaker}
 use Rattle.sqlite.specs.Order.{Row, bytes, column}
 use Rattle.sqlite.specs.declared.types.Value.TheVariants.{Blob}
-use Rattle.oftp_store.specs.Texts.{some_rows_text}
 use Rattle.oftp_tables.proofs.BindLemmas.{number_bound}
 use Rattle.oftp_tables.proofs.CallLemmas.{looks_as, looks_then}
-use Rattle.oftp_store.proofs.RowLookLemmas.{some_plain, finds_rows}
+use Rattle.oftp_store.proofs.RowLookLemmas.{some_read, finds_rows}
 use Rattle.oftp_store.proofs.looks.rows.find_rows.Goals as goal
 
 bodies_back : (bodies : List (List ℕ)) → map (λ (row : Row). bytes (column row 0)) (map (λ b. Blob b ∷ []) bodies) ≡ bodies
@@ -13,10 +12,10 @@ bodies_back [] = refl
 bodies_back (b ∷ bodies) = ap (λ more. b ∷ more) (bodies_back bodies)
 
 pub returns-in-Ok-clause-looks : goal.returns-in-Ok-clause-looks
-returns-in-Ok-clause-looks g c = looks_then _ _ _ c.bodies_told.result (rw c.some_rows_text.ensures at c.in-Ok.ensures.looks (some_plain c.args.side)) c.bodies_told.ensures.fails
+returns-in-Ok-clause-looks g c = looks_then _ _ _ c.bodies_told.result (rw c.some_rows_text.ensures at c.in-Ok.ensures.looks (some_read c.args.side).plain) c.bodies_told.ensures.fails
 
 pub returns-in-Err-clause-looks : goal.returns-in-Err-clause-looks
-returns-in-Err-clause-looks g c = looks_as _ _ _ (rw c.some_rows_text.ensures at c.in-Err.ensures.looks (some_plain c.args.side))
+returns-in-Err-clause-looks g c = looks_as _ _ _ (rw c.some_rows_text.ensures at c.in-Err.ensures.looks (some_read c.args.side).plain)
 
 pub returns-in-Ok-clause-answer : goal.returns-in-Ok-clause-answer
 returns-in-Ok-clause-answer g c clean has =

@@ -1,4 +1,3 @@
-use Rattle.std.proofs.Common.{◌≡◌, ◌∙◌, None, refl, sym, arith}
 use Rattle.oftp_store.proofs.OfficeLemmas.{commits, settled_alone}
 use Rattle.oftp_store.proofs.office.law.SqlOfficeOffice.commit.Goals as goal
 

@@ -1,4 +1,4 @@
-use Rattle.std.proofs.Common.{◌≡◌, ◌∙◌, None, refl, sym, arith}
+use Rattle.std.proofs.Common.{◌≡◌, None, sym, arith}
 use Rattle.oftp_store.proofs.OfficeLemmas.{far_incoming, looks_nowhere, looks_up, settled_alone}
 use Rattle.sqlite.specs.Held.{state}
 use Rattle.oftp_tables.specs.Tables.{register_in}

@@ -1,4 +1,4 @@
-use Rattle.std.proofs.Common.{◌≡◌, ◌∙◌, None, refl, sym, arith}
+use Rattle.std.proofs.Common.{◌≡◌}
 use Rattle.oftp_store.proofs.OfficeLemmas.{looks_up, settled_alone}
 use Rattle.oftp_register.specs.LookUps.{look_in}
 use Rattle.oftp_store.proofs.office.law.SqlOfficeOffice.look_in.Goals as goal

@@ -1,4 +1,4 @@
-use Rattle.std.proofs.Common.{◌≡◌, ◌∙◌, None, refl, sym, arith}
+use Rattle.std.proofs.Common.{◌≡◌, arith}
 use Rattle.oftp_store.proofs.OfficeLemmas.{far_units, looks_nowhere, looks_up, settled_alone}
 use Rattle.oftp_register.specs.LookUps.{units_of}
 use Rattle.oftp_store.proofs.office.law.SqlOfficeOffice.units_of.Goals as goal

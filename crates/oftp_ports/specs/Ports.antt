@@ -1,8 +1,7 @@
 -- What a port knows of the reader or the writer in it.
 use Rattle.std.specs.Prelude.{◌≡◌, ℕ, ◌+◌, ◌-◌, ◌<◌, ◌≤◌, ◌%◌, ◌^◌, ◌⊎◌, Bool, true, false, List, length, take, Option, None, Some}
 use Rattle.std.specs.Io.KnownBytes.{Appends, Keeps, Consumes, IsAtEnd}
-use Rattle.oftp_register.specs.Offices.{next_count}
-use Rattle.oftp_engine.specs.declared.port.Port.{Port}
+use Rattle.oftp_ports.specs.declared.port.Port.{Port}
 
 module _ {X : Type 0} where
   -- no more is to come: the reader has no octet left, or the port has given as many as it may
@@ -25,7 +24,7 @@ module _ {X : Type 0} where
   pub record GivesNothing (remaining : X → Option (List ℕ)) (old new : Port X) : Type 0 where
     pub bytes : Keeps (remaining old.inner) (remaining new.inner)
     pub moved : new.moved ≡ old.moved
-    pub faults : new.faults ≡ next_count old.faults
+    pub faults : new.faults ≡ (old.faults + 1) % 2 ^ 64
     pub most : new.most ≡ old.most
     pub on : new.ended ≡ old.ended
 
@@ -45,7 +44,7 @@ module _ {X : Type 0} where
   pub record TakesNothing (contents : X → Option (List ℕ)) (old new : Port X) : Type 0 where
     pub bytes : Keeps (contents old.inner) (contents new.inner)
     pub moved : new.moved ≡ old.moved
-    pub faults : new.faults ≡ next_count old.faults
+    pub faults : new.faults ≡ (old.faults + 1) % 2 ^ 64
 
   abbrev pub Writes : (X → Option (List ℕ)) → Port X → Port X → List ℕ → Option ℕ → Type 0
   Writes contents old new piece None = TakesNothing contents old new
@@ -64,7 +63,7 @@ module _ {X : Type 0} where
     pub count : ℕ
     pub short : count < length octets
     pub wrote : Wrote contents old new (take count octets)
-    pub faults : new.faults ≡ next_count old.faults
+    pub faults : new.faults ≡ (old.faults + 1) % 2 ^ 64
 
   -- all is out, or the writer told a fault
   abbrev pub Sent : (X → Option (List ℕ)) → Port X → Port X → List ℕ → Bool → Type 0

@@ -3,9 +3,9 @@ use Rattle.std.proofs.Common.{◌≡◌, ℕ, ◌+◌, ◌-◌, ◌≤◌, List,
 use Rattle.std.proofs.lemmas.List.{take_rest, length-take-le}
 use Rattle.std.proofs.Math.Seq.{take-add}
 use Rattle.std.specs.Io.KnownBytes.{Appends}
-use Rattle.oftp_engine.specs.declared.port.Port.{Port}
-use Rattle.oftp_engine.specs.Ports.{SentAll, Takes}
-use Rattle.oftp_engine.proofs.Bytes.{appends_on, count_on}
+use Rattle.oftp_ports.specs.declared.port.Port.{Port}
+use Rattle.oftp_ports.specs.Ports.{SentAll, Takes}
+use Rattle.oftp_ports.proofs.Bytes.{appends_on, count_on}
 
 pub sent_on : {X : Type 0} (contents : X → Option (List ℕ)) (a b d : Port X) (octets : List ℕ) (at n : ℕ)
     → SentAll contents a b (take at octets) → Takes contents b d (take (length octets - at) (drop at octets)) n → at ≤ length octets

@@ -1,5 +1,5 @@
-use Rattle.oftp_engine.proofs.Sending.{sent_on, sent_fits}
-use Rattle.oftp_engine.proofs.port.send.Goals as goal
+use Rattle.oftp_ports.proofs.Sending.{sent_on, sent_fits}
+use Rattle.oftp_ports.proofs.port.Port.send.Goals as goal
 
 pub loop-at-preserved : goal.loop-at-preserved
 loop-at-preserved g c = record {

@@ -1,0 +1,214 @@
+//! An office in memory that notes what it is asked for, and may lose a row or stop.
+
+ghost use Rattle.std.specs.Prelude.{◌≡◌, IfErr};
+ghost use Rattle.oftp_register.specs.Offices.{Counts, IsFailure};
+
+use super::operators::LIMITS;
+use oftp_register::{
+    Change, Cursor, Identity, IncomingEntry, IssuedEntry, Item, Name, Office, OfficeFault,
+    OutgoingEntry, PlainOffice, ReceivedEntry, ResponseKind, Side,
+};
+use oftp_vfile::{Limits, Rows};
+use std::alloc::Global;
+
+/// An office in memory. To contracts it reads nothing that was written, so nothing more is to be proved of it than its faults.
+#[derive(Drop)]
+pub(crate) struct Noting {
+    /// What it keeps, and what is found when it is opened again.
+    pub(crate) office: PlainOffice,
+    /// How many rows it was asked for at most.
+    pub(crate) most: u64,
+    /// Whether it loses the last of the rows that it is asked for.
+    pub(crate) loses: bool,
+    /// Whether it has stopped: then each call tells a fault.
+    pub(crate) is_stopped: bool,
+    stop: Option<Stop>,
+    faults: u64,
+}
+
+/// Where an office stops.
+#[derive(Clone, Copy, Drop)]
+pub(crate) struct Stop {
+    /// How many commits it still carries out.
+    pub(crate) commits: u64,
+    /// Whether it stops behind the change of the commit that fails then, and not before it.
+    pub(crate) is_made: bool,
+}
+
+impl Noting {
+    /// An office with an empty register, that may stop.
+    pub(crate) fn new(alloc: Global, stop: Option<Stop>) -> Noting {
+        Noting {
+            office: PlainOffice::new(alloc, LIMITS),
+            most: 0,
+            loses: false,
+            is_stopped: false,
+            stop,
+            faults: 0,
+        }
+    }
+
+    /// Opens it again, for good.
+    pub(crate) fn open_again(&mut self) {
+        self.is_stopped = false;
+        self.stop = None;
+    }
+
+    // A fault of each call once it has stopped.
+    fn opened(&mut self) -> Result<(), OfficeFault>
+        ensures fault { IfErr result IsFailure }
+        ensures counts { Counts self.old.faults self.new.faults result }
+    {
+        if self.is_stopped {
+            return self.counted(Err(OfficeFault::Store));
+        }
+        Ok(())
+    }
+
+    // Stops in a commit, before the change is made or behind it.
+    fn stop_at(&mut self, change: Change<'_>, is_made: bool) -> Result<(), OfficeFault>
+        ensures counts { Counts self.old.faults self.new.faults result }
+    {
+        self.is_stopped = true;
+        if is_made {
+            let _ = self.office.commit(change);
+        }
+        self.counted(Err(OfficeFault::Store))
+    }
+
+    // What a call found, its fault counted.
+    fn counted<T>(&mut self, found: Result<T, OfficeFault>) -> Result<T, OfficeFault>
+        ensures found { result ≡ found }
+        ensures counts { Counts self.old.faults self.new.faults result }
+    {
+        if let Err(OfficeFault::Store | OfficeFault::Memory) = &found {
+            self.faults = self.faults.wrapping_add(1);
+        }
+        found
+    }
+}
+
+impl Office for Noting {
+    ghost use Rattle.oftp_register.specs.Plain.{view_of};
+
+    ghost view = { λ o. record (view_of o.office) { told = o.faults; clean = ⊥ } };
+
+    ghost sound = { λ o clean stood. absurd clean };
+
+    ghost alone = { λ o clean stood. absurd clean };
+
+    ghost leaves = { λ o clean. absurd clean };
+
+    fn limits(&self) -> Limits {
+        self.office.limits()
+    }
+
+    fn look_in(&mut self, identity: &Identity) -> Result<Option<IncomingEntry>, OfficeFault> {
+        self.opened()?;
+        let found = self.office.look_in(identity);
+        self.counted(found)
+    }
+
+    fn look_out(&mut self, identity: &Identity) -> Result<Option<OutgoingEntry>, OfficeFault> {
+        self.opened()?;
+        let found = self.office.look_out(identity);
+        self.counted(found)
+    }
+
+    fn in_by_no(&mut self, no: u64) -> Result<Option<IncomingEntry>, OfficeFault> {
+        self.opened()?;
+        let found = self.office.in_by_no(no);
+        self.counted(found)
+    }
+
+    fn out_by_no(&mut self, no: u64) -> Result<Option<OutgoingEntry>, OfficeFault> {
+        self.opened()?;
+        let found = self.office.out_by_no(no);
+        self.counted(found)
+    }
+
+    fn files_full(&mut self, side: Side) -> Result<bool, OfficeFault> {
+        self.opened()?;
+        let found = self.office.files_full(side);
+        self.counted(found)
+    }
+
+    fn has_received(
+        &mut self,
+        kind: ResponseKind,
+        identity: &Identity,
+    ) -> Result<bool, OfficeFault> {
+        self.opened()?;
+        let found = self.office.has_received(kind, identity);
+        self.counted(found)
+    }
+
+    fn next_item(
+        &mut self,
+        partner: &Name<25>,
+        cursor: Cursor,
+        files: bool,
+    ) -> Result<Option<Item>, OfficeFault> {
+        self.opened()?;
+        let found = self.office.next_item(partner, cursor, files);
+        self.counted(found)
+    }
+
+    fn rows_of(&mut self, side: Side, no: u64, from: u64, most: u64) -> Result<Rows, OfficeFault> {
+        self.opened()?;
+        self.most = self.most.max(most);
+        let found = self.office.rows_of(side, no, from, most);
+        let rows = self.counted(found)?;
+        if !self.loses {
+            return Ok(rows);
+        }
+        let mut rows = rows.into_vec();
+        rows.truncate(rows.len().saturating_sub(1));
+        Ok(Rows::new(rows))
+    }
+
+    fn units_of(&mut self, side: Side, no: u64) -> Result<u64, OfficeFault> {
+        self.opened()?;
+        let found = self.office.units_of(side, no);
+        self.counted(found)
+    }
+
+    fn list_in(&mut self) -> Result<Vec<IncomingEntry>, OfficeFault> {
+        self.opened()?;
+        let found = self.office.list_in();
+        self.counted(found)
+    }
+
+    fn list_out(&mut self) -> Result<Vec<OutgoingEntry>, OfficeFault> {
+        self.opened()?;
+        let found = self.office.list_out();
+        self.counted(found)
+    }
+
+    fn list_issued(&mut self) -> Result<Vec<IssuedEntry>, OfficeFault> {
+        self.opened()?;
+        let found = self.office.list_issued();
+        self.counted(found)
+    }
+
+    fn list_received(&mut self) -> Result<Vec<ReceivedEntry>, OfficeFault> {
+        self.opened()?;
+        let found = self.office.list_received();
+        self.counted(found)
+    }
+
+    fn commit(&mut self, change: Change<'_>) -> Result<(), OfficeFault> {
+        self.opened()?;
+        if let Some(stop) = self.stop {
+            if stop.commits == 0 {
+                return self.stop_at(change, stop.is_made);
+            }
+            self.stop = Some(Stop {
+                commits: stop.commits - 1,
+                ..stop
+            });
+        }
+        let made = self.office.commit(change);
+        self.counted(made)
+    }
+}

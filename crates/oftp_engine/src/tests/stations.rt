@@ -1,0 +1,293 @@
+//! Two stations in memory that hear only each other, while their connection breaks or one of them stops. A round is two sessions: the
+//! sender begins one, and the receiver, whose operator releases the file before, begins the other. In a first round something breaks.
+//! After a second one, which is whole, the file is delivered, whole and answered once.
+
+use super::BOOK;
+use super::noting::{Noting, Stop};
+use super::operators::FILE;
+use crate::{Operator, Port, Role, Submission, operate, serve};
+use oftp_partners::{Book, read};
+use oftp_register::{Office, PlainOffice, Side};
+use std::alloc::Global;
+use std::process::Abort;
+use std::test::Fail;
+
+/// The book of the sender's partner: the codes and the passwords are exchanged.
+const OTHER_BOOK: &str =
+    "[station]\ncode = 'O0177CARMAKER'\nbuffer = 128\ncredit = 2\nrestart = true\n[[partner]]\ncode = 'O0013SUPPLIER'\nexpects = 'SUPPW'\nsends = 'CARPW'\nmode = 'B'\naddress = '127.0.0.1:3305'\n";
+
+/// The file is delivered, and one response for it came. Its mark counts the two whole blocks of 1,024 octets that CDTs covered.
+const AT_THE_SENDER: &str = "out Delivered 2\nreceived EndResponse\n";
+
+/// The file is whole, its three rows are those that were sent, and one response for it was sent.
+const AT_THE_RECEIVER: &str = "in Whole 3 3\nissued EndResponse Sent\n";
+
+/// What is given: both books, and the file's octets.
+#[derive(Drop)]
+struct Given {
+    book: Book,
+    other_book: Book,
+    content: Vec<u8>,
+}
+
+impl Given {
+    fn new(alloc: Global) -> Result<Given, Fail> {
+        let mut content = Vec::new(alloc);
+        for i in 0..2500u32 {
+            content.push((i % 251) as u8)?;
+        }
+        Ok(Given {
+            book: read(alloc, BOOK)?,
+            other_book: read(alloc, OTHER_BOOK)?,
+            content,
+        })
+    }
+
+    fn sender(&self, alloc: Global) -> Station<'_> {
+        Station {
+            book: &self.book,
+            partner: b"O0177CARMAKER",
+            is_first: true,
+            call: Operator::Submit(Submission {
+                content: self.content.as_slice(),
+                ..FILE
+            }),
+            stop: None,
+            heard: Vec::new(alloc),
+            content: self.content.as_slice(),
+            wanted: AT_THE_SENDER,
+        }
+    }
+
+    fn receiver(&self, alloc: Global, stop: Option<Stop>) -> Station<'_> {
+        Station {
+            book: &self.other_book,
+            partner: b"O0013SUPPLIER",
+            is_first: false,
+            call: Operator::Release { no: 1 },
+            stop,
+            heard: Vec::new(alloc),
+            content: self.content.as_slice(),
+            wanted: AT_THE_RECEIVER,
+        }
+    }
+}
+
+/// A station. All that it has comes from what it heard.
+#[derive(Drop)]
+struct Station<'a> {
+    book: &'a Book,
+    /// The other station's code.
+    partner: &'static [u8],
+    /// Whether it begins the first session of a round, and not the second.
+    is_first: bool,
+    /// What its operator wants before each session that it begins.
+    call: Operator<'a>,
+    /// Where its office stops in the first round.
+    stop: Option<Stop>,
+    /// What it heard in each session so far.
+    heard: Vec<Vec<u8>>,
+    /// The octets of the file.
+    content: &'a [u8],
+    /// What it is to have in the end.
+    wanted: &'static str,
+}
+
+/// A station's part in a session: what it says, and what it has behind it.
+#[derive(Drop)]
+struct Part {
+    said: Vec<u8>,
+    left: String,
+}
+
+impl Station<'_> {
+    /// Its office after the sessions so far.
+    fn office(&self, alloc: Global) -> Result<Noting, Fail> {
+        let mut office = Noting::new(alloc, self.stop);
+        for (session, heard) in self.heard.iter().enumerate() {
+            self.serve(alloc, &mut office, session, heard.as_slice())?;
+        }
+        Ok(office)
+    }
+
+    /// Serves a session in which it hears this, and answers what it says. Its office is opened again before the second round. That
+    /// its operator is refused, or the session breaks off, is no fault of the test.
+    fn serve(
+        &self,
+        alloc: Global,
+        office: &mut Noting,
+        session: usize,
+        heard: &[u8],
+    ) -> Result<Vec<u8>, Fail> {
+        if session == 2 {
+            office.open_again();
+        }
+        let Some(partner) = self.book.partner(self.partner) else {
+            return Err("the partner isn't in the book")?;
+        };
+        let mut role = Role::Responder;
+        if (session % 2 == 0) == self.is_first {
+            let mut line = Port::new(Vec::new(alloc), 0);
+            let _ = operate(alloc, office, self.book, &self.call, &mut line);
+            role = Role::Initiator(partner);
+        }
+        let mut reader = Port::new(heard, u64::MAX);
+        let mut writer = Port::new(Vec::new(alloc), 0);
+        let _ = serve(alloc, office, self.book, role, &mut reader, &mut writer);
+        Ok(writer.into_inner())
+    }
+
+    /// Its part in its next session, where it hears this.
+    fn play(&self, alloc: Global, heard: &[u8]) -> Result<Part, Fail> {
+        let mut office = self.office(alloc)?;
+        let said = self.serve(alloc, &mut office, self.heard.len(), heard)?;
+        let left = told(alloc, &mut office.office, self.content)?;
+        Ok(Part { said, left })
+    }
+}
+
+/// What a register has, in words: of each outgoing file the state and the mark, of each incoming one the state, how many rows it has
+/// and how many are those of the file's octets.
+fn told(alloc: Global, office: &mut PlainOffice, content: &[u8]) -> Result<String, Fail> {
+    let mut text = String::new(alloc);
+    for file in office.list_out()? {
+        writeln!(text, "out {:?} {}", file.state, file.mark)?;
+    }
+    for file in office.list_in()? {
+        let rows = office.rows_of(Side::Incoming, file.no, 0, file.rows)?;
+        let mut same = 0u64;
+        for (row, octets) in rows.as_slice().iter().zip(content.chunks(1024)) {
+            same = same.wrapping_add(u64::from(row.octets() == octets));
+        }
+        writeln!(text, "in {:?} {} {same}", file.state, file.rows)?;
+    }
+    for issued in office.list_issued()? {
+        let response = issued.response;
+        writeln!(text, "issued {:?} {:?}", response.kind, response.dispatch)?;
+    }
+    for received in office.list_received()? {
+        writeln!(text, "received {:?}", received.response.kind)?;
+    }
+    Ok(text)
+}
+
+/// A session that doesn't break: each hears all that the other says. They say it anew until neither says more.
+fn converse(alloc: Global, one: &mut Station<'_>, other: &mut Station<'_>) -> Result<(), Fail> {
+    let mut heard = Vec::new(alloc);
+    for _ in 0..99 {
+        let said = one.play(alloc, heard.as_slice())?.said;
+        let answer = other.play(alloc, said.as_slice())?.said;
+        if answer.len() == heard.len() {
+            one.heard.push(heard)?;
+            other.heard.push(said)?;
+            return Ok(());
+        }
+        heard = answer;
+    }
+    Err("they have more to say")?
+}
+
+/// A station has what it is to have in the end.
+fn ends(alloc: Global, rt: &impl Abort, station: &Station<'_>) -> Result<(), Fail> {
+    let mut office = station.office(alloc)?.office;
+    let text = told(alloc, &mut office, station.content)?;
+    assert_eq!(rt; text.as_str(), station.wanted);
+    Ok(())
+}
+
+/// Goes on to the end of the second round. Both then have what they are to have.
+fn finish(
+    alloc: Global,
+    rt: &impl Abort,
+    one: &mut Station<'_>,
+    other: &mut Station<'_>,
+) -> Result<(), Fail> {
+    for _ in one.heard.len()..4 {
+        converse(alloc, one, other)?;
+    }
+    ends(alloc, rt, one)?;
+    ends(alloc, rt, other)
+}
+
+/// Breaks the next session after each octet that one station hears in it. The other hears all that is said to that, and its part is
+/// the same as long as no more is said. What follows depends on what both have then, so it is played where that has changed.
+fn break_each(
+    alloc: Global,
+    rt: &impl Abort,
+    one: &mut Station<'_>,
+    other: &mut Station<'_>,
+    heard: &[u8],
+) -> Result<(), Fail> {
+    let sessions = one.heard.len();
+    let mut said = Vec::new(alloc);
+    let Part {
+        said: mut answer,
+        left: mut other_left,
+    } = other.play(alloc, &[])?;
+    let mut before = String::new(alloc);
+    for n in 0..heard.len() {
+        let Part { said: says, left } = one.play(alloc, &heard[..n])?;
+        if says.len() != said.len() {
+            let part = other.play(alloc, says.as_slice())?;
+            answer = part.said;
+            other_left = part.left;
+            said = says;
+        }
+        assert!(rt; answer.as_slice().starts_with(&heard[..n]));
+        let now = format!(in alloc; "{left}{other_left}")?;
+        if now != before {
+            one.heard.push(heard[..n].to_vec(alloc)?)?;
+            other.heard.push(said.clone()?)?;
+            finish(alloc, rt, one, other)?;
+            one.heard.truncate(sessions);
+            other.heard.truncate(sessions);
+            before = now;
+        }
+    }
+    Ok(())
+}
+
+/// The connection breaks in the first round, in each of its sessions after each octet of either direction in turn.
+#[test]
+fn break_after_each_octet(rt: HostRuntime) -> Result<(), Fail> {
+    let alloc = rt.alloc();
+    let given = Given::new(alloc)?;
+    let mut sender = given.sender(alloc);
+    let mut receiver = given.receiver(alloc, None);
+    for _ in 0..2 {
+        converse(alloc, &mut sender, &mut receiver)?;
+        let Some(to_sender) = sender.heard.pop() else {
+            return Err("the sender heard nothing")?;
+        };
+        let Some(to_receiver) = receiver.heard.pop() else {
+            return Err("the receiver heard nothing")?;
+        };
+        let octets = to_sender.as_slice();
+        break_each(alloc, &rt, &mut sender, &mut receiver, octets)?;
+        let octets = to_receiver.as_slice();
+        break_each(alloc, &rt, &mut receiver, &mut sender, octets)?;
+        sender.heard.push(to_sender)?;
+        receiver.heard.push(to_receiver)?;
+    }
+    finish(alloc, &rt, &mut sender, &mut receiver)
+}
+
+/// The receiver's office stops in the first round, in each of its commits in turn, before the change is made and behind it: in those
+/// that begin the file, keep its first row and its second, close it, release it and send the response.
+#[test]
+fn stop_at_each_write(rt: HostRuntime) -> Result<(), Fail> {
+    let alloc = rt.alloc();
+    let given = Given::new(alloc)?;
+    for is_made in [false, true] {
+        for commits in 0..7 {
+            let mut sender = given.sender(alloc);
+            let mut receiver = given.receiver(alloc, Some(Stop { commits, is_made }));
+            converse(alloc, &mut sender, &mut receiver)?;
+            converse(alloc, &mut sender, &mut receiver)?;
+            let office = receiver.office(alloc)?;
+            assert_eq!(rt; office.is_stopped, commits < 6, "at {commits}");
+            finish(alloc, &rt, &mut sender, &mut receiver)?;
+        }
+    }
+    Ok(())
+}

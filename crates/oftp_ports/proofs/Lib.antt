@@ -1,0 +1,3 @@
+pub mod Bytes
+mod Sending
+pub mod Puts

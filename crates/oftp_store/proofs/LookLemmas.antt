@@ -1,0 +1,41 @@
+-- What one look-up leaves to the next, and what the next tells.
+use Rattle.std.proofs.Common.{◌≡◌, Result, Ok, IfOk, sym, ap, subst, ◌∙◌, arith}
+use Rattle.std.proofs.lemmas.Result.{IfOk-weaker}
+use Rattle.sqlite.specs.Effect.{Database}
+use Rattle.sqlite.specs.State.{State, HasCleanDisk, IsUnchanged}
+use Rattle.oftp_schema.specs.Schema.{office_schema}
+use Rattle.oftp_register.specs.declared.office.OfficeFault.{OfficeFault}
+use Rattle.oftp_register.specs.Register.{Register}
+use Rattle.oftp_tables.specs.Calls.{Looks}
+use Rattle.oftp_tables.specs.Tables.{Tables}
+
+-- a clean disk with the tables of the office, which are those of a register
+pub record IsLeft (r : Register) (s : State) : Type 0 where
+  pub clean : HasCleanDisk s
+  pub schema : s.now.schema ≡ office_schema
+  pub tables : Tables r s.now.trees
+
+-- so the first of two look-ups leaves the tables to the second
+pub left_by : {A B : Type 0} (r : Register) (old mid new : State) (x : A) (result : Result B OfficeFault) → Looks old mid (Ok x) → Looks mid new result
+    → HasCleanDisk new → old.now.schema ≡ office_schema → Tables r old.now.trees → IsLeft r mid
+left_by r old mid new x result one two clean has kept =
+    let early : HasCleanDisk mid = omega (arith, two.clean, clean) in
+    let same : IsUnchanged old mid = one.same early has in
+    record {
+      clean = early;
+      schema = ap (λ (d : Database). d.schema) same.0.now_is ∙ has;
+      tables = subst (λ (d : Database). Tables r d.trees) (sym same.0.now_is) kept;
+    }
+
+-- what the second of two look-ups answers is told of the tables that were there before both
+pub answers_after : {A B : Type 0} (First : Register → Type 0) (Second Both : Register → B → Type 0) (old mid new : State) (x : A) (result : Result B OfficeFault)
+    → Looks old mid (Ok x) → Looks mid new result
+    → (HasCleanDisk mid → old.now.schema ≡ office_schema → (r : Register) → Tables r old.now.trees → First r)
+    → (HasCleanDisk new → mid.now.schema ≡ office_schema → IfOk result (λ y. (r : Register) → Tables r mid.now.trees → Second r y))
+    → ((r : Register) (y : B) → First r → Second r y → Both r y)
+    → HasCleanDisk new → old.now.schema ≡ office_schema → IfOk result (λ y. (r : Register) → Tables r old.now.trees → Both r y)
+answers_after First Second Both old mid new x result one two first second both clean has =
+    let early : HasCleanDisk mid = omega (arith, two.clean, clean) in
+    let same : IsUnchanged old mid = one.same early has in
+    IfOk-weaker result _ _ (λ y told r kept. both r y (first early has r kept) (told r (left_by r old mid new x result one two clean has kept).tables))
+    (second clean (ap (λ (d : Database). d.schema) same.0.now_is ∙ has))

@@ -1,0 +1,61 @@
+-- How the texts of the look-ups are read, and what a query by a number tells.
+use Rattle.std.proofs.Common.{◌≡◌, ◌<◌, ◌^◌, ℕ, ℤ, pos, w64, to_z, of_z, false, List, [], ◌∷◌, Result, IfOk, sym, ap, subst, ◌∙◌}
+use Rattle.std.proofs.lemmas.Result.{IfOk-weaker}
+use Rattle.std.specs.List.Sorted.{IsPermutation}
+use Rattle.sqlite.specs.declared.types.Value.{Value}
+use Rattle.sqlite.specs.declared.types.Value.TheVariants.{Int, Null}
+use Rattle.sqlite.specs.Order.{Row, column}
+use Rattle.sqlite.specs.Values.{bound_value}
+use Rattle.sqlite.specs.Term.{Term, eval_all}
+use Rattle.sqlite.specs.Command.{Command}
+use Rattle.sqlite.specs.Command.TheVariants.{Select}
+use Rattle.sqlite.specs.Effect.{Reads}
+use Rattle.sqlite.specs.Listing.{understood, reads_listing}
+use Rattle.sqlite.specs.State.{State, Shown}
+use Rattle.sqlite.proofs.Callers.{IsPlain, command_of, reads_as}
+use Rattle.oftp_register.specs.declared.office.OfficeFault.{OfficeFault}
+use Rattle.oftp_schema.specs.Schema.{office_schema}
+use Rattle.oftp_schema.proofs.QueryLemmas.{answers, chosen, plain_query}
+use Rattle.oftp_tables.specs.Tables.{number_value, rows_from}
+use Rattle.oftp_tables.proofs.BindLemmas.{number_bound}
+use Rattle.oftp_tables.proofs.SplitLemmas.{by_number}
+use Rattle.oftp_store.specs.Reads.{IsPlaced, IsToldOf, first_told}
+use Rattle.oftp_store.proofs.NumberLemmas.{OneRow, nowhere, one_row, somewhere}
+
+-- the text of a look-up is this command over the office's tables, and nothing more
+pub record IsRead (text : List ℕ) (command : Command) : Type 0 where
+  pub is : command_of (understood office_schema text) ≡ command
+  pub unlisted : reads_listing office_schema text ≡ false
+  pub plain : IsPlain (understood office_schema text)
+
+-- so the rows that it shows are the answer of that command
+pub read_so : (text : List ℕ) (params : Row) (old new : State) (command : Command) (rows : List Row) → IsRead text command → old.now.schema ≡ office_schema → Shown text params old new rows
+    → Reads command old.now params rows
+read_so text params old new command rows reading has shown = reads_as text params old new office_schema has command reading.is reading.plain reading.unlisted rows shown
+
+-- the number of an entry is given to a query as it is
+pub number_given : {k : ℕ} {value : ℤ} {v : Value} (text : List ℕ) (old new : State) (rows : List Row) → k < 2 ^ 63 → value ≡ pos k → v ≡ Int (to_z w64 (of_z w64 value))
+    → Shown text (bound_value v ∷ []) old new rows → Shown text (number_value k ∷ []) old new rows
+number_given {k} {value} text old new rows small value_is is h =
+    subst (λ u. Shown text (u ∷ []) old new rows) (ap bound_value is ∙ ap Int (number_bound k value value_is small)) h
+
+-- what is told is what was made of the rows
+pub told_as : {T : Type 0} (result : Result T OfficeFault) (x : T) (Says : T → Type 0) → IfOk result (λ found. found ≡ x) → Says x → IfOk result Says
+told_as result x Says told says = IfOk-weaker result _ _ (λ found same. subst Says (sym same) says) told
+
+-- what a query for the entry with a number tells of it, where a table has a row for each entry
+pub finds_told : {X H : Type 0} (row : ℕ → X → Row) → ((n : ℕ) (x : X) → column (row n x) 0 ≡ Int (pos n)) → (tree : ℕ) (project : List Term) (text : List ℕ) (names : List (List ℕ))
+    → IsRead text (Select (record { lets = []; body = plain_query tree by_number project }) names) → (read : Row → H) (tell : X → H) (old new : State) (xs : List X) (k : ℕ) (rows : List Row)
+    → old.now.schema ≡ office_schema → Shown text (number_value k ∷ []) old new rows → old.now.trees tree ≡ rows_from row 1 xs
+    → ((before : List X) (x : X) (after : List X) → IsPlaced xs k before x after → read (eval_all project ((number_value k ∷ []) ∷ row k x ∷ [])) ≡ tell x)
+    → IsToldOf tell xs k (first_told read rows)
+finds_told {X} row numbers tree project text names reading read tell old new xs k rows has shown table back =
+    let params = number_value k ∷ [] in
+    let select : Command = Select (record { lets = []; body = plain_query tree by_number project }) names in
+    let answered = read_so text params old new select rows reading has shown in
+    go (one_row row numbers xs k project rows
+    (subst (λ table. IsPermutation (chosen by_number project params table) rows) table (answers old.now.trees tree by_number project params rows (answered.answer Null))))
+  where
+    go : OneRow row xs k project rows → IsToldOf tell xs k (first_told read rows)
+    go (nowhere none unknown) = subst (λ rows. IsToldOf tell xs k (first_told read rows)) (sym none) unknown
+    go (somewhere before x after placed one) = subst (λ rows. IsToldOf tell xs k (first_told read rows)) (sym one) (before, x, after, placed, back before x after placed)
