@@ -1,6 +1,6 @@
 //! The migration, in one transaction.
 
-ghost use Rattle.std.specs.Prelude.{◌≡◌, ◌∷◌, ◌⊎◌, ◌≤◌, [], false, IfOk, IfErr, OnOk, OnErr, IsTrue};
+ghost use Rattle.std.specs.Prelude.{◌≡◌, ◌≢◌, ◌∷◌, ◌⊎◌, ◌≤◌, [], Err, false, IfOk, IfErr, OnOk, OnErr, IsTrue};
 ghost use Rattle.sqlite.specs.Held.{state};
 ghost use Rattle.sqlite.specs.Tree.{Trees};
 ghost use Rattle.sqlite.specs.View.{doubt};
@@ -107,6 +107,7 @@ pub(crate) fn bring<S: Alter>(conn: &mut Connection<S>) -> Result<(), StoreFault
     ensures known { HasCleanDisk (state S.Store conn.new) → OnOk result (HasFirst (state S.Store conn.old).now ⊎ HasOffice (state S.Store conn.old).now) }
     ensures wrong { HasCleanDisk (state S.Store conn.new) → IfErr result (λ fault. fault ≡ StoreFault.WrongSchema
         → ¬ (HasFirst (state S.Store conn.old).now ⊎ HasOffice (state S.Store conn.old).now) × IsAsBefore (state S.Store conn.old) (state S.Store conn.new)) }
+    ensures foreign { (state S.Store conn.old).now.schema ≢ first_schema → (state S.Store conn.old).now.schema ≢ office_schema → result ≡ Err StoreFault.WrongSchema }
     ensures migrated { HasCleanDisk (state S.Store conn.new) → IsTrue (state S.Store conn.old).is_open → HasFirst (state S.Store conn.old).now
         → OnOk result (IsMigrated (state S.Store conn.old).now (state S.Store conn.new).now × IsCommitted (state S.Store conn.old) (state S.Store conn.new)) }
     ensures found { HasCleanDisk (state S.Store conn.new) → HasOffice (state S.Store conn.old).now → OnOk result (IsUnchanged (state S.Store conn.old) (state S.Store conn.new)) }

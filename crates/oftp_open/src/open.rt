@@ -1,11 +1,12 @@
 //! The opening of a store, for an office.
 
-ghost use Rattle.std.specs.Prelude.{◌≡◌, ◌⊎◌, ◌≤◌, false, IfErr, OnOk};
+ghost use Rattle.std.specs.Prelude.{◌≡◌, ◌≢◌, ◌⊎◌, ◌≤◌, Err, false, IfErr, OnOk};
 ghost use Rattle.sqlite.specs.Held.{state};
 ghost use Rattle.sqlite.specs.Tree.{Trees};
 ghost use Rattle.sqlite.specs.View.{doubt};
 ghost use Rattle.sqlite.specs.State.{HasCleanDisk};
 ghost use Rattle.oftp_register.specs.Register.{Register};
+ghost use Rattle.oftp_schema.specs.Schema.{first_schema, office_schema};
 ghost use Rattle.oftp_schema.specs.Making.{HasFirst, HasOffice, IsAsBefore, IsEmpty};
 ghost use Rattle.oftp_open.specs.Stands.{IsContentOf};
 ghost use Rattle.oftp_open.specs.Opening.{IsAt, IsAtFirst, SparesUnless, StandsFor};
@@ -27,6 +28,7 @@ pub fn open_tables<S: Alter>(conn: &mut Connection<S>) -> Result<(), StoreFault>
     ensures known { HasCleanDisk (state S.Store conn.new) → OnOk result (IsEmpty (state S.Store conn.old).now ⊎ HasOffice (state S.Store conn.old).now) }
     ensures wrong { HasCleanDisk (state S.Store conn.new) → IfErr result (λ fault. fault ≡ StoreFault.WrongSchema
         → ¬ (IsEmpty (state S.Store conn.old).now ⊎ HasOffice (state S.Store conn.old).now) × IsAsBefore (state S.Store conn.old) (state S.Store conn.new)) }
+    ensures foreign { ¬ IsEmpty (state S.Store conn.old).now → (state S.Store conn.old).now.schema ≢ office_schema → result ≡ Err StoreFault.WrongSchema }
     ensures found { HasCleanDisk (state S.Store conn.new) → (r : Register) → IsAt r (state S.Store conn.old) → OnOk result (StandsFor r (state S.Store conn.new)) }
     ensures left { HasCleanDisk (state S.Store conn.new) → (r : Register) → IsAt r (state S.Store conn.old) → (db : Trees) → (state S.Store conn.new).may_leave db
         → (state S.Store conn.old).may_leave db ⊎ IsContentOf db r }
@@ -49,6 +51,7 @@ pub fn migrate_tables<S: Alter>(conn: &mut Connection<S>) -> Result<(), StoreFau
     ensures known { HasCleanDisk (state S.Store conn.new) → OnOk result (HasFirst (state S.Store conn.old).now ⊎ HasOffice (state S.Store conn.old).now) }
     ensures wrong { HasCleanDisk (state S.Store conn.new) → IfErr result (λ fault. fault ≡ StoreFault.WrongSchema
         → ¬ (HasFirst (state S.Store conn.old).now ⊎ HasOffice (state S.Store conn.old).now) × IsAsBefore (state S.Store conn.old) (state S.Store conn.new)) }
+    ensures foreign { (state S.Store conn.old).now.schema ≢ first_schema → (state S.Store conn.old).now.schema ≢ office_schema → result ≡ Err StoreFault.WrongSchema }
     ensures found { HasCleanDisk (state S.Store conn.new) → (r : Register) → IsAt r (state S.Store conn.old) → HasOffice (state S.Store conn.old).now
         → OnOk result (StandsFor r (state S.Store conn.new)) }
     ensures migrated { HasCleanDisk (state S.Store conn.new) → (r : Register) → IsAtFirst r (state S.Store conn.old) → OnOk result (StandsFor r (state S.Store conn.new)) }

@@ -1,16 +1,19 @@
 -- How statements make a transaction.
-use Rattle.std.proofs.Common.{◌≡◌, ◌∙◌, ℕ, List, [], true, false, Result, Ok, Err, IfErr, OnOk, OnErr, IsTrue, inl, inr, refl, sym, subst, arith}
+use Rattle.std.proofs.Common.{◌≡◌, ◌≤◌, ◌∙◌, ℕ, List, [], true, false, Result, Ok, Err, IfErr, OnOk, OnErr, IsTrue, inl, inr, refl, sym, subst, arith}
 use Rattle.sqlite_trees.specs.declared.store.Store.{Ghosts}
 use Rattle.sqlite.specs.Held.{Held, state}
 use Rattle.sqlite.specs.Effect.{Database}
 use Rattle.sqlite.specs.Steps.{FailsToCommit}
+use Rattle.sqlite.specs.View.{doubt}
 use Rattle.sqlite.proofs.StateLemmas.{survives_then}
 use Rattle.std.proofs.lemmas.Bool.{cases_Bool}
 use Rattle.sqlite.specs.Order.{Row}
 use Rattle.sqlite.specs.declared.error.Error.{Error}
+use Rattle.sqlite.specs.declared.error.Error.TheVariants.{SqliteFailure}
+use Rattle.sqlite.specs.declared.error.ErrorCode.TheVariants.{TransactionState}
 use Rattle.sqlite.specs.State.{State, ExecutesInside, HasCleanDisk, IsRolledBack, KeepsCommit, KeepsCounts, Shows, Survives}
 use Rattle.oftp_schema.proofs.CallLemmas.{on_ok, on_err}
-use Rattle.oftp_schema.specs.Calls.{IsInside, IsSpared, IsUndone, Runs, StaysInside, Transacts}
+use Rattle.oftp_schema.specs.Calls.{IsInside, IsSpared, IsStatementError, IsTransactionError, IsUndone, Runs, StaysInside, Transacts}
 
 pub spared_keeps : (old new : State) → IsSpared old new → KeepsCommit old new
 spared_keeps old new (inl same) = record { was_open = λ _. same.0.was_open; committed = λ _. same.0.committed_is }
@@ -40,6 +43,28 @@ ran_on sql params old new (Ok count) e P ended runs then =
       | inl inside ↦ then count (runs inside)
       | inr past ↦ absurd (let no_such = ended past in cc)
     ]
+
+-- what a statement tells
+pub tells : {S : Type 0} (g : Ghosts S) (sql : List ℕ) (params : Row) (old new : Held S) (result : Result ℕ Error)
+    → ((state g old).in_transaction ≡ false → (result ≡ Err (SqliteFailure TransactionState)) × (new ≡ old))
+    → (IsTrue (state g old).in_transaction → ExecutesInside 0 sql params (state g old) (state g new) result) → IfErr result (IsStatementError g new)
+tells g sql params old new (Ok count) ended runs = tt
+tells g sql params old new (Err e) ended runs =
+    elim (cases_Bool (state g old).in_transaction) [
+      | inl inside ↦ inr (old, sql, params, runs inside)
+      | inr past ↦ inl (let is = (ended past).0 in cc)
+    ]
+
+-- what a transaction tells that was given up after a failure
+pub tells_after : {S U : Type 0} (g : Ghosts S) (last new : Held S) (result : Result U Error) (e : Error) → result ≡ Err e → (HasCleanDisk (state g last) → IsStatementError g last e)
+    → doubt (state g last).is_clean ≤ doubt (state g new).is_clean → HasCleanDisk (state g new) → IfErr result (IsTransactionError g new)
+tells_after g last new result e is told sure clean = rw is (last, inl (told (omega (arith, sure, clean))))
+
+-- what the end of one tells
+pub tells_at_end : {S : Type 0} (g : Ghosts S) (last new : Held S) (result : Result (Unit {0}) Error) → IfErr result (FailsToCommit (state g last) (state g new))
+    → IfErr result (IsTransactionError g new)
+tells_at_end g last new (Ok x) h = tt
+tells_at_end g last new (Err e) h = (last, inr h)
 
 -- one part of a transaction and then another
 pub stays_then : (a b c : State) → StaysInside a b → StaysInside b c → StaysInside a c

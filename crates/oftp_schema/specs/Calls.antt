@@ -1,11 +1,20 @@
 -- What calls leave of a connection, whatever its tables are.
-use Rattle.std.specs.Prelude.{◌≡◌, ◌≤◌, ◌⊎◌, Result, OnOk, OnErr, IsTrue, true, false}
+use Rattle.std.specs.Prelude.{◌≡◌, ◌≢◌, ◌≤◌, ◌↔◌, ◌⊎◌, ℕ, List, Result, Err, OnOk, OnErr, IsTrue, true, false}
+use Rattle.sqlite.specs.declared.error.Error.{Error}
+use Rattle.sqlite.specs.declared.error.Error.TheVariants.{SqliteFailure}
+use Rattle.sqlite.specs.declared.error.ErrorCode.TheVariants.{OutOfMemory, TransactionState}
+use Rattle.sqlite.specs.Order.{Row}
+use Rattle.sqlite_trees.specs.declared.store.Store.{Ghosts}
+use Rattle.sqlite.specs.Held.{Held, state}
 use Rattle.sqlite.specs.Effect.{Database}
 use Rattle.sqlite.specs.Tree.{Trees}
 use Rattle.sqlite.specs.Schema.{Schema}
 use Rattle.sqlite.specs.View.{doubt}
-use Rattle.sqlite.specs.State.{State, HasCleanDisk, IsRolledBack, IsUnchanged, Shows, Survives}
+use Rattle.sqlite.specs.State.{State, ExecutesInside, FailsToQuery, HasCleanDisk, IsRolledBack, IsUnchanged, Shows, Survives}
+use Rattle.sqlite.specs.Steps.{FailsToCommit}
 pub use Rattle.sqlite.specs.State.{KeepsCommit}
+use Rattle.oftp_schema.specs.declared.fault.StoreFault.{StoreFault}
+use Rattle.oftp_schema.specs.declared.fault.StoreFault.TheVariants.{Memory, WrongSchema}
 
 -- what a refused or failed call leaves
 abbrev pub IsSpared : State → State → Type 0
@@ -42,6 +51,24 @@ pub record Transacts {T E : Type 0} (Before : Database → Type 0) (Made : Datab
   pub done : HasCleanDisk new → IsTrue old.is_open → Before old.now → OnOk result (Made old.now new.now × Shows old new new.now new.now false)
   pub failed : HasCleanDisk new → IsTrue old.is_open → Before old.now → OnErr result (IsUndone old new)
   pub left : HasCleanDisk new → IsTrue old.is_open → Before old.now → (db : Trees) → new.may_leave db → old.may_leave db ⊎ MayLeave Made old.now db
+
+-- ---- what SQLite tells
+
+-- a statement told this error, in a transaction or past its end
+abbrev pub IsStatementError : {S : Type 0} → Ghosts S → Held S → Error → Type 0
+IsStatementError {S} g new e = (e ≡ SqliteFailure TransactionState) ⊎ ((old : Held S) × (text : List ℕ) × (params : Row) × ExecutesInside 0 text params (state g old) (state g new) (Err e))
+
+-- a statement of a transaction told it, or the end of the transaction
+abbrev pub IsTransactionError : {S : Type 0} → Ghosts S → Held S → Error → Type 0
+IsTransactionError {S} g new e = (last : Held S) × (IsStatementError g last e ⊎ FailsToCommit (state g last) (state g new) e)
+
+-- a transaction told it, or a query
+abbrev pub IsToldError : {S : Type 0} → Ghosts S → Held S → Held S → Error → Type 0
+IsToldError g old new e = IsTransactionError g new e ⊎ ((text : List ℕ) × (params : Row) × FailsToQuery text params (state g old) (state g new) e)
+
+-- the fault as which an error is told, of which this holds
+abbrev pub IsFaultOf : (Error → Type 0) → StoreFault → Type 0
+IsFaultOf Was fault = (e : Error) × Was e × (fault ≢ WrongSchema) × ((fault ≡ Memory) ↔ (e ≡ SqliteFailure OutOfMemory))
 
 -- What a query over the tables of a schema does, whatever it answers: it reads, and a failure undoes no more than an open transaction.
 pub record IsQuery {T E : Type 0} (schema : Schema) (old new : State) (result : Result T E) : Type 0 where

@@ -1,10 +1,10 @@
 //! The making of the tables.
 
-ghost use Rattle.std.specs.Prelude.{◌≡◌, ◌<◌, [], false, IsTrue};
+ghost use Rattle.std.specs.Prelude.{◌≡◌, ◌<◌, [], false, IfErr, IsTrue};
 ghost use Rattle.sqlite.specs.Held.{state};
 ghost use Rattle.sqlite.specs.State.{ExecutesInside, HasCleanDisk};
 ghost use Rattle.oftp_schema.specs.Schema.{text_at};
-ghost use Rattle.oftp_schema.specs.Calls.{Runs, Transacts};
+ghost use Rattle.oftp_schema.specs.Calls.{IsStatementError, IsTransactionError, Runs, Transacts};
 ghost use Rattle.oftp_schema.specs.Making.{Creates, HasEmptyTables, HasTables, IsEmpty, IsNew};
 
 use sqlite::{Alter, Connection, Error, Transaction};
@@ -47,6 +47,7 @@ pub fn make_table<S: Alter>(tx: &mut Transaction<'_, S>, at: usize) -> Result<us
     requires { at < 8 }
     ensures same_reference { tx.new.conn.ghost_name ≡ tx.old.conn.ghost_name }
     ensures runs { Runs (HasTables at) (Creates at) (state S.Store tx.old.conn.now) (state S.Store tx.new.conn.now) result }
+    ensures told { HasCleanDisk (state S.Store tx.new.conn.now) → IfErr result (IsStatementError S.Store tx.new.conn.now) }
     ensures statement { HasCleanDisk (state S.Store tx.new.conn.now) → IsTrue (state S.Store tx.old.conn.now).in_transaction
         → ExecutesInside 0 (text_at at) [] (state S.Store tx.old.conn.now) (state S.Store tx.new.conn.now) result }
 {
@@ -56,6 +57,7 @@ pub fn make_table<S: Alter>(tx: &mut Transaction<'_, S>, at: usize) -> Result<us
 fn make_tables<S: Alter>(tx: &mut Transaction<'_, S>) -> Result<(), Error>
     ensures same_reference { tx.new.conn.ghost_name ≡ tx.old.conn.ghost_name }
     ensures runs { Runs IsEmpty (λ old new. HasEmptyTables 8 new) (state S.Store tx.old.conn.now) (state S.Store tx.new.conn.now) result }
+    ensures told { HasCleanDisk (state S.Store tx.new.conn.now) → IfErr result (IsStatementError S.Store tx.new.conn.now) }
 {
     'tables: for at in 0..8 {
         make_table(tx, at)?;
@@ -66,6 +68,7 @@ fn make_tables<S: Alter>(tx: &mut Transaction<'_, S>) -> Result<(), Error>
 fn add_about<S: Alter>(tx: &mut Transaction<'_, S>) -> Result<usize, Error>
     ensures same_reference { tx.new.conn.ghost_name ≡ tx.old.conn.ghost_name }
     ensures runs { Runs (HasEmptyTables 8) (λ old new. IsNew new) (state S.Store tx.old.conn.now) (state S.Store tx.new.conn.now) result }
+    ensures told { HasCleanDisk (state S.Store tx.new.conn.now) → IfErr result (IsStatementError S.Store tx.new.conn.now) }
 {
     tx.execute("INSERT INTO about (id, schema) VALUES (1, 2)", &[])
 }
@@ -73,6 +76,7 @@ fn add_about<S: Alter>(tx: &mut Transaction<'_, S>) -> Result<usize, Error>
 fn make_all<S: Alter>(tx: &mut Transaction<'_, S>) -> Result<(), Error>
     ensures same_reference { tx.new.conn.ghost_name ≡ tx.old.conn.ghost_name }
     ensures runs { Runs IsEmpty (λ old new. IsNew new) (state S.Store tx.old.conn.now) (state S.Store tx.new.conn.now) result }
+    ensures told { HasCleanDisk (state S.Store tx.new.conn.now) → IfErr result (IsStatementError S.Store tx.new.conn.now) }
 {
     make_tables(tx)?;
     add_about(tx)?;
@@ -80,9 +84,11 @@ fn make_all<S: Alter>(tx: &mut Transaction<'_, S>) -> Result<(), Error>
 }
 
 // Makes the tables in a database that has none, in one transaction.
+#[tactic(auto, using(crate::proofs::TxLemmas::tells_at_end))]
 pub(crate) fn create<S: Alter>(conn: &mut Connection<S>) -> Result<(), Error>
     requires { conn.old.in_transaction ≡ false }
-    ensures { Transacts IsEmpty (λ old new. IsNew new) (state S.Store conn.old) (state S.Store conn.new) result }
+    ensures transacts { Transacts IsEmpty (λ old new. IsNew new) (state S.Store conn.old) (state S.Store conn.new) result }
+    ensures told { HasCleanDisk (state S.Store conn.new) → IfErr result (IsTransactionError S.Store conn.new) }
 {
     let mut tx = conn.transaction();
     make_all(&mut tx)?;

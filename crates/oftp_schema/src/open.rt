@@ -1,11 +1,12 @@
 //! Whether a store is one of the office.
 
-ghost use Rattle.std.specs.Prelude.{◌≡◌, ◌⊎◌, ◌≤◌, false, IfErr, OnOk, OnErr, IsTrue};
+ghost use Rattle.std.specs.Prelude.{◌≡◌, ◌≢◌, ◌⊎◌, ◌≤◌, Err, false, IfErr, OnOk, OnErr, IsTrue};
 ghost use Rattle.sqlite.specs.Held.{state};
 ghost use Rattle.sqlite.specs.Tree.{Trees};
 ghost use Rattle.sqlite.specs.View.{doubt};
 ghost use Rattle.sqlite.specs.State.{HasCleanDisk, IsUnchanged, Shows};
-ghost use Rattle.oftp_schema.specs.Calls.{IsUndone, MayLeave};
+ghost use Rattle.oftp_schema.specs.Schema.{office_schema};
+ghost use Rattle.oftp_schema.specs.Calls.{IsFaultOf, IsToldError, IsUndone, MayLeave};
 ghost use Rattle.oftp_schema.specs.Making.{HasOffice, IsAsBefore, IsEmpty, IsNew};
 
 use crate::about::about_tells;
@@ -16,7 +17,7 @@ use sqlite::{Alter, Connection};
 
 /// Makes the tables of schema 2 where the store is empty, or finds them. It answers WrongSchema exactly where the store is neither
 /// empty nor has those tables and nothing else, with the right `about`; the store is then as it was. The connection is outside a
-/// transaction.
+/// transaction. A store with other tables is told as WrongSchema whatever its disk does.
 pub fn prepare<S: Alter>(conn: &mut Connection<S>) -> Result<(), StoreFault>
     requires { conn.old.in_transaction ≡ false }
     ensures mode { conn.new.in_transaction ≡ false }
@@ -24,6 +25,9 @@ pub fn prepare<S: Alter>(conn: &mut Connection<S>) -> Result<(), StoreFault>
     ensures known { HasCleanDisk (state S.Store conn.new) → OnOk result (IsEmpty (state S.Store conn.old).now ⊎ HasOffice (state S.Store conn.old).now) }
     ensures wrong { HasCleanDisk (state S.Store conn.new) → IfErr result (λ fault. fault ≡ StoreFault.WrongSchema
         → ¬ (IsEmpty (state S.Store conn.old).now ⊎ HasOffice (state S.Store conn.old).now) × IsAsBefore (state S.Store conn.old) (state S.Store conn.new)) }
+    ensures foreign { ¬ IsEmpty (state S.Store conn.old).now → (state S.Store conn.old).now.schema ≢ office_schema → result ≡ Err StoreFault.WrongSchema }
+    ensures told { HasCleanDisk (state S.Store conn.new) → IfErr result (λ fault. (fault ≡ StoreFault.WrongSchema)
+        ⊎ IsFaultOf (IsToldError S.Store conn.old conn.new) fault) }
     ensures made { HasCleanDisk (state S.Store conn.new) → IsTrue (state S.Store conn.old).is_open → IsEmpty (state S.Store conn.old).now
         → OnOk result (IsNew (state S.Store conn.new).now × Shows (state S.Store conn.old) (state S.Store conn.new) (state S.Store conn.new).now (state S.Store conn.new).now false) }
     ensures found { HasCleanDisk (state S.Store conn.new) → HasOffice (state S.Store conn.old).now → OnOk result (IsUnchanged (state S.Store conn.old) (state S.Store conn.new)) }

@@ -1,9 +1,12 @@
 -- How look-ups and a transaction make a commit.
-use Rattle.std.proofs.Common.{List, ◌≡◌, ◌≤◌, ◌⊎◌, false, Result, Ok, Err, IsTrue, OnOk, OnErr, inl, inr, sym, ap, subst, ◌∙◌, arith}
+use Rattle.std.proofs.Common.{List, All, ◌≡◌, ◌≤◌, ◌⊎◌, false, Result, Ok, Err, IsTrue, OnOk, OnErr, inl, inr, sym, ap, subst, ◌∙◌, arith}
 use Rattle.sqlite.specs.Tree.{Trees}
 use Rattle.sqlite.specs.Effect.{Database}
 use Rattle.sqlite.specs.View.{doubt}
-use Rattle.sqlite.specs.State.{State, HasCleanDisk, IsUnchanged, Survives}
+use Rattle.sqlite.specs.Held.{Held, state}
+use Rattle.sqlite.specs.State.{State, HasCleanDisk, IsUnchanged, Shows}
+use Rattle.sqlite_trees.specs.declared.store.Store.{Ghosts}
+use Rattle.sqlite_catalog.specs.Listing.{IsSound as IsSoundStore}
 use Rattle.sqlite.proofs.Callers.{unchanged_then}
 use Rattle.oftp_vfile.specs.declared.format.Limits.{Limits}
 use Rattle.oftp_register.specs.declared.change.Change.{Change}
@@ -15,12 +18,12 @@ use Rattle.oftp_register.specs.Changes.{apply}
 use Rattle.oftp_register.specs.Soundness.{IsFit, IsSound}
 use Rattle.oftp_register.specs.Offices.{IsFailure, IsRefused}
 use Rattle.oftp_schema.specs.Schema.{office_schema}
-use Rattle.oftp_schema.specs.Calls.{IsSpared, IsUndone}
+use Rattle.oftp_schema.specs.Calls.{IsSpared, IsUndone, MayLeave}
 use Rattle.oftp_tables.specs.Tables.{Tables, register_in}
 use Rattle.oftp_open.specs.Stands.{Holds, IsContentOf, Stands}
-use Rattle.oftp_tables.specs.Calls.{Changes, IsOurs, Looks, MayLeave}
-use Rattle.oftp_store.specs.Commits.{CommitsOn, MakesEdits}
-use Rattle.oftp_store.specs.Edits.{AreEdited, MakesAll}
+use Rattle.oftp_tables.specs.Calls.{IsOffice, Looks, Moves}
+use Rattle.oftp_store.specs.Commits.{AreCarriedOut, CommitsOn, MakesEdits}
+use Rattle.oftp_store.specs.Edits.{AreEdited, IsStorable, MakesAll}
 use Rattle.oftp_store.specs.declared.changes.edit.Edit.{Edit}
 use Rattle.oftp_register.proofs.KeepLemmas.{apply_keeps}
 use Rattle.oftp_tables.proofs.BackLemmas.{register_of}
@@ -132,17 +135,28 @@ commits_refused limits change old new x cause looks refuses = record {
   left = λ k stands fit db h. inl (looks.left k stands.holds.schema db h);
 }
 
+-- the database can't hold what is to be made
+commits_unstored : {A : Type 0} (limits : Limits) (change : Change) (old new : State) (x : A) → Looks old new (Ok x) → CommitsOn {T = Unit {0}} limits change old new (Err Store)
+commits_unstored limits change old new x looks = record {
+  clean = looks.clean;
+  mode = looks.mode;
+  done = λ k stands fit. tt;
+  refused = λ k stands. tt;
+  same = λ k stands h. ap (register_at limits) (looks.same k stands.holds.schema).0.now_is;
+  left = λ k stands fit db h. inl (looks.left k stands.holds.schema db h);
+}
+
 -- ---- a commit that ends with its transaction
 
 module _ {A : Type 0} (Made : Trees → Trees → Type 0) (limits : Limits) (change : Change) (old mid new : State) (x : A) (looks : Looks old mid (Ok x))
     (clean : doubt mid.is_clean ≤ doubt new.is_clean) (mode : new.in_transaction ≡ false)
     (makes : HasCleanDisk mid → Stands limits old → IsFit (register_in limits old.now.trees) change → (db : Trees) → Made old.now.trees db → IsMade (register_in limits old.now.trees) change db)
-    (survives : IsOurs mid → Survives mid new (MayLeave Made mid)) where
+    (leaves : HasCleanDisk new → IsTrue mid.is_open → IsOffice mid.now → (db : Trees) → new.may_leave db → mid.may_leave db ⊎ MayLeave (Moves Made) mid.now db) where
   before : HasCleanDisk new → HasCleanDisk mid
   before k = omega (arith, clean, k)
 
-  ours : Stands limits mid → IsOurs mid
-  ours stands = record { is_open = stands.is_open; schema = stands.holds.schema; store = stands.holds.store }
+  ours : Stands limits mid → IsOffice mid.now
+  ours stands = record { schema = stands.holds.schema; store = stands.holds.store }
 
   mid_stands : HasCleanDisk new → Stands limits old → Stands limits mid
   mid_stands k stands = stands_same limits old mid stands (looks.same (before k) stands.holds.schema)
@@ -153,43 +167,54 @@ module _ {A : Type 0} (Made : Trees → Trees → Type 0) (limits : Limits) (cha
   left_by_it : HasCleanDisk new → Stands limits old → IsFit (register_in limits old.now.trees) change → (db : Trees) → new.may_leave db
       → old.may_leave db ⊎ ((r : Register) × (apply (register_in limits old.now.trees) change ≡ Ok r) × IsContentOf db r)
   left_by_it k stands fit db h =
-      elim ((survives (ours (mid_stands k stands))).crash k db h) [
+      let here = mid_stands k stands in
+      elim (leaves k here.is_open (ours here) db h) [
         | inl earlier ↦ inl (looks.left (before k) stands.holds.schema db earlier)
         | inr now ↦
-            let m = makes (before k) stands fit db (as_old k stands db now.1) in
-            inr (m.now, m.is, record { store = now.0; tables = m.tables; sound = m.sound })
+            let moved = now.1 in
+            let m = makes (before k) stands fit now.0.trees (as_old k stands now.0.trees moved.made) in
+            inr (
+              m.now,
+              m.is,
+              subst (λ (db : Trees). IsContentOf db m.now) (sym now.2)
+                  (record { store = subst (λ schema. IsSoundStore schema now.0.trees) moved.schema moved.store; tables = m.tables; sound = m.sound }),
+            )
       ]
 
-  pub commits_made : (HasCleanDisk new → IsOurs mid → Changes Made mid new) → CommitsOn {T = Unit {0}} limits change old new (Ok tt)
+  pub commits_made : (HasCleanDisk new → IsTrue mid.is_open → IsOffice mid.now → Moves Made mid.now new.now × Shows mid new new.now new.now false)
+      → CommitsOn {T = Unit {0}} limits change old new (Ok tt)
   commits_made did = record {
     clean = omega (arith, looks.clean, clean);
     mode = λ h. mode;
-    done = λ k stands fit. made k stands fit (did k (ours (mid_stands k stands)));
+    done = λ k stands fit. let here = mid_stands k stands in made k stands fit (did k here.is_open (ours here));
     refused = λ k stands. tt;
     same = λ k stands. tt;
     left = left_by_it;
   }
     where
-      made : HasCleanDisk new → Stands limits old → IsFit (register_in limits old.now.trees) change → Changes Made mid new
+      made : HasCleanDisk new → Stands limits old → IsFit (register_in limits old.now.trees) change → Moves Made mid.now new.now × Shows mid new new.now new.now false
           → (apply (register_in limits old.now.trees) change ≡ Ok (register_in limits new.now.trees)) × Stands limits new
-      made k stands fit changes =
-          let m = makes (before k) stands fit new.now.trees (as_old k stands new.now.trees changes.made) in
+      made k stands fit both =
+          let moved = both.0 in
+          let shown = both.1 in
+          let m = makes (before k) stands fit new.now.trees (as_old k stands new.now.trees moved.made) in
           let read : register_in limits new.now.trees ≡ m.now = subst (λ (l : Limits). register_in l new.now.trees ≡ m.now) m.limits (register_of m.now new.now.trees m.tables m.sound) in (
             m.is ∙ ap Ok (sym read),
             record {
-              is_open = changes.shown.is_open;
-              autocommit = changes.shown.mode;
-              settled = sym changes.shown.committed_is;
+              is_open = shown.is_open;
+              autocommit = shown.mode;
+              settled = sym shown.committed_is;
               holds = record {
-                schema = changes.schema;
-                store = changes.store;
+                schema = moved.schema;
+                store = moved.store;
                 tables = subst (λ (r : Register). Tables r new.now.trees) (sym read) m.tables;
                 sound = subst IsSound (sym read) m.sound;
               };
             },
           )
 
-  pub commits_undone : (fault : OfficeFault) → IsFailure fault → (HasCleanDisk new → IsOurs mid → IsUndone mid new) → CommitsOn {T = Unit {0}} limits change old new (Err fault)
+  pub commits_undone : (fault : OfficeFault) → IsFailure fault → (HasCleanDisk new → IsTrue mid.is_open → IsOffice mid.now → IsUndone mid new)
+      → CommitsOn {T = Unit {0}} limits change old new (Err fault)
   commits_undone fault failure did = record {
     clean = omega (arith, looks.clean, clean);
     mode = λ h. mode;
@@ -197,16 +222,26 @@ module _ {A : Type 0} (Made : Trees → Trees → Type 0) (limits : Limits) (cha
     refused = λ k stands. no_refusal (Unit {0}) _ fault _ failure;
     same = λ k stands h.
         let m = mid_stands k stands in
-        ap (register_at limits) (((did k (ours m)).undone h).0 ∙ sym m.settled ∙ (looks.same (before k) stands.holds.schema).0.now_is);
+        ap (register_at limits) (((did k m.is_open (ours m)).undone h).0 ∙ sym m.settled ∙ (looks.same (before k) stands.holds.schema).0.now_is);
     left = left_by_it;
   }
 
--- a commit that ends with its edits
-pub commits_by : {A : Type 0} (edits : List Edit) (limits : Limits) (change : Change) (old mid new : State) (x : A) (result : Result (Unit {0}) OfficeFault) → Looks old mid (Ok x)
-    → (HasCleanDisk mid → Stands limits old → IsMadeBy edits (register_in limits old.now.trees) change) → MakesEdits edits mid new result → CommitsOn limits change old new result
-commits_by edits limits change old mid new x (Ok _) looks by makes =
-    commits_made (MakesAll edits) limits change old mid new x looks makes.clean makes.mode
-    (λ k stands fit db made. is_made edits _ change _ db stands.holds.sound fit stands.holds.tables (by k stands) made) makes.survives makes.done
-commits_by edits limits change old mid new x (Err fault) looks by makes =
-    commits_undone (MakesAll edits) limits change old mid new x looks makes.clean makes.mode
-    (λ k stands fit db made. is_made edits _ change _ db stands.holds.sound fit stands.holds.tables (by k stands) made) makes.survives fault makes.failure makes.failed
+-- a commit that ends with its edits, whatever they came to
+commits_with : {S A : Type 0} (g : Ghosts S) (edits : List Edit) (limits : Limits) (change : Change) (old mid new : Held S) (x : A) (result : Result (Unit {0}) OfficeFault)
+    → Looks (state g old) (state g mid) (Ok x) → (HasCleanDisk (state g mid) → Stands limits (state g old) → IsMadeBy edits (register_in limits (state g old).now.trees) change)
+    → AreCarriedOut edits g mid new result ⊎ ((¬ All IsStorable edits) × (result ≡ Err Store) × (new ≡ mid)) → CommitsOn limits change (state g old) (state g new) result
+commits_with g edits limits change old mid new x (Ok _) looks by (inl carried) =
+    let did = carried.transacts in
+    commits_made (MakesAll edits) limits change (state g old) (state g mid) (state g new) x looks did.clean did.mode
+    (λ k stands fit db made. is_made edits _ change _ db stands.holds.sound fit stands.holds.tables (by k stands) made) did.left did.done
+commits_with g edits limits change old mid new x (Err fault) looks by (inl carried) =
+    let did = carried.transacts in
+    commits_undone (MakesAll edits) limits change (state g old) (state g mid) (state g new) x looks did.clean did.mode
+    (λ k stands fit db made. is_made edits _ change _ db stands.holds.sound fit stands.holds.tables (by k stands) made) did.left fault carried.failure did.failed
+commits_with g edits limits change old mid new x result looks by (inr unstored) =
+    rw (unstored.1, unstored.2) (commits_unstored limits change (state g old) (state g mid) x looks)
+
+pub commits_by : {S A : Type 0} (g : Ghosts S) (edits : List Edit) (limits : Limits) (change : Change) (old mid new : Held S) (x : A) (result : Result (Unit {0}) OfficeFault)
+    → Looks (state g old) (state g mid) (Ok x) → (HasCleanDisk (state g mid) → Stands limits (state g old) → IsMadeBy edits (register_in limits (state g old).now.trees) change)
+    → MakesEdits edits g mid new result → CommitsOn limits change (state g old) (state g new) result
+commits_by g edits limits change old mid new x result looks by makes = commits_with g edits limits change old mid new x result looks by makes.made

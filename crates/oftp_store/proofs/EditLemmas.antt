@@ -24,16 +24,13 @@ use Rattle.oftp_tables.specs.Tables.{HasReason, HasRefusal, Tables, bodies_from,
 use Rattle.oftp_tables.proofs.SplitLemmas.{HaveNumber, IsAmong, IsSplit, among, pieces_below, pieces_from, rows_pieces}
 use Rattle.oftp_tables.proofs.StatementLemmas.{Others, PutsIn, Rewrites, updates_row, inserts_row}
 use Rattle.oftp_tables.proofs.LandLemmas.{lands}
+use Rattle.oftp_tables.proofs.TxLemmas.{moves_as}
 use Rattle.oftp_tables.proofs.BackLemmas.{at_place}
 use Rattle.std.proofs.Common.{Bor}
 use Rattle.oftp_store.specs.Edits.{Makes, header_params}
 use Rattle.oftp_store.specs.Texts.{add_incoming_text, add_issued_text, add_outgoing_text, set_header_text, set_outgoing_text, set_sent_text, set_whole_text}
 use Rattle.oftp_store.specs.declared.changes.edit.Deed.TheVariants.{AddIncoming, AddIssued, AddOutgoing, SetHeader, SetOutgoing, SetSent, SetWhole}
 use Rattle.oftp_store.proofs.EditTexts.{add_incoming_is, add_incoming_plain, add_incoming_terms, add_issued_is, add_issued_plain, add_issued_terms, add_outgoing_is, add_outgoing_plain, add_outgoing_terms, set_header_is, set_header_plain, set_header_terms, set_outgoing_is, set_outgoing_plain, set_outgoing_terms, set_sent_is, set_sent_plain, set_sent_terms, set_whole_is, set_whole_plain, set_whole_terms}
-
--- what a statement made is what a deed makes
-pub moves_as : (Made Wanted : Trees → Trees → Type 0) (old new : State) → ((x y : Trees) → Made x y → Wanted x y) → Moves Made old new → Moves Wanted old new
-moves_as Made Wanted old new weaker moved = record { schema = moved.schema; made = weaker _ _ moved.made; store = moved.store; shown = moved.shown }
 
 -- ---- one row an entry
 
@@ -119,9 +116,9 @@ makes_outgoing n mark stage refusal old new made r s did kept =
 
 pub outgoing_set : (old new : State) (n mark : ℕ) (stage : OutgoingState) (count : ℕ) → HasRefusal stage → old.now.schema ≡ office_schema
     → ExecutesInside 0 set_outgoing_text (number_value n ∷ number_value mark ∷ Text (out_state_text stage) ∷ Text (refusal_text stage) ∷ []) old new (Ok count)
-    → Moves (Makes n (SetOutgoing mark stage)) old new
+    → Moves (Makes n (SetOutgoing mark stage)) old.now new.now
 outgoing_set old new n mark stage count refusal has h =
-    moves_as _ _ old new (makes_outgoing n mark stage refusal)
+    moves_as _ _ old.now new.now (makes_outgoing n mark stage refusal)
     (updates_row old new set_outgoing_text 3 our_out_file set_outgoing_terms
     (number_value mark ∷ Text (out_state_text stage) ∷ Text (refusal_text stage) ∷ []) n count has set_outgoing_is set_outgoing_plain refl h)
 
@@ -178,14 +175,14 @@ makes_whole n old new made r s did kept =
 
 pub header_set : (old new : State) (n : ℕ) (format : Format) (longest : ℕ) (description : Bor Words) (count : ℕ) → old.now.schema ≡ office_schema
     → ExecutesInside 0 set_header_text (number_value n ∷ Text (format_text format) ∷ number_value longest ∷ Text description.now ∷ []) old new (Ok count)
-    → Moves (Makes n (SetHeader format longest description)) old new
+    → Moves (Makes n (SetHeader format longest description)) old.now new.now
 header_set old new n format longest description count has h =
-    moves_as _ _ old new (makes_header n format longest description)
+    moves_as _ _ old.now new.now (makes_header n format longest description)
     (updates_row old new set_header_text 1 our_in_file set_header_terms
     (Text (format_text format) ∷ number_value longest ∷ Text description.now ∷ []) n count has set_header_is set_header_plain refl h)
 
-pub whole_set : (old new : State) (n count : ℕ) → old.now.schema ≡ office_schema → ExecutesInside 0 set_whole_text (number_value n ∷ []) old new (Ok count) → Moves (Makes n SetWhole) old new
-whole_set old new n count has h = moves_as _ _ old new (makes_whole n) (updates_row old new set_whole_text 1 our_in_file set_whole_terms [] n count has set_whole_is set_whole_plain refl h)
+pub whole_set : (old new : State) (n count : ℕ) → old.now.schema ≡ office_schema → ExecutesInside 0 set_whole_text (number_value n ∷ []) old new (Ok count) → Moves (Makes n SetWhole) old.now new.now
+whole_set old new n count has h = moves_as _ _ old.now new.now (makes_whole n) (updates_row old new set_whole_text 1 our_in_file set_whole_terms [] n count has set_whole_is set_whole_plain refl h)
 
 -- ---- a new file
 
@@ -250,17 +247,19 @@ makes_new_outgoing n held identity format longest description old new made r s d
     }))
 
 pub incoming_added : (old new : State) (n : ℕ) → n < 2 ^ 63 → (identity : Bor Identity) (format : Format) (longest : ℕ) (description : Bor Words) (count : ℕ) → old.now.schema ≡ office_schema
-    → ExecutesInside 0 add_incoming_text (header_params n identity.now format longest description.now) old new (Ok count) → Moves (Makes n (AddIncoming identity format longest description)) old new
+    → ExecutesInside 0 add_incoming_text (header_params n identity.now format longest description.now) old new (Ok count)
+    → Moves (Makes n (AddIncoming identity format longest description)) old.now new.now
 incoming_added old new n held identity format longest description count has h =
-    moves_as _ _ old new (makes_incoming n held identity format longest description)
+    moves_as _ _ old.now new.now (makes_incoming n held identity format longest description)
     (inserts_row old new add_incoming_text 1 our_in_file add_incoming_terms 11 (header_params n identity.now format longest description.now)
     (number_value n ∷ Null ∷ identity_values identity.now ++ Text (format_text format) ∷ number_value longest ∷ Text description.now ∷ Text (codes "open") ∷ []) n count
     has add_incoming_is add_incoming_plain refl refl h)
 
 pub outgoing_added : (old new : State) (n : ℕ) → n < 2 ^ 63 → (identity : Bor Identity) (format : Format) (longest : ℕ) (description : Bor Words) (count : ℕ) → old.now.schema ≡ office_schema
-    → ExecutesInside 0 add_outgoing_text (header_params n identity.now format longest description.now) old new (Ok count) → Moves (Makes n (AddOutgoing identity format longest description)) old new
+    → ExecutesInside 0 add_outgoing_text (header_params n identity.now format longest description.now) old new (Ok count)
+    → Moves (Makes n (AddOutgoing identity format longest description)) old.now new.now
 outgoing_added old new n held identity format longest description count has h =
-    moves_as _ _ old new (makes_new_outgoing n held identity format longest description)
+    moves_as _ _ old.now new.now (makes_new_outgoing n held identity format longest description)
     (inserts_row old new add_outgoing_text 3 our_out_file add_outgoing_terms 13 (header_params n identity.now format longest description.now)
     (number_value n ∷ Null ∷ identity_values identity.now ++ Text (format_text format) ∷ number_value longest ∷ Text description.now ∷ number_value 0 ∷ Text (codes "waiting") ∷ Text [] ∷ []) n count
     has add_outgoing_is add_outgoing_plain refl refl h)
@@ -337,11 +336,11 @@ makes_sent n old new made r s done kept =
 
 pub issued_added : (old new : State) (n : ℕ) (kind : ResponseKind) (reason : ℕ) (text : Bor Words) (count : ℕ) → reason < 100 → old.now.schema ≡ office_schema
     → ExecutesInside 0 add_issued_text (number_value n ∷ Text (kind_text kind) ∷ Text (reason_text kind reason) ∷ Text text.now ∷ []) old new (Ok count)
-    → Moves (Makes n (AddIssued kind reason text)) old new
+    → Moves (Makes n (AddIssued kind reason text)) old.now new.now
 issued_added old new n kind reason text count small has h =
-    moves_as _ _ old new (makes_issued n kind reason text small)
+    moves_as _ _ old.now new.now (makes_issued n kind reason text small)
     (inserts_row old new add_issued_text 5 our_issued add_issued_terms 6 (number_value n ∷ Text (kind_text kind) ∷ Text (reason_text kind reason) ∷ Text text.now ∷ [])
     (number_value n ∷ Null ∷ Text (kind_text kind) ∷ Text (reason_text kind reason) ∷ Text text.now ∷ number_value 0 ∷ []) n count has add_issued_is add_issued_plain refl refl h)
 
-pub sent_set : (old new : State) (n count : ℕ) → old.now.schema ≡ office_schema → ExecutesInside 0 set_sent_text (number_value n ∷ []) old new (Ok count) → Moves (Makes n SetSent) old new
-sent_set old new n count has h = moves_as _ _ old new (makes_sent n) (updates_row old new set_sent_text 5 our_issued set_sent_terms [] n count has set_sent_is set_sent_plain refl h)
+pub sent_set : (old new : State) (n count : ℕ) → old.now.schema ≡ office_schema → ExecutesInside 0 set_sent_text (number_value n ∷ []) old new (Ok count) → Moves (Makes n SetSent) old.now new.now
+sent_set old new n count has h = moves_as _ _ old.now new.now (makes_sent n) (updates_row old new set_sent_text 5 our_issued set_sent_terms [] n count has set_sent_is set_sent_plain refl h)

@@ -17,12 +17,13 @@ use Rattle.oftp_tables.specs.Calls.{Moves}
 use Rattle.oftp_tables.specs.Tables.{HoldIncoming, HoldOutgoing, Tables, about_row, identity_values, kind_text, note_if_negative, notes_from, number_value, reason_text, received_row}
 use Rattle.oftp_tables.proofs.SplitLemmas.{HaveNumber, IsSplit, among, pieces_below, pieces_from}
 use Rattle.oftp_tables.proofs.StatementLemmas.{Others, PutsIn, inserts_row}
+use Rattle.oftp_tables.proofs.TxLemmas.{moves_as}
 use Rattle.oftp_register.specs.declared.name.Name.{Name}
 use Rattle.oftp_store.specs.Edits.{HoldNoteless, Makes, MakesNote, MakesNoteless}
 use Rattle.oftp_store.specs.declared.changes.edit.Deed.TheVariants.{AddReceived}
 use Rattle.oftp_store.specs.Texts.{add_note_text, add_received_text}
 use Rattle.oftp_store.proofs.EditTexts.{add_note_is, add_note_plain, add_note_terms, add_received_is, add_received_plain, add_received_terms}
-use Rattle.oftp_store.proofs.EditLemmas.{all_and_last, behind, moves_as}
+use Rattle.oftp_store.proofs.EditLemmas.{all_and_last, behind}
 
 abbrev our_received : Table
 our_received = record received { tree = received_tree }
@@ -119,16 +120,16 @@ received_params n kind identity reason =
     ∷ Text (reason_text kind reason) ∷ []
 
 pub received_added : (old new : State) (n : ℕ) (kind : ResponseKind) (identity : Identity) (reason count : ℕ) → reason < 100 → old.now.schema ≡ office_schema
-    → ExecutesInside 0 add_received_text (received_params n kind identity reason) old new (Ok count) → Moves (MakesNoteless n kind identity reason) old new
+    → ExecutesInside 0 add_received_text (received_params n kind identity reason) old new (Ok count) → Moves (MakesNoteless n kind identity reason) old.now new.now
 received_added old new n kind identity reason count small has h =
-    moves_as _ _ old new (makes_noteless n kind identity reason small)
+    moves_as _ _ old.now new.now (makes_noteless n kind identity reason small)
     (inserts_row old new add_received_text 6 our_received add_received_terms 9 (received_params n kind identity reason)
     (received_source n kind identity reason) n count has add_received_is add_received_plain refl refl h)
 
 pub note_added : (old new : State) (n : ℕ) (creator text : List ℕ) (count : ℕ) → old.now.schema ≡ office_schema
-    → ExecutesInside 0 add_note_text (number_value n ∷ Text creator ∷ Text text ∷ []) old new (Ok count) → Moves (MakesNote n creator text) old new
+    → ExecutesInside 0 add_note_text (number_value n ∷ Text creator ∷ Text text ∷ []) old new (Ok count) → Moves (MakesNote n creator text) old.now new.now
 note_added old new n creator text count has h =
-    moves_as _ _ old new (makes_note n creator text)
+    moves_as _ _ old.now new.now (makes_note n creator text)
     (inserts_row old new add_note_text 7 our_note add_note_terms 4 (number_value n ∷ Text creator ∷ Text text ∷ [])
     (number_value n ∷ Null ∷ Text creator ∷ Text text ∷ []) n count has add_note_is add_note_plain refl refl h)
 

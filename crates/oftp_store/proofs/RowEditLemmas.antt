@@ -29,7 +29,7 @@ use Rattle.oftp_schema.proofs.WriteLemmas.{Deleted, Inserted, deletes, inserts, 
 use Rattle.oftp_register.specs.declared.entries.Side.{Side}
 use Rattle.oftp_register.specs.declared.entries.Side.TheVariants as side
 use Rattle.oftp_register.specs.Register.{Register, Incoming, Outgoing}
-use Rattle.oftp_tables.specs.Calls.{IsInside, Moves}
+use Rattle.oftp_tables.specs.Calls.{Moves}
 use Rattle.oftp_tables.specs.Tables.{AreNumbered, HasReason, HasRefusal, Tables, body_row, bodies_from, has_number, in_file_row, issued_from, issued_if_any, less_rowids, number_value, out_file_row, rows_from, rows_in, rows_out}
 use Rattle.oftp_tables.proofs.BodyLemmas.{bodies_cut, bodies_more}
 use Rattle.oftp_tables.proofs.CutLemmas.{deleted, id_of}
@@ -38,7 +38,6 @@ use Rattle.oftp_tables.proofs.ManyLemmas.{passing}
 use Rattle.oftp_tables.proofs.PlaceLemmas.{place}
 use Rattle.oftp_tables.proofs.RowLemmas.{from_filter, from_passes, from_same, from_test, put_fresh, put_numbered}
 use Rattle.oftp_tables.proofs.StatementLemmas.{Others}
-use Rattle.oftp_tables.proofs.TxLemmas.{moves_then}
 use Rattle.oftp_store.specs.Edits.{AddsRowsTo, Makes, MakesRows}
 use Rattle.oftp_store.specs.Texts.{add_row_text, cut_rows_text}
 use Rattle.oftp_store.specs.declared.changes.edit.Deed.TheVariants.{CutRows}
@@ -190,7 +189,7 @@ makes_row side.Outgoing n at body old new made r s did kept =
     (omega (arith, did.number, length-map did.before rows_out)) did.was were made.added) kept)
 
 pub row_added : (which : Side) (old new : State) (n at : ℕ) (body : List ℕ) (count : ℕ) → old.now.schema ≡ office_schema → ExecutesInside 0 (add_row_text which) (body_row n at body) old new (Ok count)
-    → Moves (MakesRows which n at (body ∷ [])) old new
+    → Moves (MakesRows which n at (body ∷ [])) old.now new.now
 row_added which old new n at body count has h =
     let params = body_row n at body in
     let text = add_row_text which in
@@ -204,7 +203,6 @@ row_added which old new n at body count has h =
       schema = made.0;
       made = makes_row which n at body old.now.trees new.now.trees (adds (row_table which) n at body old.now.trees new.now.trees (cast_same which n at body) made.1);
       store = w.sound;
-      shown = h.1;
     }
 
 -- ---- a loop
@@ -243,39 +241,22 @@ ends_with_row side.Outgoing n from i at bodies body r s within item place did =
       last = record { before = did.before; file = g; after = did.after; here = refl; number = did.number; was = rows_so_far did.file.rows bodies from i at did.was within place; now = now };
     }
 
-makes_more : (which : Side) (n from i at : ℕ) (bodies : List (List ℕ)) (body : List ℕ) (a b c : Trees) → i < length bodies → body ≡ get_or bodies i body → at ≡ from + i
+-- one more row of the file
+pub rows_more : (which : Side) (n from i at : ℕ) (bodies : List (List ℕ)) (body : List ℕ) → i < length bodies → body ≡ get_or bodies i body → at ≡ from + i → (a b c : Trees)
     → MakesRows which n from (take i bodies) a b → MakesRows which n at (body ∷ []) b c → MakesRows which n from (take (i + 1) bodies) a c
-makes_more which n from i at bodies body a b c within item place one two r s did kept =
+rows_more which n from i at bodies body within item place a b c one two r s did kept =
     let parts = ends_with_row which n from i at bodies body r s within item place did in
     two parts.mid s parts.last (one r parts.mid parts.first kept)
 
--- one more row of the file
-pub adds_more : (which : Side) (n from i at : ℕ) (bodies : List (List ℕ)) (body : List ℕ) (old mid new : State) → i < length bodies → body ≡ get_or bodies i body → at ≡ from + i
-    → Moves (MakesRows which n from (take i bodies)) old mid → Moves (MakesRows which n at (body ∷ [])) mid new → Moves (MakesRows which n from (take (i + 1) bodies)) old new
-adds_more which n from i at bodies body old mid new within item place one two = moves_then _ _ _ (λ x y z. makes_more which n from i at bodies body x y z within item place) old mid new one two
-
-makes_none : (which : Side) (n from : ℕ) (db : Trees) → MakesRows which n from [] db db
-makes_none side.Incoming n from db r s did kept =
+pub no_rows : (which : Side) (n from : ℕ) (db : Trees) → MakesRows which n from [] db db
+no_rows side.Incoming n from db r s did kept =
     subst (λ (q : Register). Tables q db)
     (sym (did.now ∙ ap (λ rows. let q : Register = record r { incoming = did.before ++ (record did.file { rows = rows }) ∷ did.after } in q) (append-nil did.file.rows)
     ∙ ap (λ files. let q : Register = record r { incoming = files } in q) (sym did.here))) kept
-makes_none side.Outgoing n from db r s did kept =
+no_rows side.Outgoing n from db r s did kept =
     subst (λ (q : Register). Tables q db)
     (sym (did.now ∙ ap (λ rows. let q : Register = record r { outgoing = did.before ++ (record did.file { rows = rows }) ∷ did.after } in q) (append-nil did.file.rows)
     ∙ ap (λ files. let q : Register = record r { outgoing = files } in q) (sym did.here))) kept
-
--- where nothing was done yet
-pub stays_here : (Made : Trees → Trees → Type 0) (old : State) → ((db : Trees) → Made db db) → IsInside old → Moves Made old old
-stays_here Made old same inside = record {
-  schema = inside.schema;
-  made = same old.now.trees;
-  store = inside.store;
-  shown = record { was_open = inside.is_open; is_open = inside.is_open; now_is = refl; committed_is = refl; mode = inside.inside };
-}
-
--- before the first
-pub adds_at_first : (which : Side) (n from : ℕ) (old : State) → IsInside old → Moves (MakesRows which n from []) old old
-adds_at_first which n from old inside = stays_here _ old (makes_none which n from) inside
 
 -- ---- the rows of an incoming file from a position on are taken away
 
@@ -337,7 +318,8 @@ makes_cut n count rows old new perm made r s did kept =
     (subst AreNumbered (sym left) (all-filter _ (λ r. not (whole_test n count r)) (old in_row_tree) numbered.0, ascending-filter _ (λ r. not (whole_test n count r)) (old in_row_tree) numbered.1))
     (subst (λ rows. IsPermutation rows (less_rowids (new in_row_tree))) cut among) kept)
 
-pub rows_cut : (old new : State) (n count done : ℕ) → old.now.schema ≡ office_schema → ExecutesInside 0 cut_rows_text (cut_params n count) old new (Ok done) → Moves (Makes n (CutRows count)) old new
+pub rows_cut : (old new : State) (n count done : ℕ) → old.now.schema ≡ office_schema → ExecutesInside 0 cut_rows_text (cut_params n count) old new (Ok done)
+    → Moves (Makes n (CutRows count)) old.now new.now
 rows_cut old new n count done has h =
     let params = cut_params n count in
     let command = Delete 2 cut_program in
@@ -350,5 +332,4 @@ rows_cut old new n count done has h =
       schema = u.2;
       made = makes_cut n count u.0 old.now.trees new.now.trees (answers old.now.trees in_row_tree from_filter (col 1 0 ∷ []) params u.0 (u.1.answer Null)) u.3;
       store = w.sound;
-      shown = h.1;
     }

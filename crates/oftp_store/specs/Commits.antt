@@ -1,21 +1,24 @@
 -- What a change does to a connection.
-use Rattle.std.specs.Prelude.{◌≡◌, ◌≤◌, ◌⊎◌, List, Result, Ok, OnOk, OnErr, IfErr, IsTrue, Bool, false, true}
+use Rattle.std.specs.Prelude.{◌≡◌, ◌≤◌, ◌⊎◌, List, All, Result, Ok, Err, OnOk, OnErr, IfErr, IsTrue, Bool, false, true}
 use Rattle.sqlite.specs.Tree.{Trees}
 use Rattle.sqlite.specs.View.{doubt}
-use Rattle.sqlite.specs.State.{State, HasCleanDisk, Survives}
+use Rattle.sqlite.specs.Held.{Held, state}
+use Rattle.sqlite.specs.State.{State, HasCleanDisk}
+use Rattle.sqlite_trees.specs.declared.store.Store.{Ghosts}
 use Rattle.oftp_vfile.specs.declared.format.Limits.{Limits}
 use Rattle.oftp_register.specs.declared.change.Change.{Change}
 use Rattle.oftp_register.specs.declared.change.Change.TheVariants as change
 use Rattle.oftp_register.specs.declared.office.OfficeFault.{OfficeFault}
+use Rattle.oftp_register.specs.declared.office.OfficeFault.TheVariants.{Store}
 use Rattle.oftp_register.specs.Register.{Register}
 use Rattle.oftp_register.specs.Changes.{apply}
 use Rattle.oftp_register.specs.Soundness.{IsFit}
 use Rattle.oftp_register.specs.Offices.{IsFailure, IsRefused}
-use Rattle.oftp_schema.specs.Calls.{IsUndone}
-use Rattle.oftp_tables.specs.Calls.{Changes, IsOurs, MayLeave}
+use Rattle.oftp_schema.specs.Calls.{IsTransactionError, Transacts}
+use Rattle.oftp_tables.specs.Calls.{IsFaultOf, IsOffice, Moves}
 use Rattle.oftp_tables.specs.Tables.{register_in}
 use Rattle.oftp_open.specs.Stands.{IsContentOf, Stands}
-use Rattle.oftp_store.specs.Edits.{MakesAll}
+use Rattle.oftp_store.specs.Edits.{IsStorable, MakesAll}
 use Rattle.oftp_store.specs.declared.changes.edit.Edit.{Edit}
 
 -- Within these limits the change is made, or it is refused for its cause, or the store failed and the register stays where the
@@ -36,11 +39,12 @@ begins_file (change.Submit identity format longest description rows) = true
 begins_file (change.Start identity format longest description count) = true
 begins_file change = false
 
--- Edits in one transaction do this to a connection: all of them are made and committed, or none is.
-pub record MakesEdits (edits : List Edit) (old new : State) (result : Result (Unit {0}) OfficeFault) : Type 0 where
-  pub clean : doubt old.is_clean ≤ doubt new.is_clean
-  pub mode : new.in_transaction ≡ false
-  pub done : HasCleanDisk new → IsOurs old → OnOk result (Changes (MakesAll edits) old new)
-  pub failed : HasCleanDisk new → IsOurs old → OnErr result (IsUndone old new)
-  pub survives : IsOurs old → Survives old new (MayLeave (MakesAll edits) old)
+-- Edits are made in one transaction: all of them are, and are committed, or none is. A fault is SQLite's.
+pub record AreCarriedOut {S : Type 0} (edits : List Edit) (g : Ghosts S) (old new : Held S) (result : Result (Unit {0}) OfficeFault) : Type 0 where
+  pub transacts : Transacts IsOffice (Moves (MakesAll edits)) (state g old) (state g new) result
+  pub told : HasCleanDisk (state g new) → IfErr result (IsFaultOf (IsTransactionError g new))
   pub failure : IfErr result IsFailure
+
+-- Edits do this to a connection. Where the database can't hold one of them, that is a failure, and nothing is done.
+pub record MakesEdits {S : Type 0} (edits : List Edit) (g : Ghosts S) (old new : Held S) (result : Result (Unit {0}) OfficeFault) : Type 0 where
+  pub made : AreCarriedOut edits g old new result ⊎ ((¬ All IsStorable edits) × (result ≡ Err Store) × (new ≡ old))

@@ -1,5 +1,5 @@
 -- What the edits of a transaction make of a register.
-use Rattle.std.specs.Prelude.{◌≡◌, ◌+◌, ◌<◌, ℕ, List, [], ◌∷◌, ◌++◌, length, take, Some, None, Bool, true, false, ⊤}
+use Rattle.std.specs.Prelude.{◌≡◌, ◌+◌, ◌^◌, ◌<◌, ℕ, List, [], ◌∷◌, ◌++◌, length, take, Some, None, Bool, true, false, ⊤}
 use Rattle.sqlite.specs.declared.types.Value.TheVariants.{Text}
 use Rattle.sqlite.specs.Order.{Row}
 use Rattle.sqlite.specs.Tree.{Trees}
@@ -55,6 +55,15 @@ adds_entry (AddIncoming identity format longest description) = true
 adds_entry (AddOutgoing identity format longest description) = true
 adds_entry (AddReceived kind identity reason creator text) = true
 adds_entry deed = false
+
+-- the rows of a deed have positions that a column holds
+abbrev pub HasRoom : Deed → Type 0
+HasRoom (AddRows which from rows) = from + length rows.now < 2 ^ 32
+HasRoom deed = ⊤
+
+-- the database can hold what an edit makes: its number, and the positions of its rows
+abbrev pub IsStorable : Edit → Type 0
+IsStorable edit = (edit.no < 2 ^ 63) × HasRoom edit.deed
 
 -- what is made of the entry with a number
 abbrev pub IsDone : ℕ → Deed → Register → Register → Type 0

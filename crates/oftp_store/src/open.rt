@@ -1,9 +1,10 @@
 //! The opening of an office over a database.
 
-ghost use Rattle.std.specs.Prelude.{◌≡◌, ◌≤◌, false, IfOk, MatchResult};
+ghost use Rattle.std.specs.Prelude.{◌≡◌, ◌≢◌, ◌≤◌, false, IfOk, MatchResult};
 ghost use Rattle.sqlite.specs.Held.{state};
 ghost use Rattle.sqlite.specs.State.{HasCleanDisk};
 ghost use Rattle.oftp_register.specs.Register.{Register};
+ghost use Rattle.oftp_schema.specs.Schema.{first_schema, office_schema};
 ghost use Rattle.oftp_schema.specs.Making.{HasFirst, HasOffice, IsEmpty};
 ghost use Rattle.oftp_register.specs.declared.fit.TheConstants.{MOST_FILES, MOST_OCTETS};
 ghost use Rattle.oftp_open.specs.Opening.{IsAt, IsAtFirst};
@@ -43,9 +44,11 @@ impl<S: Alter> SqlOffice<S> {
         requires autocommit { conn.in_transaction ≡ false }
         requires files { limits.files ≤ MOST_FILES }
         requires octets { limits.octets ≤ MOST_OCTETS }
-        ensures { MatchResult result
+        ensures opened { MatchResult result
             (λ o. (o.limits ≡ limits) × (o.faults ≡ 0) × Opens IsOpenable IsEmpty IsAt limits (state S.Store conn) (state S.Store o.conn))
             (λ e. Refuses IsOpenable IsEmpty IsAt e.fault (state S.Store conn) (state S.Store e.conn)) }
+        ensures foreign { ¬ IsEmpty (state S.Store conn).now → (state S.Store conn).now.schema ≢ office_schema
+            → MatchResult result (λ _. ⊥) (λ refused. refused.fault ≡ StoreFault.WrongSchema) }
     {
         let mut conn = conn;
         match open_tables(&mut conn) {
@@ -77,6 +80,8 @@ impl<S: Alter> SqlOffice<S> {
         ensures found { IfOk result (λ o. HasCleanDisk (state S.Store o.conn)
             → (r : Register) → r.limits ≡ limits → IsAt r (state S.Store conn)
             → HasOffice (state S.Store conn).now → Has limits r (state S.Store o.conn)) }
+        ensures foreign { (state S.Store conn).now.schema ≢ first_schema → (state S.Store conn).now.schema ≢ office_schema
+            → MatchResult result (λ _. ⊥) (λ refused. refused.fault ≡ StoreFault.WrongSchema) }
     {
         let mut conn = conn;
         match migrate_tables(&mut conn) {

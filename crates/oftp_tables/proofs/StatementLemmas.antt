@@ -57,14 +57,14 @@ puts_in k t source old new made = record {
 -- an INSERT of one row with its number
 pub inserts_row : (old new : State) (text : List ℕ) (at : ℕ) (t : Table) (terms : List Term) (width : ℕ) (params source : Row) (k count : ℕ) → old.now.schema ≡ office_schema
     → command_of (understood office_schema text) ≡ Insert at (Values terms width) → IsPlain (understood office_schema text) → slice_get office_schema.tables at ≡ Some (simple t)
-    → value_rows params width (length terms / width) terms ≡ source ∷ [] → ExecutesInside 0 text params old new (Ok count) → Moves (PutsIn k (simple t) source) old new
+    → value_rows params width (length terms / width) terms ≡ source ∷ [] → ExecutesInside 0 text params old new (Ok count) → Moves (PutsIn k (simple t) source) old.now new.now
 inserts_row old new text at t terms width params source k count has is plain found given h =
     let w = runs_as text params old new office_schema has (Insert at (Values terms width)) is plain count h.0 in
     let statement = statement_of text (understood office_schema text) in
     let does = λ (s : Schema). Does old.step_limit (mode_of old) params (record old.now { schema = s }) statement None (Insert at (Values terms width)) (Ok (w.tally, new.now)) in
     let made = inserts (mode_of old) old.step_limit params (record { schema = office_schema; trees = old.now.trees }) statement at t terms width source (w.tally, new.now)
     found given (no_works t.tree) (subst does has w.changed) in
-    record { schema = made.0; made = puts_in k t source old.now.trees new.now.trees made.1; store = w.sound; shown = h.1 }
+    record { schema = made.0; made = puts_in k t source old.now.trees new.now.trees made.1; store = w.sound }
 
 -- what such an UPDATE shows: the rowid, and the new row
 abbrev pub shown_terms : List Term → List Term
@@ -94,7 +94,7 @@ rewrites k t terms more old new found made perm = record {
 -- an UPDATE of the row with a number
 pub updates_row : (old new : State) (text : List ℕ) (at : ℕ) (t : Table) (terms : List Term) (more : Row) (k count : ℕ) → old.now.schema ≡ office_schema
     → command_of (understood office_schema text) ≡ Update at (by_number_program t.tree terms) → IsPlain (understood office_schema text) → slice_get office_schema.tables at ≡ Some t
-    → ExecutesInside 0 text (number_value k ∷ more) old new (Ok count) → Moves (Rewrites k t terms more) old new
+    → ExecutesInside 0 text (number_value k ∷ more) old new (Ok count) → Moves (Rewrites k t terms more) old.now new.now
 updates_row old new text at t terms more k count has is plain found h =
     let params = number_value k ∷ more in
     let command = Update at (by_number_program t.tree terms) in
@@ -107,5 +107,4 @@ updates_row old new text at t terms more k count has is plain found h =
       schema = u.2;
       made = rewrites k t terms more old.now.trees new.now.trees u.0 u.3 (answers old.now.trees t.tree by_number (shown_terms terms) params u.0 (u.1.answer Null));
       store = w.sound;
-      shown = h.1;
     }

@@ -1,69 +1,67 @@
 -- How statements make a transaction over the office's tables.
-use Rattle.std.proofs.Common.{arith, ◌≡◌, true, false, Result, Ok, Err, OnOk, OnErr, IfErr, IsTrue, [], inl, inr, refl, sym, ap, subst, ◌∙◌}
+use Rattle.std.proofs.Common.{◌≡◌, ◌<◌, ℕ, List, false, Result, Ok, Err, IfErr, IsTrue, arith}
+use Rattle.sqlite_trees.specs.declared.store.Store.{Ghosts}
+use Rattle.sqlite.specs.Held.{Held, state}
+use Rattle.sqlite.specs.Order.{Row}
 use Rattle.sqlite.specs.Tree.{Trees}
-use Rattle.sqlite.specs.Effect.{Database, IsDatabase}
-use Rattle.sqlite_catalog.specs.Listing.{IsSound}
-use Rattle.sqlite.specs.State.{State, Shows, KeepsCounts, Survives}
-use Rattle.sqlite.specs.Steps.{FailsToCommit}
+use Rattle.sqlite.specs.Effect.{Database}
+use Rattle.sqlite.specs.State.{ExecutesInside, HasCleanDisk, Survives}
 use Rattle.sqlite.specs.declared.error.Error.{Error}
-use Rattle.oftp_schema.specs.Calls.{IsUndone}
-use Rattle.oftp_tables.specs.Calls.{IsInside, IsOurs, Moves, Changes, MayLeave}
+use Rattle.sqlite.specs.declared.error.Error.TheVariants.{SqliteFailure}
+use Rattle.sqlite.specs.declared.error.ErrorCode.TheVariants.{TransactionState}
+use Rattle.oftp_schema.specs.Schema.{office_schema}
+use Rattle.oftp_schema.proofs.TxLemmas.{nothing_runs, runs_fails, runs_then, runs_weaker, runs_whatever, statement_runs, tells}
+use Rattle.oftp_tables.specs.Calls.{IsOffice, Moves, Performs}
 
 -- one statement and then another
-pub moves_then : (P Q R : Trees → Trees → Type 0) → ((x y z : Trees) → P x y → Q y z → R x z) → (a b c : State) → Moves P a b → Moves Q b c → Moves R a c
-moves_then P Q R both a b c one two = record {
-  schema = two.schema;
-  made = both _ _ _ one.made two.made;
-  store = two.store;
-  shown = record { was_open = one.shown.was_open; is_open = two.shown.is_open; now_is = refl; committed_is = two.shown.committed_is ∙ one.shown.committed_is; mode = two.shown.mode };
+pub moves_then : (P Q R : Trees → Trees → Type 0) → ((x y z : Trees) → P x y → Q y z → R x z) → (a b c : Database) → Moves P a b → Moves Q b c → Moves R a c
+moves_then P Q R both a b c one two = record { schema = two.schema; made = both _ _ _ one.made two.made; store = two.store }
+
+-- what a statement made is what was wanted
+pub moves_as : (Made Wanted : Trees → Trees → Type 0) (old new : Database) → ((x y : Trees) → Made x y → Wanted x y) → Moves Made old new → Moves Wanted old new
+moves_as Made Wanted old new weaker moved = record { schema = moved.schema; made = weaker _ _ moved.made; store = moved.store }
+
+-- one statement
+pub performs : {S : Type 0} (g : Ghosts S) (old new : Held S) (Made : Trees → Trees → Type 0) (sql : List ℕ) (params : Row) (result : Result ℕ Error)
+    → ((state g old).in_transaction ≡ false → (result ≡ Err (SqliteFailure TransactionState)) × (new ≡ old))
+    → (HasCleanDisk (state g new) → IsTrue (state g old).in_transaction → ExecutesInside 0 sql params (state g old) (state g new) result)
+    → Survives (state g old) (state g new) (λ _. ⊥)
+    → ((count : ℕ) → (state g old).now.schema ≡ office_schema → ExecutesInside 0 sql params (state g old) (state g new) (Ok count) → Moves Made (state g old).now (state g new).now)
+    → Performs Made g old new result
+performs g old new Made sql params result ended runs survives made = record {
+  runs = statement_runs g old new IsOffice (Moves Made) sql params _ result ended runs survives (λ count ours. made count ours.schema);
+  told = λ clean. tells g sql params old new result ended (runs clean);
 }
 
-module _ (Made : Trees → Trees → Type 0) (old last new : State) (moved : Moves Made (record old { in_transaction = true }) last) where
-  pub commits : Shows last new last.now last.now false → Changes Made old new
-  commits shown =
-      let now = shown.now_is in
-      record {
-        schema = ap (λ (d : Database). d.schema) now ∙ moved.schema;
-        made = subst (λ (d : Database). Made old.now.trees d.trees) (sym now) moved.made;
-        store = subst IsDatabase (sym now) moved.store;
-        shown = record { was_open = moved.shown.was_open; is_open = shown.is_open; now_is = refl; committed_is = shown.committed_is ∙ sym now; mode = shown.mode };
-      }
-
-  pub leaves : (db : Trees) → db ≡ last.now.trees → MayLeave Made old db
-  leaves db is = subst (λ t. MayLeave Made old t) (sym is) (subst (λ schema. IsSound schema last.now.trees) moved.schema moved.store, moved.made)
-
-  pub commit_fails : (e : Error) → FailsToCommit last new e → IsUndone old new
-  commit_fails e (inl failed) =
-      let back = failed.3 in
-      let kept = λ (h : IsTrue new.is_open). back.undone h in
-      record { was_open = λ h. moved.shown.was_open; undone = λ h. ((kept h).0 ∙ moved.shown.committed_is, (kept h).1 ∙ moved.shown.committed_is) }
-  commit_fails e (inr past) = absurd (let no_such = sym moved.shown.mode ∙ past.1 in cc)
-
-pub commits_on : (Made : Trees → Trees → Type 0) (old last new : State) (result : Result (Unit {0}) Error) → Moves Made (record old { in_transaction = true }) last
-    → OnOk result (IsTrue last.in_transaction × Shows last new last.now last.now false × KeepsCounts last new × (new.marks ≡ [])) → OnOk result (Changes Made old new)
-commits_on Made old last new (Ok x) moved h = commits Made old last new moved h.1
-commits_on Made old last new (Err e) moved h = tt
-
-pub commit_fails_on : (Made : Trees → Trees → Type 0) (old last new : State) (result : Result (Unit {0}) Error) → Moves Made (record old { in_transaction = true }) last
-    → IfErr result (FailsToCommit last new) → OnErr result (IsUndone old new)
-commit_fails_on Made old last new (Ok x) moved h = tt
-commit_fails_on Made old last new (Err e) moved h = commit_fails Made old last new moved e h
-
--- what a transaction begins with
-pub begins : (old : State) → IsOurs old → IsInside (record old { in_transaction = true })
-begins old ours = record { is_open = ours.is_open; inside = refl; schema = ours.schema; store = ours.store }
-
--- a statement that made something leaves the transaction open
-pub stays_inside : (Made : Trees → Trees → Type 0) (old new : State) → Moves Made old new → IsInside new
-stays_inside Made old new moved = record { is_open = moved.shown.is_open; inside = moved.shown.mode; schema = moved.schema; store = moved.store }
-
--- nothing was done
-pub survives_none : (s : State) → Survives s s (λ _. ⊥)
-survives_none s = record {
-  clean = omega arith;
-  shield = λ h. h;
-  counts = omega arith;
-  limit = refl;
-  closes = λ k h. inl h;
-  crash = λ k db h. inl h;
+-- what statements made is what was wanted
+pub performs_as : {S T : Type 0} (g : Ghosts S) (old new : Held S) (Made Wanted : Trees → Trees → Type 0) (result : Result T Error) → ((x y : Trees) → Made x y → Wanted x y)
+    → Performs Made g old new result → Performs Wanted g old new result
+performs_as g old new Made Wanted result weaker one = record {
+  runs = runs_weaker IsOffice IsOffice (Moves Made) (Moves Wanted) (state g old) (state g new) result (λ d ours. ours) (λ d e ours. moves_as Made Wanted d e weaker) one.runs;
+  told = one.told;
 }
+
+-- no statement
+pub performs_nothing : {S T : Type 0} (g : Ghosts S) (s : Held S) (Made : Trees → Trees → Type 0) (x : T) → ((db : Trees) → Made db db) → Performs Made g s s (Ok x)
+performs_nothing g s Made x same = record {
+  runs = nothing_runs IsOffice (Moves Made) (state g s) (Ok x) (λ d ours. record { schema = ours.schema; made = same d.trees; store = ours.store });
+  told = λ clean. tt;
+}
+
+-- some statements and then others
+pub performs_then : {S T U : Type 0} (g : Ghosts S) (a b c : Held S) (P Q R : Trees → Trees → Type 0) (x : T) (result : Result U Error) → ((d e f : Trees) → P d e → Q e f → R d f)
+    → Performs P g a b (Ok x) → Performs Q g b c result → Performs R g a c result
+performs_then g a b c P Q R x result both one two = record {
+  runs = runs_then IsOffice IsOffice (Moves P) (Moves Q) (Moves R) (state g a) (state g b) (state g c) x result (λ d e ours made. record { schema = made.schema; store = made.store })
+      (moves_then P Q R both) one.runs two.runs;
+  told = two.told;
+}
+
+-- whatever they answered
+pub performs_whatever : {S T U : Type 0} (g : Ghosts S) (old new : Held S) (Made : Trees → Trees → Type 0) (x : T) (y : U) → Performs Made g old new (Ok x) → Performs Made g old new (Ok y)
+performs_whatever g old new Made x y one = record { runs = runs_whatever IsOffice (Moves Made) (state g old) (state g new) x y one.runs; told = λ clean. tt }
+
+-- the first of them failed
+pub performs_fails : {S T U : Type 0} (g : Ghosts S) (old new : Held S) (Made Other : Trees → Trees → Type 0) (e : Error) → Performs {T = T} Made g old new (Err e)
+    → Performs {T = U} Other g old new (Err e)
+performs_fails g old new Made Other e one = record { runs = runs_fails IsOffice (Moves Made) (Moves Other) (state g old) (state g new) e e one.runs; told = one.told }

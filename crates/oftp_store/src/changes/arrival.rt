@@ -44,7 +44,7 @@ fn edit_rows<S: Alter>(
     advance: Advance<'_>,
 ) -> Result<(), OfficeFault>
     requires { conn.old.in_transaction ≡ false }
-    ensures { MakesEdits (edits_of no from advance.entry) (state S.Store conn.old) (state S.Store conn.new) result }
+    ensures { MakesEdits (edits_of no from advance.entry) S.Store conn.old conn.new result }
 {
     match advance {
         Advance::Keep(rows) => make_edits(conn, &[more_rows(no, from, rows)]),

@@ -1,12 +1,9 @@
 //! The statements of the changes, each in a transaction. A number is below 2^63.
 
-ghost use Rattle.std.specs.Prelude.{◌≡◌, ◌+◌, ◌<◌, ◌^◌, [], ◌∷◌, ℕ, length, OnOk, OnErr};
-ghost use Rattle.sqlite.specs.Held.{state};
-ghost use Rattle.sqlite.specs.State.{HasCleanDisk, Survives};
+ghost use Rattle.std.specs.Prelude.{◌≡◌, ◌+◌, ◌<◌, ◌^◌, [], ◌∷◌, ℕ, length};
 ghost use Rattle.sqlite.specs.Values.{bound};
 ghost use Rattle.oftp_wire.specs.Octets.{decimal};
-ghost use Rattle.oftp_schema.specs.Calls.{KeepsCommit};
-ghost use Rattle.oftp_tables.specs.Calls.{IsInside, Moves};
+ghost use Rattle.oftp_tables.specs.Calls.{Performs};
 ghost use Rattle.oftp_tables.specs.Tables.{HasRefusal, format_text, kind_text, out_state_text, reason_text, refusal_text};
 ghost use Rattle.oftp_register.specs.declared.entry.OutgoingState.{OutgoingState};
 ghost use Rattle.oftp_register.specs.declared.entry.ResponseKind.TheVariants.{NegativeEndResponse};
@@ -103,11 +100,8 @@ fn set_outgoing_texts<'x, S: Alter>(
 ) -> Result<usize, Error>
     requires { no < 2 ^ 63 }
     ensures same_reference { tx.new.conn.ghost_name ≡ tx.old.conn.ghost_name }
-    ensures done { HasCleanDisk (state S.Store tx.new.conn.now) → IsInside (state S.Store tx.old.conn.now) → (to : OutgoingState) → stage.now ≡ out_state_text to
-        → reason.now ≡ refusal_text to → HasRefusal to
-        → OnOk result (Moves (Makes no (SetOutgoing mark to)) (state S.Store tx.old.conn.now) (state S.Store tx.new.conn.now)) }
-    ensures failed { HasCleanDisk (state S.Store tx.new.conn.now) → OnErr result (KeepsCommit (state S.Store tx.old.conn.now) (state S.Store tx.new.conn.now)) }
-    ensures survives { Survives (state S.Store tx.old.conn.now) (state S.Store tx.new.conn.now) (λ _. ⊥) }
+    ensures performs { (to : OutgoingState) → stage.now ≡ out_state_text to → reason.now ≡ refusal_text to → HasRefusal to
+        → Performs (Makes no (SetOutgoing mark to)) S.Store tx.old.conn.now tx.new.conn.now result }
 {
     tx.execute(
         "UPDATE out_file SET mark = ?2, state = ?3, reason = ?4 WHERE no = ?1",
@@ -129,10 +123,7 @@ pub(crate) fn set_outgoing<S: Alter>(
 ) -> Result<usize, Error>
     requires { no < 2 ^ 63 }
     ensures same_reference { tx.new.conn.ghost_name ≡ tx.old.conn.ghost_name }
-    ensures done { HasCleanDisk (state S.Store tx.new.conn.now) → IsInside (state S.Store tx.old.conn.now)
-        → OnOk result (Moves (Makes no (SetOutgoing mark stage)) (state S.Store tx.old.conn.now) (state S.Store tx.new.conn.now)) }
-    ensures failed { HasCleanDisk (state S.Store tx.new.conn.now) → OnErr result (KeepsCommit (state S.Store tx.old.conn.now) (state S.Store tx.new.conn.now)) }
-    ensures survives { Survives (state S.Store tx.old.conn.now) (state S.Store tx.new.conn.now) (λ _. ⊥) }
+    ensures performs { Performs (Makes no (SetOutgoing mark stage)) S.Store tx.old.conn.now tx.new.conn.now result }
 {
     let text = state_text(&stage);
     let reason = refusal_text(stage);
@@ -149,10 +140,7 @@ pub(crate) fn set_header<S: Alter>(
 ) -> Result<usize, Error>
     requires { no < 2 ^ 63 }
     ensures same_reference { tx.new.conn.ghost_name ≡ tx.old.conn.ghost_name }
-    ensures done { HasCleanDisk (state S.Store tx.new.conn.now) → IsInside (state S.Store tx.old.conn.now)
-        → OnOk result (Moves (Makes no (SetHeader format longest description.entry)) (state S.Store tx.old.conn.now) (state S.Store tx.new.conn.now)) }
-    ensures failed { HasCleanDisk (state S.Store tx.new.conn.now) → OnErr result (KeepsCommit (state S.Store tx.old.conn.now) (state S.Store tx.new.conn.now)) }
-    ensures survives { Survives (state S.Store tx.old.conn.now) (state S.Store tx.new.conn.now) (λ _. ⊥) }
+    ensures performs { Performs (Makes no (SetHeader format longest description.entry)) S.Store tx.old.conn.now tx.new.conn.now result }
 {
     tx.execute(
         "UPDATE in_file SET format = ?2, longest = ?3, description = ?4 WHERE no = ?1",
@@ -164,10 +152,7 @@ pub(crate) fn set_header<S: Alter>(
 pub(crate) fn set_whole<S: Alter>(tx: &mut Transaction<'_, S>, no: u64) -> Result<usize, Error>
     requires { no < 2 ^ 63 }
     ensures same_reference { tx.new.conn.ghost_name ≡ tx.old.conn.ghost_name }
-    ensures done { HasCleanDisk (state S.Store tx.new.conn.now) → IsInside (state S.Store tx.old.conn.now)
-        → OnOk result (Moves (Makes no SetWhole) (state S.Store tx.old.conn.now) (state S.Store tx.new.conn.now)) }
-    ensures failed { HasCleanDisk (state S.Store tx.new.conn.now) → OnErr result (KeepsCommit (state S.Store tx.old.conn.now) (state S.Store tx.new.conn.now)) }
-    ensures survives { Survives (state S.Store tx.old.conn.now) (state S.Store tx.new.conn.now) (λ _. ⊥) }
+    ensures performs { Performs (Makes no SetWhole) S.Store tx.old.conn.now tx.new.conn.now result }
 {
     tx.execute(
         "UPDATE in_file SET state = 'whole' WHERE no = ?1",
@@ -179,10 +164,7 @@ pub(crate) fn set_whole<S: Alter>(tx: &mut Transaction<'_, S>, no: u64) -> Resul
 pub(crate) fn set_sent<S: Alter>(tx: &mut Transaction<'_, S>, no: u64) -> Result<usize, Error>
     requires { no < 2 ^ 63 }
     ensures same_reference { tx.new.conn.ghost_name ≡ tx.old.conn.ghost_name }
-    ensures done { HasCleanDisk (state S.Store tx.new.conn.now) → IsInside (state S.Store tx.old.conn.now)
-        → OnOk result (Moves (Makes no SetSent) (state S.Store tx.old.conn.now) (state S.Store tx.new.conn.now)) }
-    ensures failed { HasCleanDisk (state S.Store tx.new.conn.now) → OnErr result (KeepsCommit (state S.Store tx.old.conn.now) (state S.Store tx.new.conn.now)) }
-    ensures survives { Survives (state S.Store tx.old.conn.now) (state S.Store tx.new.conn.now) (λ _. ⊥) }
+    ensures performs { Performs (Makes no SetSent) S.Store tx.old.conn.now tx.new.conn.now result }
 {
     tx.execute(
         "UPDATE issued SET sent = 1 WHERE no = ?1",
@@ -225,10 +207,7 @@ pub(crate) fn add_incoming<'x, S: Alter>(
 ) -> Result<usize, Error>
     requires { no < 2 ^ 63 }
     ensures same_reference { tx.new.conn.ghost_name ≡ tx.old.conn.ghost_name }
-    ensures done { HasCleanDisk (state S.Store tx.new.conn.now) → IsInside (state S.Store tx.old.conn.now)
-        → OnOk result (Moves (Makes no (AddIncoming identity.entry format longest description.entry)) (state S.Store tx.old.conn.now) (state S.Store tx.new.conn.now)) }
-    ensures failed { HasCleanDisk (state S.Store tx.new.conn.now) → OnErr result (KeepsCommit (state S.Store tx.old.conn.now) (state S.Store tx.new.conn.now)) }
-    ensures survives { Survives (state S.Store tx.old.conn.now) (state S.Store tx.new.conn.now) (λ _. ⊥) }
+    ensures performs { Performs (Makes no (AddIncoming identity.entry format longest description.entry)) S.Store tx.old.conn.now tx.new.conn.now result }
 {
     tx.execute(
         "INSERT INTO in_file (no, dataset, date, time, originator, destination, format, longest, description, state) VALUES (?1, ?2, ?3, ?4, ?5, ?6, ?7, ?8, ?9, 'open')",
@@ -247,10 +226,7 @@ pub(crate) fn add_outgoing<'x, S: Alter>(
 ) -> Result<usize, Error>
     requires { no < 2 ^ 63 }
     ensures same_reference { tx.new.conn.ghost_name ≡ tx.old.conn.ghost_name }
-    ensures done { HasCleanDisk (state S.Store tx.new.conn.now) → IsInside (state S.Store tx.old.conn.now)
-        → OnOk result (Moves (Makes no (AddOutgoing identity.entry format longest description.entry)) (state S.Store tx.old.conn.now) (state S.Store tx.new.conn.now)) }
-    ensures failed { HasCleanDisk (state S.Store tx.new.conn.now) → OnErr result (KeepsCommit (state S.Store tx.old.conn.now) (state S.Store tx.new.conn.now)) }
-    ensures survives { Survives (state S.Store tx.old.conn.now) (state S.Store tx.new.conn.now) (λ _. ⊥) }
+    ensures performs { Performs (Makes no (AddOutgoing identity.entry format longest description.entry)) S.Store tx.old.conn.now tx.new.conn.now result }
 {
     tx.execute(
         "INSERT INTO out_file (no, dataset, date, time, originator, destination, format, longest, description, mark, state, reason) VALUES (?1, ?2, ?3, ?4, ?5, ?6, ?7, ?8, ?9, 0, 'waiting', '')",
@@ -268,10 +244,8 @@ fn add_issued_texts<'x, S: Alter>(
 ) -> Result<usize, Error>
     requires { no < 2 ^ 63 }
     ensures same_reference { tx.new.conn.ghost_name ≡ tx.old.conn.ghost_name }
-    ensures done { HasCleanDisk (state S.Store tx.new.conn.now) → IsInside (state S.Store tx.old.conn.now) → (number : ℕ) → number < 100
-        → reason.now ≡ reason_text kind number → OnOk result (Moves (Makes no (AddIssued kind number text.entry)) (state S.Store tx.old.conn.now) (state S.Store tx.new.conn.now)) }
-    ensures failed { HasCleanDisk (state S.Store tx.new.conn.now) → OnErr result (KeepsCommit (state S.Store tx.old.conn.now) (state S.Store tx.new.conn.now)) }
-    ensures survives { Survives (state S.Store tx.old.conn.now) (state S.Store tx.new.conn.now) (λ _. ⊥) }
+    ensures performs { (number : ℕ) → number < 100 → reason.now ≡ reason_text kind number
+        → Performs (Makes no (AddIssued kind number text.entry)) S.Store tx.old.conn.now tx.new.conn.now result }
 {
     tx.execute(
         "INSERT INTO issued (no, kind, reason, note, sent) VALUES (?1, ?2, ?3, ?4, 0)",
@@ -294,10 +268,7 @@ pub(crate) fn add_issued<S: Alter>(
 ) -> Result<usize, Error>
     requires { no < 2 ^ 63 }
     ensures same_reference { tx.new.conn.ghost_name ≡ tx.old.conn.ghost_name }
-    ensures done { HasCleanDisk (state S.Store tx.new.conn.now) → IsInside (state S.Store tx.old.conn.now)
-        → OnOk result (Moves (Makes no (AddIssued kind reason text.entry)) (state S.Store tx.old.conn.now) (state S.Store tx.new.conn.now)) }
-    ensures failed { HasCleanDisk (state S.Store tx.new.conn.now) → OnErr result (KeepsCommit (state S.Store tx.old.conn.now) (state S.Store tx.new.conn.now)) }
-    ensures survives { Survives (state S.Store tx.old.conn.now) (state S.Store tx.new.conn.now) (λ _. ⊥) }
+    ensures performs { Performs (Makes no (AddIssued kind reason text.entry)) S.Store tx.old.conn.now tx.new.conn.now result }
 {
     let digits = reason_text(kind, reason);
     add_issued_texts(tx, no, kind, digits.as_slice(), text)
@@ -313,10 +284,8 @@ fn add_received_texts<'x, S: Alter>(
 ) -> Result<usize, Error>
     requires { no < 2 ^ 63 }
     ensures same_reference { tx.new.conn.ghost_name ≡ tx.old.conn.ghost_name }
-    ensures done { HasCleanDisk (state S.Store tx.new.conn.now) → IsInside (state S.Store tx.old.conn.now) → (number : ℕ) → number < 100
-        → reason.now ≡ reason_text kind number → OnOk result (Moves (MakesNoteless no kind identity.now number) (state S.Store tx.old.conn.now) (state S.Store tx.new.conn.now)) }
-    ensures failed { HasCleanDisk (state S.Store tx.new.conn.now) → OnErr result (KeepsCommit (state S.Store tx.old.conn.now) (state S.Store tx.new.conn.now)) }
-    ensures survives { Survives (state S.Store tx.old.conn.now) (state S.Store tx.new.conn.now) (λ _. ⊥) }
+    ensures performs { (number : ℕ) → number < 100 → reason.now ≡ reason_text kind number
+        → Performs (MakesNoteless no kind identity.now number) S.Store tx.old.conn.now tx.new.conn.now result }
 {
     tx.execute(
         "INSERT INTO received (no, kind, dataset, date, time, originator, destination, reason) VALUES (?1, ?2, ?3, ?4, ?5, ?6, ?7, ?8)",
@@ -343,10 +312,7 @@ fn add_noteless<S: Alter>(
 ) -> Result<usize, Error>
     requires { no < 2 ^ 63 }
     ensures same_reference { tx.new.conn.ghost_name ≡ tx.old.conn.ghost_name }
-    ensures done { HasCleanDisk (state S.Store tx.new.conn.now) → IsInside (state S.Store tx.old.conn.now)
-        → OnOk result (Moves (MakesNoteless no kind identity.now reason) (state S.Store tx.old.conn.now) (state S.Store tx.new.conn.now)) }
-    ensures failed { HasCleanDisk (state S.Store tx.new.conn.now) → OnErr result (KeepsCommit (state S.Store tx.old.conn.now) (state S.Store tx.new.conn.now)) }
-    ensures survives { Survives (state S.Store tx.old.conn.now) (state S.Store tx.new.conn.now) (λ _. ⊥) }
+    ensures performs { Performs (MakesNoteless no kind identity.now reason) S.Store tx.old.conn.now tx.new.conn.now result }
 {
     let digits = reason_text(kind, reason);
     add_received_texts(tx, no, kind, identity, digits.as_slice())
@@ -361,10 +327,7 @@ fn add_note<'x, S: Alter>(
 ) -> Result<usize, Error>
     requires { no < 2 ^ 63 }
     ensures same_reference { tx.new.conn.ghost_name ≡ tx.old.conn.ghost_name }
-    ensures done { HasCleanDisk (state S.Store tx.new.conn.now) → IsInside (state S.Store tx.old.conn.now)
-        → OnOk result (Moves (MakesNote no creator.now text.now) (state S.Store tx.old.conn.now) (state S.Store tx.new.conn.now)) }
-    ensures failed { HasCleanDisk (state S.Store tx.new.conn.now) → OnErr result (KeepsCommit (state S.Store tx.old.conn.now) (state S.Store tx.new.conn.now)) }
-    ensures survives { Survives (state S.Store tx.old.conn.now) (state S.Store tx.new.conn.now) (λ _. ⊥) }
+    ensures performs { Performs (MakesNote no creator.now text.now) S.Store tx.old.conn.now tx.new.conn.now result }
 {
     tx.execute(
         "INSERT INTO received_note (no, creator, note) VALUES (?1, ?2, ?3)",
@@ -384,10 +347,7 @@ pub(crate) fn cut_rows<S: Alter>(
 ) -> Result<usize, Error>
     requires { no < 2 ^ 63 }
     ensures same_reference { tx.new.conn.ghost_name ≡ tx.old.conn.ghost_name }
-    ensures done { HasCleanDisk (state S.Store tx.new.conn.now) → IsInside (state S.Store tx.old.conn.now)
-        → OnOk result (Moves (Makes no (CutRows count)) (state S.Store tx.old.conn.now) (state S.Store tx.new.conn.now)) }
-    ensures failed { HasCleanDisk (state S.Store tx.new.conn.now) → OnErr result (KeepsCommit (state S.Store tx.old.conn.now) (state S.Store tx.new.conn.now)) }
-    ensures survives { Survives (state S.Store tx.old.conn.now) (state S.Store tx.new.conn.now) (λ _. ⊥) }
+    ensures performs { Performs (Makes no (CutRows count)) S.Store tx.old.conn.now tx.new.conn.now result }
 {
     tx.execute(
         "DELETE FROM in_row WHERE no = ?1 AND pos >= ?2",
@@ -415,10 +375,7 @@ fn add_row<S: Alter>(
 ) -> Result<usize, Error>
     requires { no < 2 ^ 63 }
     ensures same_reference { tx.new.conn.ghost_name ≡ tx.old.conn.ghost_name }
-    ensures done { HasCleanDisk (state S.Store tx.new.conn.now) → IsInside (state S.Store tx.old.conn.now)
-        → OnOk result (Moves (MakesRows side no at (body.now ∷ [])) (state S.Store tx.old.conn.now) (state S.Store tx.new.conn.now)) }
-    ensures failed { HasCleanDisk (state S.Store tx.new.conn.now) → OnErr result (KeepsCommit (state S.Store tx.old.conn.now) (state S.Store tx.new.conn.now)) }
-    ensures survives { Survives (state S.Store tx.old.conn.now) (state S.Store tx.new.conn.now) (λ _. ⊥) }
+    ensures performs { Performs (MakesRows side no at (body.now ∷ [])) S.Store tx.old.conn.now tx.new.conn.now result }
 {
     tx.execute(add_row_text(side), params![number(no), at, body.octets()])
 }
@@ -434,11 +391,7 @@ pub(crate) fn add_rows<S: Alter>(
     requires number { no < 2 ^ 63 }
     requires room { from + length rows.now < 2 ^ 32 }
     ensures same_reference { tx.new.conn.ghost_name ≡ tx.old.conn.ghost_name }
-    ensures done { HasCleanDisk (state S.Store tx.new.conn.now) → IsInside (state S.Store tx.old.conn.now)
-        → OnOk result (Moves (MakesRows side no from rows.now) (state S.Store tx.old.conn.now) (state S.Store tx.new.conn.now)) }
-    ensures failed { HasCleanDisk (state S.Store tx.new.conn.now) → IsInside (state S.Store tx.old.conn.now)
-        → OnErr result (KeepsCommit (state S.Store tx.old.conn.now) (state S.Store tx.new.conn.now)) }
-    ensures survives { Survives (state S.Store tx.old.conn.now) (state S.Store tx.new.conn.now) (λ _. ⊥) }
+    ensures performs { Performs (MakesRows side no from rows.now) S.Store tx.old.conn.now tx.new.conn.now result }
 {
     let mut at = from;
     'rows: for row in rows {
@@ -459,11 +412,7 @@ fn add_negative<S: Alter>(
 ) -> Result<usize, Error>
     requires { no < 2 ^ 63 }
     ensures same_reference { tx.new.conn.ghost_name ≡ tx.old.conn.ghost_name }
-    ensures done { HasCleanDisk (state S.Store tx.new.conn.now) → IsInside (state S.Store tx.old.conn.now)
-        → OnOk result (Moves (Makes no (AddReceived NegativeEndResponse identity.entry reason creator.entry text.entry)) (state S.Store tx.old.conn.now) (state S.Store tx.new.conn.now)) }
-    ensures failed { HasCleanDisk (state S.Store tx.new.conn.now) → IsInside (state S.Store tx.old.conn.now)
-        → OnErr result (KeepsCommit (state S.Store tx.old.conn.now) (state S.Store tx.new.conn.now)) }
-    ensures survives { Survives (state S.Store tx.old.conn.now) (state S.Store tx.new.conn.now) (λ _. ⊥) }
+    ensures performs { Performs (Makes no (AddReceived NegativeEndResponse identity.entry reason creator.entry text.entry)) S.Store tx.old.conn.now tx.new.conn.now result }
 {
     add_noteless(tx, no, ResponseKind::NegativeEndResponse, identity, reason)?;
     add_note(tx, no, creator, text)
@@ -481,11 +430,7 @@ pub(crate) fn add_received<S: Alter>(
 ) -> Result<usize, Error>
     requires { no < 2 ^ 63 }
     ensures same_reference { tx.new.conn.ghost_name ≡ tx.old.conn.ghost_name }
-    ensures done { HasCleanDisk (state S.Store tx.new.conn.now) → IsInside (state S.Store tx.old.conn.now)
-        → OnOk result (Moves (Makes no (AddReceived kind identity.entry reason creator.entry text.entry)) (state S.Store tx.old.conn.now) (state S.Store tx.new.conn.now)) }
-    ensures failed { HasCleanDisk (state S.Store tx.new.conn.now) → IsInside (state S.Store tx.old.conn.now)
-        → OnErr result (KeepsCommit (state S.Store tx.old.conn.now) (state S.Store tx.new.conn.now)) }
-    ensures survives { Survives (state S.Store tx.old.conn.now) (state S.Store tx.new.conn.now) (λ _. ⊥) }
+    ensures performs { Performs (Makes no (AddReceived kind identity.entry reason creator.entry text.entry)) S.Store tx.old.conn.now tx.new.conn.now result }
 {
     match kind {
         ResponseKind::EndResponse => add_noteless(tx, no, kind, identity, reason),

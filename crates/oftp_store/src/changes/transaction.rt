@@ -1,13 +1,12 @@
 //! The transaction of a change.
 
-ghost use Rattle.std.specs.Prelude.{◌≡◌, ◌≤◌, ◌<◌, ◌^◌, OnOk, OnErr, false, true};
+ghost use Rattle.std.specs.Prelude.{◌≡◌, ◌↔◌, ◌<◌, ◌^◌, All, IfErr, IsTrue, false, true};
 ghost use Rattle.sqlite.specs.Held.{state};
-ghost use Rattle.sqlite.specs.View.{doubt};
-ghost use Rattle.sqlite.specs.State.{HasCleanDisk, Survives};
-ghost use Rattle.oftp_schema.specs.Calls.{IsUndone, KeepsCommit};
-ghost use Rattle.oftp_tables.specs.Calls.{Changes, IsInside, IsOurs, MayLeave, Moves};
+ghost use Rattle.sqlite.specs.State.{HasCleanDisk};
+ghost use Rattle.oftp_schema.specs.Calls.{IsTransactionError, Transacts};
+ghost use Rattle.oftp_tables.specs.Calls.{IsOffice, Moves, Performs};
 ghost use Rattle.oftp_store.specs.Commits.{MakesEdits};
-ghost use Rattle.oftp_store.specs.Edits.{Makes, MakesAll, adds_entry};
+ghost use Rattle.oftp_store.specs.Edits.{HasRoom, IsStorable, Makes, MakesAll, adds_entry};
 
 use super::edit::{Deed, Edit};
 use super::statements::{
@@ -23,11 +22,7 @@ fn add_entry<S: Alter>(tx: &mut Transaction<'_, S>, no: u64, deed: &Deed<'_>) ->
     requires small { no < 2 ^ 63 }
     requires adds { adds_entry deed.now ≡ true }
     ensures same_reference { tx.new.conn.ghost_name ≡ tx.old.conn.ghost_name }
-    ensures done { HasCleanDisk (state S.Store tx.new.conn.now) → IsInside (state S.Store tx.old.conn.now)
-        → OnOk result (Moves (Makes no deed.now) (state S.Store tx.old.conn.now) (state S.Store tx.new.conn.now)) }
-    ensures failed { HasCleanDisk (state S.Store tx.new.conn.now) → IsInside (state S.Store tx.old.conn.now)
-        → OnErr result (KeepsCommit (state S.Store tx.old.conn.now) (state S.Store tx.new.conn.now)) }
-    ensures survives { Survives (state S.Store tx.old.conn.now) (state S.Store tx.new.conn.now) (λ _. ⊥) }
+    ensures performs { Performs (Makes no deed.now) S.Store tx.old.conn.now tx.new.conn.now result }
 {
     match deed {
         Deed::AddIncoming {
@@ -60,19 +55,12 @@ fn add_entry<S: Alter>(tx: &mut Transaction<'_, S>, no: u64, deed: &Deed<'_>) ->
     Ok(())
 }
 
-// Makes an edit of the entry with a number that the database can hold.
-fn perform_deed<S: Alter>(
-    tx: &mut Transaction<'_, S>,
-    no: u64,
-    deed: &Deed<'_>,
-) -> Result<(), Error>
-    requires { no < 2 ^ 63 }
+// Makes an edit of the entry with a number, which the database can hold.
+fn perform<S: Alter>(tx: &mut Transaction<'_, S>, no: u64, deed: &Deed<'_>) -> Result<(), Error>
+    requires number { no < 2 ^ 63 }
+    requires room { HasRoom deed.now }
     ensures same_reference { tx.new.conn.ghost_name ≡ tx.old.conn.ghost_name }
-    ensures done { HasCleanDisk (state S.Store tx.new.conn.now) → IsInside (state S.Store tx.old.conn.now)
-        → OnOk result (Moves (Makes no deed.now) (state S.Store tx.old.conn.now) (state S.Store tx.new.conn.now)) }
-    ensures failed { HasCleanDisk (state S.Store tx.new.conn.now) → IsInside (state S.Store tx.old.conn.now)
-        → OnErr result (KeepsCommit (state S.Store tx.old.conn.now) (state S.Store tx.new.conn.now)) }
-    ensures survives { Survives (state S.Store tx.old.conn.now) (state S.Store tx.new.conn.now) (λ _. ⊥) }
+    ensures performs { Performs (Makes no deed.now) S.Store tx.old.conn.now tx.new.conn.now result }
 {
     match deed {
         Deed::AddIncoming { .. } | Deed::AddOutgoing { .. } | Deed::AddReceived { .. } => {
@@ -92,9 +80,6 @@ fn perform_deed<S: Alter>(
             set_outgoing(tx, no, *mark, *state)?;
         }
         Deed::AddRows { side, from, rows } => {
-            if u64::from(*from) + rows.len() as u64 >= 1 << 32 {
-                return Err(Error::IntegralValueOutOfRange(0));
-            }
             add_rows(tx, *side, no, *from, rows)?;
         }
         Deed::CutRows { count } => {
@@ -110,58 +95,53 @@ fn perform_deed<S: Alter>(
     Ok(())
 }
 
-// Makes an edit.
-fn perform<S: Alter>(tx: &mut Transaction<'_, S>, edit: &Edit<'_>) -> Result<(), Error>
-    ensures same_reference { tx.new.conn.ghost_name ≡ tx.old.conn.ghost_name }
-    ensures done { HasCleanDisk (state S.Store tx.new.conn.now) → IsInside (state S.Store tx.old.conn.now)
-        → OnOk result (Moves (Makes edit.now.no edit.now.deed) (state S.Store tx.old.conn.now) (state S.Store tx.new.conn.now)) }
-    ensures failed { HasCleanDisk (state S.Store tx.new.conn.now) → IsInside (state S.Store tx.old.conn.now)
-        → OnErr result (KeepsCommit (state S.Store tx.old.conn.now) (state S.Store tx.new.conn.now)) }
-    ensures survives { Survives (state S.Store tx.old.conn.now) (state S.Store tx.new.conn.now) (λ _. ⊥) }
-{
-    if edit.no >= 1 << 63 {
-        return Err(Error::IntegralValueOutOfRange(0));
-    }
-    perform_deed(tx, edit.no, &edit.deed)
-}
-
 // Makes edits in turn.
 fn perform_all<S: Alter>(tx: &mut Transaction<'_, S>, edits: &[Edit<'_>]) -> Result<(), Error>
+    requires { All IsStorable edits.now }
     ensures same_reference { tx.new.conn.ghost_name ≡ tx.old.conn.ghost_name }
-    ensures done { HasCleanDisk (state S.Store tx.new.conn.now) → IsInside (state S.Store tx.old.conn.now)
-        → OnOk result (Moves (MakesAll edits.now) (state S.Store tx.old.conn.now) (state S.Store tx.new.conn.now)) }
-    ensures failed { HasCleanDisk (state S.Store tx.new.conn.now) → IsInside (state S.Store tx.old.conn.now)
-        → OnErr result (KeepsCommit (state S.Store tx.old.conn.now) (state S.Store tx.new.conn.now)) }
-    ensures survives { Survives (state S.Store tx.old.conn.now) (state S.Store tx.new.conn.now) (λ _. ⊥) }
+    ensures performs { Performs (MakesAll edits.now) S.Store tx.old.conn.now tx.new.conn.now result }
 {
     'edits: for edit in edits {
-        perform(tx, edit)?;
+        perform(tx, edit.no, &edit.deed)?;
     }
     Ok(())
 }
 
-/// Makes edits in turn, in one transaction.
-pub(crate) fn carry_out<S: Alter>(conn: &mut Connection<S>, edits: &[Edit<'_>]) -> Result<(), Error>
-    requires { conn.old.in_transaction ≡ false }
-    ensures mode { conn.new.in_transaction ≡ false }
-    ensures clean { doubt (state S.Store conn.old).is_clean ≤ doubt (state S.Store conn.new).is_clean }
-    ensures done { HasCleanDisk (state S.Store conn.new) → IsOurs (state S.Store conn.old) → OnOk result (Changes (MakesAll edits.now) (state S.Store conn.old) (state S.Store conn.new)) }
-    ensures failed { HasCleanDisk (state S.Store conn.new) → IsOurs (state S.Store conn.old) → OnErr result (IsUndone (state S.Store conn.old) (state S.Store conn.new)) }
-    ensures survives { IsOurs (state S.Store conn.old) → Survives (state S.Store conn.old) (state S.Store conn.new) (MayLeave (MakesAll edits.now) (state S.Store conn.old)) }
+// Makes edits in turn, which the database can hold, in one transaction.
+#[tactic(auto, using(oftp_schema::proofs::TxLemmas::tells_at_end))]
+fn carry_out<S: Alter>(conn: &mut Connection<S>, edits: &[Edit<'_>]) -> Result<(), Error>
+    requires autocommit { conn.old.in_transaction ≡ false }
+    requires storable { All IsStorable edits.now }
+    ensures transacts { Transacts IsOffice (Moves (MakesAll edits.now)) (state S.Store conn.old) (state S.Store conn.new) result }
+    ensures told { HasCleanDisk (state S.Store conn.new) → IfErr result (IsTransactionError S.Store conn.new) }
 {
     let mut tx = conn.transaction();
     perform_all(&mut tx, edits)?;
     tx.commit()
 }
 
-/// Makes edits in turn, in one transaction, and tells a fault of the office.
+// Whether the database can hold what an edit makes.
+fn is_storable(edit: &Edit<'_>) -> bool
+    ensures { IsTrue result ↔ IsStorable edit.now }
+{
+    let has_room = match &edit.deed {
+        Deed::AddRows { from, rows, .. } => u64::from(*from) + (rows.len() as u64) < 1 << 32,
+        _ => true,
+    };
+    edit.no < 1 << 63 && has_room
+}
+
+/// Makes edits in turn, in one transaction, and tells a fault of the office. Edits that the database can't hold are one too.
 pub(crate) fn make_edits<S: Alter>(
     conn: &mut Connection<S>,
     edits: &[Edit<'_>],
 ) -> Result<(), OfficeFault>
     requires { conn.old.in_transaction ≡ false }
-    ensures { MakesEdits edits.now (state S.Store conn.old) (state S.Store conn.new) result }
+    ensures { MakesEdits edits.now S.Store conn.old conn.new result }
 {
+    if !edits.iter().all(|edit| is_storable(edit)) {
+        return Err(OfficeFault::Store);
+    }
     match carry_out(conn, edits) {
         Ok(()) => Ok(()),
         Err(error) => Err(fault_of(error)),

@@ -18,6 +18,7 @@ returns-in-Whole g c limits =
 
 pub returns-in-Open : goal.returns-in-Open
 returns-in-Open g c limits =
-    commits_by (edits_of c.args.no c.in-Ok-Some.place.rows c.args.advance) limits (change_of c.args.no c.args.advance) _ _ _ _ _ c.in-Ok-Some.ensures.looks
+    commits_by g.S.Store (edits_of c.args.no c.in-Ok-Some.place.rows c.args.advance) limits (change_of c.args.no c.args.advance)
+    c.args.conn.now c.find_place.new.conn c.edit_rows.new.conn _ c.edit_rows.result c.in-Ok-Some.ensures.looks
     (λ k stands. made_by_advance c.args.advance c.args.no _ c.in-Ok-Some.place.rows
     (rw c.in-Open.is at ((rw c.in-Ok-Some.field-0-is at c.in-Ok-Some.ensures.answer) k stands.holds.schema _ stands.holds.tables))) c.edit_rows.ensures

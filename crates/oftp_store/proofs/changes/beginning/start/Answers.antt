@@ -1,5 +1,4 @@
 use Rattle.std.proofs.Common.{[], ◌∷◌, ◌∙◌, refl, sym}
-use Rattle.sqlite.specs.Held.{state}
 use Rattle.oftp_register.specs.declared.change.Change.TheVariants.{Start}
 use Rattle.oftp_register.specs.declared.change.Cause.TheVariants as cause
 use Rattle.oftp_store.specs.declared.changes.edit.Edit.{Edit}
@@ -33,8 +32,8 @@ pub returns-else-count-gt0-2 : goal.returns-else-count-gt0-2
 returns-else-count-gt0-2 g c =
     let a = c.args in
     let edit : Edit = record { no = c.in-Ok-New.no; deed = AddIncoming a.identity a.format a.longest a.description } in
-    commits_by (edit ∷ []) a.limits (Start a.identity.now a.format a.longest a.description.now a.count) (state g.S.Store a.conn.now) (state g.S.Store c.find_arrival.new.conn)
-    (state g.S.Store c.make_edits.new.conn) _ c.make_edits.result c.in-Ok-New.ensures.looks
+    commits_by g.S.Store (edit ∷ []) a.limits (Start a.identity.now a.format a.longest a.description.now a.count) a.conn.now c.find_arrival.new.conn
+    c.make_edits.new.conn _ c.make_edits.result c.in-Ok-New.ensures.looks
     (λ k stands. made_by_begin _ a.identity a.format a.longest a.description a.count c.in-Ok-New.no
     ((rw c.in-Ok-New.field-0-is at c.in-Ok-New.ensures.answer) k stands.holds.schema _ refl stands.holds.tables) c.if-count-gt0-2.false) c.make_edits.ensures
 
@@ -50,7 +49,7 @@ returns-else-not-goes_on g c =
     let a = c.args in
     let header : Edit = record { no = c.in-Ok-Known.no; deed = SetHeader a.format a.longest a.description } in
     let rest : Edit = record { no = c.in-Ok-Known.no; deed = CutRows a.count } in
-    commits_by (header ∷ rest ∷ []) a.limits (Start a.identity.now a.format a.longest a.description.now a.count) (state g.S.Store a.conn.now) (state g.S.Store c.find_arrival.new.conn)
-    (state g.S.Store c.make_edits-in-Ok-Known.new.conn) _ c.make_edits-in-Ok-Known.result c.in-Ok-Known.ensures.looks
+    commits_by g.S.Store (header ∷ rest ∷ []) a.limits (Start a.identity.now a.format a.longest a.description.now a.count) a.conn.now c.find_arrival.new.conn
+    c.make_edits-in-Ok-Known.new.conn _ c.make_edits-in-Ok-Known.result c.in-Ok-Known.ensures.looks
     (λ k stands. made_by_go_on _ a.identity a.format a.longest a.description a.count c.in-Ok-Known.no c.in-Ok-Known.place
     ((rw c.in-Ok-Known.field-0-is at c.in-Ok-Known.ensures.answer) k stands.holds.schema _ refl stands.holds.tables) (sym c.goes_on.ensures ∙ c.if-not-goes_on.false)) c.make_edits-in-Ok-Known.ensures

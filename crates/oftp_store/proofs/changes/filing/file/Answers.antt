@@ -1,5 +1,4 @@
 use Rattle.std.proofs.Common.{[], ◌∷◌}
-use Rattle.sqlite.specs.Held.{state}
 use Rattle.oftp_register.specs.declared.change.Change.TheVariants.{File}
 use Rattle.oftp_register.specs.declared.change.Cause.TheVariants as cause
 use Rattle.oftp_store.specs.declared.changes.edit.Edit.{Edit}
@@ -19,8 +18,8 @@ pub returns-in-Ok-Alone : goal.returns-in-Ok-Alone
 returns-in-Ok-Alone g c limits =
     let a = c.args in
     let response : Edit = record { no = c.in-Ok-Alone.no; deed = AddReceived a.kind a.identity a.reason a.creator a.text } in
-    commits_by (response ∷ []) limits (File a.kind a.identity.now a.reason a.creator.now a.text.now) (state g.S.Store a.conn.now) (state g.S.Store c.find_filing.new.conn)
-    (state g.S.Store c.make_edits.new.conn) _
+    commits_by g.S.Store (response ∷ []) limits (File a.kind a.identity.now a.reason a.creator.now a.text.now) a.conn.now c.find_filing.new.conn
+    c.make_edits.new.conn _
     c.make_edits.result c.in-Ok-Alone.ensures.looks
     (λ k stands. made_by_file _ a.kind a.identity a.reason a.creator a.text c.in-Ok-Alone.no
     ((rw c.in-Ok-Alone.field-0-is at c.in-Ok-Alone.ensures.answer) k stands.holds.schema _ stands.holds.tables stands.holds.sound)) c.make_edits.ensures
@@ -31,7 +30,7 @@ returns-in-Ok-With g c limits =
     let settling = c.in-Ok-With.settling in
     let settled : Edit = record { no = settling.no; deed = SetOutgoing settling.mark c.answered_as.result } in
     let response : Edit = record { no = c.in-Ok-With.no; deed = AddReceived a.kind a.identity a.reason a.creator a.text } in
-    commits_by (settled ∷ response ∷ []) limits (File a.kind a.identity.now a.reason a.creator.now a.text.now) (state g.S.Store a.conn.now) (state g.S.Store c.find_filing.new.conn)
-    (state g.S.Store c.make_edits-in-Ok-With.new.conn) _ c.make_edits-in-Ok-With.result c.in-Ok-With.ensures.looks
+    commits_by g.S.Store (settled ∷ response ∷ []) limits (File a.kind a.identity.now a.reason a.creator.now a.text.now) a.conn.now c.find_filing.new.conn
+    c.make_edits-in-Ok-With.new.conn _ c.make_edits-in-Ok-With.result c.in-Ok-With.ensures.looks
     (λ k stands. rw c.answered_as.ensures (made_by_settling _ a.kind a.identity a.reason a.creator a.text c.in-Ok-With.no settling
     ((rw c.in-Ok-With.field-0-is at c.in-Ok-With.ensures.answer) k stands.holds.schema _ stands.holds.tables stands.holds.sound))) c.make_edits-in-Ok-With.ensures

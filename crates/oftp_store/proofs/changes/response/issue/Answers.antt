@@ -1,5 +1,4 @@
 use Rattle.std.proofs.Common.{[], ◌∷◌, ◌∙◌, sym}
-use Rattle.sqlite.specs.Held.{state}
 use Rattle.oftp_register.specs.declared.change.Change.TheVariants.{Issue}
 use Rattle.oftp_register.specs.declared.change.Cause.TheVariants as cause
 use Rattle.oftp_store.specs.declared.changes.edit.Edit.{Edit}
@@ -23,8 +22,8 @@ returns-else-is_answerable g c limits =
 pub returns-then-is_answerable : goal.returns-then-is_answerable
 returns-then-is_answerable g c limits =
     let edit : Edit = record { no = c.args.no; deed = AddIssued c.args.kind c.args.reason c.args.text } in
-    commits_by (edit ∷ []) limits (Issue c.args.no c.args.kind c.args.reason c.args.text.now) (state g.S.Store c.args.conn.now) (state g.S.Store c.find_answered.new.conn)
-    (state g.S.Store c.make_edits.new.conn) _ c.make_edits.result
+    commits_by g.S.Store (edit ∷ []) limits (Issue c.args.no c.args.kind c.args.reason c.args.text.now) c.args.conn.now c.find_answered.new.conn
+    c.make_edits.new.conn _ c.make_edits.result
     c.in-Ok-Some.ensures.looks
     (λ k stands. made_by_issue c.args.no _ c.args.kind c.args.reason c.args.text c.in-Ok-Some.answered
     ((rw c.in-Ok-Some.field-0-is at c.in-Ok-Some.ensures.answer) k stands.holds.schema _ stands.holds.tables stands.holds.sound) (sym c.is_answerable.ensures ∙ c.if-is_answerable.true))

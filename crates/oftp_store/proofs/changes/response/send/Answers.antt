@@ -1,5 +1,4 @@
 use Rattle.std.proofs.Common.{[], ◌∷◌, ◌∙◌, sym}
-use Rattle.sqlite.specs.Held.{state}
 use Rattle.oftp_register.specs.declared.change.Change.TheVariants.{Send}
 use Rattle.oftp_register.specs.declared.change.Cause.TheVariants as cause
 use Rattle.oftp_store.specs.declared.changes.edit.Edit.{Edit}
@@ -22,7 +21,7 @@ returns-else-is_sendable g c limits =
 pub returns-then-is_sendable : goal.returns-then-is_sendable
 returns-then-is_sendable g c limits =
     let edit : Edit = record { no = c.args.no; deed = SetSent } in
-    commits_by (edit ∷ []) limits (Send c.args.no) (state g.S.Store c.args.conn.now) (state g.S.Store c.find_answered.new.conn) (state g.S.Store c.make_edits.new.conn) _ c.make_edits.result
+    commits_by g.S.Store (edit ∷ []) limits (Send c.args.no) c.args.conn.now c.find_answered.new.conn c.make_edits.new.conn _ c.make_edits.result
     c.in-Ok-Some.ensures.looks
     (λ k stands. made_by_send c.args.no _ c.in-Ok-Some.answered
     ((rw c.in-Ok-Some.field-0-is at c.in-Ok-Some.ensures.answer) k stands.holds.schema _ stands.holds.tables stands.holds.sound) (sym c.is_sendable.ensures ∙ c.if-is_sendable.true))

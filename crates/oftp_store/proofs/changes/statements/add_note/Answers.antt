@@ -1,24 +1,17 @@
-use Rattle.std.proofs.Common.{refl, IsTrue, [], ◌∷◌}
-use Rattle.sqlite.specs.Held.{state}
-use Rattle.sqlite.specs.State.{ExecutesInside}
+use Rattle.std.proofs.Common.{[], ◌∷◌}
 use Rattle.sqlite.specs.declared.types.Value.TheVariants.{Text}
-use Rattle.oftp_tables.proofs.BindLemmas.{number_bound}
 use Rattle.oftp_tables.specs.Tables.{number_value}
-use Rattle.oftp_schema.proofs.TxLemmas.{ran_on, keeps_on}
+use Rattle.oftp_tables.proofs.BindLemmas.{number_bound}
+use Rattle.oftp_tables.proofs.TxLemmas.{performs}
+use Rattle.oftp_store.specs.Edits.{MakesNote}
 use Rattle.oftp_store.specs.Texts.{add_note_text}
 use Rattle.oftp_store.proofs.ReceivedEditLemmas.{note_added}
 use Rattle.oftp_store.proofs.changes.statements.add_note.Goals as goal
 
-pub returns-clause-done : goal.returns-clause-done
-returns-clause-done g c clean inside =
-    let params = number_value c.args.no ∷ Text c.args.creator.now ∷ Text c.args.text.now ∷ [] in
-    let old = state g.S.Store c.args.tx.now.conn.now in
-    let new = state g.S.Store c.execute.new.self.conn.now in
+pub returns-clause-performs : goal.returns-clause-performs
+returns-clause-performs g c =
     let back = number_bound c.args.no c.number.result c.number.ensures c.requires in
-    let runs : IsTrue old.in_transaction → ExecutesInside 0 add_note_text params old new c.execute.result =
-    simp (c.octets.ensures.value, back, c.as_bytes.ensures.value, c.text.ensures.value) at (c.execute.ensures.runs clean) in
-    ran_on add_note_text params old new _ _ _ (λ past. (c.execute.ensures.ended past).0) runs (λ count h. note_added old new c.args.no c.args.creator.now c.args.text.now count inside.schema h)
-
-pub returns-clause-failed : goal.returns-clause-failed
-returns-clause-failed g c clean =
-    keeps_on add_note_text _ _ _ _ (λ past. rw (c.execute.ensures.ended past).1 (record { was_open = λ h. h; committed = λ h. refl })) (c.execute.ensures.runs clean)
+    let params = number_value c.args.no ∷ Text c.args.creator.now ∷ Text c.args.text.now ∷ [] in
+    performs g.S.Store _ _ (MakesNote c.args.no c.args.creator.now c.args.text.now) add_note_text params _ c.execute.ensures.ended
+    (simp (c.octets.ensures.value, back, c.as_bytes.ensures.value, c.text.ensures.value) at c.execute.ensures.runs) c.execute.ensures.survives
+    (λ count has h. note_added _ _ c.args.no c.args.creator.now c.args.text.now count has h)

@@ -1,14 +1,13 @@
-use Rattle.std.proofs.Common.{refl}
-use Rattle.oftp_schema.proofs.TxLemmas.{ran_on, keeps_on}
+use Rattle.oftp_tables.proofs.TxLemmas.{performs}
+use Rattle.oftp_store.specs.Edits.{Makes, header_params}
 use Rattle.oftp_store.specs.Texts.{add_outgoing_text}
+use Rattle.oftp_store.specs.declared.changes.edit.Deed.TheVariants.{AddOutgoing}
 use Rattle.oftp_store.proofs.EditLemmas.{outgoing_added}
 use Rattle.oftp_store.proofs.changes.statements.add_outgoing.Goals as goal
 
-pub returns-clause-done : goal.returns-clause-done
-returns-clause-done g c clean inside =
-    ran_on add_outgoing_text _ _ _ _ _ _ (λ past. (c.execute.ensures.ended past).0) (rw c.header_values.ensures at (c.execute.ensures.runs clean))
-    (λ count h. outgoing_added _ _ c.args.no c.requires c.args.identity c.args.format c.args.longest c.args.description count inside.schema h)
-
-pub returns-clause-failed : goal.returns-clause-failed
-returns-clause-failed g c clean =
-    keeps_on add_outgoing_text _ _ _ _ (λ past. rw (c.execute.ensures.ended past).1 (record { was_open = λ h. h; committed = λ h. refl })) (c.execute.ensures.runs clean)
+pub returns-clause-performs : goal.returns-clause-performs
+returns-clause-performs g c =
+    let params = header_params c.args.no c.args.identity.now c.args.format c.args.longest c.args.description.now in
+    performs g.S.Store _ _ (Makes c.args.no (AddOutgoing c.args.identity c.args.format c.args.longest c.args.description)) add_outgoing_text params _ c.execute.ensures.ended
+    (rw c.header_values.ensures at c.execute.ensures.runs) c.execute.ensures.survives
+    (λ count has h. outgoing_added _ _ c.args.no c.requires c.args.identity c.args.format c.args.longest c.args.description count has h)

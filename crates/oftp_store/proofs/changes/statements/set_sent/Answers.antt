@@ -1,15 +1,15 @@
-use Rattle.std.proofs.Common.{refl}
+use Rattle.std.proofs.Common.{[], ◌∷◌}
+use Rattle.oftp_tables.specs.Tables.{number_value}
 use Rattle.oftp_tables.proofs.BindLemmas.{number_bound}
-use Rattle.oftp_schema.proofs.TxLemmas.{ran_on, keeps_on}
+use Rattle.oftp_tables.proofs.TxLemmas.{performs}
+use Rattle.oftp_store.specs.Edits.{Makes}
 use Rattle.oftp_store.specs.Texts.{set_sent_text}
+use Rattle.oftp_store.specs.declared.changes.edit.Deed.TheVariants.{SetSent}
 use Rattle.oftp_store.proofs.EditLemmas.{sent_set}
 use Rattle.oftp_store.proofs.changes.statements.set_sent.Goals as goal
 
-pub returns-clause-done : goal.returns-clause-done
-returns-clause-done g c clean inside =
-    let runs = rw (c.params-to_sql.ensures, number_bound c.args.no _ c.number.ensures c.requires) at (c.execute.ensures.runs clean) in
-    ran_on set_sent_text _ _ _ _ _ _ (λ past. (c.execute.ensures.ended past).0) runs (λ count h. sent_set _ _ c.args.no count inside.schema h)
-
-pub returns-clause-failed : goal.returns-clause-failed
-returns-clause-failed g c clean =
-    keeps_on set_sent_text _ _ _ _ (λ past. rw (c.execute.ensures.ended past).1 (record { was_open = λ h. h; committed = λ h. refl })) (c.execute.ensures.runs clean)
+pub returns-clause-performs : goal.returns-clause-performs
+returns-clause-performs g c =
+    performs g.S.Store _ _ (Makes c.args.no SetSent) set_sent_text (number_value c.args.no ∷ []) _ c.execute.ensures.ended
+    (rw (c.params-to_sql.ensures, number_bound c.args.no _ c.number.ensures c.requires) at c.execute.ensures.runs) c.execute.ensures.survives
+    (λ count has h. sent_set _ _ c.args.no count has h)

@@ -1,5 +1,4 @@
 use Rattle.std.proofs.Common.{◌∙◌, [], ◌∷◌, sym}
-use Rattle.sqlite.specs.Held.{state}
 use Rattle.oftp_register.specs.declared.change.Cause.TheVariants as cause
 use Rattle.oftp_store.specs.Steps.{change_by}
 use Rattle.oftp_store.specs.declared.changes.edit.Edit.{Edit}
@@ -22,8 +21,8 @@ returns-else-is_allowed g c limits =
 pub returns-then-is_allowed : goal.returns-then-is_allowed
 returns-then-is_allowed g c limits =
     let edit : Edit = record { no = c.args.no; deed = SetOutgoing c.mark_after.result c.state_after.result } in
-    commits_by (edit ∷ []) limits (change_by c.args.no c.args.step.now) (state g.S.Store c.args.conn.now) (state g.S.Store c.find_stage.new.conn)
-    (state g.S.Store c.make_edits.new.conn) _ c.make_edits.result
+    commits_by g.S.Store (edit ∷ []) limits (change_by c.args.no c.args.step.now) c.args.conn.now c.find_stage.new.conn
+    c.make_edits.new.conn _ c.make_edits.result
     c.in-Ok-Some.ensures.looks
     (λ k stands. rw (c.mark_after.ensures, c.state_after.ensures)
     (made_by_step c.args.step.now c.args.no _ c.in-Ok-Some.stage

@@ -1,5 +1,4 @@
 use Rattle.std.proofs.Common.{[], ◌∷◌, refl}
-use Rattle.sqlite.specs.Held.{state}
 use Rattle.oftp_register.specs.declared.change.Change.TheVariants.{Submit}
 use Rattle.oftp_register.specs.declared.change.Cause.TheVariants as cause
 use Rattle.oftp_register.specs.declared.entries.Side.TheVariants as side
@@ -28,7 +27,7 @@ returns-in-Ok-Free g c =
     let a = c.args in
     let header : Edit = record { no = c.in-Ok-Free.no; deed = AddOutgoing a.identity a.format a.longest a.description } in
     let all : Edit = record { no = c.in-Ok-Free.no; deed = AddRows side.Outgoing 0 a.rows } in
-    commits_by (header ∷ all ∷ []) a.limits (Submit a.identity.now a.format a.longest a.description.now a.rows.now) (state g.S.Store a.conn.now) (state g.S.Store c.find_slot.new.conn)
-    (state g.S.Store c.make_edits.new.conn) _ c.make_edits.result c.in-Ok-Free.ensures.looks
+    commits_by g.S.Store (header ∷ all ∷ []) a.limits (Submit a.identity.now a.format a.longest a.description.now a.rows.now) a.conn.now c.find_slot.new.conn
+    c.make_edits.new.conn _ c.make_edits.result c.in-Ok-Free.ensures.looks
     (λ k stands. made_by_submit _ a.identity a.format a.longest a.description a.rows c.in-Ok-Free.no
     ((rw c.in-Ok-Free.field-0-is at c.in-Ok-Free.ensures.answer) k stands.holds.schema _ refl stands.holds.tables)) c.make_edits.ensures

@@ -1,16 +1,13 @@
-use Rattle.std.proofs.Common.{◌≡◌, take}
-use Rattle.sqlite.specs.State.{HasCleanDisk, Survives}
-use Rattle.sqlite.specs.Held.{state}
-use Rattle.oftp_tables.specs.Calls.{IsInside, Moves}
+use Rattle.std.proofs.Common.{◌≡◌, take, Result, Ok}
+use Rattle.sqlite.specs.declared.error.Error.{Error}
+use Rattle.oftp_tables.specs.Calls.{Performs}
 use Rattle.oftp_store.specs.Edits.{MakesAll}
 use Rattle.oftp_store.proofs.changes.transaction.perform_all.Given as goal
 
 abbrev pub invariant-edits : goal.invariant-edits
 invariant-edits g l =
-    let old = state g.S.Store l.fn.tx.conn.now in
-    let now = state g.S.Store l.tx.conn.now in
+    let none : Result (Unit {0}) Error = Ok tt in
     record {
       same_reference : l.tx.conn.ghost_name ≡ l.fn.tx.conn.ghost_name;
-      survives : Survives old now (λ _. ⊥);
-      kept : HasCleanDisk now → IsInside old → Moves (MakesAll (take l.edit-index l.edits)) old now;
+      performs : Performs (MakesAll (take l.edit-index l.edits)) g.S.Store l.fn.tx.conn.now l.tx.conn.now none;
     }
