@@ -1,5 +1,5 @@
 -- How statements make a transaction over the office's tables.
-use Rattle.std.proofs.Common.{◌≡◌, ◌<◌, ℕ, List, false, Result, Ok, Err, IfErr, IsTrue, arith}
+use Rattle.std.proofs.Common.{◌≡◌, ℕ, List, false, Result, Ok, Err, IsTrue}
 use Rattle.sqlite_trees.specs.declared.store.Store.{Ghosts}
 use Rattle.sqlite.specs.Held.{Held, state}
 use Rattle.sqlite.specs.Order.{Row}
