@@ -11,7 +11,7 @@ use Rattle.sqlite.specs.declared.error.Error.TheVariants.{SqliteFailure}
 use Rattle.sqlite.specs.declared.error.ErrorCode.TheVariants.{TransactionState}
 use Rattle.oftp_schema.specs.Schema.{office_schema}
 use Rattle.oftp_schema.proofs.TxLemmas.{nothing_runs, runs_fails, runs_then, runs_weaker, runs_whatever, statement_runs, tells}
-use Rattle.oftp_tables.specs.Calls.{IsOffice, Moves, Performs}
+use Rattle.oftp_tables.specs.Calls.{IsOffice, Moves, Performs, uncounted}
 
 -- one statement and then another
 pub moves_then : (P Q R : Trees → Trees → Type 0) → ((x y z : Trees) → P x y → Q y z → R x z) → (a b c : Database) → Moves P a b → Moves Q b c → Moves R a c
@@ -21,17 +21,31 @@ moves_then P Q R both a b c one two = record { schema = two.schema; made = both 
 pub moves_as : (Made Wanted : Trees → Trees → Type 0) (old new : Database) → ((x y : Trees) → Made x y → Wanted x y) → Moves Made old new → Moves Wanted old new
 moves_as Made Wanted old new weaker moved = record { schema = moved.schema; made = weaker _ _ moved.made; store = moved.store }
 
--- one statement
-pub performs : {S : Type 0} (g : Ghosts S) (old new : Held S) (Made : Trees → Trees → Type 0) (sql : List ℕ) (params : Row) (result : Result ℕ Error)
-    → ((state g old).in_transaction ≡ false → (result ≡ Err (SqliteFailure TransactionState)) × (new ≡ old))
-    → (HasCleanDisk (state g new) → IsTrue (state g old).in_transaction → ExecutesInside 0 sql params (state g old) (state g new) result)
+-- whatever they answered
+pub performs_whatever : {S T U : Type 0} (g : Ghosts S) (old new : Held S) (Made : Trees → Trees → Type 0) (x : T) (y : U) → Performs Made g old new (Ok x) → Performs Made g old new (Ok y)
+performs_whatever g old new Made x y one = record { runs = runs_whatever IsOffice (Moves Made) (state g old) (state g new) x y one.runs; told = λ clean. tt }
+
+-- the first of them failed
+pub performs_fails : {S T U : Type 0} (g : Ghosts S) (old new : Held S) (Made Other : Trees → Trees → Type 0) (e : Error) → Performs {T = T} Made g old new (Err e)
+    → Performs {T = U} Other g old new (Err e)
+performs_fails g old new Made Other e one = record { runs = runs_fails IsOffice (Moves Made) (Moves Other) (state g old) (state g new) e e one.runs; told = one.told }
+
+-- one statement, however many rows it changed
+pub performs : {S : Type 0} (g : Ghosts S) (old new : Held S) (Made : Trees → Trees → Type 0) (sql : List ℕ) (params : Row) (count : Result ℕ Error)
+    → ((state g old).in_transaction ≡ false → (count ≡ Err (SqliteFailure TransactionState)) × (new ≡ old))
+    → (HasCleanDisk (state g new) → IsTrue (state g old).in_transaction → ExecutesInside 0 sql params (state g old) (state g new) count)
     → Survives (state g old) (state g new) (λ _. ⊥)
-    → ((count : ℕ) → (state g old).now.schema ≡ office_schema → ExecutesInside 0 sql params (state g old) (state g new) (Ok count) → Moves Made (state g old).now (state g new).now)
-    → Performs Made g old new result
-performs g old new Made sql params result ended runs survives made = record {
-  runs = statement_runs g old new IsOffice (Moves Made) sql params _ result ended runs survives (λ count ours. made count ours.schema);
-  told = λ clean. tells g sql params old new result ended (runs clean);
-}
+    → ((n : ℕ) → (state g old).now.schema ≡ office_schema → ExecutesInside 0 sql params (state g old) (state g new) (Ok n) → Moves Made (state g old).now (state g new).now)
+    → Performs Made g old new (uncounted count)
+performs g old new Made sql params count ended runs survives made =
+    forgets count (record {
+      runs = statement_runs g old new IsOffice (Moves Made) sql params _ count ended runs survives (λ n ours. made n ours.schema);
+      told = λ clean. tells g sql params old new count ended (runs clean);
+    })
+  where
+    forgets : (count : Result ℕ Error) → Performs Made g old new count → Performs Made g old new (uncounted count)
+    forgets (Ok n) one = performs_whatever g old new Made n tt one
+    forgets (Err e) one = performs_fails g old new Made Made e one
 
 -- what statements made is what was wanted
 pub performs_as : {S T : Type 0} (g : Ghosts S) (old new : Held S) (Made Wanted : Trees → Trees → Type 0) (result : Result T Error) → ((x y : Trees) → Made x y → Wanted x y)
@@ -56,12 +70,3 @@ performs_then g a b c P Q R x result both one two = record {
       (moves_then P Q R both) one.runs two.runs;
   told = two.told;
 }
-
--- whatever they answered
-pub performs_whatever : {S T U : Type 0} (g : Ghosts S) (old new : Held S) (Made : Trees → Trees → Type 0) (x : T) (y : U) → Performs Made g old new (Ok x) → Performs Made g old new (Ok y)
-performs_whatever g old new Made x y one = record { runs = runs_whatever IsOffice (Moves Made) (state g old) (state g new) x y one.runs; told = λ clean. tt }
-
--- the first of them failed
-pub performs_fails : {S T U : Type 0} (g : Ghosts S) (old new : Held S) (Made Other : Trees → Trees → Type 0) (e : Error) → Performs {T = T} Made g old new (Err e)
-    → Performs {T = U} Other g old new (Err e)
-performs_fails g old new Made Other e one = record { runs = runs_fails IsOffice (Moves Made) (Moves Other) (state g old) (state g new) e e one.runs; told = one.told }

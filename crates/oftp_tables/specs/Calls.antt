@@ -1,5 +1,5 @@
 -- What the statements do to a connection over the office's tables.
-use Rattle.std.specs.Prelude.{◌≡◌, ◌≤◌, ◌↔◌, ◌⊎◌, Result, OnOk, OnErr, IfErr, false}
+use Rattle.std.specs.Prelude.{◌≡◌, ◌≤◌, ◌↔◌, ◌⊎◌, ℕ, Result, Ok, Err, OnOk, OnErr, IfErr, false}
 use Rattle.sqlite.specs.declared.error.Error.{Error}
 use Rattle.sqlite.specs.declared.error.Error.TheVariants.{SqliteFailure}
 use Rattle.sqlite.specs.declared.error.ErrorCode.TheVariants as code
@@ -30,6 +30,11 @@ pub record Moves (Made : Trees → Trees → Type 0) (old new : Database) : Type
 pub record Performs {S T : Type 0} (Made : Trees → Trees → Type 0) (g : Ghosts S) (old new : Held S) (result : Result T Error) : Type 0 where
   pub runs : Runs IsOffice (Moves Made) (state g old) (state g new) result
   pub told : HasCleanDisk (state g new) → IfErr result (IsStatementError g new)
+
+-- what a statement came to, however many rows it changed
+abbrev pub uncounted : Result ℕ Error → Result (Unit {0}) Error
+uncounted (Ok count) = Ok tt
+uncounted (Err e) = Err e
 
 -- What a look-up does, whatever it answers: it reads, and a failure undoes no more than an open transaction.
 pub record Looks {T : Type 0} (old new : State) (result : Result T OfficeFault) : Type 0 where

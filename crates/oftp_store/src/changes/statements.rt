@@ -3,7 +3,7 @@
 ghost use Rattle.std.specs.Prelude.{◌≡◌, ◌+◌, ◌<◌, ◌^◌, [], ◌∷◌, ℕ, length};
 ghost use Rattle.sqlite.specs.Values.{bound};
 ghost use Rattle.oftp_wire.specs.Octets.{decimal};
-ghost use Rattle.oftp_tables.specs.Calls.{Performs};
+ghost use Rattle.oftp_tables.specs.Calls.{Performs, uncounted};
 ghost use Rattle.oftp_tables.specs.Tables.{HasRefusal, format_text, kind_text, out_state_text, reason_text, refusal_text};
 ghost use Rattle.oftp_register.specs.declared.entry.OutgoingState.{OutgoingState};
 ghost use Rattle.oftp_register.specs.declared.entry.ResponseKind.TheVariants.{NegativeEndResponse};
@@ -18,6 +18,16 @@ use oftp_vfile::{Format, Row};
 use oftp_wire::{Count, Text};
 use sqlite::types::ValueRef;
 use sqlite::{Alter, Error, Transaction, params};
+
+// What a statement came to, however many rows it changed.
+fn done(count: Result<usize, Error>) -> Result<(), Error>
+    ensures { result ≡ uncounted count }
+{
+    match count {
+        Ok(_) => Ok(()),
+        Err(error) => Err(error),
+    }
+}
 
 // The two digits of a reason.
 fn two_digits(reason: Count<2>) -> ArrayVec<u8, 2>
@@ -97,13 +107,13 @@ fn set_outgoing_texts<'x, S: Alter>(
     mark: u32,
     stage: &'x [u8],
     reason: &'x [u8],
-) -> Result<usize, Error>
+) -> Result<(), Error>
     requires { no < 2 ^ 63 }
     ensures same_reference { tx.new.conn.ghost_name ≡ tx.old.conn.ghost_name }
     ensures performs { (to : OutgoingState) → stage.now ≡ out_state_text to → reason.now ≡ refusal_text to → HasRefusal to
         → Performs (Makes no (SetOutgoing mark to)) S.Store tx.old.conn.now tx.new.conn.now result }
 {
-    tx.execute(
+    done(tx.execute(
         "UPDATE out_file SET mark = ?2, state = ?3, reason = ?4 WHERE no = ?1",
         &[
             ValueRef::Int(number(no)),
@@ -111,7 +121,7 @@ fn set_outgoing_texts<'x, S: Alter>(
             ValueRef::Text(stage),
             ValueRef::Text(reason),
         ],
-    )
+    ))
 }
 
 /// Sets mark and state of an outgoing file.
@@ -120,7 +130,7 @@ pub(crate) fn set_outgoing<S: Alter>(
     no: u64,
     mark: u32,
     stage: OutgoingState,
-) -> Result<usize, Error>
+) -> Result<(), Error>
     requires { no < 2 ^ 63 }
     ensures same_reference { tx.new.conn.ghost_name ≡ tx.old.conn.ghost_name }
     ensures performs { Performs (Makes no (SetOutgoing mark stage)) S.Store tx.old.conn.now tx.new.conn.now result }
@@ -137,39 +147,39 @@ pub(crate) fn set_header<S: Alter>(
     format: Format,
     longest: u32,
     description: &Text<'_>,
-) -> Result<usize, Error>
+) -> Result<(), Error>
     requires { no < 2 ^ 63 }
     ensures same_reference { tx.new.conn.ghost_name ≡ tx.old.conn.ghost_name }
     ensures performs { Performs (Makes no (SetHeader format longest description.entry)) S.Store tx.old.conn.now tx.new.conn.now result }
 {
-    tx.execute(
+    done(tx.execute(
         "UPDATE in_file SET format = ?2, longest = ?3, description = ?4 WHERE no = ?1",
         params![number(no), format_text(format), longest, description.text()],
-    )
+    ))
 }
 
 /// Sets an incoming file whole.
-pub(crate) fn set_whole<S: Alter>(tx: &mut Transaction<'_, S>, no: u64) -> Result<usize, Error>
+pub(crate) fn set_whole<S: Alter>(tx: &mut Transaction<'_, S>, no: u64) -> Result<(), Error>
     requires { no < 2 ^ 63 }
     ensures same_reference { tx.new.conn.ghost_name ≡ tx.old.conn.ghost_name }
     ensures performs { Performs (Makes no SetWhole) S.Store tx.old.conn.now tx.new.conn.now result }
 {
-    tx.execute(
+    done(tx.execute(
         "UPDATE in_file SET state = 'whole' WHERE no = ?1",
         params![number(no)],
-    )
+    ))
 }
 
 /// Sets the response to an incoming file sent.
-pub(crate) fn set_sent<S: Alter>(tx: &mut Transaction<'_, S>, no: u64) -> Result<usize, Error>
+pub(crate) fn set_sent<S: Alter>(tx: &mut Transaction<'_, S>, no: u64) -> Result<(), Error>
     requires { no < 2 ^ 63 }
     ensures same_reference { tx.new.conn.ghost_name ≡ tx.old.conn.ghost_name }
     ensures performs { Performs (Makes no SetSent) S.Store tx.old.conn.now tx.new.conn.now result }
 {
-    tx.execute(
+    done(tx.execute(
         "UPDATE issued SET sent = 1 WHERE no = ?1",
         params![number(no)],
-    )
+    ))
 }
 
 // The values of the columns that both tables of files have.
@@ -204,15 +214,15 @@ pub(crate) fn add_incoming<'x, S: Alter>(
     format: Format,
     longest: u32,
     description: &'x Text<'x>,
-) -> Result<usize, Error>
+) -> Result<(), Error>
     requires { no < 2 ^ 63 }
     ensures same_reference { tx.new.conn.ghost_name ≡ tx.old.conn.ghost_name }
     ensures performs { Performs (Makes no (AddIncoming identity.entry format longest description.entry)) S.Store tx.old.conn.now tx.new.conn.now result }
 {
-    tx.execute(
+    done(tx.execute(
         "INSERT INTO in_file (no, dataset, date, time, originator, destination, format, longest, description, state) VALUES (?1, ?2, ?3, ?4, ?5, ?6, ?7, ?8, ?9, 'open')",
         &header_values(no, identity, format, longest, description),
-    )
+    ))
 }
 
 /// Adds an outgoing file without rows, which is waiting.
@@ -223,15 +233,15 @@ pub(crate) fn add_outgoing<'x, S: Alter>(
     format: Format,
     longest: u32,
     description: &'x Text<'x>,
-) -> Result<usize, Error>
+) -> Result<(), Error>
     requires { no < 2 ^ 63 }
     ensures same_reference { tx.new.conn.ghost_name ≡ tx.old.conn.ghost_name }
     ensures performs { Performs (Makes no (AddOutgoing identity.entry format longest description.entry)) S.Store tx.old.conn.now tx.new.conn.now result }
 {
-    tx.execute(
+    done(tx.execute(
         "INSERT INTO out_file (no, dataset, date, time, originator, destination, format, longest, description, mark, state, reason) VALUES (?1, ?2, ?3, ?4, ?5, ?6, ?7, ?8, ?9, 0, 'waiting', '')",
         &header_values(no, identity, format, longest, description),
-    )
+    ))
 }
 
 // Adds the response to an incoming file by the text of its reason.
@@ -241,13 +251,13 @@ fn add_issued_texts<'x, S: Alter>(
     kind: ResponseKind,
     reason: &'x [u8],
     text: &'x Text<'x>,
-) -> Result<usize, Error>
+) -> Result<(), Error>
     requires { no < 2 ^ 63 }
     ensures same_reference { tx.new.conn.ghost_name ≡ tx.old.conn.ghost_name }
     ensures performs { (number : ℕ) → number < 100 → reason.now ≡ reason_text kind number
         → Performs (Makes no (AddIssued kind number text.entry)) S.Store tx.old.conn.now tx.new.conn.now result }
 {
-    tx.execute(
+    done(tx.execute(
         "INSERT INTO issued (no, kind, reason, note, sent) VALUES (?1, ?2, ?3, ?4, 0)",
         &[
             ValueRef::Int(number(no)),
@@ -255,7 +265,7 @@ fn add_issued_texts<'x, S: Alter>(
             ValueRef::Text(reason),
             ValueRef::Text(text.text().as_bytes()),
         ],
-    )
+    ))
 }
 
 /// Adds the response to an incoming file, which is due.
@@ -265,7 +275,7 @@ pub(crate) fn add_issued<S: Alter>(
     kind: ResponseKind,
     reason: Count<2>,
     text: &Text<'_>,
-) -> Result<usize, Error>
+) -> Result<(), Error>
     requires { no < 2 ^ 63 }
     ensures same_reference { tx.new.conn.ghost_name ≡ tx.old.conn.ghost_name }
     ensures performs { Performs (Makes no (AddIssued kind reason text.entry)) S.Store tx.old.conn.now tx.new.conn.now result }
@@ -281,13 +291,13 @@ fn add_received_texts<'x, S: Alter>(
     kind: ResponseKind,
     identity: &'x Identity,
     reason: &'x [u8],
-) -> Result<usize, Error>
+) -> Result<(), Error>
     requires { no < 2 ^ 63 }
     ensures same_reference { tx.new.conn.ghost_name ≡ tx.old.conn.ghost_name }
     ensures performs { (number : ℕ) → number < 100 → reason.now ≡ reason_text kind number
         → Performs (MakesNoteless no kind identity.now number) S.Store tx.old.conn.now tx.new.conn.now result }
 {
-    tx.execute(
+    done(tx.execute(
         "INSERT INTO received (no, kind, dataset, date, time, originator, destination, reason) VALUES (?1, ?2, ?3, ?4, ?5, ?6, ?7, ?8)",
         &[
             ValueRef::Int(number(no)),
@@ -299,7 +309,7 @@ fn add_received_texts<'x, S: Alter>(
             ValueRef::Text(identity.destination.octets()),
             ValueRef::Text(reason),
         ],
-    )
+    ))
 }
 
 // Adds a response that came, without its note.
@@ -309,7 +319,7 @@ fn add_noteless<S: Alter>(
     kind: ResponseKind,
     identity: &Identity,
     reason: Count<2>,
-) -> Result<usize, Error>
+) -> Result<(), Error>
     requires { no < 2 ^ 63 }
     ensures same_reference { tx.new.conn.ghost_name ≡ tx.old.conn.ghost_name }
     ensures performs { Performs (MakesNoteless no kind identity.now reason) S.Store tx.old.conn.now tx.new.conn.now result }
@@ -324,19 +334,19 @@ fn add_note<'x, S: Alter>(
     no: u64,
     creator: &'x Name<25>,
     text: &'x Text<'x>,
-) -> Result<usize, Error>
+) -> Result<(), Error>
     requires { no < 2 ^ 63 }
     ensures same_reference { tx.new.conn.ghost_name ≡ tx.old.conn.ghost_name }
     ensures performs { Performs (MakesNote no creator.now text.now) S.Store tx.old.conn.now tx.new.conn.now result }
 {
-    tx.execute(
+    done(tx.execute(
         "INSERT INTO received_note (no, creator, note) VALUES (?1, ?2, ?3)",
         &[
             ValueRef::Int(number(no)),
             ValueRef::Text(creator.octets()),
             ValueRef::Text(text.text().as_bytes()),
         ],
-    )
+    ))
 }
 
 /// Takes the rows of an incoming file away, from a position on.
@@ -344,15 +354,15 @@ pub(crate) fn cut_rows<S: Alter>(
     tx: &mut Transaction<'_, S>,
     no: u64,
     count: u32,
-) -> Result<usize, Error>
+) -> Result<(), Error>
     requires { no < 2 ^ 63 }
     ensures same_reference { tx.new.conn.ghost_name ≡ tx.old.conn.ghost_name }
     ensures performs { Performs (Makes no (CutRows count)) S.Store tx.old.conn.now tx.new.conn.now result }
 {
-    tx.execute(
+    done(tx.execute(
         "DELETE FROM in_row WHERE no = ?1 AND pos >= ?2",
         params![number(no), count],
-    )
+    ))
 }
 
 // The text that adds a row to a file of a side.
@@ -372,12 +382,12 @@ fn add_row<S: Alter>(
     no: u64,
     at: u32,
     body: &Row,
-) -> Result<usize, Error>
+) -> Result<(), Error>
     requires { no < 2 ^ 63 }
     ensures same_reference { tx.new.conn.ghost_name ≡ tx.old.conn.ghost_name }
     ensures performs { Performs (MakesRows side no at (body.now ∷ [])) S.Store tx.old.conn.now tx.new.conn.now result }
 {
-    tx.execute(add_row_text(side), params![number(no), at, body.octets()])
+    done(tx.execute(add_row_text(side), params![number(no), at, body.octets()]))
 }
 
 /// Adds rows to a file, behind those that it has.
@@ -409,7 +419,7 @@ fn add_negative<S: Alter>(
     reason: Count<2>,
     creator: &Name<25>,
     text: &Text<'_>,
-) -> Result<usize, Error>
+) -> Result<(), Error>
     requires { no < 2 ^ 63 }
     ensures same_reference { tx.new.conn.ghost_name ≡ tx.old.conn.ghost_name }
     ensures performs { Performs (Makes no (AddReceived NegativeEndResponse identity.entry reason creator.entry text.entry)) S.Store tx.old.conn.now tx.new.conn.now result }
@@ -427,7 +437,7 @@ pub(crate) fn add_received<S: Alter>(
     reason: Count<2>,
     creator: &Name<25>,
     text: &Text<'_>,
-) -> Result<usize, Error>
+) -> Result<(), Error>
     requires { no < 2 ^ 63 }
     ensures same_reference { tx.new.conn.ghost_name ≡ tx.old.conn.ghost_name }
     ensures performs { Performs (Makes no (AddReceived kind identity.entry reason creator.entry text.entry)) S.Store tx.old.conn.now tx.new.conn.now result }

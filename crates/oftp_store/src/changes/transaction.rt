@@ -30,29 +30,22 @@ fn add_entry<S: Alter>(tx: &mut Transaction<'_, S>, no: u64, deed: &Deed<'_>) ->
             format,
             longest,
             description,
-        } => {
-            add_incoming(tx, no, identity, *format, *longest, description)?;
-        }
+        } => add_incoming(tx, no, identity, *format, *longest, description),
         Deed::AddOutgoing {
             identity,
             format,
             longest,
             description,
-        } => {
-            add_outgoing(tx, no, identity, *format, *longest, description)?;
-        }
+        } => add_outgoing(tx, no, identity, *format, *longest, description),
         Deed::AddReceived {
             kind,
             identity,
             reason,
             creator,
             text,
-        } => {
-            add_received(tx, no, *kind, identity, *reason, creator, text)?;
-        }
+        } => add_received(tx, no, *kind, identity, *reason, creator, text),
         _ => unreachable!(),
     }
-    Ok(())
 }
 
 // Makes an edit of the entry with a number, which the database can hold.
@@ -63,36 +56,21 @@ fn perform<S: Alter>(tx: &mut Transaction<'_, S>, no: u64, deed: &Deed<'_>) -> R
     ensures performs { Performs (Makes no deed.now) S.Store tx.old.conn.now tx.new.conn.now result }
 {
     match deed {
-        Deed::AddIncoming { .. } | Deed::AddOutgoing { .. } | Deed::AddReceived { .. } => {
-            add_entry(tx, no, deed)?;
-        }
+        Deed::AddIncoming { .. } | Deed::AddOutgoing { .. } | Deed::AddReceived { .. } => add_entry(
+            tx, no, deed,
+        ),
         Deed::SetHeader {
             format,
             longest,
             description,
-        } => {
-            set_header(tx, no, *format, *longest, description)?;
-        }
-        Deed::SetWhole => {
-            set_whole(tx, no)?;
-        }
-        Deed::SetOutgoing { mark, state } => {
-            set_outgoing(tx, no, *mark, *state)?;
-        }
-        Deed::AddRows { side, from, rows } => {
-            add_rows(tx, *side, no, *from, rows)?;
-        }
-        Deed::CutRows { count } => {
-            cut_rows(tx, no, *count)?;
-        }
-        Deed::AddIssued { kind, reason, text } => {
-            add_issued(tx, no, *kind, *reason, text)?;
-        }
-        Deed::SetSent => {
-            set_sent(tx, no)?;
-        }
+        } => set_header(tx, no, *format, *longest, description),
+        Deed::SetWhole => set_whole(tx, no),
+        Deed::SetOutgoing { mark, state } => set_outgoing(tx, no, *mark, *state),
+        Deed::AddRows { side, from, rows } => add_rows(tx, *side, no, *from, rows),
+        Deed::CutRows { count } => cut_rows(tx, no, *count),
+        Deed::AddIssued { kind, reason, text } => add_issued(tx, no, *kind, *reason, text),
+        Deed::SetSent => set_sent(tx, no),
     }
-    Ok(())
 }
 
 // Makes edits in turn.

@@ -13,6 +13,6 @@ pub returns-clause-performs : goal.returns-clause-performs
 returns-clause-performs g c reason small is =
     let back = number_bound c.args.no c.number.result c.number.ensures c.requires in
     let params = number_value c.args.no ∷ Text (kind_text c.args.kind) ∷ Text (reason_text c.args.kind reason) ∷ Text c.args.text.now ∷ [] in
-    performs g.S.Store _ _ (Makes c.args.no (AddIssued c.args.kind reason c.args.text)) add_issued_text params _ c.execute.ensures.ended
+    rw c.done.ensures (performs g.S.Store _ _ (Makes c.args.no (AddIssued c.args.kind reason c.args.text)) add_issued_text params _ c.execute.ensures.ended
     (simp (c.as_bytes.ensures.value, c.kind_text.ensures, back, is, c.as_bytes-2.ensures.value, c.text.ensures.value) at c.execute.ensures.runs) c.execute.ensures.survives
-    (λ count has h. issued_added _ _ c.args.no c.args.kind reason c.args.text count small has h)
+    (λ count has h. issued_added _ _ c.args.no c.args.kind reason c.args.text count small has h))

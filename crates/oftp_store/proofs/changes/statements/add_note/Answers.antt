@@ -12,6 +12,6 @@ pub returns-clause-performs : goal.returns-clause-performs
 returns-clause-performs g c =
     let back = number_bound c.args.no c.number.result c.number.ensures c.requires in
     let params = number_value c.args.no ∷ Text c.args.creator.now ∷ Text c.args.text.now ∷ [] in
-    performs g.S.Store _ _ (MakesNote c.args.no c.args.creator.now c.args.text.now) add_note_text params _ c.execute.ensures.ended
+    rw c.done.ensures (performs g.S.Store _ _ (MakesNote c.args.no c.args.creator.now c.args.text.now) add_note_text params _ c.execute.ensures.ended
     (simp (c.octets.ensures.value, back, c.as_bytes.ensures.value, c.text.ensures.value) at c.execute.ensures.runs) c.execute.ensures.survives
-    (λ count has h. note_added _ _ c.args.no c.args.creator.now c.args.text.now count has h)
+    (λ count has h. note_added _ _ c.args.no c.args.creator.now c.args.text.now count has h))

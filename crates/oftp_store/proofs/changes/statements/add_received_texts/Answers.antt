@@ -9,7 +9,7 @@ pub returns-clause-performs : goal.returns-clause-performs
 returns-clause-performs g c reason small is =
     let back = number_bound c.args.no c.number.result c.number.ensures c.requires in
     let params = received_params c.args.no c.args.kind c.args.identity.now reason in
-    performs g.S.Store _ _ (MakesNoteless c.args.no c.args.kind c.args.identity.now reason) add_received_text params _ c.execute.ensures.ended
+    rw c.done.ensures (performs g.S.Store _ _ (MakesNoteless c.args.no c.args.kind c.args.identity.now reason) add_received_text params _ c.execute.ensures.ended
     (simp (
       c.octets.ensures.value,
       c.octets-2.ensures.value,
@@ -21,4 +21,4 @@ returns-clause-performs g c reason small is =
       back,
       is,
     ) at c.execute.ensures.runs) c.execute.ensures.survives
-    (λ count has h. received_added _ _ c.args.no c.args.kind c.args.identity.now reason count small has h)
+    (λ count has h. received_added _ _ c.args.no c.args.kind c.args.identity.now reason count small has h))

@@ -13,7 +13,7 @@ pub returns-clause-performs : goal.returns-clause-performs
 returns-clause-performs g c =
     let back = number_bound c.args.no c.number.result c.number.ensures c.requires in
     let params = number_value c.args.no ∷ Text (format_text c.args.format) ∷ number_value c.args.longest ∷ Text c.args.description.now ∷ [] in
-    performs g.S.Store _ _ (Makes c.args.no (SetHeader c.args.format c.args.longest c.args.description)) set_header_text params _ c.execute.ensures.ended
+    rw c.done.ensures (performs g.S.Store _ _ (Makes c.args.no (SetHeader c.args.format c.args.longest c.args.description)) set_header_text params _ c.execute.ensures.ended
     (simp (
       c.params-to_sql.ensures,
       c.params-to_sql-2.ensures,
@@ -23,4 +23,4 @@ returns-clause-performs g c =
       c.format_text.ensures,
       c.text.ensures.value,
     ) at c.execute.ensures.runs) c.execute.ensures.survives
-    (λ count has h. header_set _ _ c.args.no c.args.format c.args.longest c.args.description count has h)
+    (λ count has h. header_set _ _ c.args.no c.args.format c.args.longest c.args.description count has h))

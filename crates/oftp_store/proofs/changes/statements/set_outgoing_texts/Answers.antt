@@ -14,6 +14,6 @@ returns-clause-performs g c to is reason_is refusal =
     let back = number_bound c.args.no c.number.result c.number.ensures c.requires in
     let back_mark = count_bound c.args.mark c.ranges.mark.fits in
     let params = number_value c.args.no ∷ number_value c.args.mark ∷ Text (out_state_text to) ∷ Text (refusal_text to) ∷ [] in
-    performs g.S.Store _ _ (Makes c.args.no (SetOutgoing c.args.mark to)) set_outgoing_text params _ c.execute.ensures.ended
+    rw c.done.ensures (performs g.S.Store _ _ (Makes c.args.no (SetOutgoing c.args.mark to)) set_outgoing_text params _ c.execute.ensures.ended
     (simp (back, c.from.ensures, back_mark, is, reason_is) at c.execute.ensures.runs) c.execute.ensures.survives
-    (λ count has h. outgoing_set _ _ c.args.no c.args.mark to count refusal has h)
+    (λ count has h. outgoing_set _ _ c.args.no c.args.mark to count refusal has h))

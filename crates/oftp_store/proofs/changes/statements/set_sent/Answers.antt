@@ -10,6 +10,6 @@ use Rattle.oftp_store.proofs.changes.statements.set_sent.Goals as goal
 
 pub returns-clause-performs : goal.returns-clause-performs
 returns-clause-performs g c =
-    performs g.S.Store _ _ (Makes c.args.no SetSent) set_sent_text (number_value c.args.no ∷ []) _ c.execute.ensures.ended
+    rw c.done.ensures (performs g.S.Store _ _ (Makes c.args.no SetSent) set_sent_text (number_value c.args.no ∷ []) _ c.execute.ensures.ended
     (rw (c.params-to_sql.ensures, number_bound c.args.no _ c.number.ensures c.requires) at c.execute.ensures.runs) c.execute.ensures.survives
-    (λ count has h. sent_set _ _ c.args.no count has h)
+    (λ count has h. sent_set _ _ c.args.no count has h))
