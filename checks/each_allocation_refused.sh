@@ -130,6 +130,6 @@ program=$root/crates/oftp_station/out/oftp_station
 each_of_program check --book "$book"
 each_of_program feed --book "$book" "$root/examples/repeated_end_response.octets" answer
 each_of_program feed --book "$book" "$root/examples/one_file.octets" answer
-none_behind_reservation oftp_wire deframer::tests::no_memory_within_room
-each_of_test oftp_vfile tests::refused_and_taken_again
-each_of_test oftp_register tests::memory::each_allocation_refused
+none_behind_reservation oftp_examples tests::streams::no_memory_within_room
+each_of_test oftp_examples tests::files::refused_and_taken_again
+each_of_test oftp_examples tests::registers::memory::each_allocation_refused

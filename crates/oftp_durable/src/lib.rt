@@ -12,6 +12,3 @@ pub use laws::no_answer_passes;
 pub use listing::{Ran, run_at, run_durable};
 pub use opening::open_durable;
 pub use serving::serve_durable;
-
-#[cfg(test)]
-mod tests;

@@ -1,6 +1,6 @@
 //! The opening of the office that the files at a path hold.
 
-ghost use Rattle.std.specs.Prelude.{◌≡◌, ◌≤◌, ℕ, IfOk, List};
+ghost use Rattle.std.specs.Prelude.{◌≡◌, ◌≤◌, ℕ, ◌≢◌, IfOk, List, [], codes};
 ghost use Rattle.sqlite.specs.Files.{HoldsDatabase, over_files};
 ghost use Rattle.sqlite.specs.State.{HasCleanDisk};
 ghost use Rattle.sqlite.specs.Tree.{Trees};
@@ -45,6 +45,9 @@ pub fn open_durable<S: Start>(
 ) -> Result<SqlOffice<FileStore<FileFrom<S>>>, PathFault>
     requires files { limits.files ≤ MOST_FILES }
     requires octets { limits.octets ≤ MOST_OCTETS }
+    ensures pathless { path.now ≡ [] → result ≡ Err PathFault.Unkept }
+    ensures memory { path.now ≡ codes ":memory:" → result ≡ Err PathFault.Unkept }
+    ensures kept { path.now ≢ [] → path.now ≢ codes ":memory:" → result ≢ Err PathFault.Unkept }
     ensures limits { IfOk result (λ o. limits_of o ≡ limits) }
     ensures faults { IfOk result (λ o. faults_of o ≡ 0) }
     // The office has the register whose tables the files hold.

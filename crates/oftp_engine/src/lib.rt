@@ -18,6 +18,3 @@ pub use operating::{Operator, Refusal, Told, operate};
 pub use running::{CallJob, Job, SessionJob, run};
 pub use serving::{End, Role, RunFault, serve, serve_in_memory};
 pub use submitting::Submission;
-
-#[cfg(test)]
-mod tests;

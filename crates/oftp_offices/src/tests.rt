@@ -3,6 +3,7 @@
 mod act;
 mod answers;
 mod offices;
+mod openings;
 mod stops;
 mod stories;
 mod telling;

@@ -3,7 +3,4 @@
 
 mod first;
 mod open;
-#[cfg(test)]
-mod tests;
-
 pub use open::{migrate_tables, open_tables};

@@ -32,6 +32,3 @@ pub use prefix::commit_all;
 pub use verdicts::{
     EndVerdict, SIZE_UNIT, StartVerdict, Terms, end_verdict, format_of, longest_of, start_verdict,
 };
-
-#[cfg(test)]
-mod tests;

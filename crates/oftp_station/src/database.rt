@@ -39,6 +39,12 @@ pub fn open(rt: &HostRuntime, path: &str, patience: u32) -> Result<DatabaseOffic
     open_if_free(rt, path, patience).map_err(store_fault)
 }
 
+/// Opens the database that the line names, so that its tables are made, and gives it up.
+pub fn make(rt: &HostRuntime, path: &str) -> Result<(), Fault> {
+    open(rt, path, PATIENCE)?;
+    Ok(())
+}
+
 /// Opens it as [`open`] does, and tells a database that is still held apart from one that fails.
 pub fn open_if_free(
     rt: &HostRuntime,
@@ -82,10 +88,10 @@ fn attempt(rt: &HostRuntime, path: &str, how: Opening) -> Result<DatabaseOffice,
     }
 }
 
-/// A database that is still held is a store that failed.
+/// A database that is still held, or that nothing would be kept of, is a store that failed.
 fn store_fault(fault: PathFault) -> Fault {
     match fault {
-        PathFault::Held => Fault::Store(StoreFault::Store),
+        PathFault::Unkept | PathFault::Held => Fault::Store(StoreFault::Store),
         PathFault::Store(fault) => Fault::Store(fault),
     }
 }

@@ -1,9 +1,11 @@
 //! An office over a real file.
 
-ghost use Rattle.std.specs.Prelude.{◌≡◌, ◌≢◌, ◌≤◌, IfOk, IfErr};
+ghost use Rattle.std.specs.Prelude.{◌≡◌, ◌≢◌, ◌≤◌, ◌↔◌, IfOk, [], codes, false, true};
 ghost use Rattle.sqlite.specs.Tree.{Trees};
 ghost use Rattle.sqlite.specs.State.{HasCleanDisk};
-ghost use Rattle.sqlite.specs.Files.{file_state, HoldsDatabase};
+ghost use Rattle.sqlite.specs.Start.{FindsIn};
+ghost use Rattle.sqlite.specs.Held.{IsNew};
+ghost use Rattle.sqlite.specs.Files.{file_state, HoldsDatabase, IsOpened};
 ghost use Rattle.sqlite.specs.WalFiles.{image_at};
 ghost use Rattle.oftp_register.specs.Register.{Register};
 ghost use Rattle.oftp_register.specs.Soundness.{IsSound};
@@ -20,6 +22,8 @@ use sqlite::{Connection, Error, ErrorCode, FileFrom, FileStore, Start};
 /// Why the office at a path isn't opened.
 #[derive(Clone, Copy, Debug, PartialEq, Eq, Drop)]
 pub enum PathFault {
+    /// The path is empty or `:memory:`, under which SQLite keeps nothing.
+    Unkept,
     /// Another connection has the files open, and nothing was asked of them. It may be tried again.
     Held,
     /// As [`SqlOffice::open`] and [`SqlOffice::migrate`] tell it; a path that can't be opened is [`StoreFault::Store`].
@@ -28,11 +32,46 @@ pub enum PathFault {
 
 // The fault of a path whose files weren't opened.
 fn path_fault_of(error: Error) -> PathFault
-    ensures { result ≢ PathFault.Store StoreFault.WrongSchema }
+    ensures held { (result ≡ PathFault.Held) ↔ (error ≡ Error.SqliteFailure ErrorCode.DatabaseBusy) }
+    ensures memory { (result ≡ PathFault.Store StoreFault.Memory) ↔ (error ≡ Error.SqliteFailure ErrorCode.OutOfMemory) }
+    ensures named { result ≢ PathFault.Store StoreFault.WrongSchema }
+    ensures kept { result ≢ PathFault.Unkept }
 {
     match error {
         Error::SqliteFailure(ErrorCode::DatabaseBusy) => PathFault::Held,
         other => PathFault::Store(fault_of(other)),
+    }
+}
+
+// Whether SQLite keeps a database under a path.
+fn is_kept(path: &str) -> bool
+    ensures pathless { path.now ≡ [] → result ≡ false }
+    ensures memory { path.now ≡ codes ":memory:" → result ≡ false }
+    ensures kept { path.now ≢ [] → path.now ≢ codes ":memory:" → result ≡ true }
+{
+    !path.is_empty() && path != ":memory:"
+}
+
+// Opens the files at a path.
+fn connect<S: Start>(
+    rt: &HostRuntime,
+    path: &str,
+    start: S,
+) -> Result<Connection<FileStore<FileFrom<S>>>, PathFault>
+    ensures pathless { path.now ≡ [] → result ≡ Err PathFault.Unkept }
+    ensures memory { path.now ≡ codes ":memory:" → result ≡ Err PathFault.Unkept }
+    ensures kept { path.now ≢ [] → path.now ≢ codes ":memory:" → result ≢ Err PathFault.Unkept }
+    ensures named { result ≢ Err (PathFault.Store StoreFault.WrongSchema) }
+    ensures opened { IfOk result (λ conn. HasCleanDisk (file_state conn) → IsOpened conn) }
+    ensures found { IfOk result (λ conn. HasCleanDisk (file_state conn) → FindsIn (image_at S.Start) (file_state conn)) }
+    ensures fresh { IfOk result IsNew }
+{
+    if !is_kept(path) {
+        return Err(PathFault::Unkept);
+    }
+    match Connection::open_from(rt, path, false, start) {
+        Ok(conn) => Ok(conn),
+        Err((error, _)) => Err(path_fault_of(error)),
     }
 }
 
@@ -41,8 +80,8 @@ fn path_fault_of(error: Error) -> PathFault
 ///
 /// # Errors
 ///
-/// [`PathFault::Held`] where another connection has the files open; else as [`SqlOffice::open`], and a path that can't be opened is
-/// [`StoreFault::Store`].
+/// [`PathFault::Unkept`] exactly where the path is empty or `:memory:`, and [`PathFault::Held`] where another connection has the files
+/// open; else as [`SqlOffice::open`], and a path that can't be opened is [`StoreFault::Store`].
 pub fn open_at<S: Start>(
     rt: &HostRuntime,
     path: &str,
@@ -51,18 +90,19 @@ pub fn open_at<S: Start>(
 ) -> Result<SqlOffice<FileStore<FileFrom<S>>>, PathFault>
     requires files { limits.files ≤ MOST_FILES }
     requires octets { limits.octets ≤ MOST_OCTETS }
+    ensures pathless { path.now ≡ [] → result ≡ Err PathFault.Unkept }
+    ensures memory { path.now ≡ codes ":memory:" → result ≡ Err PathFault.Unkept }
+    ensures kept { path.now ≢ [] → path.now ≢ codes ":memory:" → result ≢ Err PathFault.Unkept }
     ensures limits { IfOk result (λ o. o.limits ≡ limits) }
     ensures faults { IfOk result (λ o. o.faults ≡ 0) }
     // The office has the register whose tables the files hold.
     ensures found { IfOk result (λ o. HasCleanDisk (file_state o.conn) → (r : Register) (db : Trees) → r.limits ≡ limits → IsSound r
         → HoldsDatabase (image_at S.Start) db → IsStoreOf r db → Has limits r (file_state o.conn)) }
 {
-    match Connection::open_from(rt, path, false, start) {
-        Err((error, _)) => Err(path_fault_of(error)),
-        Ok(conn) => match SqlOffice::open(rt.alloc(), conn, limits) {
-            Ok(office) => Ok(office),
-            Err(refused) => Err(PathFault::Store(refused.fault)),
-        },
+    let conn = connect(rt, path, start)?;
+    match SqlOffice::open(rt.alloc(), conn, limits) {
+        Ok(office) => Ok(office),
+        Err(refused) => Err(PathFault::Store(refused.fault)),
     }
 }
 
@@ -72,8 +112,8 @@ pub fn open_at<S: Start>(
 ///
 /// # Errors
 ///
-/// [`PathFault::Held`] where another connection has the files open; else as [`SqlOffice::migrate`], and a path that can't be opened
-/// is [`StoreFault::Store`].
+/// [`PathFault::Unkept`] exactly where the path is empty or `:memory:`, and [`PathFault::Held`] where another connection has the files
+/// open; else as [`SqlOffice::migrate`], and a path that can't be opened is [`StoreFault::Store`].
 pub fn migrate_at<S: Start>(
     rt: &HostRuntime,
     path: &str,
@@ -82,6 +122,9 @@ pub fn migrate_at<S: Start>(
 ) -> Result<SqlOffice<FileStore<FileFrom<S>>>, PathFault>
     requires files { limits.files ≤ MOST_FILES }
     requires octets { limits.octets ≤ MOST_OCTETS }
+    ensures pathless { path.now ≡ [] → result ≡ Err PathFault.Unkept }
+    ensures memory { path.now ≡ codes ":memory:" → result ≡ Err PathFault.Unkept }
+    ensures kept { path.now ≢ [] → path.now ≢ codes ":memory:" → result ≢ Err PathFault.Unkept }
     ensures limits { IfOk result (λ o. o.limits ≡ limits) }
     ensures faults { IfOk result (λ o. o.faults ≡ 0) }
     // The office has the register whose tables of schema 1 the files hold.
@@ -91,11 +134,9 @@ pub fn migrate_at<S: Start>(
     ensures found { IfOk result (λ o. HasCleanDisk (file_state o.conn) → (r : Register) (db : Trees) → r.limits ≡ limits
         → HoldsDatabase (image_at S.Start) db → IsContentOf db r → Has limits r (file_state o.conn)) }
 {
-    match Connection::open_from(rt, path, false, start) {
-        Err((error, _)) => Err(path_fault_of(error)),
-        Ok(conn) => match SqlOffice::migrate(rt.alloc(), conn, limits) {
-            Ok(office) => Ok(office),
-            Err(refused) => Err(PathFault::Store(refused.fault)),
-        },
+    let conn = connect(rt, path, start)?;
+    match SqlOffice::migrate(rt.alloc(), conn, limits) {
+        Ok(office) => Ok(office),
+        Err(refused) => Err(PathFault::Store(refused.fault)),
     }
 }

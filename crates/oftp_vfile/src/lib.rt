@@ -23,6 +23,3 @@ pub use laws::{
 };
 pub use local::VFile;
 pub use taking::Taker;
-
-#[cfg(test)]
-mod tests;

@@ -65,22 +65,3 @@ pub fn cut(alloc: Global, limit: usize, pieces: &[&[u8]]) -> Result<CutStream, A
         fault: None,
     })
 }
-
-#[cfg(test)]
-mod tests {
-    use super::*;
-    use std::test::Fail;
-
-    #[test]
-    fn fault_behind_a_command(rt: HostRuntime) -> Result<(), Fail> {
-        let read = cut(
-            rt.alloc(),
-            100_003,
-            &[&[0x10, 0, 0], &[5, 0x50, 0x11], &[0x10]],
-        )?;
-        assert_eq!(rt; read.commands.len(), 1);
-        assert!(rt; read.commands[0].as_slice() == [0x50].as_slice());
-        assert!(rt; read.fault == Some(FrameFault::BadHeader));
-        Ok(())
-    }
-}

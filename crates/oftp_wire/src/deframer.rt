@@ -215,6 +215,3 @@ impl Deframer {
         }
     }
 }
-
-#[cfg(test)]
-mod tests;

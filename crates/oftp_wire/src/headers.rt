@@ -25,23 +25,3 @@ pub fn header(n: usize) -> Option<[u8; 4]>
         (len % 256) as u8,
     ])
 }
-
-#[cfg(test)]
-mod tests {
-    use super::*;
-    use std::test::Fail;
-
-    #[test]
-    fn header_ends(rt: HostRuntime) -> Result<(), Fail> {
-        assert!(rt; header(1) == Some([0x10, 0, 0, 5]));
-        assert!(rt; header(99_999) == Some([0x10, 1, 0x86, 0xA3]));
-        Ok(())
-    }
-
-    #[test]
-    fn header_outside(rt: HostRuntime) -> Result<(), Fail> {
-        assert!(rt; header(0).is_none());
-        assert!(rt; header(100_000).is_none());
-        Ok(())
-    }
-}

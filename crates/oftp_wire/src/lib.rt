@@ -41,6 +41,3 @@ pub use headers::header;
 pub use laws::one_spelling;
 pub use parsing::parse;
 pub use reason::{EndReason, SessionReason, StartReason};
-
-#[cfg(test)]
-mod tests;

@@ -173,7 +173,7 @@ fn begin(
 }
 
 // Makes changes, up to the first that isn't answered.
-fn change(alloc: Global, office: &mut Stopped, changes: &[Act]) -> Result<End, OfficeFault> {
+fn change<O: Office>(alloc: Global, office: &mut O, changes: &[Act]) -> Result<End, OfficeFault> {
     for (at, act) in changes.iter().enumerate() {
         if office.commit(act.change(alloc)?).is_err() {
             return Ok(End::Change(at));
@@ -187,8 +187,9 @@ fn run(alloc: Global, files: Files<Fused>) -> Result<(End, Files<Fused>), Office
     match begin(alloc, Opening::Open, files) {
         Ok(office) => {
             let mut office = office;
-            let end = change(alloc, &mut office, CHANGES)?;
-            Ok((end, files_under(office.into_conn())))
+            let end = change(alloc, &mut office, CHANGES);
+            let left = files_under(office.into_conn());
+            Ok((end?, left))
         }
         Err((_, left)) => Ok((End::Opening, left)),
     }
@@ -223,6 +224,30 @@ fn found_at(end: End, registers: &[String], found: &str) -> Option<usize> {
     None
 }
 
+// Finds a register in an office, and goes on to the end.
+fn finish<O: Office>(
+    alloc: Global,
+    rt: &impl Abort,
+    registers: &[String],
+    end: End,
+    office: &mut O,
+) -> Result<(), Fail> {
+    let found = kept(alloc, office)?;
+    let Some(at) = found_at(end, registers, found.as_str()) else {
+        assert!(rt; false, "after {end:?} it has {}", found.as_str());
+        return Ok(());
+    };
+    for act in CHANGES.iter().skip(at) {
+        office.commit(act.change(alloc)?)?;
+    }
+    let all = kept(alloc, office)?;
+    assert_eq!(rt;
+        found_at(End::Done, registers, all.as_str()),
+        Some(CHANGES.len())
+    );
+    Ok(())
+}
+
 // Opens what a stop left, and goes on to the end.
 fn go_on(
     alloc: Global,
@@ -235,20 +260,7 @@ fn go_on(
         return Err("not opened after a stop".into());
     };
     let mut office = office;
-    let found = kept(alloc, &mut office)?;
-    let Some(at) = found_at(end, registers, found.as_str()) else {
-        assert!(rt; false, "after {end:?} it has {}", found.as_str());
-        return Ok(());
-    };
-    for act in CHANGES.iter().skip(at) {
-        office.commit(act.change(alloc)?)?;
-    }
-    let all = kept(alloc, &mut office)?;
-    assert_eq!(rt;
-        found_at(End::Done, registers, all.as_str()),
-        Some(CHANGES.len())
-    );
-    Ok(())
+    finish(alloc, rt, registers, end, &mut office)
 }
 
 // More calls than a run makes.
@@ -320,15 +332,18 @@ fn first_image(alloc: Global) -> Result<Image, Fail> {
         return Err("not opened".into());
     };
     let mut office = office;
-    for act in FIRST {
-        office.commit(act.change(alloc)?)?;
-    }
+    let end = change(alloc, &mut office, FIRST);
     let mut conn = office.into_conn();
-    batch(
+    let renewed = batch(
         &mut conn,
         "DROP TABLE received_note; UPDATE about SET schema = 1",
-    )?;
-    image_of(alloc, files_under(conn), NO_STOP)
+    );
+    let left = files_under(conn);
+    if end? != End::Done {
+        return Err("not changed".into());
+    }
+    renewed?;
+    image_of(alloc, left, NO_STOP)
 }
 
 // What an office keeps that is opened so, or why it isn't opened.
@@ -340,7 +355,9 @@ fn opened_as(
     match begin(alloc, how, files_of(alloc, left, NO_STOP)?) {
         Ok(office) => {
             let mut office = office;
-            Ok(Ok(kept(alloc, &mut office)?))
+            let found = kept(alloc, &mut office);
+            drop(office);
+            Ok(Ok(found?))
         }
         Err((fault, _)) => Ok(Err(fault)),
     }

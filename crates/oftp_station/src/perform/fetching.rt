@@ -15,6 +15,15 @@ const OFFICE: Fault = Fault::Run(RunFault::Office);
 /// Writes a whole incoming file of a database to a file.
 pub(super) fn fetch(rt: &HostRuntime, line: &Fetch<'_>) -> Result<Outcome, Fault> {
     let mut office = database::open(rt, line.database, PATIENCE)?;
+    fetch_from(rt, line, &mut office)
+}
+
+/// Writes a whole incoming file of an office to a file.
+fn fetch_from<R: Files + AllocGlobal, O: Office>(
+    rt: &R,
+    line: &Fetch<'_>,
+    office: &mut O,
+) -> Result<Outcome, Fault> {
     let entry = match office.in_by_no(line.no) {
         Ok(Some(entry)) => entry,
         Ok(None) => return Ok(Outcome::Unknown),
@@ -23,7 +32,7 @@ pub(super) fn fetch(rt: &HostRuntime, line: &Fetch<'_>) -> Result<Outcome, Fault
     if entry.state != IncomingState::Whole {
         return Ok(Outcome::WrongState);
     }
-    make_file(rt, line, &mut office, &entry)?;
+    make_file(rt, line, office, &entry)?;
     Ok(Outcome::Fetched(entry.no))
 }
 

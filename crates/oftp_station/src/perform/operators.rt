@@ -12,15 +12,16 @@ use std::io::Write;
 /// How many octets the local form of a file that is kept has at most: the file's, and five digits for each of its records.
 const MOST_CONTENT: u64 = LIMITS.octets + 5 * MOST_ROWS as u64;
 
-/// Does what an operator wants, and writes the line that tells it.
+/// Does what an operator wants of an office, which is given up then, and writes the line that tells it.
 fn call(
     rt: &HostRuntime,
-    office: &mut DatabaseOffice,
+    mut office: DatabaseOffice,
     book: &Book,
     operator: &Operator<'_>,
     out: &mut impl Write,
 ) -> Result<Told, Fault> {
-    operate_durable(rt.alloc(), office, book, operator, &mut Port::new(out, 0)).map_err(Fault::Run)
+    let mut port = Port::new(out, 0);
+    operate_durable(rt.alloc(), &mut office, book, operator, &mut port).map_err(Fault::Run)
 }
 
 /// The format and the longest record of content. Content that is longer than any that is kept was read as far as that shows, and no
@@ -40,7 +41,7 @@ pub(super) fn submit(
     out: &mut impl Write,
 ) -> Result<Told, Fault> {
     let book = read_book(rt, submit.book)?;
-    let mut office = database::open(rt, submit.database, PATIENCE)?;
+    let office = database::open(rt, submit.database, PATIENCE)?;
     let content = read_beginning(rt, submit.file, MOST_CONTENT + 1)?;
     let (format, longest) = layout_of(submit, content.as_slice());
     let operator = Operator::Submit(Submission {
@@ -53,7 +54,7 @@ pub(super) fn submit(
         description: submit.description,
         content: content.as_slice(),
     });
-    call(rt, &mut office, &book, &operator, out)
+    call(rt, office, &book, &operator, out)
 }
 
 /// Issues the end response of an incoming file.
@@ -63,9 +64,9 @@ pub(super) fn release(
     out: &mut impl Write,
 ) -> Result<Told, Fault> {
     let book = read_book(rt, release.book)?;
-    let mut office = database::open(rt, release.database, PATIENCE)?;
+    let office = database::open(rt, release.database, PATIENCE)?;
     let operator = Operator::Release { no: release.no };
-    call(rt, &mut office, &book, &operator, out)
+    call(rt, office, &book, &operator, out)
 }
 
 /// Issues the negative end response of an incoming file.
@@ -75,11 +76,11 @@ pub(super) fn refuse(
     out: &mut impl Write,
 ) -> Result<Told, Fault> {
     let book = read_book(rt, refuse.book)?;
-    let mut office = database::open(rt, refuse.database, PATIENCE)?;
+    let office = database::open(rt, refuse.database, PATIENCE)?;
     let operator = Operator::Refuse {
         no: refuse.no,
         reason: refuse.reason,
         text: refuse.text,
     };
-    call(rt, &mut office, &book, &operator, out)
+    call(rt, office, &book, &operator, out)
 }

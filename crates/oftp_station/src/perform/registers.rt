@@ -8,7 +8,7 @@ use std::io::Write;
 
 /// Opens a database, making its tables.
 pub(super) fn initiate(rt: &HostRuntime, init: &Init<'_>) -> Result<Outcome, Fault> {
-    database::open(rt, init.database, PATIENCE)?;
+    database::make(rt, init.database)?;
     Ok(Outcome::Initiated)
 }
 

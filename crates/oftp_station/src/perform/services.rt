@@ -1,6 +1,6 @@
 //! The commands `listen`, `call` and `http`, over sockets.
 
-use crate::database::{self, PATIENCE};
+use crate::database;
 use crate::perform::files::read_book;
 use crate::perform::traces::open_trace;
 use crate::sockets::{Station, bound, connected, dial, http_on, listen_on};
@@ -16,12 +16,6 @@ fn patience_of(seconds: u64) -> Option<Duration> {
     }
 }
 
-/// Opens a database, making its tables, and gives it up: its faults come before those of the socket.
-fn try_database(rt: &HostRuntime, path: &str) -> Result<(), Fault> {
-    database::open(rt, path, PATIENCE)?;
-    Ok(())
-}
-
 /// Serves the sessions of partners who call, and writes a line for each.
 pub(super) fn listen(
     rt: &HostRuntime,
@@ -29,7 +23,7 @@ pub(super) fn listen(
     out: &mut impl Write,
 ) -> Result<(), Fault> {
     let book = read_book(rt, line.book)?;
-    try_database(rt, line.database)?;
+    database::make(rt, line.database)?;
     let trace = open_trace(rt, line.trace, &[line.book], Some(line.database))?;
     let listener = bound(rt, line.address, line.port)?;
     let station = Station {
@@ -47,7 +41,7 @@ pub(super) fn call(rt: &HostRuntime, line: &Call<'_>) -> Result<Outcome, Fault> 
     let Some(partner) = book.partner(line.partner.as_bytes()) else {
         return Ok(Outcome::Unknown);
     };
-    try_database(rt, line.database)?;
+    database::make(rt, line.database)?;
     let trace = open_trace(rt, line.trace, &[line.book], Some(line.database))?;
     let patience = patience_of(line.patience);
     let stream = connected(rt, partner.address.as_str(), patience)?;
@@ -62,7 +56,7 @@ pub(super) fn call(rt: &HostRuntime, line: &Call<'_>) -> Result<Outcome, Fault> 
 
 /// Answers requests for what a database holds.
 pub(super) fn http(rt: &HostRuntime, line: &Http<'_>, out: &mut impl Write) -> Result<(), Fault> {
-    try_database(rt, line.database)?;
+    database::make(rt, line.database)?;
     let listener = bound(rt, line.address, line.port)?;
     http_on(rt, &listener, line.requests, line.database, out)
 }

@@ -1,6 +1,6 @@
 //! The command `feed`, one session from file to file.
 
-use crate::database::{self, LIMITS, PATIENCE};
+use crate::database::{self, DatabaseOffice, LIMITS, PATIENCE};
 use crate::perform::files::{
     are_of_one_file, file_fault, is_at, is_of_database, open_input, read_book,
 };
@@ -23,35 +23,39 @@ pub(super) fn feed(rt: &HostRuntime, line: &Feed<'_>) -> Result<Outcome, Fault> 
         return Ok(Outcome::Unknown);
     };
     match line.database {
-        Some(path) => {
-            let mut office = database::open(rt, path, PATIENCE)?;
-            let trace = trace_of(rt, line)?;
-            let (mut reader, mut writer) = ports(rt, line, trace.as_ref())?;
-            let ended = serve_durable(
-                rt.alloc(),
-                &mut office,
-                &book,
-                role,
-                &mut reader,
-                &mut writer,
-            );
-            outcome_of(ended, trace.as_ref())
-        }
-        None => {
-            let mut office = PlainOffice::new(rt.alloc(), LIMITS);
-            let trace = trace_of(rt, line)?;
-            let (mut reader, mut writer) = ports(rt, line, trace.as_ref())?;
-            let ended = serve_in_memory(
-                rt.alloc(),
-                &mut office,
-                &book,
-                role,
-                &mut reader,
-                &mut writer,
-            );
-            outcome_of(ended, trace.as_ref())
-        }
+        Some(path) => feed_durable(rt, line, &book, role, database::open(rt, path, PATIENCE)?),
+        None => feed_in_memory(rt, line, &book, role),
     }
+}
+
+/// The session over a database, which is given up then.
+fn feed_durable(
+    rt: &HostRuntime,
+    line: &Feed<'_>,
+    book: &Book,
+    role: Role<'_>,
+    mut office: DatabaseOffice,
+) -> Result<Outcome, Fault> {
+    let trace = trace_of(rt, line)?;
+    let (mut reader, mut writer) = ports(rt, line, trace.as_ref())?;
+    let alloc = rt.alloc();
+    let ended = serve_durable(alloc, &mut office, book, role, &mut reader, &mut writer);
+    outcome_of(ended, trace.as_ref())
+}
+
+/// The session with a register in memory.
+fn feed_in_memory(
+    rt: &HostRuntime,
+    line: &Feed<'_>,
+    book: &Book,
+    role: Role<'_>,
+) -> Result<Outcome, Fault> {
+    let trace = trace_of(rt, line)?;
+    let (mut reader, mut writer) = ports(rt, line, trace.as_ref())?;
+    let alloc = rt.alloc();
+    let mut office = PlainOffice::new(alloc, LIMITS);
+    let ended = serve_in_memory(alloc, &mut office, book, role, &mut reader, &mut writer);
+    outcome_of(ended, trace.as_ref())
 }
 
 /// What a session comes to, which is also the last line of its trace.

@@ -42,6 +42,7 @@ impl From<PathFault> for Trouble {
     fn from(fault: PathFault) -> Trouble {
         match fault {
             PathFault::Held => Trouble::OfCaller(Fault::Store(StoreFault::Store)),
+            PathFault::Unkept => Trouble::OfService(Fault::Store(StoreFault::Store)),
             PathFault::Store(fault) => Trouble::OfService(Fault::Store(fault)),
         }
     }

@@ -1,6 +1,6 @@
 use Rattle.std.proofs.Common.{rules, ◌≡◌, ◌<◌, ◌-◌, ℕ, List, [], length, drop, get_or, ap, subst, ◌∙◌, arith}
 use Rattle.std.proofs.lemmas.List.{drop-drop, length-drop}
-use Rattle.oftp_vfile.proofs.tests.payloads_of.Goals as goal
+use Rattle.oftp_examples.proofs.tests.files.payloads_of.Goals as goal
 
 pub loop-preserved : goal.loop-preserved
 loop-preserved g c =

@@ -4,7 +4,9 @@ ghost use Rattle.std.specs.Prelude.{◌≡◌, ⊤, Err};
 ghost use Rattle.oftp_register.specs.Register.{empty};
 ghost use Rattle.oftp_register.specs.Offices.{next_count};
 
-use super::*;
+use oftp_engine::{
+    End, Job, Operator, Port, Refusal, Role, RunFault, Submission, Told, operate, run, serve,
+};
 use oftp_partners::read;
 use oftp_register::{
     Change, Cursor, Identity, IncomingEntry, IssuedEntry, Item, Name, Office, OfficeFault,
@@ -15,6 +17,7 @@ use std::test::Fail;
 
 mod answers;
 mod asking;
+mod durable;
 mod lists;
 mod noting;
 mod operators;

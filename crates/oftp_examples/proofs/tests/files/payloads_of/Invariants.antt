@@ -1,6 +1,6 @@
 use Rattle.std.proofs.Common.{◌≡◌, ◌≤◌, length, drop}
 use Rattle.oftp_vfile.specs.Filling.{IsInRows}
-use Rattle.oftp_vfile.proofs.tests.payloads_of.Given as goal
+use Rattle.oftp_examples.proofs.tests.files.payloads_of.Given as goal
 
 abbrev pub invariant-loop : goal.invariant-loop
 invariant-loop g l = record {

@@ -3,7 +3,7 @@
 use super::*;
 
 // The changes of a file that is sent, in turn.
-#[tactic(auto, unfolding(crate::specs::Soundness::IsFit, crate::specs::Soundness::AreFit))]
+#[tactic(auto, unfolding(oftp_register::specs::Soundness::IsFit, oftp_register::specs::Soundness::AreFit))]
 fn hand_over(alloc: Global, office: &mut PlainOffice) -> Result<(), OfficeFault> {
     let mut changes = Vec::new(alloc);
     changes.push(Change::BeginClosing { no: 1 })?;

@@ -1,7 +1,7 @@
 //! Operator's calls over an office in memory and over one that fails. The lines are written by hand.
 
 use super::{BOOK, Failing};
-use crate::{Operator, Port, Refusal, RunFault, Submission, Told, operate};
+use oftp_engine::{Operator, Port, Refusal, RunFault, Submission, Told, operate};
 use oftp_partners::{Book, read};
 use oftp_register::PlainOffice;
 use oftp_vfile::{Format, Limits};

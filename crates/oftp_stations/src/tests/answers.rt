@@ -4,7 +4,7 @@
 use super::BOOK;
 use super::lists::Line;
 use super::operators::{FILE, LIMITS};
-use crate::{End, Operator, Port, Role, Submission, Told, operate, serve};
+use oftp_engine::{End, Operator, Port, Role, Submission, Told, operate, serve};
 use oftp_partners::read;
 use oftp_register::{Office, OutgoingState, PlainOffice};
 use oftp_wire::{Count, SessionReason};

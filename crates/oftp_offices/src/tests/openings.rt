@@ -1,6 +1,6 @@
 //! A store of schema 2 made twice, and one of schema 1 migrated: stores that are neither.
 
-use crate::{migrate_tables, open_tables};
+use oftp_open::{migrate_tables, open_tables};
 use oftp_schema::StoreFault;
 use sqlite::{Alter, Connection, Error};
 use std::test::Fail;

@@ -4,7 +4,7 @@
 use super::BOOK;
 use super::noting::Noting;
 use super::operators::FILE;
-use crate::{End, Operator, Port, Role, RunFault, Submission, Told, operate, serve};
+use oftp_engine::{End, Operator, Port, Role, RunFault, Submission, Told, operate, serve};
 use oftp_partners::read;
 use oftp_vfile::Format;
 use oftp_wire::Count;

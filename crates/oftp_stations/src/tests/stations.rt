@@ -5,7 +5,7 @@
 use super::BOOK;
 use super::noting::{Noting, Stop};
 use super::operators::FILE;
-use crate::{Operator, Port, Role, Submission, operate, serve};
+use oftp_engine::{Operator, Port, Role, Submission, operate, serve};
 use oftp_partners::{Book, read};
 use oftp_register::{Office, PlainOffice, Side};
 use std::alloc::Global;

@@ -1,7 +1,10 @@
 //! Commands spelled by hand from the offsets of the standard's tables, a field each, and never by
 //! `encode`.
 
-use super::*;
+use oftp_wire::{
+    Command, Count, Digits, Eerp, Efid, Efna, Efpa, EndReason, Esid, Layout, Mode, Nerp, Octets,
+    SessionReason, Sfid, Sfna, Sfpa, Ssid, StartReason, Text, WireFault, X, encode, parse,
+};
 use std::alloc::{AllocError, Global};
 use std::test::Fail;
 

@@ -1,6 +1,6 @@
 //! Streams in pieces, faults in them, and the memory that a deframer takes.
 
-use super::*;
+use oftp_wire::{Deframer, FrameFault, cut, header};
 use std::process::Abort;
 use std::test::Fail;
 
@@ -145,5 +145,32 @@ fn faults_in_words(rt: HostRuntime) -> Result<(), Fail> {
     ] {
         assert_eq!(rt; fault.to_string(rt.alloc())?.as_str(), words);
     }
+    Ok(())
+}
+
+#[test]
+fn header_ends(rt: HostRuntime) -> Result<(), Fail> {
+    assert!(rt; header(1) == Some([0x10, 0, 0, 5]));
+    assert!(rt; header(99_999) == Some([0x10, 1, 0x86, 0xA3]));
+    Ok(())
+}
+
+#[test]
+fn header_outside(rt: HostRuntime) -> Result<(), Fail> {
+    assert!(rt; header(0).is_none());
+    assert!(rt; header(100_000).is_none());
+    Ok(())
+}
+
+#[test]
+fn fault_behind_a_command(rt: HostRuntime) -> Result<(), Fail> {
+    let read = cut(
+        rt.alloc(),
+        100_003,
+        &[&[0x10, 0, 0], &[5, 0x50, 0x11], &[0x10]],
+    )?;
+    assert_eq!(rt; read.commands.len(), 1);
+    assert!(rt; read.commands[0].as_slice() == [0x50].as_slice());
+    assert!(rt; read.fault == Some(FrameFault::BadHeader));
     Ok(())
 }

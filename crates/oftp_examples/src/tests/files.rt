@@ -1,7 +1,9 @@
 //! The worked rows, a whole file of 8 MiB, and what no clause says.
 ghost use Rattle.std.specs.Prelude.{◌≡◌, ◌<◌, ◌↔◌, IsTrue, length, All};
 
-use super::*;
+use oftp_vfile::{
+    Filled, Filler, Format, Limits, LocalFault, MOST_ROWS, Row, Rows, TakeFault, Taker, VFile,
+};
 use std::alloc::{AllocError, Global};
 use std::process::Abort;
 use std::test::Fail;

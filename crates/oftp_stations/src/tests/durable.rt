@@ -1,36 +1,19 @@
 //! Sessions, calls and lists over a database. The expected octets are spelled by hand from RFC 5024.
 
-use super::*;
-use oftp_engine::{End, Job, Operator, Port, Refusal, Role, RunFault, Submission, Told};
+use super::BOOK;
+use super::operators::{FILE, LIMITS};
+use oftp_durable::{open_durable, operate_durable, run_at, run_durable, serve_durable};
+use oftp_engine::{End, Job, Operator, Port, Refusal, Role, RunFault, Told};
 use oftp_partners::read;
 use oftp_register::Office;
 use oftp_store::SqlOffice;
-use oftp_vfile::{Format, Limits};
 use sqlite::{Alter, Connection, Unknown};
 use std::alloc::Global;
+use std::fs;
 use std::test::Fail;
-
-const BOOK: &str =
-    "[station]\ncode = 'O0013SUPPLIER'\nbuffer = 128\ncredit = 2\nrestart = true\n[[partner]]\ncode = 'O0177CARMAKER'\nexpects = 'CARPW'\nsends = 'SUPPW'\nmode = 'B'\naddress = '127.0.0.1:3305'\n";
 
 /// The station's ready message.
 const READY: &[u8] = b"\x10\0\0\x17IODETTE FTP READY \r";
-
-const LIMITS: Limits = Limits {
-    files: 3,
-    octets: 67_108_864,
-};
-
-const FILE: Submission<'static> = Submission {
-    dataset: "ABC",
-    date: "20240131",
-    time: "1015300001",
-    to: "O0177CARMAKER",
-    format: Format::Unstructured,
-    longest: 0,
-    description: "a drawing",
-    content: b"abc",
-};
 
 type AnyJob<'a> = Job<'a, &'static [u8], Vec<u8>>;
 
@@ -91,21 +74,28 @@ fn over_a_store_in_memory(rt: HostRuntime) -> Result<(), Fail> {
     Ok(())
 }
 
+// The files of the database at a path.
+const FILES: [&str; 2] = ["stations_test.db", "stations_test.db-wal"];
+
+fn remove_files(rt: &HostRuntime) {
+    for name in FILES {
+        let _ = fs::remove_file(rt, name);
+    }
+}
+
 /// A list is done over the files at a path, and its file is there when they are opened again.
 #[test]
 fn over_files(rt: HostRuntime) -> Result<(), Fail> {
     let alloc = rt.alloc();
+    remove_files(&rt);
     let book = read(alloc, BOOK)?;
     let mut jobs = [call(alloc, Operator::Submit(FILE))];
-    let ran = run_at(&rt, "station.db", LIMITS, Unknown, &book, &mut jobs).map_err(
-        |_| "not opened",
-    )?;
+    let ran = run_at(&rt, FILES[0], LIMITS, Unknown, &book, &mut jobs).map_err(|_| "not opened")?;
     assert_eq!(rt; ran.result, Ok(()));
     assert_eq!(rt; answer(&jobs[0]), Some(Ok(Told::Done)));
     drop(ran);
-    let mut office = open_durable(&rt, "station.db", LIMITS, Unknown).map_err(
-        |_| "not opened again",
-    )?;
+    let mut office = open_durable(&rt, FILES[0], LIMITS, Unknown).map_err(|_| "not opened again")?;
     assert_eq!(rt; office.list_out()?.len(), 1);
+    remove_files(&rt);
     Ok(())
 }

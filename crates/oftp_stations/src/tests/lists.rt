@@ -2,7 +2,7 @@
 
 use super::operators::FILE;
 use super::{BOOK, Failing, INPUT, OUTPUT};
-use crate::{End, Job, Operator, Port, Role, RunFault, Told, run};
+use oftp_engine::{End, Job, Operator, Port, Role, RunFault, Told, run};
 use oftp_partners::read;
 use oftp_register::PlainOffice;
 use oftp_vfile::Limits;

@@ -1,6 +1,11 @@
 //! What stands on registers written by hand: verdicts, and which changes are fit.
 
-use super::*;
+use oftp_register::{
+    Cause, Change, DigitString, EndVerdict, Identity, IncomingEntry, Name, Office, OfficeFault,
+    OutgoingEntry, OutgoingState, PlainOffice, ResponseKind, Side, StartVerdict, Terms,
+    are_full_rows, are_rows, commit_all, end_verdict, format_of, is_file, is_response, longest_of,
+    start_verdict,
+};
 use oftp_vfile::{Format, LONGEST_RECORD, Limits, Row, Rows};
 use oftp_wire::{Count, Digits, Text, X};
 use std::alloc::{AllocError, Global};
