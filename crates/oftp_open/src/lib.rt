@@ -3,4 +3,5 @@
 
 mod first;
 mod open;
+
 pub use open::{migrate_tables, open_tables};
