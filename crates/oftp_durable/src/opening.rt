@@ -1,6 +1,6 @@
 //! The opening of the office that the files at a path hold.
 
-ghost use Rattle.std.specs.Prelude.{◌≡◌, ◌≤◌, ℕ, ◌≢◌, IfOk, List, [], codes};
+ghost use Rattle.std.specs.Prelude.{◌≡◌, ◌≤◌, ◌↔◌, ℕ, IfOk, List};
 ghost use Rattle.sqlite.specs.Files.{HoldsDatabase, over_files};
 ghost use Rattle.sqlite.specs.State.{HasCleanDisk};
 ghost use Rattle.sqlite.specs.Tree.{Trees};
@@ -11,7 +11,7 @@ ghost use Rattle.oftp_register.specs.Register.{Register};
 ghost use Rattle.oftp_register.specs.Soundness.{IsSound};
 ghost use Rattle.oftp_open.specs.Opening.{IsStoreOf};
 ghost use Rattle.oftp_open.specs.Stands.{IsContentOf};
-ghost use Rattle.oftp_store.specs.Opens.{Has};
+ghost use Rattle.oftp_store.specs.Opens.{Has, HoldsTaken, IsKept, IsOpenable};
 ghost use Rattle.oftp_store.specs.Shown.{database_of, faults_of, limits_of};
 ghost use Rattle.oftp_engine.specs.Served.{IsPrefix};
 ghost use Rattle.oftp_durable.specs.Headline.{LeavesAlone};
@@ -45,11 +45,11 @@ pub fn open_durable<S: Start>(
 ) -> Result<SqlOffice<FileStore<FileFrom<S>>>, PathFault>
     requires files { limits.files ≤ MOST_FILES }
     requires octets { limits.octets ≤ MOST_OCTETS }
-    ensures pathless { path.now ≡ [] → result ≡ Err PathFault.Unkept }
-    ensures memory { path.now ≡ codes ":memory:" → result ≡ Err PathFault.Unkept }
-    ensures kept { path.now ≢ [] → path.now ≢ codes ":memory:" → result ≢ Err PathFault.Unkept }
+    ensures unkept { (result ≡ Err PathFault.Unkept) ↔ ¬ IsKept path.now }
     ensures limits { IfOk result (λ o. limits_of o ≡ limits) }
     ensures faults { IfOk result (λ o. faults_of o ≡ 0) }
+    // The files hold no table, or the office's.
+    ensures known { IfOk result (λ o. HasCleanDisk (database_of over_files o) → HoldsTaken IsOpenable (HoldsDatabase (image_at S.Start))) }
     // The office has the register whose tables the files hold.
     ensures found { IfOk result (λ o. HasCleanDisk (database_of over_files o) → (r : Register) (db : Trees) → r.limits ≡ limits → IsSound r
         → HoldsDatabase (image_at S.Start) db → IsStoreOf r db → LeavesAlone limits (database_of over_files o) r) }

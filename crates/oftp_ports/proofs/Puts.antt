@@ -1,5 +1,5 @@
 -- What a writer took, one call after another.
-use Rattle.std.proofs.Common.{◌≡◌, ℕ, Bool, true, false, List, [], ◌++◌, length, take, Option, arith, length-append}
+use Rattle.std.proofs.Common.{ℕ, Bool, true, false, List, [], ◌++◌, length, take, Option, arith, length-append}
 use Rattle.oftp_ports.specs.declared.port.Port.{Port}
 use Rattle.oftp_ports.specs.Ports.{Sent, Puts}
 use Rattle.oftp_ports.proofs.Bytes.{appends_none, appends_on, count_on}

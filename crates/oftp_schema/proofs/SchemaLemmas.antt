@@ -129,3 +129,6 @@ if_ok (Err e) P Q h f = tt
 pub if_err : {A E : Type 0} (result : Result A E) (P Q : E → Type 0) → IfErr result P → ((x : E) → P x → Q x) → IfErr result Q
 if_err (Ok x) P Q h f = tt
 if_err (Err e) P Q h f = f e h
+
+pub same_none : (s : Schema) (db : Trees) → IsSound no_schema db → IsSound s db → s ≡ no_schema
+same_none s db = schema_is no_schema s db refl tt

@@ -1,5 +1,5 @@
 -- What the session does at CDT and at the end of a file that it sends, as a step.
-use Rattle.std.proofs.Common.{◌≡◌, ℕ, suc, ◌+◌, ◌-◌, ◌*◌, ◌<◌, ◌≤◌, ◌==◌, nat_lt, max, Bool, true, false, cond, eqb, List, [], length, take, slice_get, Option, None, Some, Result, Ok, Err, refl, sym, ap, ◌∙◌, subst, arith}
+use Rattle.std.proofs.Common.{◌≡◌, ℕ, suc, ◌+◌, ◌-◌, ◌*◌, ◌<◌, ◌≤◌, ◌==◌, Bool, true, false, cond, List, [], length, take, slice_get, Option, None, Some, Result, Ok, Err, refl, sym, ap, ◌∙◌, subst, arith}
 use Rattle.std.proofs.Math.Nat.{suc-mul}
 use Rattle.std.proofs.lemmas.Bool.{eqb-true}
 use Rattle.std.proofs.lemmas.List.{length-take-le}
@@ -19,7 +19,6 @@ use Rattle.oftp_register.proofs.EntryLemmas.{all_at}
 use Rattle.oftp_session.specs.declared.sending.Shipment.{Shipment}
 use Rattle.oftp_session.specs.declared.session.SessionFault.{SessionFault}
 use Rattle.oftp_session.specs.declared.state.Contact.{Contact}
-use Rattle.oftp_session.specs.declared.state.State.{State}
 use Rattle.oftp_session.specs.declared.state.State.TheVariants as state
 use Rattle.oftp_session.specs.Phases.{Transfer, Step, frame_of}
 use Rattle.oftp_session.specs.Receiving.{window}

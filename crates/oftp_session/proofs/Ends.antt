@@ -1,8 +1,8 @@
 -- EFID: a file is closed, or its rows are given up.
-use Rattle.std.proofs.Common.{◌≡◌, ◌≢◌, ℕ, zero, suc, ◌+◌, ◌*◌, ◌≤◌, false, true, Some, Result, is_ok, List, [], ◌∷◌, ◌++◌, length, take, drop, All, slice_get, refl, sym, ap, ◌∙◌, subst, arith}
+use Rattle.std.proofs.Common.{◌≡◌, ◌≢◌, ℕ, ◌+◌, ◌*◌, ◌≤◌, false, true, is_ok, List, [], ◌∷◌, length, take, drop, All, refl, sym, ap, ◌∙◌, subst, arith}
 use Rattle.std.specs.List.{flat_map}
 use Rattle.std.proofs.lemmas.List.{append-nil, drop-append-le, length-append, length-drop, length-take-le}
-use Rattle.std.proofs.lemmas.List.Elements.{All-head, All-tail, All-take}
+use Rattle.std.proofs.lemmas.List.Elements.{All-take}
 use Rattle.oftp_wire.specs.declared.command.Efid.{Efid}
 use Rattle.oftp_wire.specs.declared.reason.SessionReason.TheVariants.{ProtocolViolation}
 use Rattle.oftp_vfile.specs.declared.format.Format.{Format}
@@ -15,15 +15,9 @@ use Rattle.oftp_vfile.proofs.CarriesLemmas.{blocks_length}
 use Rattle.oftp_vfile.proofs.ClosedLemmas.{closed_file, ended_piece}
 use Rattle.oftp_vfile.proofs.LendLemmas.{rows_from}
 use Rattle.oftp_vfile.proofs.ShedLemmas.{shed_counts}
-use Rattle.oftp_register.specs.declared.change.Cause.{Cause}
 use Rattle.oftp_register.specs.declared.change.Change.TheVariants.{Close, GiveUp}
-use Rattle.oftp_register.specs.declared.entry.IncomingState.{IncomingState}
-use Rattle.oftp_register.specs.declared.entry.IncomingState.TheVariants.{Open, Whole}
 use Rattle.oftp_register.specs.declared.verdicts.EndVerdict.{EndVerdict}
-use Rattle.oftp_register.specs.Register.{Register, Incoming}
-use Rattle.oftp_register.specs.Changes.{apply, given_up, if_open, mapped}
-use Rattle.oftp_register.specs.Changes.{closed as closed_entry}
-use Rattle.oftp_register.specs.LookUps.{entry_at}
+use Rattle.oftp_register.specs.Register.{Register}
 use Rattle.oftp_register.specs.Verdicts.{end_verdict}
 use Rattle.oftp_register.specs.Soundness.{AreFullRows, Ends, IsFit, IsSound, IsSoundIncoming}
 use Rattle.oftp_register.proofs.EntryLemmas.{all_at, close_changes, close_fit, give_up_changes}

@@ -1,8 +1,8 @@
 -- What is next is in the register: a response that is due, or a file that is on its way.
-use Rattle.std.proofs.Common.{◌≡◌, ℕ, zero, suc, ◌+◌, ◌≤◌, ◌&&◌, Bool, true, false, cond, nat_lt, List, [], ◌∷◌, length, map, take, drop, find, slice_get, Option, None, Some, refl, ap, sym, ◌∙◌, subst, inl, inr, arith}
+use Rattle.std.proofs.Common.{◌≡◌, ℕ, suc, ◌+◌, ◌≤◌, ◌&&◌, Bool, true, false, cond, nat_lt, List, [], ◌∷◌, length, take, drop, find, slice_get, Option, None, Some, refl, ap, sym, ◌∙◌, inl, inr, arith}
 use Rattle.std.proofs.lemmas.Bool.{cases_Bool, cond-true, cond-false, and_parts}
 use Rattle.std.specs.List.{filter_map}
-use Rattle.std.specs.Option.{option_map, unwrap_or}
+use Rattle.std.specs.Option.{option_map}
 use Rattle.std.specs.Str.{bytes_eq}
 use Rattle.oftp_vfile.specs.VirtualFile.{units_in}
 use Rattle.oftp_register.specs.declared.entry.Dispatch.{Dispatch}
@@ -10,15 +10,14 @@ use Rattle.oftp_register.specs.declared.entry.Dispatch.TheVariants.{Due, Sent}
 use Rattle.oftp_register.specs.declared.entries.Cursor.{Cursor}
 use Rattle.oftp_register.specs.declared.entries.IssuedEntry.{IssuedEntry}
 use Rattle.oftp_register.specs.declared.entries.OutgoingEntry.{OutgoingEntry}
-use Rattle.oftp_register.specs.declared.entries.Item.{Item}
 use Rattle.oftp_register.specs.declared.entries.Item.TheVariants as item
 use Rattle.oftp_register.specs.declared.entries.Side.TheVariants as side
 use Rattle.oftp_register.specs.Register.{Register, Incoming, Outgoing, Issued}
-use Rattle.oftp_register.specs.LookUps.{entry_at, file_rows, is_due, is_next_file, is_next_response, is_on_its_way, issued_entry, issued_response, item_of, next_file, next_item, next_response, numbered, outgoing_entry, rows_of, units_of}
+use Rattle.oftp_register.specs.LookUps.{entry_at, is_due, is_next_file, is_next_response, is_on_its_way, issued_entry, issued_response, item_of, next_file, next_item, next_response, numbered, outgoing_entry, rows_of, units_of}
 use Rattle.oftp_register.specs.Soundness.{IsSound, IsSoundOutgoing}
 use Rattle.oftp_register.proofs.EntryLemmas.{all_at, rows_of_outgoing}
 use Rattle.oftp_session.specs.declared.state.Contact.{Contact}
-use Rattle.oftp_session.specs.Speaker.{offer_of, offered_from}
+use Rattle.oftp_session.specs.Speaker.{offer_of}
 use Rattle.oftp_session.specs.Steps.{IsOffered, IsResponding}
 
 -- the first response that may be next, from a number on

@@ -1,6 +1,5 @@
 -- What the session does at SFID, as a step.
-use Rattle.std.proofs.Common.{◌≡◌, ℕ, zero, suc, ◌-◌, ◌%◌, max, [], length, Option, None, Some, Result, Ok, Err, IfErr, List, is_ok, refl, sym, ap, ◌∙◌, subst, arith}
-use Rattle.std.specs.Option.{unwrap_or}
+use Rattle.std.proofs.Common.{◌≡◌, ℕ, ◌-◌, ◌%◌, max, [], length, None, Some, Result, Ok, Err, IfErr, List, is_ok, refl, sym, ap, ◌∙◌, subst, arith}
 use Rattle.oftp_wire.specs.declared.command.Sfid.{Sfid}
 use Rattle.oftp_vfile.specs.declared.format.Format.{Format}
 use Rattle.oftp_vfile.specs.declared.format.Limits.{Limits}

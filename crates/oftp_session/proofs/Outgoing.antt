@@ -1,5 +1,5 @@
 -- The changes of the sending phases: each is fit, the register takes it, and the next phase says what it says of the register.
-use Rattle.std.proofs.Common.{◌≡◌, ℕ, ◌+◌, ◌≤◌, ◌==◌, ◌&&◌, ◌||◌, Bool, true, false, cond, nat_le, List, length, drop, Option, None, Some, Result, Ok, Err, is_ok, refl, ap, sym, ◌∙◌, subst, arith}
+use Rattle.std.proofs.Common.{◌≡◌, ℕ, ◌≤◌, ◌==◌, ◌&&◌, ◌||◌, Bool, true, false, cond, nat_le, length, Option, None, Some, Result, Ok, is_ok, refl, ap, sym, ◌∙◌, subst, arith}
 use Rattle.std.proofs.lemmas.Bool.{and_parts, eqb-true, le-leb}
 use Rattle.std.proofs.lemmas.List.{length-drop}
 use Rattle.std.specs.Result.{result_unwrap_or}
@@ -16,7 +16,7 @@ use Rattle.oftp_register.specs.declared.entry.Dispatch.TheVariants.{Sent}
 use Rattle.oftp_register.specs.declared.entry.OutgoingState.{OutgoingState}
 use Rattle.oftp_register.specs.declared.entry.OutgoingState.TheVariants.{Waiting, Closing, Handed, Refused, Delivered, Returned}
 use Rattle.oftp_register.specs.Register.{Register, Incoming, Outgoing, Issued}
-use Rattle.oftp_register.specs.Changes.{apply, closing, handed, if_allowed, is_closing, is_waiting, mapped, marked, on_outgoing, refused, reopened, sent, sent_as, sent_of}
+use Rattle.oftp_register.specs.Changes.{apply, closing, handed, if_allowed, is_closing, is_waiting, mapped, marked, refused, reopened, sent, sent_as, sent_of}
 use Rattle.oftp_register.specs.LookUps.{entry_at, is_on_its_way}
 use Rattle.oftp_register.specs.Soundness.{IsFit, IsSound, IsSoundOutgoing}
 use Rattle.oftp_register.proofs.EntryLemmas.{IsChanged, all_at, changes_incoming, changes_outgoing}

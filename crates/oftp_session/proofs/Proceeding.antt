@@ -1,6 +1,5 @@
 -- Each step from a register that suits its phase goes on, by cases of phase.
 use Rattle.std.proofs.Common.{◌≡◌, ℕ, ◌+◌, nat_lt, Bool, true, false, cond, List, [], ◌∷◌, length, Option, None, Some, Result, Ok, Err, refl, sym, ap, subst, is_ok}
-use Rattle.std.proofs.lemmas.Bool.{false≢true}
 use Rattle.std.specs.Result.{result_unwrap_or}
 use Rattle.oftp_wire.specs.declared.command.Command.{Command}
 use Rattle.oftp_wire.specs.declared.command.Command.TheVariants as command
@@ -15,28 +14,24 @@ use Rattle.oftp_vfile.specs.Reading.{taken}
 use Rattle.oftp_vfile.specs.Taking.{Taking, counts_of}
 use Rattle.oftp_partners.specs.declared.partner.Partner.{Partner}
 use Rattle.oftp_register.specs.declared.change.Cause.{Cause}
-use Rattle.oftp_register.specs.declared.change.Change.{Change}
 use Rattle.oftp_register.specs.declared.change.Change.TheVariants.{Keep}
 use Rattle.oftp_register.specs.declared.verdicts.EndVerdict.{EndVerdict}
 use Rattle.oftp_register.specs.declared.verdicts.EndVerdict.TheVariants as «end»
 use Rattle.oftp_register.specs.declared.verdicts.StartVerdict.{StartVerdict}
 use Rattle.oftp_register.specs.declared.verdicts.StartVerdict.TheVariants as start
 use Rattle.oftp_register.specs.Register.{Register, Received, has_received}
-use Rattle.oftp_register.specs.Changes.{apply}
 use Rattle.oftp_register.specs.Soundness.{IsFit, IsSound, IsSoundReceived}
 use Rattle.oftp_register.specs.Verdicts.{end_verdict}
 use Rattle.oftp_register.proofs.EntryLemmas.{give_up_fit}
-use Rattle.oftp_register.proofs.KeepLemmas.{apply_keeps}
-use Rattle.oftp_session.specs.declared.link.WhenDone.TheVariants.{ChangeDirection, EndSession}
 use Rattle.oftp_session.specs.declared.state.Contact.{Contact}
 use Rattle.oftp_session.specs.Settings.{Setting}
-use Rattle.oftp_session.specs.Phases.{Phase, Receipt, ResponderOpening, InitiatorOpening, AwaitingSsid, ListenerIdle, Receiving, SpeakerIdle, GivingWay, AwaitingRtr, AwaitingStart, Sending, AwaitingEnd, EndedHere, EndedThere, answers, fails, quiet, register_after, unexpected}
+use Rattle.oftp_session.specs.Phases.{Phase, Receipt, ResponderOpening, InitiatorOpening, AwaitingSsid, ListenerIdle, Receiving, SpeakerIdle, GivingWay, AwaitingRtr, AwaitingStart, Sending, AwaitingEnd, EndedHere, EndedThere, answers, fails, quiet, register_after}
 use Rattle.oftp_session.specs.Opening.{Agreement, came_initiator_opening, came_awaiting_ssid, offer_step, opened_step, open_step, ssid_verdict}
 use Rattle.oftp_session.specs.Receiving.{came_receiving, carried_by, data_step, end_step, is_window_full, keeping, on_end_verdict, on_start_verdict, on_taken, receipt_of, rows_to_keep, sfpa_of, start_of, verdict_on, window_step, with_payload, with_rows}
 use Rattle.oftp_session.specs.Receiving.{offer_step as sfid_step}
 use Rattle.oftp_session.specs.Listener.{came_listener_idle, end_response, negative_end_response, response_step, filing, file_of, is_between}
 use Rattle.oftp_session.specs.Starting.{MayBegin}
-use Rattle.oftp_session.specs.Steps.{came, turned, Holds, IsReceived, Suits}
+use Rattle.oftp_session.specs.Steps.{came, turned, IsReceived, Suits}
 use Rattle.oftp_session.specs.Calls.{IsAccepted, Proceeds}
 use Rattle.oftp_session.proofs.Accepting.{accepted_proceeds, same_proceeds, unexpected_proceeds}
 use Rattle.oftp_session.proofs.Ends.{close_accepted, close_fits, give_up_accepted}

@@ -1,5 +1,5 @@
 -- What a receiving phase says of the register stays so as payloads come and rows are kept.
-use Rattle.std.proofs.Common.{◌≡◌, ℕ, zero, suc, ◌+◌, ◌-◌, ◌≤◌, List, [], ◌∷◌, ◌++◌, length, drop, slice_get, Some, Result, Ok, Err, is_ok, refl, ap, sym, ◌∙◌, subst, arith}
+use Rattle.std.proofs.Common.{◌≡◌, ℕ, zero, suc, ◌+◌, ◌-◌, ◌≤◌, List, [], ◌∷◌, ◌++◌, length, drop, Some, Result, Ok, Err, is_ok, refl, ap, sym, ◌∙◌, subst, arith}
 use Rattle.std.proofs.lemmas.List.{append-nil, length-append, length-drop, take-append-le}
 use Rattle.std.proofs.lemmas.List.Elements.{All-drop}
 use Rattle.std.specs.Result.{result_unwrap_or}
@@ -15,10 +15,8 @@ use Rattle.oftp_vfile.proofs.ReadingLemmas.{more_rows, taken_all_push, took_next
 use Rattle.oftp_register.specs.declared.change.Cause.{Cause}
 use Rattle.oftp_register.specs.declared.change.Change.TheVariants.{Keep}
 use Rattle.oftp_register.specs.declared.entry.IncomingState.{IncomingState}
-use Rattle.oftp_register.specs.declared.entry.IncomingState.TheVariants.{Open}
 use Rattle.oftp_register.specs.Register.{Register, Incoming}
-use Rattle.oftp_register.specs.Changes.{apply, at_number, mapped, kept, if_open}
-use Rattle.oftp_register.specs.LookUps.{entry_at}
+use Rattle.oftp_register.specs.Changes.{apply, at_number, mapped, kept}
 use Rattle.oftp_register.specs.Soundness.{AreFullRows, GoesOn, IsFit}
 use Rattle.oftp_register.proofs.EntryLemmas.{keep_changes, keep_fit}
 use Rattle.oftp_register.proofs.NumberLemmas.{mapped_ok}

@@ -1,9 +1,8 @@
 -- What the session does at its own turn where it speaks, as a step.
-use Rattle.std.proofs.Common.{◌≡◌, ℕ, zero, suc, ◌≤◌, nat_lt, Bool, true, false, cond, List, [], slice_get, Option, None, Some, Result, Ok, Err, refl, sym, ap, ◌∙◌, subst, arith}
+use Rattle.std.proofs.Common.{◌≡◌, ℕ, zero, suc, ◌≤◌, nat_lt, false, cond, List, [], slice_get, None, Some, Result, Ok, Err, refl, sym, ap, ◌∙◌, subst, arith}
 use Rattle.std.proofs.lemmas.Bool.{false≢true}
 use Rattle.oftp_wire.specs.declared.command.Command.{Command}
 use Rattle.oftp_vfile.specs.VirtualFile.{units_in}
-use Rattle.oftp_register.specs.declared.entries.Item.{Item}
 use Rattle.oftp_register.specs.declared.entries.Item.TheVariants as item
 use Rattle.oftp_register.specs.declared.entries.OutgoingEntry.{OutgoingEntry}
 use Rattle.oftp_register.specs.declared.entries.Side.TheVariants as side
@@ -24,7 +23,7 @@ use Rattle.oftp_session.specs.Speaker.{having_tried_file, offer_of, offered_from
 use Rattle.oftp_session.specs.Sending.{credit_left, sends_next, turned_sending, payloads_in}
 use Rattle.oftp_session.specs.Steps.{turned}
 use Rattle.oftp_session.specs.Standings.{Standing, StandsIn, is_due, offering_of, standing_of}
-use Rattle.oftp_session.specs.Calls.{DoesNot, Goes, IsMade, Takes}
+use Rattle.oftp_session.specs.Calls.{Goes, IsMade, Takes}
 use Rattle.oftp_session.proofs.Items.{item_goes, units_are}
 use Rattle.oftp_session.proofs.Saying.{step_same}
 use Rattle.oftp_session.proofs.Views.{then_fails, then_made}

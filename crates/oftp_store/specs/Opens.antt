@@ -1,8 +1,8 @@
 -- What the opening of an office makes of a connection.
-use Rattle.std.specs.Prelude.{◌≡◌, ◌≤◌, ◌⊎◌, false}
+use Rattle.std.specs.Prelude.{◌≡◌, ◌≢◌, ◌≤◌, ◌⊎◌, ℕ, List, [], codes, false}
 use Rattle.sqlite.specs.Tree.{Trees}
 use Rattle.sqlite.specs.View.{doubt}
-use Rattle.sqlite.specs.Effect.{Database}
+use Rattle.sqlite.specs.Effect.{Database, IsDatabase}
 use Rattle.sqlite.specs.State.{State, HasCleanDisk}
 use Rattle.oftp_vfile.specs.declared.format.Limits.{Limits}
 use Rattle.oftp_register.specs.Register.{Register}
@@ -13,6 +13,10 @@ use Rattle.oftp_tables.specs.Tables.{register_in}
 use Rattle.oftp_open.specs.Stands.{IsContentOf, Stands}
 use Rattle.oftp_open.specs.Opening.{SparesUnless}
 
+-- SQLite keeps a database under this path: one in a temporary file or in memory it doesn't
+abbrev pub IsKept : List ℕ → Type 0
+IsKept path = (path ≢ []) × (path ≢ codes ":memory:")
+
 -- the stores that `open` takes
 abbrev pub IsOpenable : Database → Type 0
 IsOpenable d = IsEmpty d ⊎ HasOffice d
@@ -20,6 +24,10 @@ IsOpenable d = IsEmpty d ⊎ HasOffice d
 -- the stores that `migrate` takes
 abbrev pub IsMigratable : Database → Type 0
 IsMigratable d = HasFirst d ⊎ HasOffice d
+
+-- the database that is held, if there is one, is one that is taken
+abbrev pub HoldsTaken : (Database → Type 0) → (Trees → Type 0) → Type 0
+HoldsTaken Takes Holds = (d : Database) → IsDatabase d → Holds d.trees → Takes d
 
 -- what a stop may leave of the store of a register: what it left before, or the register's tables
 abbrev pub Leaves : (Register → State → Type 0) → State → State → Type 0

@@ -1,6 +1,6 @@
 //! An office over a real file.
 
-ghost use Rattle.std.specs.Prelude.{◌≡◌, ◌≢◌, ◌≤◌, ◌↔◌, IfOk, [], codes, false, true};
+ghost use Rattle.std.specs.Prelude.{◌≡◌, ◌≢◌, ◌≤◌, ◌↔◌, IfOk, IsTrue};
 ghost use Rattle.sqlite.specs.Tree.{Trees};
 ghost use Rattle.sqlite.specs.State.{HasCleanDisk};
 ghost use Rattle.sqlite.specs.Start.{FindsIn};
@@ -12,7 +12,7 @@ ghost use Rattle.oftp_register.specs.Soundness.{IsSound};
 ghost use Rattle.oftp_register.specs.declared.fit.TheConstants.{MOST_FILES, MOST_OCTETS};
 ghost use Rattle.oftp_open.specs.Opening.{IsFirstOf, IsStoreOf};
 ghost use Rattle.oftp_open.specs.Stands.{IsContentOf};
-ghost use Rattle.oftp_store.specs.Opens.{Has};
+ghost use Rattle.oftp_store.specs.Opens.{Has, HoldsTaken, IsKept, IsMigratable, IsOpenable};
 
 use crate::office::SqlOffice;
 use oftp_schema::{StoreFault, fault_of};
@@ -45,9 +45,7 @@ fn path_fault_of(error: Error) -> PathFault
 
 // Whether SQLite keeps a database under a path.
 fn is_kept(path: &str) -> bool
-    ensures pathless { path.now ≡ [] → result ≡ false }
-    ensures memory { path.now ≡ codes ":memory:" → result ≡ false }
-    ensures kept { path.now ≢ [] → path.now ≢ codes ":memory:" → result ≡ true }
+    ensures { IsTrue result ↔ IsKept path.now }
 {
     !path.is_empty() && path != ":memory:"
 }
@@ -58,9 +56,7 @@ fn connect<S: Start>(
     path: &str,
     start: S,
 ) -> Result<Connection<FileStore<FileFrom<S>>>, PathFault>
-    ensures pathless { path.now ≡ [] → result ≡ Err PathFault.Unkept }
-    ensures memory { path.now ≡ codes ":memory:" → result ≡ Err PathFault.Unkept }
-    ensures kept { path.now ≢ [] → path.now ≢ codes ":memory:" → result ≢ Err PathFault.Unkept }
+    ensures unkept { (result ≡ Err PathFault.Unkept) ↔ ¬ IsKept path.now }
     ensures named { result ≢ Err (PathFault.Store StoreFault.WrongSchema) }
     ensures opened { IfOk result (λ conn. HasCleanDisk (file_state conn) → IsOpened conn) }
     ensures found { IfOk result (λ conn. HasCleanDisk (file_state conn) → FindsIn (image_at S.Start) (file_state conn)) }
@@ -90,11 +86,11 @@ pub fn open_at<S: Start>(
 ) -> Result<SqlOffice<FileStore<FileFrom<S>>>, PathFault>
     requires files { limits.files ≤ MOST_FILES }
     requires octets { limits.octets ≤ MOST_OCTETS }
-    ensures pathless { path.now ≡ [] → result ≡ Err PathFault.Unkept }
-    ensures memory { path.now ≡ codes ":memory:" → result ≡ Err PathFault.Unkept }
-    ensures kept { path.now ≢ [] → path.now ≢ codes ":memory:" → result ≢ Err PathFault.Unkept }
+    ensures unkept { (result ≡ Err PathFault.Unkept) ↔ ¬ IsKept path.now }
     ensures limits { IfOk result (λ o. o.limits ≡ limits) }
     ensures faults { IfOk result (λ o. o.faults ≡ 0) }
+    // The files hold no table, or the office's.
+    ensures known { IfOk result (λ o. HasCleanDisk (file_state o.conn) → HoldsTaken IsOpenable (HoldsDatabase (image_at S.Start))) }
     // The office has the register whose tables the files hold.
     ensures found { IfOk result (λ o. HasCleanDisk (file_state o.conn) → (r : Register) (db : Trees) → r.limits ≡ limits → IsSound r
         → HoldsDatabase (image_at S.Start) db → IsStoreOf r db → Has limits r (file_state o.conn)) }
@@ -122,11 +118,11 @@ pub fn migrate_at<S: Start>(
 ) -> Result<SqlOffice<FileStore<FileFrom<S>>>, PathFault>
     requires files { limits.files ≤ MOST_FILES }
     requires octets { limits.octets ≤ MOST_OCTETS }
-    ensures pathless { path.now ≡ [] → result ≡ Err PathFault.Unkept }
-    ensures memory { path.now ≡ codes ":memory:" → result ≡ Err PathFault.Unkept }
-    ensures kept { path.now ≢ [] → path.now ≢ codes ":memory:" → result ≢ Err PathFault.Unkept }
+    ensures unkept { (result ≡ Err PathFault.Unkept) ↔ ¬ IsKept path.now }
     ensures limits { IfOk result (λ o. o.limits ≡ limits) }
     ensures faults { IfOk result (λ o. o.faults ≡ 0) }
+    // The files hold the tables of the one schema or of the other.
+    ensures known { IfOk result (λ o. HasCleanDisk (file_state o.conn) → HoldsTaken IsMigratable (HoldsDatabase (image_at S.Start))) }
     // The office has the register whose tables of schema 1 the files hold.
     ensures migrated { IfOk result (λ o. HasCleanDisk (file_state o.conn) → (r : Register) (db : Trees) → r.limits ≡ limits
         → HoldsDatabase (image_at S.Start) db → IsFirstOf r db → Has limits r (file_state o.conn)) }

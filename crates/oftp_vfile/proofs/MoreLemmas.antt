@@ -1,5 +1,5 @@
 -- Few rows are lent where more are asked for.
-use Rattle.std.proofs.Common.{◌≡◌, ℕ, suc, zero, ◌+◌, ◌-◌, ◌<◌, ◌≤◌, Bool, true, false, cond, eqb, min, List, [], ◌∷◌, ◌++◌, length, get_or, drop, refl, sym, ap, ◌∙◌, subst, arith, All}
+use Rattle.std.proofs.Common.{◌≡◌, ℕ, suc, zero, ◌+◌, ◌-◌, ◌<◌, ◌≤◌, Bool, true, false, cond, eqb, List, [], ◌∷◌, ◌++◌, length, get_or, drop, refl, ap, ◌∙◌, subst, arith, All}
 use Rattle.std.proofs.lemmas.Bool.{eqb-true, false≢true}
 use Rattle.std.proofs.lemmas.List.{length-append, length-drop, length-take-le}
 use Rattle.std.proofs.lemmas.List.Elements.{All-drop}
@@ -8,7 +8,7 @@ use Rattle.oftp_vfile.specs.declared.format.Format.{Format}
 use Rattle.oftp_vfile.specs.declared.format.Format.TheVariants.{Fixed, Variable, Unstructured, Text}
 use Rattle.oftp_vfile.specs.Subrecord.{Subrecord}
 use Rattle.oftp_vfile.specs.VirtualFile.{is_stream, octets_in}
-use Rattle.oftp_vfile.specs.Fill.{needs, next_length, behind, weight, Packs}
+use Rattle.oftp_vfile.specs.Fill.{next_length, behind, weight, Packs}
 use Rattle.oftp_vfile.specs.Filling.{Filling, from_offset, left_of, least, IsInRows, Reaches}
 use Rattle.oftp_vfile.proofs.PackingLemmas.{needs_some}
 use Rattle.oftp_vfile.proofs.FillerLemmas.{left_records, left_stream, packs_nothing}

@@ -1,13 +1,9 @@
 -- Each fault of a field has a reason for the ESID that answers it.
-use Rattle.std.proofs.Common.{◌≡◌, ℕ, ◌+◌, ◌-◌, Bool, true, false, cond, eqb, ltb, List, [], ◌∷◌, length, Option, Some, None, IsSome, refl, subst}
-use Rattle.std.specs.Prelude.{codes}
+use Rattle.std.proofs.Common.{ℕ, ◌+◌, Bool, true, false, cond, ltb, List, length, Option, Some, None, IsSome, refl}
 use Rattle.oftp_wire.specs.declared.fault.WireFault.{WireFault}
 use Rattle.oftp_wire.specs.declared.fault.WireFault.TheVariants.{WrongLength}
-use Rattle.oftp_wire.specs.Octets.{part, number}
-use Rattle.oftp_wire.specs.Form.{Form, Name, Digits, OneOf, DigitsIf, Reserved, Return, Any, Utf8, size, allows, complaint, fault_of, end_fault}
-use Rattle.oftp_wire.specs.Row.{Row, Table, at_of, form_of, or_else, first_fault, fault_in}
-use Rattle.oftp_wire.specs.Tables.{ssrm_table, ssid_table, sfid_table, sfpa_table, sfna_table, data_table, cdt_table, efid_table, efpa_table, efna_table, esid_table, eerp_table, nerp_table, single_table, format_of, has_records}
-use Rattle.oftp_wire.specs.Spelling.{Fault, fault_by}
+use Rattle.oftp_wire.specs.Octets.{part}
+use Rattle.oftp_wire.specs.Form.{Form, Name, Digits, OneOf, DigitsIf, Reserved, Return, Any, Utf8, size, allows, complaint, fault_of}
 use Rattle.oftp_wire.specs.Reasons.{reason_of}
 
 -- a fault, if there is one, has a reason

@@ -1,11 +1,11 @@
 -- The laws of Spelling.
-use Rattle.std.proofs.Common.{◌≡◌, ℕ, List, [], ◌∷◌, length, Option, Some, None, Result, Ok, Err, refl, sym, ap, subst, ◌∙◌, arith, rules, MatchResult}
+use Rattle.std.proofs.Common.{◌≡◌, ℕ, List, length, Option, Some, None, Result, Ok, Err, refl, sym, ap, ◌∙◌}
 use Rattle.std.specs.Prelude.{◌↔◌, codes}
 use Rattle.oftp_wire.specs.declared.fault.WireFault.{WireFault}
 use Rattle.oftp_wire.specs.declared.command.Command.{Command}
 use Rattle.oftp_wire.specs.declared.command.Command.TheVariants as commands
 use Rattle.oftp_wire.specs.Tables.{ssrm_table, ssid_table, sfid_table_of, sfpa_table, sfna_table, data_table, cdt_table, efid_table, efpa_table, efna_table, esid_table, eerp_table, nerp_table, single_table, is_recorded}
-use Rattle.oftp_wire.specs.Spelling.{Spells, IsFit, Canon, Fault, fault_by}
+use Rattle.oftp_wire.specs.Spelling.{Spells, IsFit, Canon, Fault}
 use Rattle.oftp_wire.proofs.Spelled.{canon_spelled}
 use Rattle.oftp_wire.proofs.Again.{ssrm_parts, ssid_parts, sfid_parts, sfpa_parts, sfna_parts, data_parts, cdt_parts, efid_parts, efpa_parts, efna_parts, esid_parts, eerp_parts, nerp_parts, single_parts}
 use Rattle.oftp_wire.specs.Kinds.{command_of}

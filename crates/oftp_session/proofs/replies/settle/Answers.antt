@@ -1,4 +1,4 @@
-use Rattle.std.proofs.Common.{◌≡◌, ◌==◌, ◌&&◌, ◌∙◌, ℕ, Bool, true, false, refl, sym, ap}
+use Rattle.std.proofs.Common.{◌≡◌, ◌==◌, ◌&&◌, ◌∙◌, ℕ, Bool, true, false, sym, ap}
 use Rattle.oftp_session.proofs.Replying.{duplicate_given, given_up}
 use Rattle.oftp_session.proofs.replies.settle.Goals.{else-eq-via-then-eq+else-offering, else-eq-via-else-eq}
 use Rattle.oftp_session.proofs.replies.settle.Goals as goal

@@ -1,4 +1,4 @@
-use Rattle.std.proofs.Common.{◌≤◌, refl, ap, arith, ℕ, subst}
+use Rattle.std.proofs.Common.{◌≤◌, refl, ap, ℕ, subst}
 use Rattle.oftp_session.specs.declared.sending.Offering.{Offering}
 use Rattle.oftp_session.proofs.Replying.{start_ok}
 use Rattle.oftp_session.proofs.replies.start.Goals as goal

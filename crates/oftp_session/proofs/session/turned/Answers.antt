@@ -1,4 +1,4 @@
-use Rattle.std.proofs.Common.{subst, ap}
+use Rattle.std.proofs.Common.{subst}
 use Rattle.oftp_session.specs.declared.state.State.{State}
 use Rattle.oftp_session.specs.declared.state.State.TheVariants as state
 use Rattle.oftp_session.specs.Settings.{setting_of}
