@@ -1,6 +1,6 @@
 //! A list of jobs over a database.
 
-ghost use Rattle.std.specs.Prelude.{◌≡◌, ◌≤◌, IfOk};
+ghost use Rattle.std.specs.Prelude.{◌≡◌, ◌≤◌, ◌↔◌, IfOk, OnErr};
 ghost use Rattle.sqlite.specs.Files.{HoldsDatabase, over_files};
 ghost use Rattle.sqlite.specs.State.{HasCleanDisk};
 ghost use Rattle.sqlite.specs.Tree.{Trees};
@@ -10,7 +10,7 @@ ghost use Rattle.oftp_register.specs.Register.{Register};
 ghost use Rattle.oftp_register.specs.Soundness.{IsSound};
 ghost use Rattle.oftp_tables.specs.Tables.{register_in};
 ghost use Rattle.oftp_open.specs.Opening.{IsStoreOf};
-ghost use Rattle.oftp_store.specs.Opens.{Has};
+ghost use Rattle.oftp_store.specs.Opens.{Has, HoldsTaken, IsKept, IsOpenable};
 ghost use Rattle.oftp_store.specs.Shown.{database_of, faults_of, limits_of, shown};
 ghost use Rattle.oftp_durable.specs.Headline.{ButForOffice, LeavesAlone};
 ghost use Rattle.oftp_durable.specs.Lists.{ListLeaves};
@@ -75,6 +75,10 @@ pub fn run_at<S: Start, R: Read, W: Write>(
 ) -> Result<Ran<FileStore<FileFrom<S>>>, PathFault>
     requires files { limits.files ≤ MOST_FILES }
     requires octets { limits.octets ≤ MOST_OCTETS }
+    ensures unkept { (result ≡ Err PathFault.Unkept) ↔ ¬ IsKept path.now }
+    ensures idle { OnErr result (jobs.new ≡ jobs.old) }
+    // The files hold no table, or the office's.
+    ensures known { IfOk result (λ ran. HasCleanDisk (database_of over_files ran.office) → HoldsTaken IsOpenable (HoldsDatabase (image_at S.Start))) }
     // The headline, from what the files held.
     ensures leaves { IfOk result (λ ran. HasCleanDisk (database_of over_files ran.office) → (r : Register) (db : Trees) → r.limits ≡ limits → IsSound r
         → HoldsDatabase (image_at S.Start) db → IsStoreOf r db
