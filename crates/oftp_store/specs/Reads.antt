@@ -5,12 +5,13 @@ use Rattle.sqlite.specs.declared.types.Value.{Value}
 use Rattle.sqlite.specs.declared.types.Value.TheVariants.{Null, Int, Text, Blob, Real}
 use Rattle.sqlite.specs.Order.{Row, bytes, column}
 use Rattle.oftp_wire.specs.Octets.{number}
+use Rattle.oftp_register.specs.declared.entry.OutgoingState.{OutgoingState}
 use Rattle.oftp_register.specs.declared.entry.ResponseKind.TheVariants.{NegativeEndResponse}
 use Rattle.oftp_register.specs.declared.entries.IssuedResponse.{IssuedResponse}
 use Rattle.oftp_register.specs.declared.entries.ReceivedEntry.{ReceivedEntry}
 use Rattle.oftp_register.specs.Register.{Register, Incoming, Outgoing, Received}
 use Rattle.oftp_register.specs.LookUps.{entry_at, issued_response}
-use Rattle.oftp_tables.specs.Tables.{dispatch_in, format_in, identity_in, in_state_in, kind_in, number_in, out_state_in}
+use Rattle.oftp_tables.specs.Tables.{dispatch_in, format_in, format_text, identity_in, identity_values, in_state_in, in_state_text, kind_in, kind_text, number_in, number_value, out_state_in, out_state_text, reason_text, refusal_text, sent_number}
 use Rattle.oftp_store.specs.declared.looks.header.IncomingHeader.{IncomingHeader}
 use Rattle.oftp_store.specs.declared.looks.header.OutgoingHeader.{OutgoingHeader}
 use Rattle.oftp_store.specs.declared.looks.received.ReceivedHeader.{ReceivedHeader}
@@ -36,6 +37,17 @@ outgoing_header_in row = record {
   mark = number_in (column row 8);
   state = out_state_in (bytes (column row 9)) (bytes (column row 10));
 }
+
+-- the columns of a file in the order in which they are asked for: those of its row but for the number
+
+abbrev pub incoming_values : IncomingHeader → Row
+incoming_values h = identity_values h.identity ++ Text (format_text h.format) ∷ number_value h.longest ∷ Text h.description ∷ Text (in_state_text h.state) ∷ []
+
+abbrev pub stage_values : ℕ → OutgoingState → Row
+stage_values mark state = number_value mark ∷ Text (out_state_text state) ∷ Text (refusal_text state) ∷ []
+
+abbrev pub outgoing_values : OutgoingHeader → Row
+outgoing_values h = identity_values h.identity ++ Text (format_text h.format) ∷ number_value h.longest ∷ Text h.description ∷ stage_values h.mark h.state
 
 -- what an answer tells, if it has a row
 abbrev pub first_told : {A : Type 0} → (Row → A) → List Row → Option A
@@ -63,6 +75,10 @@ IsToldOf {X} tell entries k (Some told) = (before : List X) × (x : X) × (after
 abbrev pub response_in : Row → IssuedResponse
 response_in row = record { kind = kind_in (bytes (column row 0)); reason = number (bytes (column row 1)); text = bytes (column row 2); dispatch = dispatch_in (number_in (column row 3)) }
 
+-- its columns
+abbrev pub response_values : IssuedResponse → Row
+response_values x = Text (kind_text x.kind) ∷ Text (reason_text x.kind x.reason) ∷ Text x.text ∷ number_value (sent_number x.dispatch) ∷ []
+
 -- the response to the file with a number
 abbrev pub IsResponseTo : Register → ℕ → Option IssuedResponse → Type 0
 IsResponseTo r k found = (before : List Incoming) (f : Incoming) (after : List Incoming) → IsPlaced r.incoming k before f after → found ≡ option_map issued_response f.response
@@ -72,11 +88,19 @@ IsResponseTo r k found = (before : List Incoming) (f : Incoming) (after : List I
 abbrev pub received_header_in : Row → ReceivedHeader
 received_header_in row = record { kind = kind_in (bytes (column row 0)); identity = identity_in 1 row; reason = number (bytes (column row 6)) }
 
+-- its columns
+abbrev pub received_values : ReceivedHeader → Row
+received_values h = Text (kind_text h.kind) ∷ identity_values h.identity ++ Text (reason_text h.kind h.reason) ∷ []
+
 abbrev pub received_header_of : Received → ReceivedHeader
 received_header_of x = record { kind = x.kind; identity = x.identity; reason = x.reason }
 
 abbrev pub remark_in : Row → Remark
 remark_in row = record { creator = bytes (column row 0); text = bytes (column row 1) }
+
+-- its columns
+abbrev pub remark_values : Remark → Row
+remark_values m = Text m.creator ∷ Text m.text ∷ []
 
 abbrev pub remark_of : Received → Remark
 remark_of x = record { creator = x.creator; text = x.text }

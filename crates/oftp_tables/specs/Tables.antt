@@ -239,6 +239,11 @@ pub record TellsIdentity (it : Identity) (at : ℕ) (row : Row) : Type 0 where
   pub originator : IsName 25 it.originator × (column row (at + 3) ≡ Text it.originator)
   pub destination : IsName 25 it.destination × (column row (at + 4) ≡ Text it.destination)
 
+-- a row tells these values in turn, from a place on
+abbrev pub TellsValues : Row → ℕ → Row → Type 0
+TellsValues [] at row = ⊤
+TellsValues (value ∷ values) at row = (column row at ≡ value) × TellsValues values (at + 1) row
+
 abbrev pub has_number : ℕ → Row → Bool
 has_number n row = number_in (column row 0) == n
 

@@ -4,9 +4,9 @@ ghost use Rattle.std.specs.Prelude.{◌≡◌, ◌⊎◌, ◌+◌, ◌<◌, ◌�
 ghost use Rattle.std.specs.Str.{IsUtf8, bytes_eq};
 ghost use Rattle.sqlite.specs.declared.types.Value.TheVariants as value;
 ghost use Rattle.sqlite.specs.Order.{bytes, column};
-ghost use Rattle.oftp_wire.specs.Octets.{IsDigits, IsName, number};
+ghost use Rattle.oftp_wire.specs.Octets.{IsDigits, IsName, decimal, number};
 ghost use Rattle.oftp_register.specs.Offices.{IsFailure};
-ghost use Rattle.oftp_tables.specs.Tables.{HasRefusal, TellsIdentity, dispatch_in, format_in, format_text, identity_in, in_state_in, in_state_text, kind_in, kind_text, number_in, out_state_in, out_state_text, refusal_text, sent_number};
+ghost use Rattle.oftp_tables.specs.Tables.{HasRefusal, TellsIdentity, dispatch_in, format_in, format_text, identity_in, in_state_in, in_state_text, kind_in, kind_text, number_in, out_state_in, out_state_text, reason_text, refusal_text, sent_number};
 
 use oftp_register::{
     DigitString, Dispatch, Identity, IncomingState, Name, Note, OfficeFault, OutgoingState,
@@ -52,6 +52,7 @@ pub fn digits_at<const N: usize>(row: &Row, at: usize) -> Option<DigitString<N>>
 pub fn identity_at(row: &Row, at: usize) -> Option<Identity>
     requires { at < 100 }
     ensures told { IfSome result (λ identity. identity ≡ identity_in at row.now) }
+    ensures fits { IfSome result (λ identity. TellsIdentity identity at row.now) }
     ensures found { (identity : Identity) → TellsIdentity identity at row.now → IsSome result }
 {
     Some(Identity {
@@ -162,10 +163,30 @@ pub fn incoming_state_at(row: &Row, at: usize) -> Option<IncomingState>
     }
 }
 
+// The number that two digits make.
+fn two_digits_of(text: &[u8]) -> Option<Count<2>>
+    ensures told { IfSome result (λ reason. reason ≡ number text.now) }
+    ensures fits { IfSome result (λ reason. text.now ≡ decimal 2 reason) }
+    ensures found { IsDigits 2 text.now → IsSome result }
+{
+    match text {
+        [tens, units] => {
+            let tens = *tens;
+            let units = *units;
+            if 48 <= tens && tens < 58 && 48 <= units && units < 58 {
+                Some(Count::new(u64::from(tens - 48) * 10 + u64::from(units - 48)))
+            } else {
+                None
+            }
+        }
+        _ => None,
+    }
+}
+
 // The state of an outgoing file that isn't refused.
 fn unrefused_state_of(text: &[u8]) -> Option<OutgoingState>
     ensures told { IfSome result (λ state. (reason : List ℕ) → state ≡ out_state_in text.now reason) }
-    ensures fits { IfSome result (λ state. text.now ≡ out_state_text state) }
+    ensures fits { IfSome result (λ state. (text.now ≡ out_state_text state) × (refusal_text state ≡ [])) }
     ensures found { (state : OutgoingState) → bytes_eq text.now (codes "refused") ≡ false → text.now ≡ out_state_text state → IsSome result }
 {
     if text == b"waiting".as_slice() {
@@ -183,25 +204,35 @@ fn unrefused_state_of(text: &[u8]) -> Option<OutgoingState>
     }
 }
 
-/// The state of an outgoing file that a row tells at a place, with the reason of a refusal at the next. The place is below 100.
+// The state of an outgoing file by its text, and by the text of its reason.
+fn outgoing_state_of(text: &[u8], reason: &[u8]) -> Option<OutgoingState>
+    ensures told { IfSome result (λ state. state ≡ out_state_in text.now reason.now) }
+    ensures fits { IfSome result (λ state. (text.now ≡ out_state_text state) × (reason.now ≡ refusal_text state)) }
+    ensures found { (state : OutgoingState) → HasRefusal state → text.now ≡ out_state_text state → reason.now ≡ refusal_text state → IsSome result }
+{
+    if text == b"refused".as_slice() {
+        match two_digits_of(reason) {
+            Some(reason) => Some(OutgoingState::Refused(reason)),
+            None => None,
+        }
+    } else if reason.is_empty() {
+        unrefused_state_of(text)
+    } else {
+        None
+    }
+}
+
+/// The state of an outgoing file that a row tells at a place, and at the next the reason of a refusal, which is empty in every other
+/// state. The place is below 100.
 pub fn outgoing_state_at(row: &Row, at: usize) -> Option<OutgoingState>
     requires { at < 100 }
     ensures told { IfSome result (λ state. state ≡ out_state_in (bytes (column row.now at)) (bytes (column row.now (at + 1)))) }
-    ensures fits { IfSome result (λ state. column row.now at ≡ value.Text (out_state_text state)) }
+    ensures fits { IfSome result (λ state. (column row.now at ≡ value.Text (out_state_text state)) × (column row.now (at + 1) ≡ value.Text (refusal_text state))) }
     ensures found { (state : OutgoingState) → HasRefusal state → column row.now at ≡ value.Text (out_state_text state)
         → column row.now (at + 1) ≡ value.Text (refusal_text state) → IsSome result }
 {
-    match row.get_ref(at) {
-        Ok(ValueRef::Text(text)) => {
-            if text == b"refused".as_slice() {
-                match reason_at(row, at + 1) {
-                    Some(reason) => Some(OutgoingState::Refused(reason)),
-                    None => None,
-                }
-            } else {
-                unrefused_state_of(text)
-            }
-        }
+    match (row.get_ref(at), row.get_ref(at + 1)) {
+        (Ok(ValueRef::Text(text)), Ok(ValueRef::Text(reason))) => outgoing_state_of(text, reason),
         _ => None,
     }
 }
@@ -226,33 +257,27 @@ pub fn kind_at(row: &Row, at: usize) -> Option<ResponseKind>
     }
 }
 
-// The number that two digits make, 0 where there is none.
-fn reason_of(text: &[u8]) -> Option<Count<2>>
+// The reason of a response of a kind by its text.
+fn reason_of(kind: ResponseKind, text: &[u8]) -> Option<Count<2>>
     ensures told { IfSome result (λ reason. reason ≡ number text.now) }
-    ensures found { (text.now ≡ []) ⊎ IsDigits 2 text.now → IsSome result }
+    ensures fits { IfSome result (λ reason. text.now ≡ reason_text kind reason) }
+    ensures found { (reason : ℕ) → text.now ≡ reason_text kind reason → IsSome result }
 {
-    match text {
-        [] => Some(Count::new(0)),
-        [tens, units] => {
-            let tens = *tens;
-            let units = *units;
-            if 48 <= tens && tens < 58 && 48 <= units && units < 58 {
-                Some(Count::new(u64::from(tens - 48) * 10 + u64::from(units - 48)))
-            } else {
-                None
-            }
-        }
-        _ => None,
+    match kind {
+        ResponseKind::EndResponse if text.is_empty() => Some(Count::new(0)),
+        ResponseKind::EndResponse => None,
+        ResponseKind::NegativeEndResponse => two_digits_of(text),
     }
 }
 
-/// The reason that a row tells at a place, 0 where it is empty.
-pub fn reason_at(row: &Row, at: usize) -> Option<Count<2>>
+/// The reason that a row tells at a place of a response of a kind: two digits of a negative one, and nothing of the other, which is 0.
+pub fn reason_at(row: &Row, at: usize, kind: ResponseKind) -> Option<Count<2>>
     ensures told { IfSome result (λ reason. reason ≡ number (bytes (column row.now at))) }
-    ensures found { (text : List ℕ) → (text ≡ []) ⊎ IsDigits 2 text → column row.now at ≡ value.Text text → IsSome result }
+    ensures fits { IfSome result (λ reason. column row.now at ≡ value.Text (reason_text kind reason)) }
+    ensures found { (reason : ℕ) → column row.now at ≡ value.Text (reason_text kind reason) → IsSome result }
 {
     match row.get_ref(at) {
-        Ok(ValueRef::Text(text)) => reason_of(text),
+        Ok(ValueRef::Text(text)) => reason_of(kind, text),
         _ => None,
     }
 }

@@ -1,15 +1,16 @@
 //! The headers of files, by number.
 
-ghost use Rattle.std.specs.Prelude.{◌≡◌, ◌<◌, ◌^◌, IfOk, IfSome, IfErr};
+ghost use Rattle.std.specs.Prelude.{◌≡◌, ◌<◌, ◌^◌, ℕ, IfOk, IfSome, IfErr, IsSome};
 ghost use Rattle.sqlite.specs.Held.{state};
 ghost use Rattle.sqlite.specs.State.{HasCleanDisk};
 ghost use Rattle.oftp_vfile.specs.VirtualFile.{IsLongest};
 ghost use Rattle.oftp_register.specs.Register.{Register};
+ghost use Rattle.oftp_register.specs.declared.entry.OutgoingState.{OutgoingState};
 ghost use Rattle.oftp_register.specs.Offices.{IsFailure};
 ghost use Rattle.oftp_schema.specs.Schema.{office_schema};
 ghost use Rattle.oftp_tables.specs.Calls.{Looks};
-ghost use Rattle.oftp_tables.specs.Tables.{Tables};
-ghost use Rattle.oftp_store.specs.Reads.{IsToldOf, first_told, incoming_header_in, incoming_header_of, outgoing_header_in, outgoing_header_of};
+ghost use Rattle.oftp_tables.specs.Tables.{HasRefusal, Tables, TellsValues};
+ghost use Rattle.oftp_store.specs.Reads.{IsToldOf, first_told, incoming_header_in, incoming_header_of, incoming_values, outgoing_header_in, outgoing_header_of, outgoing_values, stage_values};
 
 use oftp_register::{Identity, IncomingState, Note, OfficeFault, OutgoingState};
 use oftp_tables::{
@@ -40,9 +41,10 @@ pub(crate) struct OutgoingHeader {
     pub state: OutgoingState,
 }
 
-// The header of an incoming file that a row tells.
+// The header of an incoming file that a row tells. A row that is none of the table's, whatever the file, is a fault of the store.
 fn incoming_header_in(alloc: Global, row: &Row) -> Result<IncomingHeader, OfficeFault>
     ensures told { IfOk result (λ header. header ≡ incoming_header_in row.now) }
+    ensures fits { IfOk result (λ header. TellsValues (incoming_values header) 0 row.now) }
     ensures within { IfOk result (λ header. IsLongest header.format header.longest) }
     ensures fails { IfErr result IsFailure }
 {
@@ -74,7 +76,9 @@ fn incoming_header_in(alloc: Global, row: &Row) -> Result<IncomingHeader, Office
 
 // The mark and the state of an outgoing file that a row tells.
 fn stage_in(row: &Row) -> Option<(u32, OutgoingState)>
-    ensures { IfSome result (λ stage. (stage.0 ≡ (outgoing_header_in row.now).mark) × (stage.1 ≡ (outgoing_header_in row.now).state)) }
+    ensures told { IfSome result (λ stage. (stage.0 ≡ (outgoing_header_in row.now).mark) × (stage.1 ≡ (outgoing_header_in row.now).state)) }
+    ensures fits { IfSome result (λ stage. TellsValues (stage_values stage.0 stage.1) 8 row.now) }
+    ensures found { (mark : ℕ) (state : OutgoingState) → mark < 2 ^ 32 → HasRefusal state → TellsValues (stage_values mark state) 8 row.now → IsSome result }
 {
     match (number_at(row, 8), outgoing_state_at(row, 9)) {
         (Some(mark), Some(state)) => Some((mark, state)),
@@ -82,9 +86,10 @@ fn stage_in(row: &Row) -> Option<(u32, OutgoingState)>
     }
 }
 
-// The header of an outgoing file that a row tells.
+// The header of an outgoing file that a row tells. A row that is none of the table's, whatever the file, is a fault of the store.
 fn outgoing_header_in(alloc: Global, row: &Row) -> Result<OutgoingHeader, OfficeFault>
     ensures told { IfOk result (λ header. header ≡ outgoing_header_in row.now) }
+    ensures fits { IfOk result (λ header. TellsValues (outgoing_values header) 0 row.now) }
     ensures within { IfOk result (λ header. IsLongest header.format header.longest) }
     ensures fails { IfErr result IsFailure }
 {

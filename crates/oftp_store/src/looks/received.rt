@@ -4,7 +4,8 @@ ghost use Rattle.std.specs.Prelude.{◌≡◌, ◌<◌, ◌^◌, [], Some, IfOk,
 ghost use Rattle.sqlite.specs.Held.{state};
 ghost use Rattle.oftp_register.specs.Offices.{IsFailure};
 ghost use Rattle.oftp_tables.specs.Calls.{Looks};
-ghost use Rattle.oftp_store.specs.Reads.{IsRemarkOf, IsToldOf, first_told, received_entry_of, received_header_in, received_header_of, remark_in};
+ghost use Rattle.oftp_tables.specs.Tables.{TellsValues};
+ghost use Rattle.oftp_store.specs.Reads.{IsRemarkOf, IsToldOf, first_told, received_entry_of, received_header_in, received_header_of, received_values, remark_in, remark_values};
 ghost use Rattle.oftp_store.specs.Tells.{Tells, received_by_no};
 
 use oftp_register::{
@@ -30,13 +31,17 @@ pub(crate) struct Remark {
     pub text: Note,
 }
 
-// The response that a row tells.
+// The response that a row tells. A row that is none of the table's, whatever the response, is a fault of the store.
 fn header_in(row: &Row) -> Result<ReceivedHeader, OfficeFault>
     ensures told { IfOk result (λ header. header ≡ received_header_in row.now) }
+    ensures fits { IfOk result (λ header. TellsValues (received_values header) 0 row.now) }
     ensures fails { IfErr result IsFailure }
 {
-    match (kind_at(row, 0), identity_at(row, 1), reason_at(row, 6)) {
-        (Some(kind), Some(identity), Some(reason)) => Ok(ReceivedHeader {
+    let Some(kind) = kind_at(row, 0) else {
+        return Err(OfficeFault::Store);
+    };
+    match (identity_at(row, 1), reason_at(row, 6, kind)) {
+        (Some(identity), Some(reason)) => Ok(ReceivedHeader {
             kind,
             identity,
             reason,
@@ -79,6 +84,21 @@ fn find_received_header<S: Alter>(
     }
 }
 
+// The texts that a row tells. A row that is none of the table's, whatever the texts, is a fault of the store.
+fn remark_in(alloc: Global, row: &Row) -> Result<Remark, OfficeFault>
+    ensures told { IfOk result (λ remark. remark ≡ remark_in row.now) }
+    ensures fits { IfOk result (λ remark. TellsValues (remark_values remark) 0 row.now) }
+    ensures fails { IfErr result IsFailure }
+{
+    match name_at(row, 0) {
+        None => Err(OfficeFault::Store),
+        Some(creator) => match text_at(alloc, row, 1) {
+            Ok(text) => Ok(Remark { creator, text }),
+            Err(fault) => Err(fault),
+        },
+    }
+}
+
 // The texts that an answer tells.
 fn remark_told(alloc: Global, rows: &[Row]) -> Result<Remark, OfficeFault>
     ensures told { IfOk result (λ remark. Some remark ≡ first_told remark_in rows.now) }
@@ -86,13 +106,7 @@ fn remark_told(alloc: Global, rows: &[Row]) -> Result<Remark, OfficeFault>
 {
     match rows {
         [] => Err(OfficeFault::Store),
-        [row, ..] => match name_at(row, 0) {
-            None => Err(OfficeFault::Store),
-            Some(creator) => match text_at(alloc, row, 1) {
-                Ok(text) => Ok(Remark { creator, text }),
-                Err(fault) => Err(fault),
-            },
-        },
+        [row, ..] => remark_in(alloc, row),
     }
 }
 
