@@ -26,8 +26,8 @@ BOOK = row_files.ROWS / "books/usual.toml"
 # Where SQLite's locks on a database file lie: the pending, the reserved and the shared ones.
 LOCKS = (1 << 30, 512)
 PATIENCE = 10
-# What a command may take beside its wait, on a machine with other work.
-SLACK = 8
+# What a command may take beside its wait, on a machine with other work, whose host may be busy too.
+SLACK = 25
 
 
 class Wrong(Exception):

@@ -32,8 +32,8 @@ CARMAKER = "O0177CARMAKER"
 LOCKS = (1 << 30, 512)
 # How long anything may take on a machine with other work.
 LONG = 60
-# How long what needs no wait may take there.
-SOON = 8
+# How long what needs no wait may take there: a busy host has stopped all of it for nine seconds.
+SOON = 25
 GREATEST = {"buffer": "16384", "credit": "99"}
 
 
