@@ -6,6 +6,8 @@ use Rattle.oftp_partners.specs.Faults.{number_of}
 use Rattle.oftp_schema.specs.declared.fault.StoreFault.TheVariants as store
 use Rattle.oftp_engine.specs.declared.serving.End.TheVariants.{Own, Partner, Input}
 use Rattle.oftp_engine.specs.declared.serving.RunFault.TheVariants.{Read, Write, Office, Memory}
+use Rattle.oftp_listing.specs.declared.fault.ListFault.{ListFault}
+use Rattle.oftp_listing.specs.declared.fault.ListFault.TheVariants as list
 use Rattle.oftp_words.specs.declared.outcome.Fault.{Fault}
 use Rattle.oftp_words.specs.declared.outcome.Fault.TheVariants.{Run, Book, Store, File, Socket}
 use Rattle.oftp_words.specs.declared.outcome.Outcome.{Outcome}
@@ -23,6 +25,17 @@ fault_line (Store store.Memory) = codes "fault: 6 store 2"
 fault_line (Store store.WrongSchema) = codes "fault: 6 store 3"
 fault_line File = codes "fault: 7 file"
 fault_line Socket = codes "fault: 8 socket"
+
+-- the output failed
+abbrev pub write_fault : Fault
+write_fault = Run Write
+
+-- a report's fault as that of its command; that a request isn't whole is none of a report
+abbrev pub fault_of_report : ListFault → Fault
+fault_of_report list.Incomplete = Run Memory
+fault_of_report list.Memory = Run Memory
+fault_of_report list.Office = Run Office
+fault_of_report list.Write = write_fault
 
 -- the line on standard output
 abbrev pub outcome_line : Outcome → List ℕ

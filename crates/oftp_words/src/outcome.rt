@@ -1,7 +1,7 @@
 //! How a command comes out, as a person reads it.
 
-ghost use Rattle.std.specs.Prelude.{◌≡◌, Some};
-ghost use Rattle.oftp_words.specs.Printed.{fault_line, is_refusal, outcome_line};
+ghost use Rattle.std.specs.Prelude.{◌≡◌, IfErr, Some};
+ghost use Rattle.oftp_words.specs.Printed.{fault_line, fault_of_report, is_refusal, outcome_line, write_fault};
 
 use oftp_engine::{End, RunFault};
 use oftp_listing::ListFault;
@@ -31,6 +31,8 @@ impl Fault {
 }
 
 impl From<ListFault> for Fault {
+    ghost from_gives = { λ told fault. fault ≡ fault_of_report told };
+
     // That a request isn't whole is no fault of a report or of a whole request.
     fn from(fault: ListFault) -> Fault {
         Fault::Run(match fault {
@@ -116,8 +118,10 @@ impl fmt::Display for Outcome {
     }
 }
 
-/// Writes a line so that whoever reads the output has it at once.
-pub fn write_line<L: fmt::Display>(out: &mut impl Write, line: &L) -> Result<(), Fault> {
+/// Writes a line so that whoever reads the output has it at once. Any error is [`RunFault::Write`].
+pub fn write_line<L: fmt::Display>(out: &mut impl Write, line: &L) -> Result<(), Fault>
+    ensures fails { IfErr result (λ fault. fault ≡ write_fault) }
+{
     match put_line(out, line) {
         Ok(()) => Ok(()),
         Err(_) => Err(Fault::Run(RunFault::Write)),
