@@ -4,7 +4,12 @@
 # files of examples/day; rows/day/a_day.row has these sessions in words.
 set -euo pipefail
 root=$(cd "$(dirname "$0")/.." && pwd)
-program=${OFTP_STATION:-$root/oftp_station}
+if [ -z "${OFTP_STATION-}" ]; then
+    me=a_day
+    source "$root/checks/lib/build.sh"
+    choose_program
+fi
+program=${OFTP_STATION:-$program}
 room=$(mktemp -d)
 trap 'rm -rf "$room"' EXIT
 cd "$room"

@@ -4,7 +4,12 @@
 # responses go back both ways, and the register is shown by http. It prints each command and what the program says.
 set -euo pipefail
 root=$(cd "$(dirname "$0")/.." && pwd)
-program=${OFTP_STATION:-$root/oftp_station}
+if [ -z "${OFTP_STATION-}" ]; then
+    me=two_stations
+    source "$root/checks/lib/build.sh"
+    choose_program
+fi
+program=${OFTP_STATION:-$program}
 room=$(mktemp -d)
 services=()
 trap 'kill -9 "${services[@]}" 2> /dev/null || true; rm -rf "$room"' EXIT
@@ -27,18 +32,35 @@ has() {
     "$program" report --db "$1" "$2" | grep -qF -- "$3" || { echo "the report $2 of $1 doesn't say $3"; exit 1; }
 }
 
-# So many ports that nothing listens on.
+# So many ports that nothing listens on, below those that the machine gives to whoever connects, so that none is taken before a service
+# listens on it.
 free_ports() {
-    python3 -c 'import socket, sys
-probes = [socket.create_server(("127.0.0.1", 0)) for _ in range(int(sys.argv[1]))]
+    python3 -c 'import os, socket, sys
+probes, port = [], 10000 + os.getpid() * 101 % 10000
+while len(probes) < int(sys.argv[1]):
+    port += 1
+    try:
+        probes.append(socket.create_server(("127.0.0.1", port)))
+    except OSError:
+        pass
 print(*(it.getsockname()[1] for it in probes))' "$1"
+}
+
+# Waits until a command holds, and fails where that takes longer than a minute.
+until_holds() {
+    local end=$((SECONDS + 60))
+    until "$@"; do
+        if [ "$SECONDS" -ge "$end" ]; then
+            echo "not within a minute: $*"
+            exit 1
+        fi
+        sleep 0.02
+    done
 }
 
 # Waits until a port is listened on.
 await() {
-    local entry
-    entry=$(printf ':%04X 00000000:0000 0A' "$1")
-    until grep -q "$entry" /proc/net/tcp; do sleep 0.02; done
+    until_holds grep -q "$(printf ':%04X 00000000:0000 0A' "$1")" /proc/net/tcp
 }
 
 # Starts a station's service, whose lines go to a file.
@@ -51,14 +73,14 @@ serve() {
     await "$2"
 }
 
-# How many octets the files of the supplier's database have.
-size() {
-    cat supplier.db* | wc -c
+# Whether the files of the supplier's database have half a megabyte of the schedule.
+is_within() {
+    [ "$(cat supplier.db* | wc -c)" -gt 700000 ]
 }
 
-# Kills the service once half a megabyte of the schedule is in its database.
+# Kills the service within the schedule.
 kill_within() {
-    until [ "$(size)" -gt 700000 ]; do sleep 0.02; done
+    until_holds is_within
     kill -9 "$service"
 }
 
