@@ -2,8 +2,8 @@
 # Runs the program, and the tests of refused growths, with each of their allocations refused in turn; and the test of the deframer's
 # room with every allocation behind the reservation refused. No answer may differ: only a fault may stand in its place. What the
 # program wrote by then is a beginning of the whole answer; where the register was refused memory, ESID 08 stands behind it. It wants a
-# C compiler. It proves and builds what isn't built yet; with the word `built` it takes the program and the tests as the last `rt ci`
-# left them.
+# C compiler. The program is that of OFTP_STATION, or else the one that was last proved. The tests are proved and built if need be; with
+# the word `built` they are taken as the last `rt ci` left them, and with the word `program` they are left out.
 set -euo pipefail
 how=${1-}
 root=$(cd "$(dirname "$0")/.." && pwd)
@@ -125,11 +125,14 @@ none_behind_reservation() {
 }
 
 book=$root/examples/supplier/book.toml
-if [ "$how" != built ]; then "$root/oftp_station" check --book "$book" > /dev/null; fi
-program=$root/crates/oftp_station/out/oftp_station
+program=${OFTP_STATION:-$root/crates/oftp_station/out/oftp_station}
 each_of_program check --book "$book"
 each_of_program feed --book "$book" "$root/examples/repeated_end_response.octets" answer
 each_of_program feed --book "$book" "$root/examples/one_file.octets" answer
+if [ "$how" = program ]; then
+    echo 'LEFT OUT, since only the gate builds them: the tests of refused growths and of the room that the deframer reserves'
+    exit
+fi
 none_behind_reservation oftp_examples tests::streams::no_memory_within_room
 each_of_test oftp_examples tests::files::refused_and_taken_again
 each_of_test oftp_examples tests::registers::memory::each_allocation_refused

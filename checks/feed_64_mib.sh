@@ -1,14 +1,12 @@
 #!/bin/bash
 # Gives `feed` 64 MiB of frames: the opening of a session and then one end response again and again. It prints the time and the
-# memory that the program took, and fails where the memory is above the bound: a session's memory doesn't grow with the session. It
-# proves and builds the program if that isn't built yet; with the word `built` it takes the program as the last `rt ci` left it.
+# memory that the program took, and fails where the memory is above the bound: a session's memory doesn't grow with the session. The
+# program is that of OFTP_STATION, or else the one that was last proved.
 set -euo pipefail
-how=${1-}
 bound=8192
 root=$(cd "$(dirname "$0")/.." && pwd)
 book=$root/examples/supplier/book.toml
-if [ "$how" != built ]; then "$root/oftp_station" check --book "$book" > /dev/null; fi
-program=$root/crates/oftp_station/out/oftp_station
+program=${OFTP_STATION:-$root/crates/oftp_station/out/oftp_station}
 room=$(mktemp -d)
 trap 'rm -rf "$room"' EXIT
 cd "$room"

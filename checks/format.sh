@@ -4,9 +4,8 @@ set -euo pipefail
 root=$(cd "$(dirname "$0")/.." && pwd)
 room=$(mktemp -d)
 trap 'rm -rf "$room"' EXIT
-cp "$root/crates.txt" "$room"
-cp -r "$root/crates" "$room"
-rm -rf "$room"/crates/*/out
+# what was proved lies in out/, and would be gigabytes to copy
+(cd "$root" && find crates.txt crates -name out -prune -o -type f -print0 | xargs -0 cp --parents -t "$room")
 for crate in "$room"/crates/*; do
     (cd "$crate" && rt fmt) > "$room/told"
     if ! diff -r -q -x out "$root/crates/${crate##*/}" "$crate"; then

@@ -6,10 +6,8 @@ root=$(cd "$(dirname "$0")/.." && pwd)
 room=$(mktemp -d)
 trap 'rm -rf "$room"' EXIT
 echo 'oftp_wire:' > "$room/crates.txt"
-mkdir "$room/crates"
-cp -r "$root/crates/oftp_wire" "$room/crates"
+(cd "$root" && find crates/oftp_wire -name out -prune -o -type f -print0 | xargs -0 cp --parents -t "$room")
 cd "$room/crates/oftp_wire"
-rm -rf out
 edit=must-fail/frame_held_over_feed.md
 file=$(sed -n 's/^file: //p' "$edit")
 old=$(sed -n 's/^old: //p' "$edit")

@@ -6,7 +6,7 @@ a plain copy of the same octets.
                                             size in memory, or costs per octet three times what a file of a thousandth does, or where
                                             a file that turns out an octet longer doesn't end the session
 
-It takes the program as it was last built. The last line is then `N passed, M failed`.
+It takes the program of OFTP_STATION, or else the one that was last proved. The last line is then `N passed, M failed`.
 """
 
 import os
@@ -20,7 +20,7 @@ from pathlib import Path
 import oftp
 
 ROOT = Path(__file__).resolve().parent.parent
-PROGRAM = ROOT / "crates/oftp_station/out/oftp_station"
+PROGRAM = os.environ.get("OFTP_STATION", str(ROOT / "crates/oftp_station/out/oftp_station"))
 MEBI = 1024 * 1024
 # The greatest file that is taken.
 MOST = 64 * MEBI
@@ -94,7 +94,7 @@ def receive(room, size, buffer, credit):
     # In a process of its own, since the memory that is told of a program is at least that of the script that starts it.
     subprocess.run([sys.executable, __file__, "--make", str(size), str(buffer), str(credit), given], check=True)
     book.write_text(BOOK.format(buffer=buffer, credit=credit))
-    seconds, memory = run([str(PROGRAM), "feed", "--book", str(book), str(given), str(answer)])
+    seconds, memory = run([PROGRAM, "feed", "--book", str(book), str(given), str(answer)])
     return seconds, memory, answer.read_bytes()
 
 

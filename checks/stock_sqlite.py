@@ -1,12 +1,13 @@
 #!/usr/bin/env python3
 """Reads with stock sqlite3 the databases that the built program writes, and gives it databases that stock sqlite3 wrote.
 
-    checks/stock_sqlite.py [PROGRAM]        the program as it was last built, where none is named
+    checks/stock_sqlite.py
 
 The tables stand below as a database of the station has them; the texts that make them are written from these lines, and not taken
 from the station's code. The last line is `N passed, M failed`.
 """
 
+import os
 import shutil
 import sqlite3
 import subprocess
@@ -17,7 +18,7 @@ from pathlib import Path
 import oftp
 
 ROOT = Path(__file__).resolve().parent.parent
-PROGRAM = Path(sys.argv[1]) if len(sys.argv) > 1 else ROOT / "crates/oftp_station/out/oftp_station"
+PROGRAM = os.environ.get("OFTP_STATION", str(ROOT / "crates/oftp_station/out/oftp_station"))
 BOOK = ROOT / "examples/supplier/book.toml"
 ONE_FILE = ROOT / "examples/one_file.octets"
 SECONDS = 60

@@ -1,0 +1,222 @@
+#!/usr/bin/env python3
+"""Runs the checks over processes of the program, and prints what each says, whole, when it ends.
+
+    checks/run_checks.py [--quick] [--list] [NAME ..]      those of these names, or all of the table below; with `--list` it prints their
+                                                           names alone
+
+Checks that measure time or memory run alone, one after another; all others run beside each other before them, as many as there are
+processors. With `--quick` the program is the checked one, and what only the gate builds is left out. The program is that of
+OFTP_STATION, or else crates/oftp_station/out/oftp_station. A check that fails, or doesn't end within its limit, fails all; the others
+are run nevertheless. The last line is `N passed, M failed`: the rows that passed, or the checks where the rows aren't among them, and
+the checks that failed.
+"""
+
+import argparse
+import os
+import shutil
+import signal
+import subprocess
+import sys
+import tempfile
+import threading
+import time
+from concurrent.futures import ThreadPoolExecutor
+from pathlib import Path
+from typing import NamedTuple, Optional
+
+ROOT = Path(__file__).resolve().parent.parent
+# How long a check may take. The longest takes some ten minutes on two processors; this is for one that hangs.
+LIMIT = 3600
+ALONE = True
+
+
+class Check(NamedTuple):
+    """A check: its name, its command, what it tries, whether it runs alone, whether it wants a C compiler, and its command with `--quick`
+    where that is another."""
+
+    name: str
+    command: str
+    tries: str
+    is_alone: bool = False
+    wants_cc: bool = False
+    quick: Optional[str] = None
+
+
+# Those that run beside each other stand in the order in which they begin: the longest first.
+CHECKS = [
+    Check("stops", "python3 checks/stop_at_each_call.py", "a day, stopped at each call on the database, and with allocations refused", wants_cc=True),
+    Check("stops of two", "python3 checks/two_stations.py --stops --every 1", "two stations, one stopped at each call on its database", wants_cc=True),
+    Check("listing allocations", "python3 checks/listing_allocations.py", "requests and reports, with allocations refused", wants_cc=True),
+    Check(
+        "allocations",
+        "bash checks/each_allocation_refused.sh built",
+        "each allocation of the program and of some tests refused in turn",
+        wants_cc=True,
+        quick="bash checks/each_allocation_refused.sh program",
+    ),
+    Check("ports", "python3 checks/ports_fail.py", "sessions whose reader or writer fails at one octet after another", wants_cc=True),
+    Check("rows", "python3 checks/play_rows.py", "the rows of sessions and of operators, in several ways, in memory and over a database"),
+    Check("two stations", "python3 checks/two_stations.py", "two stations, whose connection breaks at one octet after another"),
+    Check("two services", "python3 checks/two_services.py", "two stations as processes, cut off and killed at random moments"),
+    Check("kills", "python3 checks/kill_at_random.py", "the program, killed at random moments"),
+    Check("random sessions", "python3 checks/fuzz.py --seconds 20", "random sessions, over the program and over a model of a station"),
+    Check("command lines", "python3 checks/command_lines.py", "command lines, with what each prints, makes and leaves"),
+    Check("listing", "python3 checks/listing.py", "requests for what a database holds, and reports of it"),
+    Check("sqlite", "python3 checks/stock_sqlite.py", "the databases that the program writes and refuses, by stock sqlite3"),
+    Check("example of services", "bash examples/two_stations.sh", "two stations as services on this machine, one of them killed"),
+    Check("example of a day", "bash examples/a_day.sh | diff examples/a_day.stdout -", "the commands of a day"),
+    Check("octets", "python3 checks/spell_examples.py", "the octets of examples/, against the rows that spell them"),
+    Check("books", "python3 checks/book_faults.py", "the faults of partner books"),
+    Check("units", "bash checks/service_files.sh", "the units of examples/service"),
+    Check("held database", "python3 checks/database_held.py", "commands over a database that another process holds"),
+    Check("sockets", "python3 checks/sockets.py", "sessions and requests over sockets"),
+    Check("memory", "bash checks/feed_64_mib.sh", "the memory of a session of 64 MiB", ALONE),
+    Check("speed", "python3 checks/receive_speed.py --assert", "what a file that comes in takes", ALONE),
+    Check("database", "python3 checks/database_cost.py", "what a register in a database costs, beside stock sqlite3", ALONE),
+    Check("sizes", "python3 checks/sizes.py", "files, texts, books and credits at their limits", ALONE),
+]
+
+
+class Running:
+    """The processes of the checks that run now, and the folder that they make theirs in, so that all ends when this script does."""
+
+    def __init__(self):
+        self.room = None
+        self.groups = set()
+        self.lock = threading.Lock()
+        self.is_over = False
+
+    def open_room(self):
+        self.room = tempfile.mkdtemp(prefix="checks-")
+
+    def start(self, words, output):
+        with self.lock:
+            if self.is_over:
+                raise SystemExit(1)
+            how = {"stdout": output, "stderr": subprocess.STDOUT, "stdin": subprocess.DEVNULL, "cwd": ROOT}
+            environment = {**os.environ, "TMPDIR": self.room}
+            process = subprocess.Popen(words, start_new_session=True, env=environment, **how)
+            self.groups.add(process.pid)
+            return process
+
+    def end(self, process):
+        """Ends what a check has left, and the check itself where it still runs."""
+        with self.lock:
+            self.groups.discard(process.pid)
+            kill_group(process.pid)
+
+    def end_all(self):
+        with self.lock:
+            self.is_over = True
+            for group in self.groups:
+                kill_group(group)
+        shutil.rmtree(self.room, ignore_errors=True)
+
+    def leave_room(self):
+        """Removes the folder, unless a check that failed has kept something in it."""
+        try:
+            os.rmdir(self.room)
+        except OSError:
+            print(f"{self.room} has what is kept of checks that failed")
+
+
+def kill_group(group):
+    try:
+        os.killpg(group, signal.SIGKILL)
+    except ProcessLookupError:
+        pass
+
+
+RUNNING = Running()
+PRINTING = threading.Lock()
+
+
+def run(check, is_quick):
+    """Runs a check and prints what it says. It answers whether it passed, and its last line."""
+    command = check.quick if is_quick and check.quick else check.command
+    begin = time.monotonic()
+    with tempfile.TemporaryFile("w+", errors="replace") as output:
+        process = RUNNING.start(["bash", "-c", f"set -o pipefail; {command}"], output)
+        try:
+            status = process.wait(LIMIT)
+        except subprocess.TimeoutExpired:
+            status = None
+        RUNNING.end(process)
+        process.wait()
+        output.seek(0)
+        said = output.read()
+    why = {0: "passed", None: f"FAILED: it didn't end within {LIMIT} seconds"}.get(status, f"FAILED with status {status}")
+    with PRINTING:
+        print(f"== {check.name}: {check.tries}\n{said}-- {check.name}: {why}, {time.monotonic() - begin:.0f} s", flush=True)
+    return status == 0, said.splitlines()[-1:]
+
+
+def run_all(checks, is_quick):
+    """Runs the checks, those first that may run beside each other. It answers what each came to."""
+    beside = [it for it in checks if not it.is_alone]
+    with ThreadPoolExecutor(len(os.sched_getaffinity(0))) as lanes:
+        came = dict(zip(beside, lanes.map(lambda it: run(it, is_quick), beside)))
+    for it in checks:
+        if it.is_alone:
+            came[it] = run(it, is_quick)
+    return came
+
+
+def passed(came):
+    """How many rows passed, as the check of the rows tells in its last line, or how many checks where it isn't among them."""
+    for check, (_, last) in came.items():
+        if check.name == "rows":
+            return int(last[0].split()[0]) if last else 0
+    return sum(is_well for is_well, _ in came.values())
+
+
+def tell_left_out(checks):
+    """Says which checks weren't tried."""
+    for it in checks:
+        print(f"NOT TRIED for want of a C compiler: {it.tries}")
+
+
+def find_program():
+    """Gives the checks the program by its whole path, since they run it in folders of their own. It answers whether it is there."""
+    program = Path(os.environ.get("OFTP_STATION", ROOT / "crates/oftp_station/out/oftp_station")).absolute()
+    os.environ["OFTP_STATION"] = str(program)
+    return os.access(program, os.X_OK)
+
+
+def stop(number, _frame):
+    RUNNING.end_all()
+    os._exit(128 + number)
+
+
+def main():
+    parser = argparse.ArgumentParser(description=__doc__.splitlines()[0])
+    parser.add_argument("--quick", action="store_true")
+    parser.add_argument("--list", action="store_true")
+    parser.add_argument("names", nargs="*", metavar="NAME")
+    taken = parser.parse_args()
+    unknown = set(taken.names) - {it.name for it in CHECKS}
+    if unknown:
+        parser.error(f"no check has the name {', '.join(sorted(unknown))}")
+    checks = [it for it in CHECKS if not taken.names or it.name in taken.names]
+    if taken.list:
+        print("\n".join(f"{it.name}: {it.tries}" for it in checks))
+        return 0
+    if not find_program():
+        print(f"there is no program {os.environ['OFTP_STATION']}\n0 passed, 1 failed")
+        return 1
+    RUNNING.open_room()
+    for number in (signal.SIGINT, signal.SIGTERM, signal.SIGHUP):
+        signal.signal(number, stop)
+    left_out = [] if shutil.which("cc") else [it for it in checks if it.wants_cc]
+    came = run_all([it for it in checks if it not in left_out], taken.quick)
+    RUNNING.leave_room()
+    tell_left_out(left_out)
+    failed = [check.name for check, (is_well, _) in came.items() if not is_well]
+    if failed:
+        print(f"FAILED: {', '.join(failed)}")
+    print(f"{passed(came)} passed, {len(failed)} failed")
+    return 1 if failed or not came else 0
+
+
+if __name__ == "__main__":
+    sys.exit(main())
