@@ -38,7 +38,8 @@ def main():
         book = pathlib.Path(room) / "book.toml"
         for at, wanted, text in cases():
             book.write_text(text)
-            ran = subprocess.run([PROGRAM, "check", "--book", book], text=True, stdout=subprocess.PIPE, stderr=subprocess.STDOUT)
+            words = [PROGRAM, "check", "--book", book]
+            ran = subprocess.run(words, text=True, stdout=subprocess.PIPE, stderr=subprocess.STDOUT, timeout=60, check=False)
             well = ran.stdout == f"{wanted}\n" and ran.returncode == wanted.startswith("fault")
             passed, failed = passed + well, failed + (not well)
             if not well:

@@ -573,7 +573,7 @@ def main():
         print(f"never seen: {', '.join(sorted(missing))}")
     print(f"{steps.total()} steps, {len(steps)} of them different, in {sessions} sessions")
     print(f"{sessions} passed, {failed} failed")
-    return 1 if failed else 0
+    return 1 if failed or not sessions else 0
 
 
 if __name__ == "__main__":

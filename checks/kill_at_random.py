@@ -35,6 +35,8 @@ CREDIT = 8
 FULL = (BUFFER - 1) // 64 * 63 + max((BUFFER - 1) % 64 - 1, 0)
 WINDOW = FULL * CREDIT
 FILES_OF_A_DATABASE = 6
+# From how many trials of a kind on some have to be killed.
+ENOUGH = 20
 BOOK = f"""[station]
 code = 'O0013SUPPLIER'
 buffer = {BUFFER}
@@ -527,7 +529,9 @@ def run_all(room, seconds, chance):
             told[scenario.name][1] += was_killed
     for name, (trials, killed) in told.items():
         print(f"{name}: {trials} trials, {killed} of them killed")
-    return sum(trials for trials, _ in told.values()), 0
+    never = [name for name, (trials, killed) in told.items() if trials >= ENOUGH and not killed]
+    print("".join(f"{name}: the program was never killed\n" for name in never), end="")
+    return sum(trials for trials, _ in told.values()), len(never)
 
 
 def main():
@@ -539,7 +543,7 @@ def main():
     with tempfile.TemporaryDirectory() as room:
         passed, failed = run_all(Path(room), taken.seconds, random.Random(taken.seed))
     print(f"{passed} passed, {failed} failed")
-    return 1 if failed else 0
+    return 1 if failed or not passed else 0
 
 
 if __name__ == "__main__":

@@ -11,6 +11,7 @@ names. A row of one session alone is played in each way over a register in memor
 """
 
 import os
+import select
 import sqlite3
 import subprocess
 import sys
@@ -145,7 +146,7 @@ def converse(session, sink, answers):
     is_read = True
     for side, wanted in session.steps:
         if side == "closes":
-            os.close(answers)
+            read_no_more(answers)
             is_read = False
         elif side == "in":
             try:
@@ -163,6 +164,16 @@ def converse(session, sink, answers):
     if session.is_ended():
         os.close(sink)
     return octets
+
+
+def read_no_more(answers):
+    """Closes the end that is read, and waits until nobody has it: a program that another thread begins has it too for a moment."""
+    writer = os.open(f"/dev/fd/{answers}", os.O_WRONLY)
+    os.close(answers)
+    waits = select.poll()
+    waits.register(writer, 0)
+    waits.poll(SECONDS * 1000)
+    os.close(writer)
 
 
 def read_octets(answers, left):

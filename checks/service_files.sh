@@ -20,8 +20,7 @@ count() {
 # The unit is verified under a name that systemd starts, with a program and a user that are here.
 verify() {
     sed -e 's|/usr/local/bin/oftp_station|/bin/true|; s/^User=oftp/User=root/' "$root/examples/service/$1" > "$room/${1/@./@O0177CARMAKER.}"
-    systemd-analyze verify --man=no "$room/${1/@./@O0177CARMAKER.}"
-    ! grep -q 'Unknown\|Failed to parse\|not executable\|Invalid' "$room/said"
+    systemd-analyze verify --man=no "$room/${1/@./@O0177CARMAKER.}" && ! grep -q 'Unknown\|Failed to parse\|not executable\|Invalid' "$room/said"
 }
 
 # It binds free ports, and goes on until it is ended.

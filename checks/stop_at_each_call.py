@@ -90,6 +90,12 @@ class Command:
         model.play(session, self.act.joined("in"))
         return states + [(out, {**found, **OURS}) for out, found in session.moments]
 
+    def lacks(self, how):
+        """Why there has to be a call that is stopped in this way, or None: each command takes memory, and one that changes tables writes."""
+        if how == "refuse":
+            return "takes memory, and no allocation is refused"
+        return "changes the tables, and no call on the database is stopped" if self.left != self.states[0][1] else None
+
     def run(self, room, environment):
         """Gives the command in a copy of its folder. It answers what it told, the octets out, how it ended, and the tables left."""
         shutil.copytree(self.base, room, dirs_exist_ok=True)
@@ -258,13 +264,15 @@ def main():
                 most = taken.allocations if how == "refuse" and not isinstance(command, InMemory) else None
                 numbers = numbers_of(command, library, how if how == "refuse" else "fail", most, taken.every)
                 faults = stop_each(command, how, numbers, library, runners)
+                if not numbers and command.lacks(how):
+                    faults = [f"{command.name}, {how}: it {command.lacks(how)}"]
                 print("\n".join(faults[:5]), end="\n" if faults else "")
                 failed += len(faults)
-                passed += len(numbers) - len(faults)
+                passed += max(len(numbers) - len(faults), 0)
                 tried.append(f"{len(numbers)} {how}")
             print(f"{command.name}: {', '.join(tried)}", flush=True)
     print(f"{passed} passed, {failed} failed")
-    return 1 if failed else 0
+    return 1 if failed or not passed else 0
 
 
 if __name__ == "__main__":

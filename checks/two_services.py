@@ -38,6 +38,9 @@ ROUNDS_OF_A_LIFE = 24
 FILES = 10
 MOST = 20_000
 LONG = 60
+# What has to come in so many rounds, or more.
+ENOUGH = 200
+WANTED = ["commands killed", "programs killed", "connections broken", "transfers that went on"]
 IDENTITY = ["dataset", "date", "time", "originator", "destination"]
 STAMP = ["--date", "20240201", "--time", "0800000001"]
 # How a session may end: between two stations none breaks the protocol.
@@ -600,8 +603,11 @@ def main():
     print("".join(f"{why}\n" for why in faults), end="")
     rounds = count.pop("rounds", 0)
     print(", ".join(f"{number} {name}" for name, number in sorted(count.items())))
+    never = [name for name in WANTED if rounds >= ENOUGH and not count[name]]
+    faults += [f"no {name}" for name in never]
+    print("".join(f"no {name}, in {rounds} rounds\n" for name in never), end="")
     print(f"{rounds} passed, {len(faults)} failed")
-    return 1 if faults else 0
+    return 1 if faults or not rounds else 0
 
 
 if __name__ == "__main__":

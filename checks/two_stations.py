@@ -206,6 +206,8 @@ def stop_each(room, first, every, players):
             reached = [why for was_reached, why in tried if was_reached]
             cases, faults = cases + len(reached), faults + [why for why in reached if why]
             at, is_there = at + 16 * every, len(reached) == len(calls)
+        if at == 1 + 16 * every and not reached:
+            cases, faults = cases + 1, [*faults, f"program {program} of the supplier: no call of it is stopped"]
         print(f"program {program} of the supplier: {cases} stops so far", flush=True)
     return cases, faults
 
