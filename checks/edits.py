@@ -88,13 +88,12 @@ def turned_texts(edits):
 
 
 class Function:
-    """A function of a crate: its name as rattle prints it, its file, its lines and its names of clauses; `calls` are the names that its body calls."""
+    """A function of a crate: its name as rattle prints it, its file, its lines, and the names of its clauses, empty for one without."""
 
     def __init__(self, name, path, text, begin, body):
         self.name, self.path = name, path
         self.first, self.last = text.count("\n", 0, begin), text.count("\n", 0, body[1])
         self.clauses = re.findall(r"\bensures\*?\s*(\w*)\s*\{", text[begin : body[0]])
-        self.calls = set(re.findall(r"\b(\w+)\s*(?:::<[^>]*>)?\(", text[body[0] : body[1]]))
 
     def has(self, path, line):
         return path == self.path and self.first <= line <= self.last

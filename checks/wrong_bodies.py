@@ -22,7 +22,8 @@ A line `refused by: WORD, ..` of an edit names what has to refuse it. It is comp
     loop                   an invariant of a loop, which carries clauses through it
     safety                 any other demand: an overflow, an index, what a called function requires, a measure
 
-For an edit that turns no function a word is `FUNCTION.WORD`, of any function that fails by itself, or the name of a lemma or a law that does.
+For an edit that turns no function a word is `PATH.WORD`, as `packing::put_from.count`, of any function that fails by itself, or the name of a lemma
+or a law that does.
 Each word has to be among what refused the edit; others may be there too. An edit fails as NOT REFUSED where the crate is proved with it; as BAD EDIT where it
 can't be applied or doesn't compile; where nothing refuses it but that a proof names what it took away; and where it names no refusal, or another.
 
@@ -205,7 +206,7 @@ def words_of(goals, function):
 def words_of_all(failures):
     """The words of all functions that fail by themselves, and the lemmas that do."""
     named = {it.name: it for it in failures.functions}
-    words = [f"{name.rpartition('::')[2]}.{it}" for name, goals in failures.goals.items() if name in named for it in words_of(goals, named[name])]
+    words = [f"{name.partition('::')[2]}.{it}" for name, goals in failures.goals.items() if name in named for it in words_of(goals, named[name])]
     return list(dict.fromkeys([*words, *failures.lemmas]))
 
 
