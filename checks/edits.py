@@ -105,14 +105,15 @@ def plain(name):
 
 
 def owner_of(kind, head):
-    """The type of an impl, or the trait, and what rattle names the methods by: for an impl of a trait the type and then the trait."""
+    """The type of an impl, or the trait, and what rattle names the methods by: for an impl of a trait the type and then the trait; a parameter is `Any`."""
     head = re.sub(r"\bwhere\b.*", "", head, flags=re.S).strip()
     if kind == "trait":
         return (re.match(r"\w+", head).group(),) * 2
-    while head.startswith("<"):
-        head = head[end_of(head.translate(str.maketrans("<>", "{}")), 0) + 1 :]
-    trait, _, of = head.rpartition(" for ")
+    end = end_of(head.translate(str.maketrans("<>", "{}")), 0) + 1 if head.startswith("<") else 0
+    parameters = re.findall(r"[<,]\s*(\w+)", head[:end])
+    trait, _, of = head[end:].rpartition(" for ")
     kind = plain(re.sub(r"<.*>", "", of))
+    kind = "Any" if kind in parameters else kind
     return kind, kind + plain(trait)
 
 
