@@ -149,13 +149,13 @@ class Failures:
 
     def read(self, line):
         """Takes what one line says."""
-        fault = re.match(r"(?:\./)?(\S+?):(\d+):\d+: error: (?:`([^`]*)`: )?(.*)", line)
+        fault = re.match(r"(?:\./)?(\S+?):(\d+):\d+: error(\[[\w-]+\])?: (?:`([^`]*)`: )?(.*)", line)
         open_goal = re.match(r"note: (src/\S+?):(\d+):\d+: it is not proved that .*?\(`([^`]*)`\)", line)
         unproved = re.match(r"fn (\S+): no.*`search` did not prove (`[^;]*)", line)
         if fault and fault[1].startswith("proofs/"):
-            self.of_proof(fault[1], fault[3], fault[4])
-        elif fault and fault[3] and not UNREADABLE.search(fault[4]):
-            self.lemmas.append(fault[3])
+            self.of_proof(fault[1], fault[4], fault[5])
+        elif fault and fault[4] and not fault[3] and not UNREADABLE.search(fault[5]):
+            self.lemmas.append(fault[4])
         elif fault:
             self.unread.append((fault[1], int(fault[2]) - 1))
         elif open_goal:
