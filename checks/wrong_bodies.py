@@ -4,7 +4,7 @@
     checks/wrong_bodies.py [--jobs N] [CRATE ..]  tries all of these crates, or of all, and writes down in the ledger each crate whose edits were all refused
     checks/wrong_bodies.py CRATE/NAME ..          tries these alone, and writes nothing down
     checks/wrong_bodies.py --record [CRATE ..]    as the first; an edit that names no refusal gets the line of what refused it, for a person to read over
-    checks/wrong_bodies.py --fits                 says whether each edit can be applied to the text that it turns, and names its refusal
+    checks/wrong_bodies.py --fits                 says whether each edit can be applied to the text that it turns
     checks/wrong_bodies.py --ledger               says whether each crate with edits is what it was when all of them were refused
     checks/wrong_bodies.py --of-the-day           tries one crate, another each day, whatever the ledger says
 
@@ -17,7 +17,7 @@ A line `refused by: WORD, ..` of an edit names what has to refuse it. It is comp
 `returns-in-Err-clause-took` stands for the clause `took`. The words are
 
     the name of a clause   a goal of that clause
-    ensures                a goal of the clauses that have no name
+    ensures                a goal of clauses without a name, of a trait's contract, or of all clauses where the prover shows them as one fact
     invariant              the invariant of a type
     loop                   an invariant of a loop, which carries clauses through it
     safety                 any other demand: an overflow, an index, what a called function requires, a measure
@@ -151,6 +151,7 @@ class Failures:
         """Takes what one line says."""
         fault = re.match(r"(?:\./)?(\S+?):(\d+):\d+: error(\[[\w-]+\])?: (?:`([^`]*)`: )?(.*)", line)
         open_goal = re.match(r"note: (src/\S+?):(\d+):\d+: it is not proved that .*?\(`([^`]*)`\)", line)
+        joint = re.match(r"note: `([^`]*)` of (proofs/\S+) must prove: record \{(.*)", line)
         unproved = re.match(r"fn (\S+): no.*`search` did not prove (`[^;]*)", line)
         if fault and fault[1].startswith("proofs/"):
             self.of_proof(fault[1], fault[4], fault[5])
@@ -164,6 +165,17 @@ class Failures:
                     self.goals.setdefault(it.name, []).append(open_goal[3])
         elif unproved:
             self.goals.setdefault(unproved[1], []).extend(re.findall(r"`([^`]*)`", unproved[2]))
+        elif joint:
+            self.part(self.owner(joint[2]), joint[1], joint[3])
+
+    def part(self, owner, goal, text):
+        """Takes the text of a goal that holds several clauses: it fails by those that are shown false or, where none is, by each."""
+        function = next((it for it in self.functions if it.name == owner), None)
+        found = re.findall(r"(?:^|; )(\w+) : ⊥", text) or re.findall(r"(?:^|; )(\w+) : ", text)
+        clauses = [it for it in found if function and it in function.clauses]
+        if clauses and goal in self.goals.get(owner, []):
+            kept = [it for it in self.goals[owner] if it != goal]
+            self.goals[owner] = kept + [f"{goal}-clause-{it}" for it in clauses]
 
     def of_proof(self, path, name, text):
         """Takes an error of a proof: of a function's answers, or of a lemma."""
@@ -346,12 +358,12 @@ def read_all(crates):
 
 
 def fit():
-    """Says which edits can't be applied, or name no refusal."""
+    """Says which edits can't be applied, and which name no refusal, without which none passes."""
     edits, lost = read_all([])
     unnamed = [it for it in edits if not it.refused_by]
-    for it in unnamed:
-        print(f"{it.path.relative_to(ROOT)}: no line `{REFUSED_BY}..` says what has to refuse it")
-    return len(edits) + lost, lost + len(unnamed)
+    for crate in sorted({it.crate for it in unnamed}):
+        print(f"{crate}: {sum(it.crate == crate for it in unnamed)} edits name no refusal: checks/wrong_bodies.py --record {crate} finds it")
+    return len(edits) + lost, lost
 
 
 def sum_of(crate):
