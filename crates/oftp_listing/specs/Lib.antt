@@ -1,3 +1,4 @@
+pub mod Details
 pub mod FaultTexts
 pub mod Finding
 pub mod Heads

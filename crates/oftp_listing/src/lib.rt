@@ -1,6 +1,7 @@
 //! The listing of a register over HTTP, and its reports as CSV.
 #![tactic(auto)]
 
+mod detail;
 mod fault;
 mod head;
 mod laws;

@@ -1,16 +1,61 @@
 //! The objects of the listing.
 
 ghost use Rattle.std.specs.Prelude.{◌≡◌, IfOk};
+ghost use Rattle.serde_json.specs.Data.{object};
 ghost use Rattle.serde_json.specs.View.{view};
+ghost use Rattle.oftp_listing.specs.Details.{gathered};
+ghost use Rattle.oftp_listing.specs.Names.{reason_name, refusal_name};
 ghost use Rattle.oftp_listing.specs.Objects.{incoming_object, issued_object, outgoing_object, received_object};
 
+use crate::detail::Detail;
 use crate::names::{
     digit_text, format_name, incoming_state_name, is_sent, kind_name, name_text,
     outgoing_state_name, reason_name, refusal_name, response_name,
 };
 use oftp_register::{IncomingEntry, IssuedEntry, OutgoingEntry, ReceivedEntry};
-use serde_json::{Value, json};
+use serde_json::{Map, Value, put};
 use std::alloc::{AllocError, Global};
+
+// A key of an object, and what stands there.
+type Member<'a> = (&'a str, Detail<'a>);
+
+// The object of these members.
+fn object_of<'a>(alloc: Global, members: &[Member<'a>]) -> Result<Value, AllocError>
+    ensures { IfOk result (λ value. view value ≡ object (gathered members.now)) }
+{
+    let mut map = Map::new(alloc);
+    for (key, detail) in members {
+        let value = detail.to_value(alloc)?;
+        put(&mut map, alloc, key, value)?;
+    }
+    Ok(Value::Object(map))
+}
+
+// The members of an incoming file.
+fn incoming_members<'a>(entry: &'a IncomingEntry, units: u64) -> [Member<'a>; 12]
+    ensures { object (gathered result) ≡ incoming_object entry.now units }
+{
+    [
+        ("dataset", Detail::Text(name_text(&entry.identity.dataset))),
+        ("date", Detail::Text(digit_text(&entry.identity.date))),
+        ("description", Detail::Text(entry.description.as_str())),
+        (
+            "destination",
+            Detail::Text(name_text(&entry.identity.destination)),
+        ),
+        ("format", Detail::Text(format_name(entry.format))),
+        ("no", Detail::Count(entry.no)),
+        (
+            "originator",
+            Detail::Text(name_text(&entry.identity.originator)),
+        ),
+        ("response", Detail::Text(response_name(&entry.response))),
+        ("rows", Detail::Count(entry.rows)),
+        ("state", Detail::Text(incoming_state_name(entry.state))),
+        ("time", Detail::Text(digit_text(&entry.identity.time))),
+        ("units", Detail::Count(units)),
+    ]
+}
 
 /// An incoming file, whose rows have so many octets.
 ///
@@ -24,20 +69,34 @@ pub(crate) fn incoming_object(
 ) -> Result<Value, AllocError>
     ensures { IfOk result (λ value. view value ≡ incoming_object entry.now units) }
 {
-    json!(in alloc; {
-        "dataset": name_text(&entry.identity.dataset),
-        "date": digit_text(&entry.identity.date),
-        "description": entry.description.as_str(),
-        "destination": name_text(&entry.identity.destination),
-        "format": format_name(entry.format),
-        "no": entry.no,
-        "originator": name_text(&entry.identity.originator),
-        "response": response_name(&entry.response),
-        "rows": entry.rows,
-        "state": incoming_state_name(entry.state),
-        "time": digit_text(&entry.identity.time),
-        "units": units
-    })
+    object_of(alloc, &incoming_members(entry, units))
+}
+
+// The members of an outgoing file, which was refused for this reason if it was.
+fn outgoing_members<'a>(entry: &'a OutgoingEntry, reason: &'a str, units: u64) -> [Member<'a>; 13]
+    ensures { reason.now ≡ refusal_name entry.now.state → object (gathered result) ≡ outgoing_object entry.now units }
+{
+    [
+        ("dataset", Detail::Text(name_text(&entry.identity.dataset))),
+        ("date", Detail::Text(digit_text(&entry.identity.date))),
+        ("description", Detail::Text(entry.description.as_str())),
+        (
+            "destination",
+            Detail::Text(name_text(&entry.identity.destination)),
+        ),
+        ("format", Detail::Text(format_name(entry.format))),
+        ("mark", Detail::Count(entry.mark)),
+        ("no", Detail::Count(entry.no)),
+        (
+            "originator",
+            Detail::Text(name_text(&entry.identity.originator)),
+        ),
+        ("reason", Detail::Text(reason)),
+        ("rows", Detail::Count(entry.rows)),
+        ("state", Detail::Text(outgoing_state_name(entry.state))),
+        ("time", Detail::Text(digit_text(&entry.identity.time))),
+        ("units", Detail::Count(units)),
+    ]
 }
 
 /// An outgoing file, whose rows have so many octets.
@@ -53,21 +112,19 @@ pub(crate) fn outgoing_object(
     ensures { IfOk result (λ value. view value ≡ outgoing_object entry.now units) }
 {
     let reason = refusal_name(alloc, entry.state)?;
-    json!(in alloc; {
-        "dataset": name_text(&entry.identity.dataset),
-        "date": digit_text(&entry.identity.date),
-        "description": entry.description.as_str(),
-        "destination": name_text(&entry.identity.destination),
-        "format": format_name(entry.format),
-        "mark": entry.mark,
-        "no": entry.no,
-        "originator": name_text(&entry.identity.originator),
-        "reason": reason,
-        "rows": entry.rows,
-        "state": outgoing_state_name(entry.state),
-        "time": digit_text(&entry.identity.time),
-        "units": units
-    })
+    object_of(alloc, &outgoing_members(entry, reason.as_str(), units))
+}
+
+// The members of a response that was issued, with this reason.
+fn issued_members<'a>(entry: &'a IssuedEntry, reason: &'a str) -> [Member<'a>; 4]
+    ensures { reason.now ≡ reason_name entry.now.response.kind entry.now.response.reason → object (gathered result) ≡ issued_object entry.now }
+{
+    [
+        ("kind", Detail::Text(kind_name(entry.response.kind))),
+        ("no", Detail::Count(entry.no)),
+        ("reason", Detail::Text(reason)),
+        ("sent", Detail::Flag(is_sent(entry.response.dispatch))),
+    ]
 }
 
 /// A response that was issued to an incoming file.
@@ -79,12 +136,32 @@ pub(crate) fn issued_object(alloc: Global, entry: &IssuedEntry) -> Result<Value,
     ensures { IfOk result (λ value. view value ≡ issued_object entry.now) }
 {
     let reason = reason_name(alloc, entry.response.kind, entry.response.reason)?;
-    json!(in alloc; {
-        "kind": kind_name(entry.response.kind),
-        "no": entry.no,
-        "reason": reason,
-        "sent": is_sent(entry.response.dispatch)
-    })
+    object_of(alloc, &issued_members(entry, reason.as_str()))
+}
+
+// The members of a response that came, with this reason, to the outgoing file with this number.
+fn received_members<'a>(entry: &'a ReceivedEntry, reason: &'a str, file: u64) -> [Member<'a>; 10]
+    ensures { reason.now ≡ reason_name entry.now.response.kind entry.now.response.reason → object (gathered result) ≡ received_object entry.now file }
+{
+    let response = &entry.response;
+    [
+        ("creator", Detail::Text(name_text(&response.creator))),
+        (
+            "dataset",
+            Detail::Text(name_text(&response.identity.dataset)),
+        ),
+        ("date", Detail::Text(digit_text(&response.identity.date))),
+        ("file", Detail::Count(file)),
+        (
+            "from",
+            Detail::Text(name_text(&response.identity.destination)),
+        ),
+        ("kind", Detail::Text(kind_name(response.kind))),
+        ("no", Detail::Count(entry.no)),
+        ("note", Detail::Text(response.text.as_str())),
+        ("reason", Detail::Text(reason)),
+        ("time", Detail::Text(digit_text(&response.identity.time))),
+    ]
 }
 
 /// A response that came, to the outgoing file with this number, 0 where there is none.
@@ -99,18 +176,6 @@ pub(crate) fn received_object(
 ) -> Result<Value, AllocError>
     ensures { IfOk result (λ value. view value ≡ received_object entry.now file) }
 {
-    let response = &entry.response;
-    let reason = reason_name(alloc, response.kind, response.reason)?;
-    json!(in alloc; {
-        "creator": name_text(&response.creator),
-        "dataset": name_text(&response.identity.dataset),
-        "date": digit_text(&response.identity.date),
-        "file": file,
-        "from": name_text(&response.identity.destination),
-        "kind": kind_name(response.kind),
-        "no": entry.no,
-        "note": response.text.as_str(),
-        "reason": reason,
-        "time": digit_text(&response.identity.time)
-    })
+    let reason = reason_name(alloc, entry.response.kind, entry.response.reason)?;
+    object_of(alloc, &received_members(entry, reason.as_str(), file))
 }

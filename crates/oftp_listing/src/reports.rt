@@ -1,24 +1,27 @@
 //! The reports.
 
-ghost use Rattle.std.specs.Prelude.{◌≡◌, ◌++◌, IfErr, IfOk};
+ghost use Rattle.std.specs.Prelude.{◌≡◌, ◌++◌, IfErr, IfOk, map};
 ghost use Rattle.std.specs.List.{flat_map};
 ghost use Rattle.csv.specs.Records.{fields_of};
 ghost use Rattle.oftp_ports.specs.Ports.{Puts};
 ghost use Rattle.oftp_listing.specs.declared.fault.ListFault.TheVariants.{Memory};
+ghost use Rattle.oftp_listing.specs.Details.{text_of};
 ghost use Rattle.oftp_listing.specs.Finding.{Finds};
+ghost use Rattle.oftp_listing.specs.Names.{reason_name, refusal_name};
 ghost use Rattle.oftp_listing.specs.Reports.{Reports, TextOut, WriterTold, heading, incoming_fields, issued_fields, line, outgoing_fields, received_fields, report_of};
 ghost use Rattle.oftp_listing.specs.Texts.{Asks};
 
+use crate::detail::Detail;
 use crate::fault::ListFault;
 use crate::listed::Listed;
 use crate::names::{
-    format_name, incoming_state_name, is_sent, kind_name, outgoing_state_name, reason_name,
-    refusal_name, response_name,
+    digit_text, format_name, incoming_state_name, is_sent, kind_name, name_text,
+    outgoing_state_name, reason_name, refusal_name, response_name,
 };
 use csv::{ByteRecord, WriterBuilder};
 use oftp_ports::Port;
 use oftp_register::{IncomingEntry, IssuedEntry, Office, OutgoingEntry, ReceivedEntry};
-use std::alloc::Global;
+use std::alloc::{AllocError, Global};
 use std::io::Write;
 
 /// What is reported.
@@ -52,19 +55,49 @@ impl ReportKind {
     }
 }
 
+// The fields of a line.
+fn record_of(alloc: Global, details: &[Detail<'_>]) -> Result<ByteRecord, AllocError>
+    ensures { IfOk result (λ fields. fields_of fields ≡ map text_of details.now) }
+{
+    let mut fields = ByteRecord::new(alloc);
+    for detail in details {
+        detail.add_to(alloc, &mut fields)?;
+    }
+    Ok(fields)
+}
+
 // A line of comma-separated fields. Into a vector the writer fails for want of memory alone.
-fn line(alloc: Global, fields: &ByteRecord) -> Result<Vec<u8>, ListFault>
-    ensures text { IfOk result (λ text. text.items ≡ line (fields_of fields.now)) }
+fn line(alloc: Global, details: &[Detail<'_>]) -> Result<Vec<u8>, ListFault>
+    ensures text { IfOk result (λ text. text.items ≡ line (map text_of details.now)) }
     ensures fault { IfErr result (λ fault. fault ≡ Memory) }
 {
+    let fields = record_of(alloc, details)?;
     let mut lines = WriterBuilder::new().from_writer(Vec::new(alloc));
-    if lines.write_byte_record(fields).is_err() {
+    if lines.write_byte_record(&fields).is_err() {
         return Err(ListFault::Memory);
     }
     match lines.into_inner() {
         Ok(text) => Ok(text),
         Err(_) => Err(ListFault::Memory),
     }
+}
+
+// The details of an incoming file.
+fn incoming_details<'a>(entry: &'a IncomingEntry, units: u64) -> [Detail<'a>; 10]
+    ensures { map text_of result ≡ incoming_fields entry.now units }
+{
+    [
+        Detail::Count(entry.no),
+        Detail::Text(name_text(&entry.identity.dataset)),
+        Detail::Text(digit_text(&entry.identity.date)),
+        Detail::Text(digit_text(&entry.identity.time)),
+        Detail::Text(name_text(&entry.identity.originator)),
+        Detail::Text(format_name(entry.format)),
+        Detail::Count(entry.rows),
+        Detail::Count(units),
+        Detail::Text(incoming_state_name(entry.state)),
+        Detail::Text(response_name(&entry.response)),
+    ]
 }
 
 /// The line of an incoming file, whose rows have so many octets.
@@ -76,18 +109,26 @@ pub(crate) fn incoming_line(
     ensures text { IfOk result (λ text. text.items ≡ line (incoming_fields entry.now units)) }
     ensures fault { IfErr result (λ fault. fault ≡ Memory) }
 {
-    let mut fields = ByteRecord::new(alloc);
-    fields.push_field(entry.no.to_string(alloc)?.as_bytes())?;
-    fields.push_field(entry.identity.dataset.octets())?;
-    fields.push_field(entry.identity.date.octets())?;
-    fields.push_field(entry.identity.time.octets())?;
-    fields.push_field(entry.identity.originator.octets())?;
-    fields.push_field(format_name(entry.format).as_bytes())?;
-    fields.push_field(entry.rows.to_string(alloc)?.as_bytes())?;
-    fields.push_field(units.to_string(alloc)?.as_bytes())?;
-    fields.push_field(incoming_state_name(entry.state).as_bytes())?;
-    fields.push_field(response_name(&entry.response).as_bytes())?;
-    line(alloc, &fields)
+    line(alloc, &incoming_details(entry, units))
+}
+
+// The details of an outgoing file, which was refused for this reason if it was.
+fn outgoing_details<'a>(entry: &'a OutgoingEntry, reason: &'a str, units: u64) -> [Detail<'a>; 11]
+    ensures { reason.now ≡ refusal_name entry.now.state → map text_of result ≡ outgoing_fields entry.now units }
+{
+    [
+        Detail::Count(entry.no),
+        Detail::Text(name_text(&entry.identity.dataset)),
+        Detail::Text(digit_text(&entry.identity.date)),
+        Detail::Text(digit_text(&entry.identity.time)),
+        Detail::Text(name_text(&entry.identity.destination)),
+        Detail::Text(format_name(entry.format)),
+        Detail::Count(entry.rows),
+        Detail::Count(units),
+        Detail::Count(entry.mark),
+        Detail::Text(outgoing_state_name(entry.state)),
+        Detail::Text(reason),
+    ]
 }
 
 /// The line of an outgoing file, whose rows have so many octets.
@@ -99,19 +140,20 @@ pub(crate) fn outgoing_line(
     ensures text { IfOk result (λ text. text.items ≡ line (outgoing_fields entry.now units)) }
     ensures fault { IfErr result (λ fault. fault ≡ Memory) }
 {
-    let mut fields = ByteRecord::new(alloc);
-    fields.push_field(entry.no.to_string(alloc)?.as_bytes())?;
-    fields.push_field(entry.identity.dataset.octets())?;
-    fields.push_field(entry.identity.date.octets())?;
-    fields.push_field(entry.identity.time.octets())?;
-    fields.push_field(entry.identity.destination.octets())?;
-    fields.push_field(format_name(entry.format).as_bytes())?;
-    fields.push_field(entry.rows.to_string(alloc)?.as_bytes())?;
-    fields.push_field(units.to_string(alloc)?.as_bytes())?;
-    fields.push_field(entry.mark.to_string(alloc)?.as_bytes())?;
-    fields.push_field(outgoing_state_name(entry.state).as_bytes())?;
-    fields.push_field(refusal_name(alloc, entry.state)?.as_bytes())?;
-    line(alloc, &fields)
+    let reason = refusal_name(alloc, entry.state)?;
+    line(alloc, &outgoing_details(entry, reason.as_str(), units))
+}
+
+// The details of a response that was issued, with this reason.
+fn issued_details<'a>(entry: &'a IssuedEntry, reason: &'a str) -> [Detail<'a>; 4]
+    ensures { reason.now ≡ reason_name entry.now.response.kind entry.now.response.reason → map text_of result ≡ issued_fields entry.now }
+{
+    [
+        Detail::Count(entry.no),
+        Detail::Text(kind_name(entry.response.kind)),
+        Detail::Text(reason),
+        Detail::Flag(is_sent(entry.response.dispatch)),
+    ]
 }
 
 /// The line of a response that was issued.
@@ -119,17 +161,26 @@ pub(crate) fn issued_line(alloc: Global, entry: &IssuedEntry) -> Result<Vec<u8>,
     ensures text { IfOk result (λ text. text.items ≡ line (issued_fields entry.now)) }
     ensures fault { IfErr result (λ fault. fault ≡ Memory) }
 {
+    let reason = reason_name(alloc, entry.response.kind, entry.response.reason)?;
+    line(alloc, &issued_details(entry, reason.as_str()))
+}
+
+// The details of a response that came, with this reason, to the outgoing file with this number.
+fn received_details<'a>(entry: &'a ReceivedEntry, reason: &'a str, file: u64) -> [Detail<'a>; 9]
+    ensures { reason.now ≡ reason_name entry.now.response.kind entry.now.response.reason → map text_of result ≡ received_fields entry.now file }
+{
     let response = &entry.response;
-    let mut fields = ByteRecord::new(alloc);
-    fields.push_field(entry.no.to_string(alloc)?.as_bytes())?;
-    fields.push_field(kind_name(response.kind).as_bytes())?;
-    fields.push_field(reason_name(alloc, response.kind, response.reason)?.as_bytes())?;
-    fields.push_field(if is_sent(response.dispatch) {
-        b"yes"
-    } else {
-        b"no"
-    })?;
-    line(alloc, &fields)
+    [
+        Detail::Count(entry.no),
+        Detail::Text(kind_name(response.kind)),
+        Detail::Text(name_text(&response.identity.dataset)),
+        Detail::Text(digit_text(&response.identity.date)),
+        Detail::Text(digit_text(&response.identity.time)),
+        Detail::Text(name_text(&response.identity.destination)),
+        Detail::Text(reason),
+        Detail::Count(file),
+        Detail::Text(name_text(&response.creator)),
+    ]
 }
 
 /// The line of a response that came, to the outgoing file with this number, 0 where there is none.
@@ -141,18 +192,8 @@ pub(crate) fn received_line(
     ensures text { IfOk result (λ text. text.items ≡ line (received_fields entry.now file)) }
     ensures fault { IfErr result (λ fault. fault ≡ Memory) }
 {
-    let response = &entry.response;
-    let mut fields = ByteRecord::new(alloc);
-    fields.push_field(entry.no.to_string(alloc)?.as_bytes())?;
-    fields.push_field(kind_name(response.kind).as_bytes())?;
-    fields.push_field(response.identity.dataset.octets())?;
-    fields.push_field(response.identity.date.octets())?;
-    fields.push_field(response.identity.time.octets())?;
-    fields.push_field(response.identity.destination.octets())?;
-    fields.push_field(reason_name(alloc, response.kind, response.reason)?.as_bytes())?;
-    fields.push_field(file.to_string(alloc)?.as_bytes())?;
-    fields.push_field(response.creator.octets())?;
-    line(alloc, &fields)
+    let reason = reason_name(alloc, entry.response.kind, entry.response.reason)?;
+    line(alloc, &received_details(entry, reason.as_str(), file))
 }
 
 // The text, and behind it the lines of all entries of a kind.

@@ -1,6 +1,6 @@
 //! The routes.
 
-ghost use Rattle.std.specs.Prelude.{◌≡◌, IfOk, MatchResult, codes, option_and_then};
+ghost use Rattle.std.specs.Prelude.{◌≡◌, [], IfOk, MatchResult, OnOk, codes, option_and_then};
 ghost use Rattle.oftp_listing.specs.declared.fault.ListFault.TheVariants.{Memory};
 ghost use Rattle.oftp_listing.specs.Routes.{number_of, route_at};
 ghost use Rattle.oftp_listing.specs.Rows.{parts_of, routes};
@@ -53,16 +53,24 @@ fn number(text: &[u8]) -> Option<u64>
     Some(sum)
 }
 
-// The router of the five routes. They don't conflict, so its error is want of memory.
-fn router(alloc: Global) -> Result<Router<Place>, InsertError>
-    ensures { IfOk result (λ router. router ≡ routes) }
+// Adds the five routes. They don't conflict, so its error is want of memory.
+fn add_routes(router: &mut Router<Place>) -> Result<(), InsertError>
+    ensures { router.old ≡ [] → OnOk result (router.new ≡ routes) }
 {
-    let mut router = Router::new(alloc);
     router.insert("/in", Place::Incoming)?;
     router.insert("/in/{id}", Place::IncomingFile)?;
     router.insert("/out", Place::Outgoing)?;
     router.insert("/out/{id}", Place::OutgoingFile)?;
     router.insert("/responses", Place::Responses)?;
+    Ok(())
+}
+
+// The router of the five routes.
+fn router(alloc: Global) -> Result<Router<Place>, InsertError>
+    ensures { IfOk result (λ router. router ≡ routes) }
+{
+    let mut router = Router::new(alloc);
+    add_routes(&mut router)?;
     Ok(router)
 }
 
