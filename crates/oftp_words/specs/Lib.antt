@@ -15,3 +15,4 @@ pub mod ReleaseLine
 pub mod ReportLine
 pub mod ShowLine
 pub mod SubmitLine
+pub mod Told

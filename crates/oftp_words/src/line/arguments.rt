@@ -7,6 +7,7 @@ ghost use Rattle.clap.specs.declared.builder.command.Command.TheViews.{out-Comma
 ghost use Rattle.oftp_words.specs.Arguments as spec;
 ghost use Rattle.oftp_words.specs.Arguments.{HasValues, IsNumber, taken};
 ghost use Rattle.oftp_words.specs.Fault.{is_bad};
+ghost use Rattle.oftp_words.specs.Told.{app_told, is_required, rule_of_kind, told};
 ghost use Rattle.oftp_words.specs.declared.line.arguments.TheConstants.{MOST_PORT};
 
 use super::LineFault;
@@ -33,13 +34,78 @@ pub(super) const DATABASE: &str = "The file that holds the database";
 /// What the option for the book is, in texts.
 pub(super) const BOOK: &str = "The file that holds the book";
 
+/// An argument of a command, which takes one value.
+#[derive(Clone, Copy)]
+pub(super) struct Argument<'a> {
+    id: &'a str,
+    // What stands for it in texts.
+    shown: &'a str,
+    help: &'a str,
+    kind: Kind<'a>,
+    // The least and the greatest number that it takes, where it takes numbers.
+    numbers: Option<(u64, u64)>,
+}
+
+/// How an argument is given.
+#[derive(Clone, Copy)]
+enum Kind<'a> {
+    /// As a word, which may not be missing.
+    Word,
+    /// As an option, which may not be missing.
+    Needed,
+    /// As an option.
+    Optional,
+    /// As an option, which has this value where it is missing.
+    Defaulted(&'a str),
+}
+
+impl Kind<'_> {
+    /// Whether it may not be missing.
+    fn is_required(self) -> bool
+        ensures { result ≡ is_required self.entry }
+    {
+        match self {
+            Kind::Word | Kind::Needed => true,
+            Kind::Optional | Kind::Defaulted(_) => false,
+        }
+    }
+}
+
+impl<'a> Argument<'a> {
+    /// The argument, as the parser is told of it.
+    fn told(self, alloc: Global) -> Arg<'a>
+        ensures rule { rule_of result ≡ told self.entry }
+        ensures local { result.global ≡ false }
+        ensures texts { (items_of result.val_names ≡ self.entry.shown ∷ []) × (result.help ≡ Some self.entry.help) }
+    {
+        let argument = self.named(alloc);
+        match self.numbers {
+            None => argument,
+            Some((low, high)) => argument.value_parser(ValueParser::unsigned(low, high)),
+        }
+    }
+
+    /// The same, whatever numbers it takes.
+    fn named(self, alloc: Global) -> Arg<'a>
+        ensures rule { rule_of result ≡ rule_of_kind self.entry.kind self.entry.id.now }
+        ensures local { result.global ≡ false }
+        ensures texts { (items_of result.val_names ≡ self.entry.shown ∷ []) × (result.help ≡ Some self.entry.help) }
+    {
+        let argument = Arg::new(alloc, self.id)
+            .action(ArgAction::Set)
+            .required(self.kind.is_required())
+            .value_name(self.shown)
+            .help(self.help);
+        match self.kind {
+            Kind::Word => argument,
+            Kind::Needed | Kind::Optional => argument.long(self.id),
+            Kind::Defaulted(value) => argument.long(self.id).default_value(value),
+        }
+    }
+}
+
 /// A command with no arguments yet. `usage` is how it is called, and `about` what it does.
-pub(super) fn command<'a>(
-    alloc: Global,
-    name: &'a str,
-    usage: &'a str,
-    about: &'a str,
-) -> Command<'a>
+fn bare_command<'a>(alloc: Global, name: &'a str, usage: &'a str, about: &'a str) -> Command<'a>
     ensures app { app_of result ≡ new_app name.entry.now }
     ensures texts { ((fields_of result).usage_str ≡ Some usage.entry)
         × ((fields_of result).about ≡ Some about.entry) }
@@ -47,121 +113,135 @@ pub(super) fn command<'a>(
     Command::new(alloc, name).override_usage(usage).about(about)
 }
 
-/// A word that must be given. `shown` stands for it in texts.
-pub(super) fn word<'a>(alloc: Global, id: &'a str, shown: &'a str, help: &'a str) -> Arg<'a>
-    ensures rule { rule_of result ≡ spec.word id.entry.now }
-    ensures local { result.global ≡ false }
-    ensures texts { (items_of result.val_names ≡ shown.entry ∷ []) × (result.help ≡ Some help.entry) }
+/// A command with these arguments, as the parser is told of it.
+pub(super) fn command<'a>(
+    alloc: Global,
+    name: &'a str,
+    usage: &'a str,
+    about: &'a str,
+    arguments: &[Argument<'a>],
+) -> Result<Command<'a>, AllocError>
+    ensures { IfOk result (λ command. app_of command ≡ app_told name.entry.now arguments.now) }
 {
-    Arg::new(alloc, id)
-        .action(ArgAction::Set)
-        .required(true)
-        .value_name(shown)
-        .help(help)
+    let mut command = bare_command(alloc, name, usage, about);
+    for argument in arguments {
+        command = command.arg(argument.told(alloc))?;
+    }
+    Ok(command)
+}
+
+/// A word that must be given. `shown` stands for it in texts.
+pub(super) fn word<'a>(id: &'a str, shown: &'a str, help: &'a str) -> Argument<'a>
+    ensures { told result ≡ spec.word id.entry.now }
+{
+    Argument {
+        id,
+        shown,
+        help,
+        kind: Kind::Word,
+        numbers: None,
+    }
 }
 
 /// An option that must be given, and takes one value.
-pub(super) fn needed<'a>(alloc: Global, id: &'a str, shown: &'a str, help: &'a str) -> Arg<'a>
-    ensures rule { rule_of result ≡ spec.needed id.entry.now }
-    ensures local { result.global ≡ false }
-    ensures texts { (items_of result.val_names ≡ shown.entry ∷ []) × (result.help ≡ Some help.entry) }
+pub(super) fn needed<'a>(id: &'a str, shown: &'a str, help: &'a str) -> Argument<'a>
+    ensures { told result ≡ spec.needed id.entry.now }
 {
-    word(alloc, id, shown, help).long(id)
+    Argument {
+        id,
+        shown,
+        help,
+        kind: Kind::Needed,
+        numbers: None,
+    }
 }
 
 /// An option that may be missing, and takes one value.
-pub(super) fn optional<'a>(alloc: Global, id: &'a str, shown: &'a str, help: &'a str) -> Arg<'a>
-    ensures rule { rule_of result ≡ spec.optional id.entry.now }
-    ensures local { result.global ≡ false }
-    ensures texts { (items_of result.val_names ≡ shown.entry ∷ []) × (result.help ≡ Some help.entry) }
+pub(super) fn optional<'a>(id: &'a str, shown: &'a str, help: &'a str) -> Argument<'a>
+    ensures { told result ≡ spec.optional id.entry.now }
 {
-    Arg::new(alloc, id)
-        .long(id)
-        .action(ArgAction::Set)
-        .value_name(shown)
-        .help(help)
+    Argument {
+        id,
+        shown,
+        help,
+        kind: Kind::Optional,
+        numbers: None,
+    }
 }
 
 /// An option that has this value where it is missing.
 pub(super) fn defaulted<'a>(
-    alloc: Global,
     id: &'a str,
     value: &'a str,
     shown: &'a str,
     help: &'a str,
-) -> Arg<'a>
-    ensures rule { rule_of result ≡ spec.defaulted id.entry.now value.entry.now }
-    ensures local { result.global ≡ false }
-    ensures texts { (items_of result.val_names ≡ shown.entry ∷ []) × (result.help ≡ Some help.entry) }
+) -> Argument<'a>
+    ensures { told result ≡ spec.defaulted id.entry.now value.entry.now }
 {
-    optional(alloc, id, shown, help).default_value(value)
+    Argument {
+        id,
+        shown,
+        help,
+        kind: Kind::Defaulted(value),
+        numbers: None,
+    }
 }
 
 /// The argument, which takes the numbers from `low` to `high`.
-pub(super) fn numbered<'a>(argument: Arg<'a>, low: u64, high: u64) -> Arg<'a>
-    ensures rule { rule_of result ≡ spec.numbered low high (rule_of argument.entry) }
-    ensures local { result.global ≡ argument.entry.global }
-    ensures texts { (result.val_names ≡ argument.entry.val_names) × (result.help ≡ argument.entry.help) }
+pub(super) fn numbered<'a>(argument: Argument<'a>, low: u64, high: u64) -> Argument<'a>
+    ensures { told result ≡ spec.numbered low high (told argument.entry) }
 {
-    argument.value_parser(ValueParser::unsigned(low, high))
+    Argument {
+        numbers: Some((low, high)),
+        ..argument
+    }
 }
 
 /// The word that is an incoming file's number.
-pub(super) fn file_number<'a>(alloc: Global) -> Arg<'a>
-    ensures rule { rule_of result ≡ spec.file_number }
-    ensures local { result.global ≡ false }
+pub(super) fn file_number<'a>() -> Argument<'a>
+    ensures { told result ≡ spec.file_number }
 {
-    let no = word(
-        alloc,
-        "no",
-        "NO",
-        "The incoming file's number, 1 to 9999999",
-    );
+    let no = word("no", "NO", "The incoming file's number, 1 to 9999999");
     numbered(no, 1, MOST_NO)
 }
 
 /// The option for the port where callers are awaited, which is `port` where it is missing.
-pub(super) fn own_port<'a>(alloc: Global, port: &'a str) -> Arg<'a>
-    ensures rule { rule_of result ≡ spec.own_port port.entry.now }
-    ensures local { result.global ≡ false }
+pub(super) fn own_port<'a>(port: &'a str) -> Argument<'a>
+    ensures { told result ≡ spec.own_port port.entry.now }
 {
     let help = "The port where callers are awaited, 1 to 65535";
-    numbered(defaulted(alloc, "port", port, "PORT", help), 1, MOST_PORT)
+    numbered(defaulted("port", port, "PORT", help), 1, MOST_PORT)
 }
 
 /// The option for the address where callers are awaited.
-pub(super) fn own_address<'a>(alloc: Global) -> Arg<'a>
-    ensures rule { rule_of result ≡ spec.own_address }
-    ensures local { result.global ≡ false }
+pub(super) fn own_address<'a>() -> Argument<'a>
+    ensures { told result ≡ spec.own_address }
 {
     let help = "The machine's address where callers are awaited";
-    defaulted(alloc, "address", "127.0.0.1", "ADDRESS", help)
+    defaulted("address", "127.0.0.1", "ADDRESS", help)
 }
 
 /// The option for how many callers are served.
-pub(super) fn callers<'a>(alloc: Global, id: &'a str, help: &'a str) -> Arg<'a>
-    ensures rule { rule_of result ≡ spec.callers id.entry.now }
-    ensures local { result.global ≡ false }
+pub(super) fn callers<'a>(id: &'a str, help: &'a str) -> Argument<'a>
+    ensures { told result ≡ spec.callers id.entry.now }
 {
-    numbered(defaulted(alloc, id, "1", "COUNT", help), 1, MOST_CALLERS)
+    numbered(defaulted(id, "1", "COUNT", help), 1, MOST_CALLERS)
 }
 
 /// The option for the file to which a session's commands are appended in words.
-pub(super) fn own_trace<'a>(alloc: Global) -> Arg<'a>
-    ensures rule { rule_of result ≡ spec.own_trace }
-    ensures local { result.global ≡ false }
+pub(super) fn own_trace<'a>() -> Argument<'a>
+    ensures { told result ≡ spec.own_trace }
 {
     let help = "The file to which what goes over the connection is appended in words";
-    optional(alloc, "trace", "FILE", help)
+    optional("trace", "FILE", help)
 }
 
 /// The option for how many seconds a partner may keep still.
-pub(super) fn own_patience<'a>(alloc: Global) -> Arg<'a>
-    ensures rule { rule_of result ≡ spec.own_patience }
-    ensures local { result.global ≡ false }
+pub(super) fn own_patience<'a>() -> Argument<'a>
+    ensures { told result ≡ spec.own_patience }
 {
     let help = "How many seconds the partner may keep still, 0 to 86400, 0 for ever";
-    let patience = defaulted(alloc, "patience", "300", "SECONDS", help);
+    let patience = defaulted("patience", "300", "SECONDS", help);
     numbered(patience, 0, MOST_PATIENCE)
 }
 

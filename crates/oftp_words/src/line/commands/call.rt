@@ -30,17 +30,25 @@ pub struct Call<'a> {
 }
 
 /// `call`, as the parser is told of it.
+#[tactic(auto, unfolding(crate::specs::CallLine::call_app))]
 pub(super) fn call_command<'a>(alloc: Global) -> Result<Command<'a>, AllocError>
     ensures { IfOk result (λ c. app_of c ≡ call_app) }
 {
     let about = "Calls a partner for one session";
     let partner = "The code of the partner that is called";
-    command(alloc, "call", USAGE, about)
-        .arg(needed(alloc, "db", "DATABASE", DATABASE))?
-        .arg(needed(alloc, "book", "BOOK", BOOK))?
-        .arg(needed(alloc, "partner", "CODE", partner))?
-        .arg(own_patience(alloc))?
-        .arg(own_trace(alloc))
+    command(
+        alloc,
+        "call",
+        USAGE,
+        about,
+        &[
+            needed("db", "DATABASE", DATABASE),
+            needed("book", "BOOK", BOOK),
+            needed("partner", "CODE", partner),
+            own_patience(),
+            own_trace(),
+        ],
+    )
 }
 
 /// What `call` is asked for by the values of its options.

@@ -19,11 +19,18 @@ pub struct Check<'a> {
 }
 
 /// `check`, as the parser is told of it.
+#[tactic(auto, unfolding(crate::specs::CheckLine::check_app))]
 pub(super) fn check_command<'a>(alloc: Global) -> Result<Command<'a>, AllocError>
     ensures { IfOk result (λ c. app_of c ≡ check_app) }
 {
     let about = "Reads the book and counts its partners";
-    command(alloc, "check", USAGE, about).arg(needed(alloc, "book", "BOOK", BOOK))
+    command(
+        alloc,
+        "check",
+        USAGE,
+        about,
+        &[needed("book", "BOOK", BOOK)],
+    )
 }
 
 /// What `check` is asked for by the values of its options and words.

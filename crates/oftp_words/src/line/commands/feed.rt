@@ -44,6 +44,7 @@ pub enum Side {
 }
 
 /// `feed`, as the parser is told of it.
+#[tactic(auto, unfolding(crate::specs::FeedLine::feed_app))]
 pub(super) fn feed_command<'a>(alloc: Global) -> Result<Command<'a>, AllocError>
     ensures { IfOk result (λ c. app_of c ≡ feed_app) }
 {
@@ -52,14 +53,21 @@ pub(super) fn feed_command<'a>(alloc: Global) -> Result<Command<'a>, AllocError>
     let partner = "The code of the partner that an initiator calls";
     let input = "The file that holds what the partner sends";
     let output = "The file that is given what the station sends";
-    command(alloc, "feed", USAGE, about)
-        .arg(optional(alloc, "db", "DATABASE", DATABASE))?
-        .arg(needed(alloc, "book", "BOOK", BOOK))?
-        .arg(defaulted(alloc, "role", "responder", "ROLE", role))?
-        .arg(optional(alloc, "partner", "CODE", partner))?
-        .arg(own_trace(alloc))?
-        .arg(word(alloc, "in", "IN", input))?
-        .arg(word(alloc, "out", "OUT", output))
+    command(
+        alloc,
+        "feed",
+        USAGE,
+        about,
+        &[
+            optional("db", "DATABASE", DATABASE),
+            needed("book", "BOOK", BOOK),
+            defaulted("role", "responder", "ROLE", role),
+            optional("partner", "CODE", partner),
+            own_trace(),
+            word("in", "IN", input),
+            word("out", "OUT", output),
+        ],
+    )
 }
 
 fn side_named(name: &str) -> Option<Side>

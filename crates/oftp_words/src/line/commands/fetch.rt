@@ -23,15 +23,23 @@ pub struct Fetch<'a> {
 }
 
 /// `fetch`, as the parser is told of it.
+#[tactic(auto, unfolding(crate::specs::FetchLine::fetch_app))]
 pub(super) fn fetch_command<'a>(alloc: Global) -> Result<Command<'a>, AllocError>
     ensures { IfOk result (λ c. app_of c ≡ fetch_app) }
 {
     let about = "Writes an incoming file in its local form to file FILE";
     let file = "The file that is given its local form";
-    command(alloc, "fetch", USAGE, about)
-        .arg(needed(alloc, "db", "DATABASE", DATABASE))?
-        .arg(file_number(alloc))?
-        .arg(word(alloc, "file", "FILE", file))
+    command(
+        alloc,
+        "fetch",
+        USAGE,
+        about,
+        &[
+            needed("db", "DATABASE", DATABASE),
+            file_number(),
+            word("file", "FILE", file),
+        ],
+    )
 }
 
 /// What `fetch` is asked for by the values of its options and words.

@@ -28,16 +28,24 @@ pub struct Http<'a> {
 }
 
 /// `http`, as the parser is told of it.
+#[tactic(auto, unfolding(crate::specs::HttpLine::http_app))]
 pub(super) fn http_command<'a>(alloc: Global) -> Result<Command<'a>, AllocError>
     ensures { IfOk result (λ c. app_of c ≡ http_app) }
 {
     let about = "Answers requests for what the database holds, one after another";
     let requests = "How many requests are answered, 1 to 1000000";
-    command(alloc, "http", USAGE, about)
-        .arg(needed(alloc, "db", "DATABASE", DATABASE))?
-        .arg(own_port(alloc, "8080"))?
-        .arg(own_address(alloc))?
-        .arg(callers(alloc, "requests", requests))
+    command(
+        alloc,
+        "http",
+        USAGE,
+        about,
+        &[
+            needed("db", "DATABASE", DATABASE),
+            own_port("8080"),
+            own_address(),
+            callers("requests", requests),
+        ],
+    )
 }
 
 /// What `http` is asked for by the values of its options.

@@ -19,11 +19,18 @@ pub struct Init<'a> {
 }
 
 /// `init`, as the parser is told of it.
+#[tactic(auto, unfolding(crate::specs::InitLine::init_app))]
 pub(super) fn init_command<'a>(alloc: Global) -> Result<Command<'a>, AllocError>
     ensures { IfOk result (λ c. app_of c ≡ init_app) }
 {
     let about = "Opens the database and makes its tables";
-    command(alloc, "init", USAGE, about).arg(needed(alloc, "db", "DATABASE", DATABASE))
+    command(
+        alloc,
+        "init",
+        USAGE,
+        about,
+        &[needed("db", "DATABASE", DATABASE)],
+    )
 }
 
 /// What `init` is asked for by the values of its options and words.

@@ -35,19 +35,27 @@ pub struct Listen<'a> {
 }
 
 /// `listen`, as the parser is told of it.
+#[tactic(auto, unfolding(crate::specs::ListenLine::listen_app))]
 pub(super) fn listen_command<'a>(alloc: Global) -> Result<Command<'a>, AllocError>
     ensures { IfOk result (λ c. app_of c ≡ listen_app) }
 {
     let about = "Serves sessions of partners who call, one after another";
     let sessions = "How many sessions are served, 1 to 1000000";
-    command(alloc, "listen", USAGE, about)
-        .arg(needed(alloc, "db", "DATABASE", DATABASE))?
-        .arg(needed(alloc, "book", "BOOK", BOOK))?
-        .arg(own_port(alloc, "3305"))?
-        .arg(own_address(alloc))?
-        .arg(callers(alloc, "sessions", sessions))?
-        .arg(own_patience(alloc))?
-        .arg(own_trace(alloc))
+    command(
+        alloc,
+        "listen",
+        USAGE,
+        about,
+        &[
+            needed("db", "DATABASE", DATABASE),
+            needed("book", "BOOK", BOOK),
+            own_port("3305"),
+            own_address(),
+            callers("sessions", sessions),
+            own_patience(),
+            own_trace(),
+        ],
+    )
 }
 
 /// What `listen` is asked for by the values of its options.

@@ -19,11 +19,18 @@ pub struct Migrate<'a> {
 }
 
 /// `migrate`, as the parser is told of it.
+#[tactic(auto, unfolding(crate::specs::MigrateLine::migrate_app))]
 pub(super) fn migrate_command<'a>(alloc: Global) -> Result<Command<'a>, AllocError>
     ensures { IfOk result (λ c. app_of c ≡ migrate_app) }
 {
     let about = "Brings a database of schema 1 to schema 2";
-    command(alloc, "migrate", USAGE, about).arg(needed(alloc, "db", "DATABASE", DATABASE))
+    command(
+        alloc,
+        "migrate",
+        USAGE,
+        about,
+        &[needed("db", "DATABASE", DATABASE)],
+    )
 }
 
 /// What `migrate` is asked for by the values of its options and words.

@@ -33,17 +33,25 @@ pub struct Refuse<'a> {
 }
 
 /// `refuse`, as the parser is told of it.
+#[tactic(auto, unfolding(crate::specs::RefuseLine::refuse_app))]
 pub(super) fn refuse_command<'a>(alloc: Global) -> Result<Command<'a>, AllocError>
     ensures { IfOk result (λ c. app_of c ≡ refuse_app) }
 {
     let about = "Says that an incoming file wasn't delivered";
     let reason = "Why it wasn't, 0 to 99";
-    command(alloc, "refuse", USAGE, about)
-        .arg(needed(alloc, "db", "DATABASE", DATABASE))?
-        .arg(needed(alloc, "book", "BOOK", BOOK))?
-        .arg(file_number(alloc))?
-        .arg(numbered(word(alloc, "reason", "REASON", reason), 0, MOST_REASON))?
-        .arg(word(alloc, "text", "TEXT", "The reason in words"))
+    command(
+        alloc,
+        "refuse",
+        USAGE,
+        about,
+        &[
+            needed("db", "DATABASE", DATABASE),
+            needed("book", "BOOK", BOOK),
+            file_number(),
+            numbered(word("reason", "REASON", reason), 0, MOST_REASON),
+            word("text", "TEXT", "The reason in words"),
+        ],
+    )
 }
 
 /// What `refuse` is asked for by the values of its options and words.

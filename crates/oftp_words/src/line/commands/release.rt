@@ -23,14 +23,22 @@ pub struct Release<'a> {
 }
 
 /// `release`, as the parser is told of it.
+#[tactic(auto, unfolding(crate::specs::ReleaseLine::release_app))]
 pub(super) fn release_command<'a>(alloc: Global) -> Result<Command<'a>, AllocError>
     ensures { IfOk result (λ c. app_of c ≡ release_app) }
 {
     let about = "Says that an incoming file was delivered";
-    command(alloc, "release", USAGE, about)
-        .arg(needed(alloc, "db", "DATABASE", DATABASE))?
-        .arg(needed(alloc, "book", "BOOK", BOOK))?
-        .arg(file_number(alloc))
+    command(
+        alloc,
+        "release",
+        USAGE,
+        about,
+        &[
+            needed("db", "DATABASE", DATABASE),
+            needed("book", "BOOK", BOOK),
+            file_number(),
+        ],
+    )
 }
 
 /// What `release` is asked for by the values of its options and words.

@@ -22,14 +22,22 @@ pub struct Report<'a> {
 }
 
 /// `report`, as the parser is told of it.
+#[tactic(auto, unfolding(crate::specs::ReportLine::report_app))]
 pub(super) fn report_command<'a>(alloc: Global) -> Result<Command<'a>, AllocError>
     ensures { IfOk result (λ c. app_of c ≡ report_app) }
 {
     let about = "Tells what the database holds, as comma-separated values";
     let kind = "What is reported: in, out, issued or received";
-    command(alloc, "report", USAGE, about)
-        .arg(needed(alloc, "db", "DATABASE", DATABASE))?
-        .arg(word(alloc, "kind", "KIND", kind))
+    command(
+        alloc,
+        "report",
+        USAGE,
+        about,
+        &[
+            needed("db", "DATABASE", DATABASE),
+            word("kind", "KIND", kind),
+        ],
+    )
 }
 
 fn kind_named(name: &str) -> Option<ReportKind>

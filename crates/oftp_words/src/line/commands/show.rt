@@ -19,12 +19,13 @@ pub struct Show<'a> {
 }
 
 /// `show`, as the parser is told of it.
+#[tactic(auto, unfolding(crate::specs::ShowLine::show_app))]
 pub(super) fn show_command<'a>(alloc: Global) -> Result<Command<'a>, AllocError>
     ensures { IfOk result (λ c. app_of c ≡ show_app) }
 {
     let about = "Prints the commands in file IN, a line each, up to the first fault";
     let input = "The file that holds what one side of a session sent";
-    command(alloc, "show", USAGE, about).arg(word(alloc, "in", "IN", input))
+    command(alloc, "show", USAGE, about, &[word("in", "IN", input)])
 }
 
 /// What `show` is asked for by the values of its options and words.

@@ -44,6 +44,7 @@ pub struct Submit<'a> {
 }
 
 /// `submit`, as the parser is told of it.
+#[tactic(auto, unfolding(crate::specs::SubmitLine::submit_app))]
 pub(super) fn submit_command<'a>(alloc: Global) -> Result<Command<'a>, AllocError>
     ensures { IfOk result (λ c. app_of c ≡ submit_app) }
 {
@@ -56,21 +57,28 @@ pub(super) fn submit_command<'a>(alloc: Global) -> Result<Command<'a>, AllocErro
     let longest = "Its longest record in octets, 0 to 99999";
     let description = "What it is, in words";
     let file = "The file that holds it in its local form";
-    command(alloc, "submit", USAGE, about)
-        .arg(needed(alloc, "db", "DATABASE", DATABASE))?
-        .arg(needed(alloc, "book", "BOOK", BOOK))?
-        .arg(needed(alloc, "dataset", "NAME", dataset))?
-        .arg(needed(alloc, "date", "DATE", date))?
-        .arg(needed(alloc, "time", "TIME", time))?
-        .arg(needed(alloc, "to", "CODE", to))?
-        .arg(needed(alloc, "format", "FORMAT", format))?
-        .arg(numbered(
-            defaulted(alloc, "longest", "0", "OCTETS", longest),
-            0,
-            MOST_LONGEST,
-        ))?
-        .arg(defaulted(alloc, "description", "", "TEXT", description))?
-        .arg(word(alloc, "file", "FILE", file))
+    command(
+        alloc,
+        "submit",
+        USAGE,
+        about,
+        &[
+            needed("db", "DATABASE", DATABASE),
+            needed("book", "BOOK", BOOK),
+            needed("dataset", "NAME", dataset),
+            needed("date", "DATE", date),
+            needed("time", "TIME", time),
+            needed("to", "CODE", to),
+            needed("format", "FORMAT", format),
+            numbered(
+                defaulted("longest", "0", "OCTETS", longest),
+                0,
+                MOST_LONGEST,
+            ),
+            defaulted("description", "", "TEXT", description),
+            word("file", "FILE", file),
+        ],
+    )
 }
 
 fn format_named(name: &str) -> Option<Format>
