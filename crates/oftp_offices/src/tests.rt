@@ -2,8 +2,9 @@
 
 mod act;
 mod answers;
-mod offices;
+mod asking;
 mod openings;
+mod playing;
 mod stops;
 mod stories;
 mod telling;

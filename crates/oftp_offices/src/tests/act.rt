@@ -6,7 +6,7 @@ use oftp_wire::{Count, Digits, Text, X};
 use std::alloc::{AllocError, Global};
 
 /// A change in short. Files go by a letter, A to M from O1 to O2 and N to Z back. In F and V the longest record is 3.
-#[derive(Clone, Copy, Debug)]
+#[derive(Clone, Copy, Drop)]
 pub(super) enum Act {
     Submit(&'static [u8], Format, &'static [&'static [u8]]),
     /// So many records of one octet, in V.

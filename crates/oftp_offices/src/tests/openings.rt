@@ -1,38 +1,14 @@
-//! A store of schema 2 made twice, and one of schema 1 migrated: stores that are neither.
+//! A store of schema 2 made twice, and one of schema 1 migrated: stores that are neither. The numbers are counted by hand.
 
-use oftp_open::{migrate_tables, open_tables};
-use oftp_schema::StoreFault;
-use sqlite::{Alter, Connection, Error};
+use super::playing::{FEW, Image, NO_STOP, Step, play};
+use Step::{Batch, Migrate, Number, Open};
+use std::alloc::Global;
+use std::process::Abort;
 use std::test::Fail;
 
-// These have no clause, so that the proof of a test does not carry the state of each call.
-fn batch<S: Alter>(conn: &mut Connection<S>, sql: &str) -> Result<(), Error> {
-    conn.execute_batch(sql)
-}
-
-fn number<S: Alter>(conn: &mut Connection<S>, sql: &str) -> Result<i64, Error> {
-    conn.query_row(sql, &[])?.get(0)
-}
-
-fn open<S: Alter>(conn: &mut Connection<S>) -> Result<(), StoreFault> {
-    if !conn.is_autocommit() {
-        return Err(StoreFault::Store);
-    }
-    open_tables(conn)
-}
-
-fn migrate<S: Alter>(conn: &mut Connection<S>) -> Result<(), StoreFault> {
-    if !conn.is_autocommit() {
-        return Err(StoreFault::Store);
-    }
-    migrate_tables(conn)
-}
-
-// Makes the tables of schema 1, with an end response and two negative ones.
-fn make_first<S: Alter>(conn: &mut Connection<S>) -> Result<(), Error> {
-    batch(
-        conn,
-        "CREATE TABLE about (id INTEGER NOT NULL PRIMARY KEY, schema INTEGER NOT NULL) STRICT;
+// The tables of schema 1, with an end response and two negative ones.
+const FIRST: &str =
+    "CREATE TABLE about (id INTEGER NOT NULL PRIMARY KEY, schema INTEGER NOT NULL) STRICT;
         CREATE TABLE in_file (no INTEGER NOT NULL PRIMARY KEY, dataset TEXT NOT NULL, date TEXT NOT NULL, time TEXT NOT NULL,
             originator TEXT NOT NULL, destination TEXT NOT NULL, format TEXT NOT NULL, longest INTEGER NOT NULL, description TEXT NOT NULL,
             state TEXT NOT NULL, UNIQUE (dataset, date, time, originator, destination)) STRICT;
@@ -46,108 +22,158 @@ fn make_first<S: Alter>(conn: &mut Connection<S>) -> Result<(), Error> {
             time TEXT NOT NULL, originator TEXT NOT NULL, destination TEXT NOT NULL, reason TEXT NOT NULL, UNIQUE (kind, dataset, date,
             time, originator, destination)) STRICT;
         INSERT INTO about VALUES (1, 1);
-        INSERT INTO received VALUES (1, 'NERP', 'A', 'D', 'T', 'O', 'P', '07'), (2, 'EERP', 'B', 'D', 'T', 'O', 'P', ''), (3, 'NERP', 'C', 'D', 'T', 'O', 'P', '23')",
-    )
-}
+        INSERT INTO received VALUES (1, 'NERP', 'A', 'D', 'T', 'O', 'P', '07'), (2, 'EERP', 'B', 'D', 'T', 'O', 'P', ''), (3, 'NERP', 'C', 'D', 'T', 'O', 'P', '23')";
 
-#[test]
-fn init_twice(rt: HostRuntime) -> Result<(), Fail> {
-    let mut conn = Connection::open_in_memory(rt.alloc())?;
-    assert_eq!(rt; open(&mut conn), Ok(()));
-    let objects = number(&mut conn, "SELECT count(*) FROM sqlite_schema")?;
-    assert_eq!(rt; objects, 13);
-    assert_eq!(rt; open(&mut conn), Ok(()));
-    assert_eq!(rt;
-        number(&mut conn, "SELECT count(*) FROM sqlite_schema")?,
-        objects
-    );
-    assert_eq!(rt;
-        number(&mut conn, "SELECT schema FROM about WHERE id = 1")?,
-        2
-    );
-    Ok(())
-}
+const OBJECTS: &str = "SELECT count(*) FROM sqlite_schema";
 
-// A store that is neither empty nor an office's is refused, and keeps what it has.
-#[test]
-fn wrong_schema_of_an_empty_store(rt: HostRuntime) -> Result<(), Fail> {
-    for edit in [
-        "CREATE TABLE t (a)",
-        "CREATE TABLE about (id INTEGER NOT NULL PRIMARY KEY, schema INTEGER NOT NULL) STRICT",
-        "CREATE VIEW v AS SELECT 1",
-    ] {
-        let mut conn = Connection::open_in_memory(rt.alloc())?;
-        batch(&mut conn, edit)?;
-        assert_eq!(rt; open(&mut conn), Err(StoreFault::WrongSchema));
-        assert_eq!(rt; migrate(&mut conn), Err(StoreFault::WrongSchema));
-        assert_eq!(rt; number(&mut conn, "SELECT count(*) FROM sqlite_schema")?, 1);
+const SCHEMA: &str = "SELECT schema FROM about WHERE id = 1";
+
+// What is done with an empty store, and what is said.
+type Tale = (&'static [Step<'static>], &'static [&'static str]);
+
+// An office is made twice, with the same objects.
+const TWICE: Tale = (
+    &[
+        Open(&[]),
+        Number(OBJECTS),
+        Open(&[]),
+        Number(OBJECTS),
+        Number(SCHEMA),
+    ],
+    &["open", "13", "open", "13", "2"],
+);
+
+const MIGRATED: Tale = (
+    &[
+        Migrate(&[]),
+        Batch(FIRST),
+        Open(&[]),
+        Migrate(&[]),
+        Number("SELECT count(*) FROM received_note"),
+        Number(
+            "SELECT count(*) FROM received_note WHERE (no = 1 OR no = 3) AND creator = '' AND note = ''",
+        ),
+        Number("SELECT schema FROM about"),
+        Number("SELECT count(*) FROM received"),
+        Open(&[]),
+        Migrate(&[]),
+    ],
+    &[
+        "wrong schema",
+        "wrong schema",
+        "open",
+        "2",
+        "2",
+        "2",
+        "3",
+        "open",
+        "open",
+    ],
+);
+
+fn tell(alloc: Global, rt: &impl Abort, steps: &[Step<'_>], wanted: &[&str]) -> Result<(), Fail> {
+    let played = play(alloc, FEW, steps, &Image::empty(alloc), NO_STOP)?;
+    assert_eq!(rt; played.said.len(), wanted.len());
+    for (found, wanted) in played.said.iter().zip(wanted) {
+        assert_eq!(rt; found.as_str(), *wanted);
     }
     Ok(())
 }
 
+#[test]
+fn opened_twice_and_migrated(rt: HostRuntime) -> Result<(), Fail> {
+    for (steps, wanted) in [TWICE, MIGRATED] {
+        tell(rt.alloc(), &rt, steps, wanted)?;
+    }
+    Ok(())
+}
+
+// What is made in a store, with or without an office's tables before, and how many objects and rows of `about` it then has.
+type Wrong = (&'static str, &'static str, &'static str);
+
+const EDITS: &[Wrong] = &[
+    ("CREATE TABLE t (a)", "14", "1"),
+    ("CREATE VIEW v AS SELECT no FROM in_file", "14", "1"),
+    ("CREATE INDEX i ON received (date)", "14", "1"),
+    ("DROP TABLE received_note", "12", "1"),
+    (
+        "DROP TABLE received_note; CREATE TABLE received_note (no INTEGER NOT NULL PRIMARY KEY REFERENCES received (no), creator TEXT NOT NULL) STRICT",
+        "13",
+        "1",
+    ),
+    (
+        "DROP TABLE received_note; CREATE TABLE received_note (no INTEGER NOT NULL PRIMARY KEY REFERENCES received (no), creator TEXT NOT NULL, note TEXT) STRICT",
+        "13",
+        "1",
+    ),
+    (
+        "DROP TABLE received_note; CREATE TABLE received_note (no INTEGER NOT NULL PRIMARY KEY, creator TEXT NOT NULL, note TEXT NOT NULL) STRICT",
+        "13",
+        "1",
+    ),
+    ("DELETE FROM about", "13", "0"),
+    ("INSERT INTO about VALUES (2, 2)", "13", "2"),
+    ("UPDATE about SET id = 2", "13", "1"),
+    ("UPDATE about SET schema = 1", "13", "1"),
+    ("UPDATE about SET schema = 7", "13", "1"),
+    (
+        "DROP TABLE about; CREATE TABLE about (id INTEGER NOT NULL PRIMARY KEY, schema TEXT NOT NULL) STRICT; INSERT INTO about VALUES (1, '2')",
+        "13",
+        "1",
+    ),
+];
+
+// What makes a store that is neither empty nor an office's.
+const FOREIGN: [&str; 3] = [
+    "CREATE TABLE t (a)",
+    "CREATE TABLE about (id INTEGER NOT NULL PRIMARY KEY, schema INTEGER NOT NULL) STRICT",
+    "CREATE VIEW v AS SELECT 1",
+];
+
+// An office's store is refused after an edit, and has so many objects and rows of `about`.
+fn refuses(
+    alloc: Global,
+    rt: &impl Abort,
+    edit: &'static str,
+    counts: [&'static str; 2],
+) -> Result<(), Fail> {
+    let steps = [
+        Open(&[]),
+        Batch(edit),
+        Open(&[]),
+        Migrate(&[]),
+        Number(OBJECTS),
+        Number("SELECT count(*) FROM about"),
+    ];
+    let [objects, rows] = counts;
+    let wanted = ["open", "wrong schema", "wrong schema", objects, rows];
+    tell(alloc, rt, &steps, &wanted)
+}
+
+/// A store that is neither empty nor an office's is refused, and keeps what it has.
 #[test]
 fn wrong_schema(rt: HostRuntime) -> Result<(), Fail> {
-    for edit in [
-        "CREATE TABLE t (a)",
-        "CREATE VIEW v AS SELECT no FROM in_file",
-        "CREATE INDEX i ON received (date)",
-        "DROP TABLE received_note",
-        "DROP TABLE received_note; CREATE TABLE received_note (no INTEGER NOT NULL PRIMARY KEY REFERENCES received (no), creator TEXT NOT NULL) STRICT",
-        "DROP TABLE received_note; CREATE TABLE received_note (no INTEGER NOT NULL PRIMARY KEY REFERENCES received (no), creator TEXT NOT NULL, note TEXT) STRICT",
-        "DROP TABLE received_note; CREATE TABLE received_note (no INTEGER NOT NULL PRIMARY KEY, creator TEXT NOT NULL, note TEXT NOT NULL) STRICT",
-        "DELETE FROM about",
-        "INSERT INTO about VALUES (2, 2)",
-        "UPDATE about SET id = 2",
-        "UPDATE about SET schema = 1",
-        "UPDATE about SET schema = 7",
-        "DROP TABLE about; CREATE TABLE about (id INTEGER NOT NULL PRIMARY KEY, schema TEXT NOT NULL) STRICT; INSERT INTO about VALUES (1, '2')",
-    ] {
-        let mut conn = Connection::open_in_memory(rt.alloc())?;
-        assert_eq!(rt; open(&mut conn), Ok(()));
-        batch(&mut conn, edit)?;
-        let objects = number(&mut conn, "SELECT count(*) FROM sqlite_schema")?;
-        let rows = number(&mut conn, "SELECT count(*) FROM about")?;
-        assert_eq!(rt; open(&mut conn), Err(StoreFault::WrongSchema));
-        assert_eq!(rt; migrate(&mut conn), Err(StoreFault::WrongSchema));
-        assert_eq!(rt;
-            number(&mut conn, "SELECT count(*) FROM sqlite_schema")?,
-            objects
-        );
-        assert_eq!(rt; number(&mut conn, "SELECT count(*) FROM about")?, rows);
+    for row in EDITS {
+        let (edit, objects, rows) = *row;
+        refuses(rt.alloc(), &rt, edit, [objects, rows])?;
     }
-    Ok(())
-}
-
-#[test]
-fn migrated(rt: HostRuntime) -> Result<(), Fail> {
-    let mut conn = Connection::open_in_memory(rt.alloc())?;
-    assert_eq!(rt; migrate(&mut conn), Err(StoreFault::WrongSchema));
-    make_first(&mut conn)?;
-    assert_eq!(rt; open(&mut conn), Err(StoreFault::WrongSchema));
-    assert_eq!(rt; migrate(&mut conn), Ok(()));
-    assert_eq!(rt; number(&mut conn, "SELECT count(*) FROM received_note")?, 2);
-    assert_eq!(rt;
-        number(
-            &mut conn,
-            "SELECT count(*) FROM received_note WHERE (no = 1 OR no = 3) AND creator = '' AND note = ''"
-        )?,
-        2
-    );
-    assert_eq!(rt; number(&mut conn, "SELECT schema FROM about")?, 2);
-    assert_eq!(rt; number(&mut conn, "SELECT count(*) FROM received")?, 3);
-    assert_eq!(rt; open(&mut conn), Ok(()));
-    assert_eq!(rt; migrate(&mut conn), Ok(()));
+    for edit in FOREIGN {
+        let steps = [Batch(edit), Open(&[]), Migrate(&[]), Number(OBJECTS)];
+        tell(
+            rt.alloc(),
+            &rt,
+            &steps,
+            &["wrong schema", "wrong schema", "1"],
+        )?;
+    }
     Ok(())
 }
 
 #[test]
 fn wrong_about_of_schema_1(rt: HostRuntime) -> Result<(), Fail> {
     for edit in ["UPDATE about SET schema = 2", "DELETE FROM about"] {
-        let mut conn = Connection::open_in_memory(rt.alloc())?;
-        make_first(&mut conn)?;
-        batch(&mut conn, edit)?;
-        assert_eq!(rt; migrate(&mut conn), Err(StoreFault::WrongSchema));
-        assert_eq!(rt; open(&mut conn), Err(StoreFault::WrongSchema));
+        let steps = [Batch(FIRST), Batch(edit), Migrate(&[]), Open(&[])];
+        tell(rt.alloc(), &rt, &steps, &["wrong schema", "wrong schema"])?;
     }
     Ok(())
 }

@@ -1,28 +1,19 @@
 //! A stop at each call on a database's files: what is found then is the register before a change, or after it.
 
 use super::act::Act;
-use super::offices::FEW;
-use super::telling::kept;
+use super::asking::Ask;
+use super::playing::{FEW, Image, NO_STOP, Played, Step, Stop, play, play_plain};
 use Act::{
     BeginClosing, Close, File, GiveUp, HandOver, Issue, Keep, Mark, Refuse, Reopen, Send, Start,
     Submit,
 };
 use Format::{Fixed, Variable};
 use ResponseKind::{EndResponse, NegativeEndResponse};
-use oftp_register::{Office, OfficeFault, PlainOffice, ResponseKind, are_limits};
-use oftp_schema::StoreFault;
-use oftp_store::{OpenRefused, SqlOffice};
+use oftp_register::ResponseKind;
 use oftp_vfile::Format;
-use sqlite::{Alter, Connection, Error, FileStore, Files, Options};
-use sqlite_disk::{Crash, Disk, Fuse, Memory};
-use std::alloc::Global;
-use std::io;
+use std::alloc::{AllocError, Global};
 use std::process::Abort;
 use std::test::Fail;
-
-type Fused = Fuse<Memory>;
-
-type Stopped = SqlOffice<FileStore<Fused>>;
 
 // A change of each kind, and after each another register.
 const CHANGES: &[Act] = &[
@@ -56,211 +47,80 @@ const FIRST: &[Act] = &[
 
 const MIGRATED: &str = "out 1 A V3 plan Returned mark 0 2/3 abc||; got 1 A NERP 9  ; ";
 
-// Which file fails, from which call on, and whether what was written without a sync stays.
-#[derive(Clone, Copy, Debug)]
-struct Stop {
-    in_log: bool,
-    calls: u64,
-    stays: bool,
-}
-
-const NO_STOP: Stop = Stop {
-    in_log: true,
-    calls: u64::MAX,
-    stays: true,
-};
-
-// The octets of a database's two files.
-#[derive(Drop)]
-struct Image {
-    log: Vec<u8>,
-    db: Vec<u8>,
-}
-
-// How an office is opened.
-#[derive(Clone, Copy)]
-enum Opening {
-    Open,
-    Migrate,
-}
-
-// Where a run ended: in the opening, in the change of a place, or behind all.
-#[derive(Clone, Copy, Debug, PartialEq)]
-enum End {
-    Opening,
-    Change(usize),
-    Done,
-}
-
-// A file that passes so many calls on.
-fn file_of(alloc: Global, octets: &[u8], calls: u64) -> io::Result<Fused> {
-    let mut file = Memory::new(alloc);
-    file.write_at(0, octets)?;
-    file.sync()?;
-    Ok(Fuse::new(file, calls))
-}
-
-fn files_of(alloc: Global, image: &Image, stop: Stop) -> io::Result<Files<Fused>> {
-    let (log, db) = if stop.in_log {
-        (stop.calls, u64::MAX)
-    } else {
-        (u64::MAX, stop.calls)
-    };
-    Ok(Files {
-        log: file_of(alloc, image.log.as_slice(), log)?,
-        db: file_of(alloc, image.db.as_slice(), db)?,
-    })
-}
-
-// What a stop leaves of a file.
-fn octets_of(alloc: Global, file: Fused, stop: Stop) -> Result<Vec<u8>, Fail> {
-    let mut file = file;
-    if !stop.stays {
-        file.crash();
+// What is asked: each of some changes.
+fn asks_of(alloc: Global, changes: &[Act]) -> Result<Vec<Ask>, AllocError> {
+    let mut asks = Vec::new(alloc);
+    for act in changes {
+        asks.push(Ask::Change(*act))?;
     }
-    Ok(Vec::from_slice(alloc, file.inner().bytes())?)
+    Ok(asks)
 }
 
-fn image_of(alloc: Global, files: Files<Fused>, stop: Stop) -> Result<Image, Fail> {
-    let Files { log, db } = files;
-    Ok(Image {
-        log: octets_of(alloc, log, stop)?,
-        db: octets_of(alloc, db, stop)?,
-    })
-}
-
-// A connection whose log is copied into the database often.
-fn connect(
-    alloc: Global,
-    files: Files<Fused>,
-) -> Result<Connection<FileStore<Fused>>, Files<Fused>> {
-    if !files.may_be_used() {
-        return Err(files);
+// The same, between two questions what is kept.
+fn asks_to_go_on(alloc: Global, changes: &[Act]) -> Result<Vec<Ask>, AllocError> {
+    let mut asks = Vec::new(alloc);
+    asks.push(Ask::Kept)?;
+    for act in changes {
+        asks.push(Ask::Change(*act))?;
     }
-    let mut options = Options::new(1);
-    options.checkpoint_frames = 8;
-    match Connection::open_files(alloc, files, options) {
-        Ok(conn) => Ok(conn),
-        Err((_, left)) => Err(left.into_files()),
-    }
-}
-
-// Gives the files back, with no call on them.
-fn files_under(conn: Connection<FileStore<Fused>>) -> Files<Fused> {
-    conn.into_store().close()
-}
-
-fn begin(
-    alloc: Global,
-    how: Opening,
-    files: Files<Fused>,
-) -> Result<Stopped, (StoreFault, Files<Fused>)> {
-    let conn = match connect(alloc, files) {
-        Ok(conn) => conn,
-        Err(left) => return Err((StoreFault::Store, left)),
-    };
-    if !conn.is_autocommit() || !are_limits(FEW) {
-        return Err((StoreFault::Store, files_under(conn)));
-    }
-    let opened = match how {
-        Opening::Open => SqlOffice::open(alloc, conn, FEW),
-        Opening::Migrate => SqlOffice::migrate(alloc, conn, FEW),
-    };
-    match opened {
-        Ok(office) => Ok(office),
-        Err(OpenRefused { fault, conn }) => Err((fault, files_under(conn))),
-    }
-}
-
-// Makes changes, up to the first that isn't answered.
-fn change<O: Office>(alloc: Global, office: &mut O, changes: &[Act]) -> Result<End, OfficeFault> {
-    for (at, act) in changes.iter().enumerate() {
-        if office.commit(act.change(alloc)?).is_err() {
-            return Ok(End::Change(at));
-        }
-    }
-    Ok(End::Done)
-}
-
-// Opens an office and makes all changes, up to a stop.
-fn run(alloc: Global, files: Files<Fused>) -> Result<(End, Files<Fused>), OfficeFault> {
-    match begin(alloc, Opening::Open, files) {
-        Ok(office) => {
-            let mut office = office;
-            let end = change(alloc, &mut office, CHANGES);
-            let left = files_under(office.into_conn());
-            Ok((end?, left))
-        }
-        Err((_, left)) => Ok((End::Opening, left)),
-    }
+    asks.push(Ask::Kept)?;
+    Ok(asks)
 }
 
 // What is kept before the first change, and after each.
-fn registers(alloc: Global) -> Result<Vec<String>, OfficeFault> {
-    let mut office = PlainOffice::new(alloc, FEW);
-    let mut all = Vec::new(alloc);
-    all.push(kept(alloc, &mut office)?)?;
+fn registers(alloc: Global) -> Result<Vec<String>, AllocError> {
+    let mut asks = Vec::new(alloc);
+    asks.push(Ask::Kept)?;
     for act in CHANGES {
-        office.commit(act.change(alloc)?)?;
-        all.push(kept(alloc, &mut office)?)?;
+        asks.push(Ask::Change(*act))?;
+        asks.push(Ask::Kept)?;
+    }
+    let said = play_plain(alloc, FEW, &[Step::Open(asks.as_slice())]);
+    let mut all = Vec::new(alloc);
+    for lines in said.as_slice().chunks(2) {
+        if let [_, kept] = lines {
+            all.push(kept.clone()?)?;
+        }
     }
     Ok(all)
 }
 
-// Which register may be found: the one before the change that a run ended in, or after it.
-fn found_at(end: End, registers: &[String], found: &str) -> Option<usize> {
-    let (first, most) = match end {
-        End::Opening => (0, 1),
-        End::Change(at) => (at, 2),
-        End::Done => (CHANGES.len(), 1),
-    };
-    let mut at = first;
-    for register in registers.iter().skip(first).take(most) {
-        if register.as_str() == found {
-            return Some(at);
-        }
-        at = at.saturating_add(1);
-    }
-    None
+// How many changes were made.
+fn made(said: &[String]) -> usize {
+    said.iter().filter(|line| line.as_str() == "made").count()
 }
 
-// Finds a register in an office, and goes on to the end.
-fn finish<O: Office>(
-    alloc: Global,
-    rt: &impl Abort,
-    registers: &[String],
-    end: End,
-    office: &mut O,
-) -> Result<(), Fail> {
-    let found = kept(alloc, office)?;
-    let Some(at) = found_at(end, registers, found.as_str()) else {
-        assert!(rt; false, "after {end:?} it has {}", found.as_str());
-        return Ok(());
-    };
-    for act in CHANGES.iter().skip(at) {
-        office.commit(act.change(alloc)?)?;
-    }
-    let all = kept(alloc, office)?;
-    assert_eq!(rt;
-        found_at(End::Done, registers, all.as_str()),
-        Some(CHANGES.len())
-    );
-    Ok(())
+// Whether what a stop left is the register of a place: then an office makes the changes behind it, and comes to the last.
+fn goes_on_at(alloc: Global, registers: &[String], at: usize, left: &Image) -> Result<bool, Fail> {
+    let rest = CHANGES.get(at..).unwrap_or(&[]);
+    let asks = asks_to_go_on(alloc, rest)?;
+    let all = play(alloc, FEW, &[Step::Open(asks.as_slice())], left, NO_STOP)?;
+    let said = all.said.as_slice();
+    Ok(
+        made(said) == rest.len()
+            && is_at(registers.get(at), said.get(1))
+            && is_at(registers.last(), said.last()),
+    )
 }
 
-// Opens what a stop left, and goes on to the end.
-fn go_on(
-    alloc: Global,
-    rt: &impl Abort,
-    registers: &[String],
-    end: End,
-    left: Files<Fused>,
-) -> Result<(), Fail> {
-    let Ok(office) = begin(alloc, Opening::Open, left) else {
-        return Err("not opened after a stop".into());
-    };
-    let mut office = office;
-    finish(alloc, rt, registers, end, &mut office)
+fn is_at(register: Option<&String>, found: Option<&String>) -> bool {
+    match (register, found) {
+        (Some(register), Some(found)) => register.as_str() == found.as_str(),
+        _ => false,
+    }
+}
+
+// What a stop left is the register before the change that came to a fault, or after it.
+fn goes_on(alloc: Global, registers: &[String], stopped: &Played) -> Result<bool, Fail> {
+    let first = made(stopped.said.as_slice());
+    let has_begun = stopped.said.len().saturating_sub(first) == 2;
+    if goes_on_at(alloc, registers, first, &stopped.left)? {
+        return Ok(true);
+    }
+    if has_begun {
+        return goes_on_at(alloc, registers, first.saturating_add(1), &stopped.left);
+    }
+    Ok(false)
 }
 
 // More calls than a run makes.
@@ -273,35 +133,52 @@ fn stop_at_each(
     registers: &[String],
     stop: Stop,
 ) -> Result<u64, Fail> {
-    let empty = Image {
-        log: Vec::new(alloc),
-        db: Vec::new(alloc),
-    };
+    let asks = asks_of(alloc, CHANGES)?;
+    let steps = [Step::Open(asks.as_slice())];
+    let empty = Image::empty(alloc);
     for calls in 0..MOST_CALLS {
-        let stop = Stop { calls, ..stop };
-        let (end, left) = run(alloc, files_of(alloc, &empty, stop)?)?;
-        let left = image_of(alloc, left, stop)?;
-        go_on(alloc, rt, registers, end, files_of(alloc, &left, NO_STOP)?)?;
-        if end == End::Done {
+        let played = play(alloc, FEW, &steps, &empty, Stop { calls, ..stop })?;
+        let goes_on = goes_on(alloc, registers, &played)?;
+        assert!(rt; goes_on, "after a stop at call {calls}");
+        if made(played.said.as_slice()) == CHANGES.len() {
             return Ok(calls);
         }
     }
     Err("no run ended".into())
 }
 
+// Either file, and both that a stop may leave.
+const STOPS: [Stop; 4] = [
+    Stop {
+        in_log: true,
+        calls: 0,
+        stays: true,
+    },
+    Stop {
+        in_log: true,
+        calls: 0,
+        stays: false,
+    },
+    Stop {
+        in_log: false,
+        calls: 0,
+        stays: true,
+    },
+    Stop {
+        in_log: false,
+        calls: 0,
+        stays: false,
+    },
+];
+
 // Fewer calls than a run makes on either file.
 const FEW_CALLS: u64 = 4;
 
-// The same on one file, for both that a stop may leave.
-fn stop_on(alloc: Global, rt: &impl Abort, in_log: bool) -> Result<(), Fail> {
+fn stop_on(alloc: Global, rt: &impl Abort, stops: &[Stop]) -> Result<(), Fail> {
     let registers = registers(alloc)?;
-    for stays in [true, false] {
-        let stop = Stop {
-            in_log,
-            calls: 0,
-            stays,
-        };
-        let calls = stop_at_each(alloc, rt, registers.as_slice(), stop)?;
+    assert_eq!(rt; registers.len().saturating_sub(CHANGES.len()), 1);
+    for stop in stops {
+        let calls = stop_at_each(alloc, rt, registers.as_slice(), *stop)?;
         assert!(rt; calls > FEW_CALLS, "it made {calls} calls");
     }
     Ok(())
@@ -309,75 +186,55 @@ fn stop_on(alloc: Global, rt: &impl Abort, in_log: bool) -> Result<(), Fail> {
 
 #[test]
 fn stop_at_each_call(rt: HostRuntime) -> Result<(), Fail> {
-    stop_on(rt.alloc(), &rt, true)
+    stop_on(rt.alloc(), &rt, &STOPS[..2])
 }
 
 #[test]
 fn stop_at_each_call_on_the_database(rt: HostRuntime) -> Result<(), Fail> {
-    stop_on(rt.alloc(), &rt, false)
-}
-
-// This has no clause, so that a proof doesn't carry the state of its call.
-fn batch<S: Alter>(conn: &mut Connection<S>, sql: &str) -> Result<(), Error> {
-    conn.execute_batch(sql)
+    stop_on(rt.alloc(), &rt, &STOPS[2..])
 }
 
 // The files of a store of schema 1.
-fn first_image(alloc: Global) -> Result<Image, Fail> {
-    let empty = Image {
-        log: Vec::new(alloc),
-        db: Vec::new(alloc),
-    };
-    let Ok(office) = begin(alloc, Opening::Open, files_of(alloc, &empty, NO_STOP)?) else {
-        return Err("not opened".into());
-    };
-    let mut office = office;
-    let end = change(alloc, &mut office, FIRST);
-    let mut conn = office.into_conn();
-    let renewed = batch(
-        &mut conn,
-        "DROP TABLE received_note; UPDATE about SET schema = 1",
-    );
-    let left = files_under(conn);
-    if end? != End::Done {
-        return Err("not changed".into());
-    }
-    renewed?;
-    image_of(alloc, left, NO_STOP)
+fn first_image(alloc: Global, rt: &impl Abort) -> Result<Image, Fail> {
+    let asks = asks_of(alloc, FIRST)?;
+    let steps = [Step::Open(asks.as_slice())];
+    let Played { said, left } = play(alloc, FEW, &steps, &Image::empty(alloc), NO_STOP)?;
+    assert_eq!(rt; made(said.as_slice()), FIRST.len());
+    assert_eq!(rt; said.len().saturating_sub(FIRST.len()), 1);
+    let renewal = [Step::Batch("DROP TABLE received_note; UPDATE about SET schema = 1")];
+    let Played { said, left } = play(alloc, FEW, &renewal, &left, NO_STOP)?;
+    assert!(rt; said.is_empty());
+    Ok(left)
 }
 
-// What an office keeps that is opened so, or why it isn't opened.
-fn opened_as(
-    alloc: Global,
-    how: Opening,
-    left: &Image,
-) -> Result<Result<String, StoreFault>, Fail> {
-    match begin(alloc, how, files_of(alloc, left, NO_STOP)?) {
-        Ok(office) => {
-            let mut office = office;
-            let found = kept(alloc, &mut office);
-            drop(office);
-            Ok(Ok(found?))
-        }
-        Err((fault, _)) => Ok(Err(fault)),
+// It was opened, and keeps what is migrated.
+fn is_migrated(said: &[String]) -> bool {
+    match said {
+        [open, kept] => open.as_str() == "open" && kept.as_str() == MIGRATED,
+        _ => false,
+    }
+}
+
+fn is_of_schema_1(said: &[String]) -> bool {
+    match said {
+        [refused] => refused.as_str() == "wrong schema",
+        _ => false,
     }
 }
 
 // Migrates, up to a stop, and answers whether it came to its end. What is left is of schema 1 or migrated, and is migrated then.
 fn migrate_once(alloc: Global, rt: &impl Abort, first: &Image, stop: Stop) -> Result<bool, Fail> {
-    let (ended, left) = match begin(alloc, Opening::Migrate, files_of(alloc, first, stop)?) {
-        Ok(office) => (true, files_under(office.into_conn())),
-        Err((_, left)) => (false, left),
-    };
-    let left = image_of(alloc, left, stop)?;
-    match opened_as(alloc, Opening::Open, &left)? {
-        Ok(found) => assert_eq!(rt; found.as_str(), MIGRATED),
-        Err(fault) => assert_eq!(rt; (fault, ended), (StoreFault::WrongSchema, false)),
-    }
-    match opened_as(alloc, Opening::Migrate, &left)? {
-        Ok(found) => assert_eq!(rt; found.as_str(), MIGRATED),
-        Err(fault) => assert!(rt; false, "at {stop:?} not migrated then: {fault:?}"),
-    }
+    let Played { said, left } = play(alloc, FEW, &[Step::Migrate(&[])], first, stop)?;
+    let ended = said.iter().any(|line| line.as_str() == "open");
+    let opened = play(alloc, FEW, &[Step::Open(&[Ask::Kept])], &left, NO_STOP)?;
+    let opened = opened.said.as_slice();
+    assert!(rt; is_migrated(opened) || is_of_schema_1(opened) && !ended);
+    let migrated = play(alloc, FEW, &[Step::Migrate(&[Ask::Kept])], &left, NO_STOP)?;
+    assert!(rt;
+        is_migrated(migrated.said.as_slice()),
+        "at call {}",
+        stop.calls
+    );
     Ok(ended)
 }
 
@@ -394,13 +251,8 @@ fn stop_in_each(alloc: Global, rt: &impl Abort, first: &Image, stop: Stop) -> Re
 #[test]
 fn stop_in_migrate(rt: HostRuntime) -> Result<(), Fail> {
     let alloc = rt.alloc();
-    let first = first_image(alloc)?;
-    for (in_log, stays) in [(true, true), (true, false), (false, true), (false, false)] {
-        let stop = Stop {
-            in_log,
-            calls: 0,
-            stays,
-        };
+    let first = first_image(alloc, &rt)?;
+    for stop in STOPS {
         let calls = stop_in_each(alloc, &rt, &first, stop)?;
         assert!(rt; calls > FEW_CALLS, "it made {calls} calls");
     }

@@ -1,8 +1,8 @@
 //! Each change and each refusal, the register after it as the table of changes gives it by hand, and what both offices tell of it.
 
 use super::act::Act;
-use super::offices::{FEW, opened, reopened};
-use super::telling::{kept, told};
+use super::asking::{Ask, words_of};
+use super::playing::{FEW, Step, play_both};
 use Act::{
     BeginClosing, Close, File, GiveUp, HandOver, Issue, Keep, Mark, Refuse, Reopen, Send, Start,
     Submit,
@@ -10,16 +10,14 @@ use Act::{
 use Cause::{Duplicate, Full, State, Unknown};
 use Format::{Fixed, Text, Unstructured, Variable};
 use ResponseKind::{EndResponse, NegativeEndResponse};
-use oftp_register::{Cause, Office, OfficeFault, PlainOffice, ResponseKind};
-use oftp_store::SqlOffice;
+use oftp_register::{Cause, ResponseKind};
 use oftp_vfile::Format;
-use sqlite::{Alter, Connection};
-use std::alloc::Global;
+use std::alloc::{AllocError, Global};
 use std::process::Abort;
 use std::test::Fail;
 
 // A change, why it is refused if it is, and the register after it.
-type Step = (Act, Option<Cause>, &'static str);
+type Row = (Act, Option<Cause>, &'static str);
 
 const BEYOND: u64 = 1 << 63;
 
@@ -32,7 +30,7 @@ const ABN: &str =
     "out 1 A V3 plan Waiting mark 0 2/3 abc||; out 2 B F3 Maße Waiting mark 0 2/6 abc|def|; out 3 N T0 a note Waiting mark 0 1/4 text|; ";
 
 // A file is submitted whole, and once.
-const SUBMITTED: &[Step] = &[
+const SUBMITTED: &[Row] = &[
     (Mark(1, 0), Some(Unknown), ""),
     (Submit(b"A", Variable, &[b"abc", b""]), None, A),
     (Submit(b"A", Fixed, &[]), Some(Duplicate), A),
@@ -59,7 +57,7 @@ const HANDED: &str =
 const REFUSED: &str =
     "out 1 A V3 plan Handed mark 0 2/3 abc||; out 2 B F3 Maße Refused 13 mark 0 2/6 abc|def|; ";
 
-const SENT: &[Step] = &[
+const SENT: &[Row] = &[
     (Submit(b"A", Variable, &[b"abc", b""]), None, A),
     (Submit(b"B", Fixed, &[b"abc", b"def"]), None, AB),
     (Mark(1, 3), Some(State), AB),
@@ -97,7 +95,7 @@ const EMPTY_CLOSING: &str = "out 1 N V3 plan Closing mark 0 0/0 ; ";
 const EMPTY_REFUSED: &str = "out 1 N V3 plan Refused 13 mark 0 0/0 ; ";
 
 // A file whose end was sent may be refused yet, and stays so.
-const REFUSED_AT_THE_END: &[Step] = &[
+const REFUSED_AT_THE_END: &[Row] = &[
     (Submit(b"N", Variable, &[]), None, EMPTY),
     (BeginClosing(1), None, EMPTY_CLOSING),
     (Refuse(1), None, EMPTY_REFUSED),
@@ -117,7 +115,7 @@ const UNASKED: &str = "out 1 N V3 plan Waiting mark 0 0/0 ; got 1 Z EERP 0  ; go
 const RETURNED: &str =
     "out 1 N V3 plan Returned mark 0 0/0 ; got 1 Z EERP 0  ; got 2 N EERP 0  ; got 3 N NERP 9 O3 NO PLANT; ";
 
-const ANSWERED: &[Step] = &[
+const ANSWERED: &[Row] = &[
     (Submit(b"N", Variable, &[]), None, EMPTY),
     // It answers no file, or one that waits: these stay as they are.
     (
@@ -148,7 +146,7 @@ const ANSWERED: &[Step] = &[
 
 const DELIVERED: &str = "out 1 N V3 plan Delivered mark 0 0/0 ; got 1 N EERP 0  ; ";
 
-const ANSWERED_WHEN_HANDED: &[Step] = &[
+const ANSWERED_WHEN_HANDED: &[Row] = &[
     (Submit(b"N", Variable, &[]), None, EMPTY),
     (BeginClosing(1), None, EMPTY_CLOSING),
     (HandOver(1), None, "out 1 N V3 plan Handed mark 0 0/0 ; "),
@@ -167,13 +165,13 @@ const ANSWERED_WHEN_HANDED: &[Step] = &[
 ];
 
 // An end response may come before the answer to the end of the file.
-const ANSWERED_WHEN_CLOSING: &[Step] = &[
+const ANSWERED_WHEN_CLOSING: &[Row] = &[
     (Submit(b"N", Variable, &[]), None, EMPTY),
     (BeginClosing(1), None, EMPTY_CLOSING),
     (File(b"N", EndResponse, ""), None, DELIVERED),
 ];
 
-const RETURNED_WHEN_HANDED: &[Step] = &[
+const RETURNED_WHEN_HANDED: &[Row] = &[
     (Submit(b"N", Variable, &[]), None, EMPTY),
     (BeginClosing(1), None, EMPTY_CLOSING),
     (HandOver(1), None, "out 1 N V3 plan Handed mark 0 0/0 ; "),
@@ -200,7 +198,7 @@ const TWO: &str = "in 1 D F3 Maße Whole 2/6 abc|def|; in 2 E V3 plan Open 1/1 x
 const THREE: &str =
     "in 1 D F3 Maße Whole 2/6 abc|def|; in 2 E V3 plan Open 1/1 x|; in 3 F U0  Open 0/0 ; ";
 
-const COMING: &[Step] = &[
+const COMING: &[Row] = &[
     (Start(b"D", Variable, 1), Some(State), ""),
     (Keep(1, &[]), Some(Unknown), ""),
     (Close(1, &[]), Some(Unknown), ""),
@@ -252,7 +250,7 @@ const DUE: &str = "in 1 D V3 plan Whole NERP 9 NO ROOM Due 1/2 ab|; ";
 
 const GONE: &str = "in 1 D V3 plan Whole NERP 9 NO ROOM Sent 1/2 ab|; ";
 
-const ISSUED: &[Step] = &[
+const ISSUED: &[Row] = &[
     (Issue(1, EndResponse, ""), Some(Unknown), ""),
     (Send(1), Some(Unknown), ""),
     (Start(b"D", Variable, 0), None, OPEN),
@@ -269,7 +267,7 @@ const ISSUED: &[Step] = &[
     (Issue(1, EndResponse, ""), Some(State), GONE),
 ];
 
-const STORIES: [&[Step]; 9] = [
+const STORIES: [&[Row]; 9] = [
     SUBMITTED,
     SENT,
     REFUSED_AT_THE_END,
@@ -281,47 +279,49 @@ const STORIES: [&[Step]; 9] = [
     ISSUED,
 ];
 
-// Makes a step, and answers what is told then.
-fn take<O: Office>(
-    alloc: Global,
-    rt: &impl Abort,
-    office: &mut O,
-    step: &Step,
-) -> Result<String, OfficeFault> {
-    let (act, cause, register) = step;
-    let answer = match cause {
-        Some(cause) => Err(OfficeFault::Refused(*cause)),
-        None => Ok(()),
-    };
-    assert_eq!(rt; office.commit(act.change(alloc)?), answer, "at {act:?}");
-    assert_eq!(rt; kept(alloc, office)?.as_str(), *register, "after {act:?}");
-    told(alloc, office)
+// What is asked of an office in a story: each change, and what is then kept and told.
+fn asks_of(alloc: Global, story: &[Row]) -> Result<Vec<Ask>, AllocError> {
+    let mut asks = Vec::new(alloc);
+    for (act, ..) in story {
+        asks.push(Ask::Change(*act))?;
+        asks.push(Ask::Kept)?;
+        asks.push(Ask::Told)?;
+    }
+    Ok(asks)
 }
 
-// Both take the steps of a story alike. The one over a database is opened again after each.
-fn take_all<S: Alter + Drop>(
-    alloc: Global,
-    rt: &impl Abort,
-    story: &[Step],
-    office: SqlOffice<S>,
-) -> Result<(), Fail> {
-    let mut plain = PlainOffice::new(alloc, FEW);
-    let mut office = office;
-    for step in story {
-        let wanted = take(alloc, rt, &mut plain, step)?;
-        let found = take(alloc, rt, &mut office, step)?;
-        assert_eq!(rt; found.as_str(), wanted.as_str(), "after {:?}", step.0);
-        office = reopened(alloc, office)?;
+// An office is opened, makes a change, and keeps and tells something then.
+fn is_row(lines: &[String], row: &Row) -> bool {
+    let (_, cause, register) = row;
+    match lines {
+        [open, answer, kept, _] => {
+            open.as_str() == "open"
+                && answer.as_str() == words_of(*cause)
+                && kept.as_str() == *register
+        }
+        _ => false,
+    }
+}
+
+// The one over a database is opened again after each change.
+fn tell(alloc: Global, rt: &impl Abort, story: &[Row]) -> Result<(), Fail> {
+    let asks = asks_of(alloc, story)?;
+    let mut steps = Vec::new(alloc);
+    for asks in asks.as_slice().chunks(3) {
+        steps.push(Step::Open(asks))?;
+    }
+    let said = play_both(alloc, rt, FEW, steps.as_slice())?;
+    assert_eq!(rt; (said.len() / 4, said.len() % 4), (story.len(), 0));
+    for (lines, row) in said.as_slice().chunks(4).zip(story) {
+        assert!(rt; is_row(lines, row), "with {}", row.2);
     }
     Ok(())
 }
 
 #[test]
 fn each_change_and_each_refusal(rt: HostRuntime) -> Result<(), Fail> {
-    let alloc = rt.alloc();
     for story in STORIES {
-        let conn = Connection::open_in_memory(alloc)?;
-        take_all(alloc, &rt, story, opened(alloc, conn, FEW)?)?;
+        tell(rt.alloc(), &rt, story)?;
     }
     Ok(())
 }

@@ -5,7 +5,7 @@ use oftp_register::{
     Cursor, Identity, IncomingEntry, IssuedEntry, IssuedResponse, Item, Name, Office, OfficeFault,
     OutgoingEntry, OutgoingState, ReceivedEntry, ResponseKind, Side,
 };
-use oftp_vfile::{Format, Rows};
+use oftp_vfile::{Format, Limits, Rows};
 use std::alloc::{AllocError, Global};
 
 // More rows than a file has.
@@ -136,21 +136,59 @@ fn add_content<O: Office>(
     Ok(())
 }
 
+fn add_all_in<O: Office>(all: &mut String, office: &mut O) -> Result<(), OfficeFault> {
+    for entry in &office.list_in()? {
+        add_incoming(all, entry)?;
+        add_content(all, office, Side::Incoming, entry.no)?;
+    }
+    Ok(())
+}
+
+fn add_all_out<O: Office>(all: &mut String, office: &mut O) -> Result<(), OfficeFault> {
+    for entry in &office.list_out()? {
+        add_outgoing(all, entry)?;
+        add_content(all, office, Side::Outgoing, entry.no)?;
+    }
+    Ok(())
+}
+
+fn add_all_received<O: Office>(all: &mut String, office: &mut O) -> Result<(), OfficeFault> {
+    for entry in &office.list_received()? {
+        add_received(all, entry)?;
+    }
+    Ok(())
+}
+
 /// What an office keeps: the files with their rows, and the responses that came.
 pub(super) fn kept<O: Office>(alloc: Global, office: &mut O) -> Result<String, OfficeFault> {
     let mut all = String::new(alloc);
-    for entry in office.list_in()? {
-        add_incoming(&mut all, &entry)?;
-        add_content(&mut all, office, Side::Incoming, entry.no)?;
-    }
-    for entry in office.list_out()? {
-        add_outgoing(&mut all, &entry)?;
-        add_content(&mut all, office, Side::Outgoing, entry.no)?;
-    }
-    for entry in office.list_received()? {
-        add_received(&mut all, &entry)?;
-    }
+    add_all_in(&mut all, office)?;
+    add_all_out(&mut all, office)?;
+    add_all_received(&mut all, office)?;
     Ok(all)
+}
+
+// Some rows of a file.
+fn add_part<O: Office>(
+    all: &mut String,
+    office: &mut O,
+    side: Side,
+    no: u64,
+    part: (u64, u64),
+) -> Result<(), OfficeFault> {
+    let rows = office.rows_of(side, no, part.0, part.1)?;
+    Ok(add_rows(all, &rows)?)
+}
+
+// What is told of the content of a number's files.
+fn add_contents<O: Office>(all: &mut String, office: &mut O, no: u64) -> Result<(), OfficeFault> {
+    for side in SIDES {
+        add_content(all, office, side, no)?;
+        for part in [(1, 1), (ALL, ALL)] {
+            add_part(all, office, side, no, part)?;
+        }
+    }
+    Ok(())
 }
 
 // What is told of a number.
@@ -161,11 +199,33 @@ fn add_number<O: Office>(all: &mut String, office: &mut O, no: u64) -> Result<()
     if let Some(entry) = office.out_by_no(no)? {
         add_outgoing(all, &entry)?;
     }
-    for side in SIDES {
-        add_content(all, office, side, no)?;
-        for (from, most) in [(1, 1), (ALL, ALL)] {
-            add_rows(all, &office.rows_of(side, no, from, most)?)?;
-        }
+    add_contents(all, office, no)
+}
+
+fn add_truth(all: &mut String, is_so: bool) -> Result<(), AllocError> {
+    all.push_str(if is_so { "true " } else { "false " })
+}
+
+fn add_look_in<O: Office>(
+    all: &mut String,
+    office: &mut O,
+    identity: &Identity,
+) -> Result<(), OfficeFault> {
+    if let Some(entry) = office.look_in(identity)? {
+        add_truth(all, entry.identity.is(identity))?;
+        add_incoming(all, &entry)?;
+    }
+    Ok(())
+}
+
+fn add_look_out<O: Office>(
+    all: &mut String,
+    office: &mut O,
+    identity: &Identity,
+) -> Result<(), OfficeFault> {
+    if let Some(entry) = office.look_out(identity)? {
+        add_truth(all, entry.identity.is(identity))?;
+        add_outgoing(all, &entry)?;
     }
     Ok(())
 }
@@ -176,20 +236,20 @@ fn add_file<O: Office>(
     office: &mut O,
     identity: &Identity,
 ) -> Result<(), OfficeFault> {
-    if let Some(entry) = office.look_in(identity)? {
-        let same = entry.identity.is(identity);
-        write!(all, "{same} ")?;
-        add_incoming(all, &entry)?;
-    }
-    if let Some(entry) = office.look_out(identity)? {
-        let same = entry.identity.is(identity);
-        write!(all, "{same} ")?;
-        add_outgoing(all, &entry)?;
-    }
+    add_look_in(all, office, identity)?;
+    add_look_out(all, office, identity)?;
     for kind in KINDS {
-        write!(all, " {}; ", office.has_received(kind, identity)?)?;
+        add_truth(all, office.has_received(kind, identity)?)?;
     }
     Ok(())
+}
+
+fn add_item(all: &mut String, item: Option<Item>) -> Result<(), AllocError> {
+    match &item {
+        Some(Item::Response(entry)) => add_issued(all, entry),
+        Some(Item::File(entry)) => add_outgoing(all, entry),
+        None => all.push_str("nothing; "),
+    }
 }
 
 // What is next for a partner.
@@ -206,35 +266,56 @@ fn add_next<O: Office>(
         (BEYOND, 0, true),
         (BEYOND, BEYOND, true),
     ] {
-        match office.next_item(partner, Cursor { response, file }, files)? {
-            Some(Item::Response(entry)) => add_issued(all, &entry)?,
-            Some(Item::File(entry)) => add_outgoing(all, &entry)?,
-            None => write!(all, "nothing; ")?,
-        }
+        let item = office.next_item(partner, Cursor { response, file }, files)?;
+        add_item(all, item)?;
     }
+    Ok(())
+}
+
+fn add_all_issued<O: Office>(all: &mut String, office: &mut O) -> Result<(), OfficeFault> {
+    for entry in &office.list_issued()? {
+        add_issued(all, entry)?;
+    }
+    Ok(())
+}
+
+fn add_numbers<O: Office>(all: &mut String, office: &mut O) -> Result<(), OfficeFault> {
+    for no in 0..office.limits().files + 2 {
+        add_number(all, office, no)?;
+    }
+    add_number(all, office, BEYOND)
+}
+
+fn add_files<O: Office>(all: &mut String, office: &mut O) -> Result<(), OfficeFault> {
+    for dataset in DATASETS {
+        add_file(all, office, &identity(dataset)?)?;
+    }
+    Ok(())
+}
+
+fn add_all_next<O: Office>(all: &mut String, office: &mut O) -> Result<(), OfficeFault> {
+    for partner in [b"O1", b"O2", b"O3"] {
+        add_next(all, office, &code(partner)?)?;
+    }
+    Ok(())
+}
+
+fn add_limits<O: Office>(all: &mut String, office: &mut O) -> Result<(), OfficeFault> {
+    for side in SIDES {
+        add_truth(all, office.files_full(side)?)?;
+    }
+    let Limits { files, octets } = office.limits();
+    write!(all, "{files} files of {octets}")?;
     Ok(())
 }
 
 /// All that an office tells, by each of its look-ups.
 pub(super) fn told<O: Office>(alloc: Global, office: &mut O) -> Result<String, OfficeFault> {
     let mut all = kept(alloc, office)?;
-    for entry in office.list_issued()? {
-        add_issued(&mut all, &entry)?;
-    }
-    let limits = office.limits();
-    for no in 0..limits.files + 2 {
-        add_number(&mut all, office, no)?;
-    }
-    add_number(&mut all, office, BEYOND)?;
-    for dataset in DATASETS {
-        add_file(&mut all, office, &identity(dataset)?)?;
-    }
-    for partner in [b"O1", b"O2", b"O3"] {
-        add_next(&mut all, office, &code(partner)?)?;
-    }
-    for side in SIDES {
-        write!(all, "full {} ", office.files_full(side)?)?;
-    }
-    write!(all, "{limits:?}")?;
+    add_all_issued(&mut all, office)?;
+    add_numbers(&mut all, office)?;
+    add_files(&mut all, office)?;
+    add_all_next(&mut all, office)?;
+    add_limits(&mut all, office)?;
     Ok(all)
 }

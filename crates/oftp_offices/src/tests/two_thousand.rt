@@ -3,14 +3,11 @@
 ghost use Rattle.std.specs.Prelude.{◌<◌};
 
 use super::act::Act;
-use super::offices::{opened, reopened};
-use super::telling::told;
-use oftp_register::{Cause, Office, OfficeFault, PlainOffice, ResponseKind};
-use oftp_store::SqlOffice;
+use super::asking::{Ask, words_of};
+use super::playing::{Step, play_both};
+use oftp_register::{Cause, ResponseKind};
 use oftp_vfile::{Format, Limits};
-use sqlite::{Alter, Connection};
-use std::alloc::Global;
-use std::process::Abort;
+use std::alloc::AllocError;
 use std::test::Fail;
 
 const MANY: Limits = Limits {
@@ -86,6 +83,8 @@ impl Draw {
 
 const KINDS: usize = 13;
 
+const CAUSES: [Cause; 4] = [Cause::Duplicate, Cause::Unknown, Cause::State, Cause::Full];
+
 // Which kinds of change were made, and for which causes changes were refused.
 #[derive(Drop)]
 struct Tally {
@@ -94,18 +93,14 @@ struct Tally {
 }
 
 impl Tally {
-    fn note(&mut self, kind: usize, answer: Result<(), OfficeFault>) {
-        match answer {
-            Ok(()) => {
-                if let Some(made) = self.made.get_mut(kind) {
-                    *made = true;
-                }
-            }
-            Err(OfficeFault::Refused(Cause::Duplicate)) => self.refused[0] = true,
-            Err(OfficeFault::Refused(Cause::Unknown)) => self.refused[1] = true,
-            Err(OfficeFault::Refused(Cause::State)) => self.refused[2] = true,
-            Err(OfficeFault::Refused(Cause::Full)) => self.refused[3] = true,
-            Err(OfficeFault::Store | OfficeFault::Memory) => {}
+    fn note(&mut self, kind: usize, answer: &str) {
+        if answer == "made"
+            && let Some(made) = self.made.get_mut(kind)
+        {
+            *made = true;
+        }
+        for (cause, refused) in CAUSES.into_iter().zip(&mut self.refused) {
+            *refused = *refused || answer == words_of(Some(cause));
         }
     }
 
@@ -114,66 +109,53 @@ impl Tally {
     }
 }
 
-// Both offices answer a change alike, and without a fault.
-fn commit<O: Office>(
-    alloc: Global,
-    rt: &impl Abort,
-    plain: &mut PlainOffice,
-    office: &mut O,
-    act: Act,
-) -> Result<Result<(), OfficeFault>, OfficeFault> {
-    let wanted = plain.commit(act.change(alloc)?);
-    let answer = office.commit(act.change(alloc)?);
-    assert_eq!(rt; answer, wanted, "at {act:?}");
-    let fault = matches!(answer, Err(OfficeFault::Store | OfficeFault::Memory));
-    assert!(rt; !fault, "at {act:?}");
-    Ok(answer)
-}
-
-// Both offices tell the same.
-fn agree<O: Office>(
-    alloc: Global,
-    rt: &impl Abort,
-    plain: &mut PlainOffice,
-    office: &mut O,
-) -> Result<(), OfficeFault> {
-    let (wanted, found) = (told(alloc, plain)?, told(alloc, office)?);
-    assert_eq!(rt; found.as_str(), wanted.as_str());
+// A file of two thousand rows and then changes as they are drawn. After each two hundred it is asked what is told, and once more at the
+// end.
+fn draw_asks(asks: &mut Vec<Ask>, kinds: &mut Vec<usize>) -> Result<(), AllocError> {
+    let mut draw = Draw(0);
+    asks.push(Ask::Change(Act::SubmitLong(b"L", 2_000)))?;
+    kinds.push(KINDS)?;
+    for turn in 1..2_000 {
+        let kind = draw.below(KINDS);
+        asks.push(Ask::Change(draw.act(kind)))?;
+        kinds.push(kind)?;
+        if turn % 200 == 199 {
+            asks.push(Ask::Told)?;
+        }
+    }
+    asks.push(Ask::Told)?;
     Ok(())
 }
 
-// A file of two thousand rows, and then changes as they are drawn. The office is opened again after each two hundred.
-fn change_much<S: Alter + Drop>(
-    alloc: Global,
-    rt: &impl Abort,
-    office: SqlOffice<S>,
-) -> Result<(), Fail> {
-    let mut plain = PlainOffice::new(alloc, MANY);
-    let mut office = office;
-    let mut draw = Draw(0);
+// What the changes between an opening and what is told came to.
+fn tally_of(kinds: &[usize], said: &[String]) -> Tally {
     let mut tally = Tally {
         made: [false; KINDS],
         refused: [false; 4],
     };
-    let long = Act::SubmitLong(b"L", 2_000);
-    assert_eq!(rt; commit(alloc, rt, &mut plain, &mut office, long)?, Ok(()));
-    for turn in 1..2_000 {
-        let kind = draw.below(KINDS);
-        let answer = commit(alloc, rt, &mut plain, &mut office, draw.act(kind))?;
-        tally.note(kind, answer);
-        if turn % 200 == 199 {
-            agree(alloc, rt, &mut plain, &mut office)?;
-            office = reopened(alloc, office)?;
+    for (kinds, lines) in kinds.chunks(200).zip(said.chunks(202)) {
+        for (kind, line) in kinds.iter().zip(lines.iter().skip(1)) {
+            tally.note(*kind, line.as_str());
         }
     }
-    agree(alloc, rt, &mut plain, &mut office)?;
-    assert!(rt; tally.is_full(), "a kind or a cause never came");
-    Ok(())
+    tally
 }
 
+/// The office over a database is opened again after each two hundred, and before it tells in the end.
 #[test]
 fn two_thousand_changes(rt: HostRuntime) -> Result<(), Fail> {
     let alloc = rt.alloc();
-    let conn = Connection::open_in_memory(alloc)?;
-    change_much(alloc, &rt, opened(alloc, conn, MANY)?)
+    let mut asks = Vec::new(alloc);
+    let mut kinds = Vec::new(alloc);
+    draw_asks(&mut asks, &mut kinds)?;
+    let mut steps = Vec::new(alloc);
+    for asks in asks.as_slice().chunks(201) {
+        steps.push(Step::Open(asks))?;
+    }
+    let said = play_both(alloc, &rt, MANY, steps.as_slice())?;
+    assert_eq!(rt; said.len(), 2_022);
+    assert!(rt; said.get(1).is_some_and(|line| line.as_str() == "made"));
+    let tally = tally_of(kinds.as_slice(), said.as_slice());
+    assert!(rt; tally.is_full(), "a kind or a cause never came");
+    Ok(())
 }

@@ -1,0 +1,187 @@
+//! What an office is asked, and its answer as a line.
+
+use super::act::{Act, code, identity};
+use super::telling::{add_rows, kept, told};
+use oftp_register::{Cause, Cursor, Item, Office, OfficeFault, ResponseKind, Side};
+use std::alloc::{AllocError, Global};
+
+/// A question to an office, or a change.
+#[derive(Clone, Copy, Drop)]
+pub(super) enum Ask {
+    /// Makes a change: how it is answered.
+    Change(Act),
+    /// What it keeps.
+    Kept,
+    /// All that it tells.
+    Told,
+    /// What is next for a partner, behind a response and a file, where it asks for files or not.
+    Next(&'static [u8], u64, u64, bool),
+    /// Some rows of the first incoming file: from which on, and how many.
+    Rows(u64, u64),
+    /// How many units a file has.
+    Units(Side, u64),
+    /// The number of a letter's incoming file.
+    LookIn(&'static [u8]),
+    /// The number of a letter's outgoing file.
+    LookOut(&'static [u8]),
+    /// Whether there is an incoming file of a number, and an outgoing one.
+    ByNo(u64),
+    /// Whether a response to a letter's file came.
+    Received(ResponseKind, &'static [u8]),
+    /// How many responses were issued, and how many came.
+    Responses,
+    /// Whether there is no room for incoming files, and for outgoing ones.
+    Full,
+    /// The limits: of files, and of octets.
+    Limits,
+}
+
+/// A line of words.
+pub(super) fn line(alloc: Global, words: &str) -> Result<String, AllocError> {
+    String::from_str(alloc, words)
+}
+
+/// The line of an answer to a change.
+pub(super) fn words_of(refused: Option<Cause>) -> &'static str {
+    match refused {
+        None => "made",
+        Some(Cause::Duplicate) => "duplicate",
+        Some(Cause::Unknown) => "unknown",
+        Some(Cause::State) => "state",
+        Some(Cause::Full) => "full",
+    }
+}
+
+fn change<O: Office>(alloc: Global, office: &mut O, act: Act) -> Result<String, OfficeFault> {
+    let refused = match office.commit(act.change(alloc)?) {
+        Ok(()) => None,
+        Err(OfficeFault::Refused(cause)) => Some(cause),
+        Err(fault) => return Err(fault),
+    };
+    Ok(line(alloc, words_of(refused))?)
+}
+
+fn item_line(alloc: Global, item: Option<Item>) -> Result<String, AllocError> {
+    let (kind, no) = match &item {
+        Some(Item::Response(entry)) => ("response", entry.no),
+        Some(Item::File(entry)) => ("file", entry.no),
+        None => return line(alloc, "nothing"),
+    };
+    format!(in alloc; "{kind} {no}")
+}
+
+fn next<O: Office>(
+    alloc: Global,
+    office: &mut O,
+    partner: &'static [u8],
+    cursor: Cursor,
+    files: bool,
+) -> Result<String, OfficeFault> {
+    let item = office.next_item(&code(partner)?, cursor, files)?;
+    Ok(item_line(alloc, item)?)
+}
+
+fn rows<O: Office>(
+    alloc: Global,
+    office: &mut O,
+    from: u64,
+    most: u64,
+) -> Result<String, OfficeFault> {
+    let rows = office.rows_of(Side::Incoming, 1, from, most)?;
+    let mut all = String::new(alloc);
+    add_rows(&mut all, &rows)?;
+    Ok(all)
+}
+
+fn number_line(alloc: Global, number: u64) -> Result<String, AllocError> {
+    format!(in alloc; "{number}")
+}
+
+fn two(alloc: Global, one: u64, other: u64) -> Result<String, AllocError> {
+    format!(in alloc; "{one} {other}")
+}
+
+fn units<O: Office>(
+    alloc: Global,
+    office: &mut O,
+    side: Side,
+    no: u64,
+) -> Result<String, OfficeFault> {
+    let units = office.units_of(side, no)?;
+    Ok(number_line(alloc, units)?)
+}
+
+fn look_in<O: Office>(
+    alloc: Global,
+    office: &mut O,
+    dataset: &'static [u8],
+) -> Result<String, OfficeFault> {
+    match office.look_in(&identity(dataset)?)? {
+        Some(entry) => Ok(number_line(alloc, entry.no)?),
+        None => Ok(line(alloc, "none")?),
+    }
+}
+
+fn look_out<O: Office>(
+    alloc: Global,
+    office: &mut O,
+    dataset: &'static [u8],
+) -> Result<String, OfficeFault> {
+    match office.look_out(&identity(dataset)?)? {
+        Some(entry) => Ok(number_line(alloc, entry.no)?),
+        None => Ok(line(alloc, "none")?),
+    }
+}
+
+fn by_no<O: Office>(alloc: Global, office: &mut O, no: u64) -> Result<String, OfficeFault> {
+    let coming = office.in_by_no(no)?.is_some();
+    let going = office.out_by_no(no)?.is_some();
+    Ok(two(alloc, u64::from(coming), u64::from(going))?)
+}
+
+fn received<O: Office>(
+    alloc: Global,
+    office: &mut O,
+    kind: ResponseKind,
+    dataset: &'static [u8],
+) -> Result<String, OfficeFault> {
+    let came = office.has_received(kind, &identity(dataset)?)?;
+    Ok(number_line(alloc, u64::from(came))?)
+}
+
+fn responses<O: Office>(alloc: Global, office: &mut O) -> Result<String, OfficeFault> {
+    let issued = office.list_issued()?.len();
+    let received = office.list_received()?.len();
+    Ok(two(alloc, issued as u64, received as u64)?)
+}
+
+fn full<O: Office>(alloc: Global, office: &mut O) -> Result<String, OfficeFault> {
+    let coming = office.files_full(Side::Incoming)?;
+    let going = office.files_full(Side::Outgoing)?;
+    Ok(two(alloc, u64::from(coming), u64::from(going))?)
+}
+
+/// What an office answers.
+pub(super) fn answer<O: Office>(
+    alloc: Global,
+    office: &mut O,
+    ask: Ask,
+) -> Result<String, OfficeFault> {
+    match ask {
+        Ask::Change(act) => change(alloc, office, act),
+        Ask::Kept => kept(alloc, office),
+        Ask::Told => told(alloc, office),
+        Ask::Next(partner, response, file, files) => {
+            next(alloc, office, partner, Cursor { response, file }, files)
+        }
+        Ask::Rows(from, most) => rows(alloc, office, from, most),
+        Ask::Units(side, no) => units(alloc, office, side, no),
+        Ask::LookIn(dataset) => look_in(alloc, office, dataset),
+        Ask::LookOut(dataset) => look_out(alloc, office, dataset),
+        Ask::ByNo(no) => by_no(alloc, office, no),
+        Ask::Received(kind, dataset) => received(alloc, office, kind, dataset),
+        Ask::Responses => responses(alloc, office),
+        Ask::Full => full(alloc, office),
+        Ask::Limits => Ok(two(alloc, office.limits().files, office.limits().octets)?),
+    }
+}
