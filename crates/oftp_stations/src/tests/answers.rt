@@ -2,14 +2,14 @@
 //! are spelled by hand from RFC 5024.
 
 use super::BOOK;
-use super::lists::Line;
-use super::operators::{FILE, LIMITS};
-use oftp_engine::{End, Operator, Port, Role, Submission, Told, operate, serve};
+use super::hearing::{Line, call, caller, hear};
+use super::noting::Noting;
+use super::operators::FILE;
+use oftp_engine::{End, Operator, Submission, Told};
 use oftp_partners::read;
-use oftp_register::{Office, OutgoingState, PlainOffice};
+use oftp_register::{Office, OutgoingState};
 use oftp_wire::{Count, SessionReason};
-use std::alloc::Global;
-use std::io::Read;
+use std::alloc::{AllocError, Global};
 use std::process::Abort;
 use std::test::Fail;
 
@@ -39,79 +39,74 @@ struct Answer<'a> {
     state: OutgoingState,
 }
 
-/// Submits the file, calls the partner, who says this, and compares what goes out and what is left.
-fn answers<R: Read + Drop>(
+/// Submits the file, calls the partner, who says this, so many octets at a time, and compares what goes out and what is left.
+fn answers(
     alloc: Global,
     rt: &impl Abort,
-    reader: R,
     answer: &Answer<'_>,
+    at_once: usize,
 ) -> Result<(), Fail> {
     let book = read(alloc, BOOK)?;
-    let mut office = PlainOffice::new(alloc, LIMITS);
-    let mut line = Port::new(Vec::new(alloc), 0);
-    let call = Operator::Submit(THREE_OCTETS);
-    let told = operate(alloc, &mut office, &book, &call, &mut line);
+    let mut office = Noting::new(alloc, None);
+    let submit = Operator::Submit(THREE_OCTETS);
+    let told = call(alloc, &mut office, &book, &submit, &mut Vec::new(alloc));
     assert_eq!(rt; told, Ok(Told::Done));
-    let Some(partner) = book.partner(b"O0177CARMAKER") else {
-        return Err("the partner isn't in the book")?;
+    let octets = joined(alloc, GREETING, answer.heard)?;
+    let line = Line {
+        octets: octets.as_slice(),
+        at_once,
+        breaks: false,
     };
-    let role = Role::Initiator(partner);
-    let mut reader = Port::new(reader, 1_000_000);
-    let mut writer = Port::new(Vec::new(alloc), 0);
-    let end = serve(alloc, &mut office, &book, role, &mut reader, &mut writer);
-    assert_eq!(rt; end, Ok(answer.end));
-    let mut said = OFFER.to_vec(alloc)?;
-    said.extend_from_slice(answer.said)?;
-    assert!(rt; writer.inner().as_slice() == said.as_slice());
+    let role = caller(&book, b"O0177CARMAKER")?;
+    let heard = hear(alloc, &mut office, &book, role, line, 1_000_000);
+    assert_eq!(rt; heard.end, Ok(answer.end));
+    let said = joined(alloc, OFFER, answer.said)?;
+    assert!(rt; heard.said.as_slice() == said.as_slice());
     let file = office.out_by_no(1)?;
     assert!(rt; file.is_some_and(|file| file.state == answer.state && file.mark == 0));
     Ok(())
 }
 
-/// The same in one piece, and octet by octet.
-fn answers_in_any_pieces(alloc: Global, rt: &impl Abort, answer: &Answer<'_>) -> Result<(), Fail> {
-    let mut heard = GREETING.to_vec(alloc)?;
-    heard.extend_from_slice(answer.heard)?;
-    answers(alloc, rt, heard.as_slice(), answer)?;
-    let line = Line {
-        octets: heard.as_slice(),
-        breaks: false,
-    };
-    answers(alloc, rt, line, answer)
+fn joined(alloc: Global, first: &[u8], second: &[u8]) -> Result<Vec<u8>, AllocError> {
+    let mut all = first.to_vec(alloc)?;
+    all.extend_from_slice(second)?;
+    Ok(all)
 }
 
-/// SFPA from row 0 on, EFPA and ESID 00: DATA, EFID and CD go out, and the file is handed over.
-#[test]
-fn three_octets_out(rt: HostRuntime) -> Result<(), Fail> {
-    let answer = Answer {
-        heard: b"\x10\0\0\x16200000000000000000\x10\0\0\x064N\x10\0\0\x0bF00000\r",
-        said: b"\x10\0\0\x09D\x83ABC\x10\0\0\x27T0000000000000000000000000000000003\x10\0\0\x05R",
-        end: End::Partner(Count::new(0)),
-        state: OutgoingState::Handed,
-    };
-    answers_in_any_pieces(rt.alloc(), &rt, &answer)
+fn table() -> [Answer<'static>; 3] {
+    [
+        // SFPA from row 0 on, EFPA and ESID 00: DATA, EFID and CD go out, and the file is handed over.
+        Answer {
+            heard: b"\x10\0\0\x16200000000000000000\x10\0\0\x064N\x10\0\0\x0bF00000\r",
+            said: b"\x10\0\0\x09D\x83ABC\x10\0\0\x27T0000000000000000000000000000000003\x10\0\0\x05R",
+            end: End::Partner(Count::new(0)),
+            state: OutgoingState::Handed,
+        },
+        // SFNA with a text that isn't UTF-8: ESID 06.
+        Answer {
+            heard: b"\x10\0\0\x0c399N001\xff",
+            said: b"\x10\0\0\x0bF06000\r",
+            end: End::Own(SessionReason::InvalidData),
+            state: OutgoingState::Waiting,
+        },
+        // SFPA from row 1 on: ESID 02.
+        Answer {
+            heard: b"\x10\0\0\x16200000000000000001",
+            said: b"\x10\0\0\x0bF02000\r",
+            end: End::Own(SessionReason::ProtocolViolation),
+            state: OutgoingState::Waiting,
+        },
+    ]
 }
 
-/// SFNA with a text that isn't UTF-8: ESID 06.
+/// In one piece, and octet by octet.
 #[test]
-fn text_not_utf8(rt: HostRuntime) -> Result<(), Fail> {
-    let answer = Answer {
-        heard: b"\x10\0\0\x0c399N001\xff",
-        said: b"\x10\0\0\x0bF06000\r",
-        end: End::Own(SessionReason::InvalidData),
-        state: OutgoingState::Waiting,
-    };
-    answers_in_any_pieces(rt.alloc(), &rt, &answer)
-}
-
-/// SFPA from row 1 on: ESID 02.
-#[test]
-fn answer_above_the_offer(rt: HostRuntime) -> Result<(), Fail> {
-    let answer = Answer {
-        heard: b"\x10\0\0\x16200000000000000001",
-        said: b"\x10\0\0\x0bF02000\r",
-        end: End::Own(SessionReason::ProtocolViolation),
-        state: OutgoingState::Waiting,
-    };
-    answers_in_any_pieces(rt.alloc(), &rt, &answer)
+fn answers_to_an_offer(rt: HostRuntime) -> Result<(), Fail> {
+    let table = table();
+    for answer in &table {
+        for at_once in [usize::MAX, 1] {
+            answers(rt.alloc(), &rt, answer, at_once)?;
+        }
+    }
+    Ok(())
 }

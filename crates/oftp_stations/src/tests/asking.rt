@@ -2,9 +2,10 @@
 //! spelled by hand from RFC 5024.
 
 use super::BOOK;
+use super::hearing::{Line, call, caller, hear};
 use super::noting::Noting;
 use super::operators::FILE;
-use oftp_engine::{End, Operator, Port, Role, RunFault, Submission, Told, operate, serve};
+use oftp_engine::{End, Operator, RunFault, Submission, Told};
 use oftp_partners::read;
 use oftp_vfile::Format;
 use oftp_wire::Count;
@@ -33,18 +34,13 @@ fn send(
     octets: u64,
 ) -> Result<Result<End, RunFault>, Fail> {
     let book = read(alloc, BOOK)?;
-    let mut line = Port::new(Vec::new(alloc), 0);
-    let told = operate(alloc, office, &book, &Operator::Submit(file), &mut line);
+    let submit = Operator::Submit(file);
+    let told = call(alloc, office, &book, &submit, &mut Vec::new(alloc));
     assert_eq!(rt; told, Ok(Told::Done));
-    let Some(partner) = book.partner(b"O0177CARMAKER") else {
-        return Err("the partner isn't in the book")?;
-    };
-    let mut reader = Port::new(PARTNER, 1_000_000);
-    let mut writer = Port::new(Vec::new(alloc), 0);
-    let role = Role::Initiator(partner);
-    let end = serve(alloc, office, &book, role, &mut reader, &mut writer);
-    assert_eq!(rt; writer.moved(), octets);
-    Ok(end)
+    let role = caller(&book, b"O0177CARMAKER")?;
+    let heard = hear(alloc, office, &book, role, Line::of(PARTNER), 1_000_000);
+    assert_eq!(rt; heard.moved, octets);
+    Ok(heard.end)
 }
 
 /// The speaker asks for 64 rows and, as there is room for more, for twice as many, but never for more than a DATA can carry.

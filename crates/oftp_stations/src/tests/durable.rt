@@ -4,25 +4,19 @@ use super::BOOK;
 use super::operators::{FILE, LIMITS};
 use oftp_durable::{open_durable, operate_durable, run_at, run_durable, serve_durable};
 use oftp_engine::{End, Job, Operator, Port, Refusal, Role, RunFault, Told};
-use oftp_partners::read;
+use oftp_partners::{Book, read};
 use oftp_register::Office;
 use oftp_store::SqlOffice;
-use sqlite::{Alter, Connection, Unknown};
+use sqlite::{Alter, FileFrom, FileStore, Unknown};
 use std::alloc::Global;
 use std::fs;
+use std::process::Abort;
 use std::test::Fail;
 
 /// The station's ready message.
 const READY: &[u8] = b"\x10\0\0\x17IODETTE FTP READY \r";
 
 type AnyJob<'a> = Job<'a, &'static [u8], Vec<u8>>;
-
-fn open<S: Alter + Drop>(alloc: Global, conn: Connection<S>) -> Result<SqlOffice<S>, Fail> {
-    if !conn.is_autocommit() {
-        return Err("in a transaction".into());
-    }
-    SqlOffice::open(alloc, conn, LIMITS).map_err(|_| "not opened".into())
-}
 
 // A call of an operator.
 fn call<'a>(alloc: Global, operator: Operator<'a>) -> AnyJob<'a> {
@@ -37,40 +31,71 @@ fn answer(job: &AnyJob<'_>) -> Option<Result<Told, RunFault>> {
     }
 }
 
-/// A call, a session and a list are done by one office, and the file is there when it is opened again.
-#[test]
-fn over_a_store_in_memory(rt: HostRuntime) -> Result<(), Fail> {
-    let alloc = rt.alloc();
-    let book = read(alloc, BOOK)?;
-    let mut office = open(alloc, Connection::open_in_memory(alloc)?)?;
-    let mut writer = Port::new(Vec::new(alloc), 0);
-    let told = operate_durable(
-        alloc,
-        &mut office,
-        &book,
-        &Operator::Submit(FILE),
-        &mut writer,
-    );
-    assert_eq!(rt; told, Ok(Told::Done));
-    assert!(rt; writer.inner().as_slice() == "done: submit 1\n".as_bytes());
+// Opens an office again over its connection, and counts the files that it sends.
+fn files_again<S: Alter + Drop>(alloc: Global, office: SqlOffice<S>) -> Result<usize, Fail> {
+    let conn = office.into_conn();
+    if !conn.is_autocommit() {
+        return Err("in a transaction".into());
+    }
+    let Ok(mut office) = SqlOffice::open(alloc, conn, LIMITS) else {
+        return Err("not opened".into());
+    };
+    Ok(office.list_out()?.len())
+}
+
+// A session in which the partner says nothing.
+fn silence<S: Alter>(
+    alloc: Global,
+    office: &mut SqlOffice<S>,
+    book: &Book,
+    said: &mut Vec<u8>,
+) -> Result<End, RunFault> {
     let nothing: &[u8] = b"";
     let mut reader = Port::new(nothing, 1_000);
     let mut writer = Port::new(Vec::new(alloc), 0);
-    let end = serve_durable(
-        alloc,
-        &mut office,
-        &book,
-        Role::Responder,
-        &mut reader,
-        &mut writer,
+    let role = Role::Responder;
+    let end = serve_durable(alloc, office, book, role, &mut reader, &mut writer);
+    *said = writer.into_inner();
+    end
+}
+
+fn submit<S: Alter>(
+    alloc: Global,
+    office: &mut SqlOffice<S>,
+    book: &Book,
+    line: &mut Vec<u8>,
+) -> Result<Told, RunFault> {
+    let mut writer = Port::new(Vec::new(alloc), 0);
+    let call = Operator::Submit(FILE);
+    let told = operate_durable(alloc, office, book, &call, &mut writer);
+    *line = writer.into_inner();
+    told
+}
+
+// A call, a session and a list are done by one office, and the file is there when it is opened again.
+fn works<S: Alter + Drop>(
+    alloc: Global,
+    rt: &impl Abort,
+    office: SqlOffice<S>,
+) -> Result<(), Fail> {
+    let book = read(alloc, BOOK)?;
+    let mut office = office;
+    let mut line = Vec::new(alloc);
+    assert_eq!(rt;
+        submit(alloc, &mut office, &book, &mut line),
+        Ok(Told::Done)
     );
-    assert_eq!(rt; end, Ok(End::Input));
-    assert!(rt; writer.inner().as_slice() == READY);
+    assert!(rt; line.as_slice() == "done: submit 1\n".as_bytes());
+    let mut said = Vec::new(alloc);
+    assert_eq!(rt;
+        silence(alloc, &mut office, &book, &mut said),
+        Ok(End::Input)
+    );
+    assert!(rt; said.as_slice() == READY);
     let mut jobs = [call(alloc, Operator::Release { no: 1 })];
     assert_eq!(rt; run_durable(alloc, &mut office, &book, &mut jobs), Ok(()));
     assert_eq!(rt; answer(&jobs[0]), Some(Ok(Told::Refused(Refusal::Unknown))));
-    let mut again = open(alloc, office.into_conn())?;
-    assert_eq!(rt; again.list_out()?.len(), 1);
+    assert_eq!(rt; files_again(alloc, office)?, 1);
     Ok(())
 }
 
@@ -83,19 +108,32 @@ fn remove_files(rt: &HostRuntime) {
     }
 }
 
-/// A list is done over the files at a path, and its file is there when they are opened again.
+// Does a list over the files.
+fn list(rt: &HostRuntime, book: &Book, jobs: &mut [AnyJob<'_>]) -> Option<Result<(), RunFault>> {
+    match run_at(rt, FILES[0], LIMITS, Unknown, book, jobs) {
+        Ok(ran) => Some(ran.result),
+        Err(_) => None,
+    }
+}
+
+type AtFiles = SqlOffice<FileStore<FileFrom<Unknown>>>;
+
+fn open(rt: &HostRuntime) -> Result<AtFiles, Fail> {
+    open_durable(rt, FILES[0], LIMITS, Unknown).map_err(|_| "not opened".into())
+}
+
+/// A list is done over the files at a path, and its file is there when they are opened again. Over new files an office works.
 #[test]
 fn over_files(rt: HostRuntime) -> Result<(), Fail> {
     let alloc = rt.alloc();
     remove_files(&rt);
     let book = read(alloc, BOOK)?;
     let mut jobs = [call(alloc, Operator::Submit(FILE))];
-    let ran = run_at(&rt, FILES[0], LIMITS, Unknown, &book, &mut jobs).map_err(|_| "not opened")?;
-    assert_eq!(rt; ran.result, Ok(()));
+    assert_eq!(rt; list(&rt, &book, &mut jobs), Some(Ok(())));
     assert_eq!(rt; answer(&jobs[0]), Some(Ok(Told::Done)));
-    drop(ran);
-    let mut office = open_durable(&rt, FILES[0], LIMITS, Unknown).map_err(|_| "not opened again")?;
-    assert_eq!(rt; office.list_out()?.len(), 1);
+    assert_eq!(rt; files_again(alloc, open(&rt)?)?, 1);
+    remove_files(&rt);
+    works(alloc, &rt, open(&rt)?)?;
     remove_files(&rt);
     Ok(())
 }

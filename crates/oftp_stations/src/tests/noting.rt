@@ -11,6 +11,11 @@ use oftp_register::{
 use oftp_vfile::{Limits, Rows};
 use std::alloc::Global;
 
+const ONE_OCTET: Limits = Limits {
+    files: 1,
+    octets: 1,
+};
+
 /// An office in memory. To contracts it reads nothing that was written, so nothing more is to be proved of it than its faults.
 #[derive(Drop)]
 pub(crate) struct Noting {
@@ -23,6 +28,8 @@ pub(crate) struct Noting {
     /// Whether it has stopped: then each call tells a fault.
     pub(crate) is_stopped: bool,
     stop: Option<Stop>,
+    /// Whether it looks up responses although it has stopped, and finds none.
+    looks: bool,
     faults: u64,
 }
 
@@ -44,8 +51,29 @@ impl Noting {
             loses: false,
             is_stopped: false,
             stop,
+            looks: false,
             faults: 0,
         }
+    }
+
+    /// An office with limits and an empty register.
+    pub(crate) fn within(alloc: Global, limits: Limits) -> Noting {
+        let mut office = Noting::new(alloc, None);
+        office.office = PlainOffice::new(alloc, limits);
+        office
+    }
+
+    /// An office for a file of one octet that has stopped, but for the look-up of a response where `looks` is true.
+    pub(crate) fn failing(alloc: Global, looks: bool) -> Noting {
+        let mut office = Noting::within(alloc, ONE_OCTET);
+        office.is_stopped = true;
+        office.looks = looks;
+        office
+    }
+
+    /// How many faults it told.
+    pub(crate) fn faults(&self) -> u64 {
+        self.faults
     }
 
     /// Opens it again, for good.
@@ -138,6 +166,9 @@ impl Office for Noting {
         kind: ResponseKind,
         identity: &Identity,
     ) -> Result<bool, OfficeFault> {
+        if self.looks {
+            return Ok(false);
+        }
         self.opened()?;
         let found = self.office.has_received(kind, identity);
         self.counted(found)

@@ -1,9 +1,10 @@
 //! Operator's calls over an office in memory and over one that fails. The lines are written by hand.
 
-use super::{BOOK, Failing};
-use oftp_engine::{Operator, Port, Refusal, RunFault, Submission, Told, operate};
-use oftp_partners::{Book, read};
-use oftp_register::PlainOffice;
+use super::BOOK;
+use super::hearing::call;
+use super::noting::Noting;
+use oftp_engine::{Operator, Refusal, RunFault, Submission, Told};
+use oftp_partners::read;
 use oftp_vfile::{Format, Limits};
 use std::alloc::Global;
 use std::process::Abort;
@@ -19,39 +20,6 @@ const NARROW: Limits = Limits {
     files: 2,
     octets: 5,
 };
-
-// An operator's call writes this line, and answers so.
-fn tells(
-    alloc: Global,
-    rt: &impl Abort,
-    office: &mut PlainOffice,
-    book: &Book,
-    call: Operator<'_>,
-    line: &str,
-    told: Told,
-) -> Result<(), Fail> {
-    let mut writer = Port::new(Vec::new(alloc), 0);
-    assert_eq!(rt;
-        operate(alloc, office, book, &call, &mut writer),
-        Ok(told),
-        "{line}"
-    );
-    assert!(rt; writer.inner().as_slice() == line.as_bytes(), "{line}");
-    Ok(())
-}
-
-// An operator's call is refused by this line.
-fn refuses(
-    alloc: Global,
-    rt: &impl Abort,
-    office: &mut PlainOffice,
-    book: &Book,
-    call: Operator<'_>,
-    line: &str,
-    refusal: Refusal,
-) -> Result<(), Fail> {
-    tells(alloc, rt, office, book, call, line, Told::Refused(refusal))
-}
 
 const RELEASE: Operator<'static> = Operator::Release { no: 1 };
 
@@ -72,54 +40,29 @@ const LIMIT: &str = "refused: 4 limit\n";
 
 const FIELD: &str = "refused: 5 field\n";
 
-// A submission is refused by this line.
-fn not_submitted(
-    alloc: Global,
-    rt: &impl Abort,
-    office: &mut PlainOffice,
-    file: Submission<'_>,
-    line: &str,
-    refusal: Refusal,
-) -> Result<(), Fail> {
-    let book = read(alloc, BOOK)?;
-    refuses(
-        alloc,
-        rt,
-        office,
-        &book,
-        Operator::Submit(file),
-        line,
-        refusal,
-    )
-}
+/// A call, the line that it writes and what it answers.
+type Row<'a> = (Operator<'a>, &'a str, Told);
 
-// A submission is done.
-fn submitted(
+fn tells(
     alloc: Global,
     rt: &impl Abort,
-    office: &mut PlainOffice,
-    file: Submission<'_>,
-    line: &str,
+    office: &mut Noting,
+    rows: &[Row<'_>],
 ) -> Result<(), Fail> {
     let book = read(alloc, BOOK)?;
-    tells(
-        alloc,
-        rt,
-        office,
-        &book,
-        Operator::Submit(file),
-        line,
-        Told::Done,
-    )
+    for (operator, wanted, told) in rows {
+        let mut line = Vec::new(alloc);
+        let answer = call(alloc, office, &book, operator, &mut line);
+        assert_eq!(rt; answer, Ok(*told), "{wanted}");
+        assert!(rt; line.as_slice() == wanted.as_bytes(), "{wanted}");
+    }
+    Ok(())
 }
 
 /// A text has at most 999 octets, and a reason two digits.
 #[test]
 fn long_texts(rt: HostRuntime) -> Result<(), Fail> {
-    let alloc = rt.alloc();
-    let book = read(alloc, BOOK)?;
-    let mut office = PlainOffice::new(alloc, LIMITS);
-    let long = String::from_str(alloc, "0123456789")?.repeat(alloc, 100)?;
+    let long = String::from_str(rt.alloc(), "0123456789")?.repeat(rt.alloc(), 100)?;
     let text = Operator::Refuse {
         no: 1,
         reason: 1,
@@ -134,50 +77,64 @@ fn long_texts(rt: HostRuntime) -> Result<(), Fail> {
         description: long.as_str(),
         ..FILE
     });
-    for call in [text, reason, file] {
-        refuses(alloc, &rt, &mut office, &book, call, FIELD, Refusal::Field)?;
-    }
-    Ok(())
+    let told = Told::Refused(Refusal::Field);
+    let rows = [
+        (text, FIELD, told),
+        (reason, FIELD, told),
+        (file, FIELD, told),
+    ];
+    tells(rt.alloc(), &rt, &mut Noting::new(rt.alloc(), None), &rows)
 }
+
+const BIG: Submission<'static> = Submission {
+    content: b"abcdef",
+    ..FILE
+};
+
+const VARIABLE: Submission<'static> = Submission {
+    dataset: "V",
+    format: Format::Variable,
+    longest: 5,
+    content: b"00005abcde",
+    ..FILE
+};
+
+const RECORDS: Submission<'static> = Submission {
+    content: b"00005abcde00001f",
+    ..VARIABLE
+};
+
+const THIRD: Submission<'static> = Submission {
+    dataset: "THIRD",
+    ..FILE
+};
 
 /// The limits are of octets without the digits of V, of rows and of files. A duplicate is told before each.
 #[test]
 fn limits_of_files(rt: HostRuntime) -> Result<(), Fail> {
-    let alloc = rt.alloc();
-    let mut office = PlainOffice::new(alloc, NARROW);
-    let o = &mut office;
-    let big = Submission {
-        content: b"abcdef",
-        ..FILE
-    };
-    let variable = Submission {
-        dataset: "V",
-        format: Format::Variable,
-        longest: 5,
-        content: b"00005abcde",
-        ..FILE
-    };
-    not_submitted(alloc, &rt, o, big, LIMIT, Refusal::Limit)?;
-    submitted(alloc, &rt, o, FILE, "done: submit 1\n")?;
-    not_submitted(alloc, &rt, o, big, DUPLICATE, Refusal::Duplicate)?;
-    let records = Submission {
-        content: b"00005abcde00001f",
-        ..variable
-    };
-    not_submitted(alloc, &rt, o, records, LIMIT, Refusal::Limit)?;
-    let digits = String::from_str(alloc, "00000")?.repeat(alloc, 1_000_001)?;
-    let rows = Submission {
+    let digits = String::from_str(rt.alloc(), "00000")?.repeat(rt.alloc(), 1_000_001)?;
+    let many = Submission {
         content: digits.as_bytes(),
-        ..variable
+        ..VARIABLE
     };
-    not_submitted(alloc, &rt, o, rows, LIMIT, Refusal::Limit)?;
-    submitted(alloc, &rt, o, variable, "done: submit 2\n")?;
-    not_submitted(alloc, &rt, o, variable, DUPLICATE, Refusal::Duplicate)?;
-    let third = Submission {
-        dataset: "THIRD",
-        ..FILE
-    };
-    not_submitted(alloc, &rt, o, third, LIMIT, Refusal::Limit)
+    let limit = Told::Refused(Refusal::Limit);
+    let duplicate = Told::Refused(Refusal::Duplicate);
+    let rows = [
+        (Operator::Submit(BIG), LIMIT, limit),
+        (Operator::Submit(FILE), "done: submit 1\n", Told::Done),
+        (Operator::Submit(BIG), DUPLICATE, duplicate),
+        (Operator::Submit(RECORDS), LIMIT, limit),
+        (Operator::Submit(many), LIMIT, limit),
+        (Operator::Submit(VARIABLE), "done: submit 2\n", Told::Done),
+        (Operator::Submit(VARIABLE), DUPLICATE, duplicate),
+        (Operator::Submit(THIRD), LIMIT, limit),
+    ];
+    tells(
+        rt.alloc(),
+        &rt,
+        &mut Noting::within(rt.alloc(), NARROW),
+        &rows,
+    )
 }
 
 /// The store fails in the commit of a response or of a file, or in the look-up of a file that is too big: nothing is told.
@@ -188,18 +145,13 @@ fn operator_at_a_failing_office(rt: HostRuntime) -> Result<(), Fail> {
         content: b"",
         ..FILE
     };
-    for call in [RELEASE, Operator::Submit(small), Operator::Submit(FILE)] {
-        let mut office = Failing {
-            looks: true,
-            faults: 0,
-        };
-        let mut writer = Port::new(Vec::new(rt.alloc()), 0);
-        assert_eq!(rt;
-            operate(rt.alloc(), &mut office, &book, &call, &mut writer),
-            Err(RunFault::Office)
-        );
-        assert_eq!(rt; office.faults, 1);
-        assert_eq!(rt; writer.moved(), 0);
+    for operator in [RELEASE, Operator::Submit(small), Operator::Submit(FILE)] {
+        let mut office = Noting::failing(rt.alloc(), true);
+        let mut line = Vec::new(rt.alloc());
+        let told = call(rt.alloc(), &mut office, &book, &operator, &mut line);
+        assert_eq!(rt; told, Err(RunFault::Office));
+        assert_eq!(rt; office.faults(), 1);
+        assert_eq!(rt; line.len(), 0);
     }
     Ok(())
 }

@@ -3,9 +3,10 @@
 //! After a second one, which is whole, the file is delivered, whole and answered once.
 
 use super::BOOK;
+use super::hearing::{Line, call, caller, hear};
 use super::noting::{Noting, Stop};
 use super::operators::FILE;
-use oftp_engine::{Operator, Port, Role, Submission, operate, serve};
+use oftp_engine::{Operator, Role, Submission};
 use oftp_partners::{Book, read};
 use oftp_register::{Office, PlainOffice, Side};
 use std::alloc::Global;
@@ -122,19 +123,13 @@ impl Station<'_> {
         if session == 2 {
             office.open_again();
         }
-        let Some(partner) = self.book.partner(self.partner) else {
-            return Err("the partner isn't in the book")?;
-        };
         let mut role = Role::Responder;
         if (session % 2 == 0) == self.is_first {
-            let mut line = Port::new(Vec::new(alloc), 0);
-            let _ = operate(alloc, office, self.book, &self.call, &mut line);
-            role = Role::Initiator(partner);
+            let _ = call(alloc, office, self.book, &self.call, &mut Vec::new(alloc));
+            role = caller(self.book, self.partner)?;
         }
-        let mut reader = Port::new(heard, u64::MAX);
-        let mut writer = Port::new(Vec::new(alloc), 0);
-        let _ = serve(alloc, office, self.book, role, &mut reader, &mut writer);
-        Ok(writer.into_inner())
+        let heard = hear(alloc, office, self.book, role, Line::of(heard), u64::MAX);
+        Ok(heard.said)
     }
 
     /// Its part in its next session, where it hears this.

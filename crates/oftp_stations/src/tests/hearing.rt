@@ -1,0 +1,100 @@
+//! A session that a station serves over what it hears, and a call of its operator. Only here the engine is called for one office.
+
+use super::noting::Noting;
+use oftp_engine::{End, Operator, Port, Role, RunFault, Told, operate, serve};
+use oftp_partners::Book;
+use std::alloc::Global;
+use std::io::{self, ErrorKind, Read};
+use std::test::Fail;
+
+/// A reader that gives some octets at a call, and at the end tells it or fails.
+#[derive(Drop)]
+pub(crate) struct Line<'a> {
+    pub(crate) octets: &'a [u8],
+    /// How many octets it gives at a call, at most.
+    pub(crate) at_once: usize,
+    pub(crate) breaks: bool,
+}
+
+impl<'a> Line<'a> {
+    /// A line that gives all at once, and ends.
+    pub(crate) fn of(octets: &'a [u8]) -> Line<'a> {
+        Line {
+            octets,
+            at_once: usize::MAX,
+            breaks: false,
+        }
+    }
+}
+
+impl Read for Line<'_> {
+    fn read(&mut self, piece: &mut [u8]) -> io::Result<usize> {
+        if self.octets.is_empty() && self.breaks {
+            return Err(io::Error::from(ErrorKind::ConnectionReset));
+        }
+        let length = self.octets.len().min(piece.len()).min(self.at_once);
+        piece[..length].copy_from_slice(&self.octets[..length]);
+        self.octets = &self.octets[length..];
+        Ok(length)
+    }
+}
+
+/// What a session came to.
+#[derive(Drop)]
+pub(crate) struct Heard {
+    pub(crate) end: Result<End, RunFault>,
+    /// How many octets were read.
+    pub(crate) octets: u64,
+    /// Whether the input has ended.
+    pub(crate) has_ended: bool,
+    /// What the station said.
+    pub(crate) said: Vec<u8>,
+    /// How many octets the port counts of that.
+    pub(crate) moved: u64,
+    /// How many faults of the writer the port counts.
+    pub(crate) faults: u64,
+}
+
+/// Serves a session in which so many octets of a line are heard at most.
+pub(crate) fn hear(
+    alloc: Global,
+    office: &mut Noting,
+    book: &Book,
+    role: Role<'_>,
+    line: Line<'_>,
+    most: u64,
+) -> Heard {
+    let mut reader = Port::new(line, most);
+    let mut writer = Port::new(Vec::new(alloc), 0);
+    let end = serve(alloc, office, book, role, &mut reader, &mut writer);
+    Heard {
+        end,
+        octets: reader.moved(),
+        has_ended: reader.has_ended(),
+        moved: writer.moved(),
+        faults: writer.faults(),
+        said: writer.into_inner(),
+    }
+}
+
+/// Carries out an operator's call, and adds its line.
+pub(crate) fn call(
+    alloc: Global,
+    office: &mut Noting,
+    book: &Book,
+    call: &Operator<'_>,
+    line: &mut Vec<u8>,
+) -> Result<Told, RunFault> {
+    let mut writer = Port::new(Vec::new(alloc), 0);
+    let told = operate(alloc, office, book, call, &mut writer);
+    *line = writer.into_inner();
+    told
+}
+
+/// The part of the station that calls a partner.
+pub(crate) fn caller<'a>(book: &'a Book, partner: &[u8]) -> Result<Role<'a>, Fail> {
+    match book.partner(partner) {
+        Some(partner) => Ok(Role::Initiator(partner)),
+        None => Err("the partner isn't in the book".into()),
+    }
+}
