@@ -1,0 +1,133 @@
+//! Virtual files: their payloads, and their local form.
+
+ghost use Rattle.std.specs.Prelude.{◌<◌, ◌↔◌, IsTrue, length, All};
+
+use crate::line::Line;
+use crate::octets::print_line;
+use crate::takers::{LIMITS, print_compared, print_rows, print_taken};
+use oftp_vfile::{Filled, Filler, Format, MOST_ROWS, Row, Taker, VFile};
+use std::io;
+
+/// How many rows are lent at a time: a payload of 16,383 octets needs no more.
+const LENT: usize = 17;
+
+/// Whether each row has octets.
+fn are_filled(rows: &[Row]) -> bool
+    ensures { IsTrue result ↔ All (λ r. 0 < length r) rows.now }
+{
+    rows.iter().all(|row| row.len() > 0)
+}
+
+/// The next payload, where the rows may be lent and there is room.
+fn fill(filler: &mut Filler, rows: &[Row], last: bool, out: &mut [u8]) -> Filled {
+    let few = rows.len() <= MOST_ROWS && filler.row() <= MOST_ROWS - rows.len();
+    if out.len() < 2 || !few || !filler.is_in(rows) {
+        return Filled::Done;
+    }
+    if filler.format().is_stream() && !are_filled(rows) {
+        return Filled::Done;
+    }
+    filler.next_buffer(rows, last, out)
+}
+
+/// The rows that are lent from a row on, and whether they reach the end.
+fn lent_of(rows: &[Row], from: usize) -> (&[Row], bool) {
+    let rest = rows.get(from..).unwrap_or(&[]);
+    match rest.get(..LENT) {
+        Some(lent) => (lent, rest.len() == LENT),
+        None => (rest, true),
+    }
+}
+
+/// Fills the payloads of a file, each of which is taken again, and printed with the mark after it where `shown` says so. Answers how
+/// many there are.
+fn carry(
+    rt: &HostRuntime,
+    format: Format,
+    rows: &[Row],
+    out: &mut [u8],
+    taker: &mut Taker,
+    shown: bool,
+) -> io::Result<u64> {
+    let mut filler = Filler::new(format, 0);
+    for count in 0..u64::MAX {
+        let (lent, last) = lent_of(rows, filler.row());
+        let Filled::Buffer(len) = fill(&mut filler, lent, last, out) else {
+            return Ok(count);
+        };
+        let payload = out.get(..len).unwrap_or(&[]);
+        if shown {
+            print!(rt; "  mark {}:", filler.mark())?;
+            print_line(rt, " ", payload)?;
+        }
+        if taker.take(payload).is_err() {
+            return Ok(count);
+        }
+    }
+    Ok(u64::MAX)
+}
+
+/// Prints the payloads of the rows and the mark after each, and then what they carry.
+pub fn send(rt: &HostRuntime, line: &mut Line) -> io::Result<()> {
+    let (format, longest) = (line.format(), line.number());
+    let mut out = vec![in rt.alloc(); 0u8; line.number() as usize]?;
+    let rows = line.rows(rt.alloc())?;
+    let mut taker = Taker::new(rt.alloc(), format, longest, 0, 0, LIMITS);
+    let count = carry(rt, format, &rows, &mut out, &mut taker, true)?;
+    print_taken(rt, count, &taker)?;
+    print_compared(rt, taker, &rows)
+}
+
+/// Prints how many payloads a file of U has, and what they carry.
+pub fn whole(rt: &HostRuntime, line: &mut Line) -> io::Result<()> {
+    let mut out = vec![in rt.alloc(); 0u8; line.number() as usize]?;
+    let content = line.octets(rt.alloc())?;
+    let Ok(file) = VFile::from_local(rt.alloc(), Format::Unstructured, 0, &content) else {
+        return Ok(());
+    };
+    let rows = file.rows.as_slice();
+    let mut taker = Taker::new(rt.alloc(), Format::Unstructured, 0, 0, 0, LIMITS);
+    let count = carry(rt, Format::Unstructured, rows, &mut out, &mut taker, false)?;
+    print_taken(rt, count, &taker)?;
+    print_compared(rt, taker, rows)
+}
+
+/// Prints what becomes of a payload from a row on, where these rows are lent.
+pub fn next(rt: &HostRuntime, line: &mut Line) -> io::Result<()> {
+    let mut filler = Filler::new(line.format(), line.number() as usize);
+    let size = line.number() as usize;
+    let last = line.word() == "last";
+    let rows = line.rows(rt.alloc())?;
+    let mut out = vec![in rt.alloc(); 0u8; size]?;
+    let filled = fill(&mut filler, &rows, last, &mut out);
+    println!(rt;
+        "  {filled:?}, row {}, mark {}",
+        filler.row(),
+        filler.mark()
+    )
+}
+
+/// Prints whether a file of the format may have this longest record.
+pub fn longest(rt: &HostRuntime, line: &mut Line) -> io::Result<()> {
+    let format = line.format();
+    println!(rt; "  {}", format.allows_longest(line.number()))
+}
+
+/// Prints the rows of a local form, and whether they are written as it.
+pub fn local(rt: &HostRuntime, line: &mut Line) -> io::Result<()> {
+    let (format, longest) = (line.format(), line.number());
+    let content = line.octets(rt.alloc())?;
+    if !format.allows_longest(longest) {
+        return println!(rt; "  no such length");
+    }
+    let file = match VFile::from_local(rt.alloc(), format, longest, &content) {
+        Ok(file) => file,
+        Err(fault) => return println!(rt; "  {fault:?}"),
+    };
+    print_rows(rt, file.rows.as_slice())?;
+    let again = file.to_local(rt.alloc());
+    println!(rt;
+        "  written as read: {}",
+        again.is_ok_and(|octets| octets == content)
+    )
+}

@@ -1,0 +1,66 @@
+//! The words of a line.
+
+use crate::octets::{Fields, fields_of, joined};
+use oftp_vfile::{Format, Row};
+use std::alloc::{AllocError, Global};
+
+/// What is left of a line.
+#[derive(Drop)]
+pub struct Line<'a> {
+    rest: &'a str,
+}
+
+impl<'a> Line<'a> {
+    pub fn new(text: &'a str) -> Line<'a> {
+        Line { rest: text }
+    }
+
+    /// The next word.
+    pub fn word(&mut self) -> &'a str {
+        let (word, rest) = self.rest.split_once(' ').unwrap_or((self.rest, ""));
+        self.rest = rest;
+        word
+    }
+
+    /// The next word as a number, 0 for another word.
+    pub fn number(&mut self) -> u32 {
+        self.word().parse::<u32>().unwrap_or(0)
+    }
+
+    /// The next word as the letter of a format.
+    pub fn format(&mut self) -> Format {
+        match self.word() {
+            "F" => Format::Fixed,
+            "V" => Format::Variable,
+            "U" => Format::Unstructured,
+            _ => Format::Text,
+        }
+    }
+
+    /// The fields that the rest spells.
+    pub fn fields(&self, alloc: Global) -> Result<Fields, AllocError> {
+        fields_of(alloc, self.rest)
+    }
+
+    /// The octets that the rest spells.
+    pub fn octets(&self, alloc: Global) -> Result<Vec<u8>, AllocError> {
+        joined(alloc, &self.fields(alloc)?)
+    }
+
+    /// The rows that the rest spells, or `none`.
+    pub fn rows(&self, alloc: Global) -> Result<Vec<Row>, AllocError> {
+        if self.rest == "none" {
+            return Ok(Vec::new(alloc));
+        }
+        rows_of(alloc, self.fields(alloc)?)
+    }
+}
+
+/// Fields as rows.
+fn rows_of(alloc: Global, fields: Fields) -> Result<Vec<Row>, AllocError> {
+    let mut rows = Vec::new(alloc);
+    for field in fields {
+        rows.push(Row::new(field))?;
+    }
+    Ok(rows)
+}

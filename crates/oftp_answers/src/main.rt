@@ -1,0 +1,51 @@
+//! Answers the calls that it reads, a line each: prints the line, and below it what the call answers.
+#![tactic(auto)]
+
+mod commands;
+mod files;
+mod line;
+mod octets;
+mod streams;
+mod takers;
+mod values;
+mod words;
+
+use line::Line;
+use std::io;
+
+/// Answers a call of the wire.
+fn answer_of_wire(rt: &HostRuntime, call: &str, line: &mut Line) -> io::Result<()> {
+    match call {
+        "read" => commands::read(rt, &line.octets(rt.alloc())?),
+        "write" => commands::write(rt, &line.octets(rt.alloc())?),
+        "show" => commands::show(rt, &line.octets(rt.alloc())?),
+        "fields" => commands::fields(rt, &line.fields(rt.alloc())?),
+        "room" => commands::room(rt, &line.octets(rt.alloc())?),
+        "feed" => streams::feed(rt, &line.fields(rt.alloc())?),
+        "header" => streams::header_of(rt, line),
+        "value" => values::answer(rt, line),
+        _ => words::answer(rt, call),
+    }
+}
+
+/// Answers a call.
+fn answer(rt: &HostRuntime, line: &mut Line) -> io::Result<()> {
+    match line.word() {
+        "longest" => files::longest(rt, line),
+        "local" => files::local(rt, line),
+        "next" => files::next(rt, line),
+        "send" => files::send(rt, line),
+        "whole" => files::whole(rt, line),
+        "take" => takers::take(rt, line),
+        call => answer_of_wire(rt, call, line),
+    }
+}
+
+fn main(rt: HostRuntime) -> io::Result<()> {
+    for text in rt.lines(rt.alloc()) {
+        let text = text?;
+        println!(rt; "{text}")?;
+        answer(&rt, &mut Line::new(text.as_str()))?;
+    }
+    Ok(())
+}

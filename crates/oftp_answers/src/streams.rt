@@ -1,0 +1,42 @@
+//! Streams: the commands of their frames.
+
+use crate::line::Line;
+use crate::octets::{Fields, print_line, print_whole};
+use oftp_wire::{Deframer, header};
+use std::io;
+
+/// The greatest length of a frame.
+const LIMIT: usize = 100_003;
+
+/// Prints the commands that are whole, and what is answered behind them.
+fn print_commands(rt: &HostRuntime, deframer: &mut Deframer) -> io::Result<()> {
+    for _ in 0..u64::MAX {
+        match deframer.next() {
+            Ok(Some(command)) => print_whole(rt, command)?,
+            Ok(None) => return println!(rt; " none"),
+            Err(fault) => return println!(rt; " {fault:?}"),
+        }
+    }
+    Ok(())
+}
+
+/// Feeds pieces, and prints what is whole after each.
+pub fn feed(rt: &HostRuntime, pieces: &Fields) -> io::Result<()> {
+    let mut deframer = Deframer::new(rt.alloc(), LIMIT);
+    for piece in pieces {
+        match deframer.feed(piece) {
+            Ok(()) => print!(rt; " ")?,
+            Err(fault) => print!(rt; "  refused {fault:?}, then")?,
+        }
+        print_commands(rt, &mut deframer)?;
+    }
+    Ok(())
+}
+
+/// Prints the header of a command of a length.
+pub fn header_of(rt: &HostRuntime, line: &mut Line) -> io::Result<()> {
+    match header(line.number() as usize) {
+        Some(octets) => print_line(rt, "  ", &octets),
+        None => println!(rt; "  none"),
+    }
+}
