@@ -31,8 +31,8 @@ ALONE = True
 
 
 class Check(NamedTuple):
-    """A check: its name, its command, what it tries, whether it runs alone, whether it wants a C compiler, and its command with `--quick`
-    where that is another."""
+    """A check: its name, its command, what it tries, whether it runs alone, whether it wants a C compiler, its command with `--quick` where
+    that is another, and whether `--quick` leaves it out."""
 
     name: str
     command: str
@@ -40,10 +40,12 @@ class Check(NamedTuple):
     is_alone: bool = False
     wants_cc: bool = False
     quick: Optional[str] = None
+    is_of_gate: bool = False
 
 
 # Those that run beside each other stand in the order in which they begin: the longest first.
 CHECKS = [
+    Check("wrong bodies", "python3 checks/wrong_bodies.py --of-the-day", "the wrong bodies of one crate, another each day", is_of_gate=True),
     Check("stops", "python3 checks/stop_at_each_call.py", "a day, stopped at each call on the database, and with allocations refused", wants_cc=True),
     Check("stops of two", "python3 checks/two_stations.py --stops --every 1", "two stations, one stopped at each call on its database", wants_cc=True),
     Check("listing allocations", "python3 checks/listing_allocations.py", "requests and reports, with allocations refused", wants_cc=True),
@@ -197,7 +199,7 @@ def main():
     unknown = set(taken.names) - {it.name for it in CHECKS}
     if unknown:
         parser.error(f"no check has the name {', '.join(sorted(unknown))}")
-    checks = [it for it in CHECKS if not taken.names or it.name in taken.names]
+    checks = [it for it in CHECKS if it.name in taken.names or not taken.names and not (taken.quick and it.is_of_gate)]
     if taken.list:
         print("\n".join(f"{it.name}: {it.tries}" for it in checks))
         return 0

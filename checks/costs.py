@@ -1,0 +1,126 @@
+#!/usr/bin/env python3
+"""Runs a command, and tells what its proofs, tests, wrong bodies and builds took: processor seconds of each crate, as a table in Markdown.
+
+    checks/costs.py rt ci      runs `rt ci`, and writes the table to standard error behind it
+
+It looks twice a second at the processes below the command. A process of the prover names its crate; what it starts, a compiler for one,
+counts for the same crate. What a process takes within the last half second of its life isn't seen.
+"""
+
+import os
+import pathlib
+import re
+import subprocess
+import sys
+import time
+
+TICKS = os.sysconf("SC_CLK_TCK")
+KINDS = ("proof", "tests", "wrong bodies", "builds")
+
+
+def read(path):
+    """The octets of a file below /proc, or none where the process is gone."""
+    try:
+        return pathlib.Path(path).read_bytes()
+    except OSError:
+        return b""
+
+
+def processes():
+    """Each process with its parent and the seconds of a processor that it has taken."""
+    found = {}
+    for name in os.listdir("/proc"):
+        fields = read(f"/proc/{name}/stat").rpartition(b") ")[2].split() if name.isdigit() else []
+        if fields:
+            found[int(name)] = int(fields[1]), (int(fields[11]) + int(fields[12])) / TICKS
+    return found
+
+
+def label_of(pid):
+    """The crate that a process of the prover works on and what it does for it, or None where it is no such process."""
+    words = read(f"/proc/{pid}/cmdline").decode(errors="replace").split("\0")
+    if "--crate-name" not in words or len(words) < 2:
+        return None
+    crate = words[words.index("--crate-name") + 1]
+    room = os.path.basename(os.path.dirname(f"{link(pid)}/"))
+    if room.startswith("rt-edit-"):
+        return crate, "wrong bodies"
+    if "--test" in words:
+        return crate, "tests"
+    return crate, "builds" if "--crate-checked" in words else "proof"
+
+
+def link(pid):
+    """The folder in which a process works."""
+    try:
+        return os.readlink(f"/proc/{pid}/cwd")
+    except OSError:
+        return ""
+
+
+class Costs:
+    """What the processes below a command have taken, by crate and kind."""
+
+    def __init__(self, top):
+        self.top = top
+        self.labels = {}
+        self.taken = {}
+
+    def label(self, pid, found):
+        """What a process counts for: its own label, or that of the next process above it that has one. None is no process below the command."""
+        if pid == self.top:
+            return ("", "the rest")
+        if pid not in found or pid == 1:
+            return None
+        if pid not in self.labels:
+            above = self.label(found[pid][0], found)
+            self.labels[pid] = above and (label_of(pid) or above)
+        return self.labels[pid]
+
+    def look(self):
+        found = processes()
+        for pid, (_, seconds) in found.items():
+            label = self.label(pid, found)
+            if label:
+                self.taken[pid, label] = max(seconds, self.taken.get((pid, label), 0))
+
+    def sums(self):
+        """The seconds of each crate and kind."""
+        sums = {}
+        for (_, label), seconds in self.taken.items():
+            sums[label] = sums.get(label, 0) + seconds
+        return sums
+
+
+def table(sums):
+    """The lines of the table, and the sum of all in minutes."""
+    yield "| Crate | " + " | ".join(KINDS) + " | together |"
+    yield "|---" * (len(KINDS) + 2) + "|"
+    crates = sorted({crate for crate, _ in sums if crate})
+    for crate in crates:
+        row = [sums.get((crate, kind), 0) for kind in KINDS]
+        yield f"| {crate} | " + " | ".join(f"{it:,.0f}" for it in [*row, sum(row)]) + " |"
+    row = [sum(sums.get((crate, kind), 0) for crate in crates) for kind in KINDS]
+    yield "| all | " + " | ".join(f"{it:,.0f}" for it in [*row, sum(row)]) + " |"
+    rest = sums.get(("", "the rest"), 0)
+    yield f"and {rest:,.0f} s beside the crates: {(sum(row) + rest) / 60:.0f} processor minutes in all"
+
+
+def main(words):
+    if not words:
+        print(__doc__, file=sys.stderr)
+        return 2
+    began = time.monotonic()
+    with subprocess.Popen(words) as ran:
+        costs = Costs(ran.pid)
+        while ran.poll() is None:
+            costs.look()
+            time.sleep(0.5)
+    for line in table(costs.sums()):
+        print(line, file=sys.stderr)
+    print(f"{(time.monotonic() - began) / 60:.1f} minutes by the clock", file=sys.stderr)
+    return ran.returncode
+
+
+if __name__ == "__main__":
+    sys.exit(main(sys.argv[1:]))
