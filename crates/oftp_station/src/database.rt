@@ -1,16 +1,16 @@
 //! The office over the database that a line names.
 
+mod office;
+
+pub use office::{DatabaseOffice, Errand};
 use oftp_durable::open_durable;
-use oftp_store::{PathFault, SqlOffice, StoreFault, migrate_at};
+use oftp_store::{PathFault, StoreFault, migrate_at};
 use oftp_vfile::Limits;
 use oftp_words::Fault;
-use sqlite::{FileFrom, FileStore, Unknown};
+use sqlite::Unknown;
 use std::fs;
 use std::io::ErrorKind;
 use std::time::{Clock, Duration};
-
-/// The office over a database's files, in which a torn write is supposed to leave each octet old or new.
-pub type DatabaseOffice = SqlOffice<FileStore<FileFrom<Unknown>>>;
 
 /// How much a register may hold.
 pub const LIMITS: Limits = Limits {
@@ -82,9 +82,13 @@ fn patiently(
 
 /// Tries once.
 fn attempt(rt: &HostRuntime, path: &str, how: Opening) -> Result<DatabaseOffice, PathFault> {
-    match how {
+    let opened = match how {
         Opening::Open => open_durable(rt, path, LIMITS, Unknown),
         Opening::Migrate => migrate_at(rt, path, LIMITS, Unknown),
+    };
+    match opened {
+        Ok(office) => Ok(DatabaseOffice::new(office)),
+        Err(fault) => Err(fault),
     }
 }
 

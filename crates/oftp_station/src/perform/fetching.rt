@@ -1,6 +1,6 @@
 //! The command `fetch`, which writes an incoming file in its local form.
 
-use crate::database::{self, PATIENCE};
+use crate::database::{self, Errand, PATIENCE};
 use crate::perform::replacing::{Place, draft_of, place_of, settle};
 use oftp_engine::{Port, RunFault, write_content};
 use oftp_register::{IncomingEntry, IncomingState, Office};
@@ -15,7 +15,22 @@ const OFFICE: Fault = Fault::Run(RunFault::Office);
 /// Writes a whole incoming file of a database to a file.
 pub(super) fn fetch(rt: &HostRuntime, line: &Fetch<'_>) -> Result<Outcome, Fault> {
     let mut office = database::open(rt, line.database, PATIENCE)?;
-    fetch_from(rt, line, &mut office)
+    office.run(Fetching { rt, line })
+}
+
+/// A file that is fetched.
+struct Fetching<'a, R> {
+    rt: &'a R,
+    line: &'a Fetch<'a>,
+}
+
+impl<R: Files + AllocGlobal> Errand for Fetching<'_, R> {
+    type Outcome = Result<Outcome, Fault>;
+
+    fn run<O: Office>(self, office: &mut O) -> Result<Outcome, Fault> {
+        let Fetching { rt, line } = self;
+        fetch_from(rt, line, office)
+    }
 }
 
 /// Writes a whole incoming file of an office to a file.

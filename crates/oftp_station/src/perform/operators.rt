@@ -2,7 +2,6 @@
 
 use crate::database::{self, DatabaseOffice, LIMITS, PATIENCE};
 use crate::perform::files::{read_beginning, read_book};
-use oftp_durable::operate_durable;
 use oftp_engine::{Operator, Port, Submission, Told};
 use oftp_partners::Book;
 use oftp_vfile::{Format, MOST_ROWS};
@@ -21,7 +20,9 @@ fn call(
     out: &mut impl Write,
 ) -> Result<Told, Fault> {
     let mut port = Port::new(out, 0);
-    operate_durable(rt.alloc(), &mut office, book, operator, &mut port).map_err(Fault::Run)
+    office
+        .operate(rt.alloc(), book, operator, &mut port)
+        .map_err(Fault::Run)
 }
 
 /// The format and the longest record of content. Content that is longer than any that is kept was read as far as that shows, and no

@@ -2,7 +2,6 @@
 
 use crate::database::{self, PATIENCE};
 use oftp_engine::Port;
-use oftp_listing::report;
 use oftp_words::{Fault, Init, Migrate, Outcome, Report};
 use std::io::Write;
 
@@ -25,6 +24,6 @@ pub(super) fn write_report(
     out: &mut impl Write,
 ) -> Result<(), Fault> {
     let mut office = database::open(rt, what.database, PATIENCE)?;
-    report(rt.alloc(), what.kind, &mut office, &mut Port::new(out, 0))?;
+    office.report(rt.alloc(), what.kind, &mut Port::new(out, 0))?;
     Ok(())
 }

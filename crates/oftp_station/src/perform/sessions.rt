@@ -7,7 +7,6 @@ use crate::perform::files::{
 use crate::perform::traces::open_trace;
 use crate::ports::ports_of;
 use crate::tracing::{Trace, Traced};
-use oftp_durable::serve_durable;
 use oftp_engine::{End, Port, Role, RunFault, serve_in_memory};
 use oftp_partners::{Book, Partner};
 use oftp_register::PlainOffice;
@@ -39,7 +38,7 @@ fn feed_durable(
     let trace = trace_of(rt, line)?;
     let (mut reader, mut writer) = ports(rt, line, trace.as_ref())?;
     let alloc = rt.alloc();
-    let ended = serve_durable(alloc, &mut office, book, role, &mut reader, &mut writer);
+    let ended = office.serve(alloc, book, role, &mut reader, &mut writer);
     outcome_of(ended, trace.as_ref())
 }
 

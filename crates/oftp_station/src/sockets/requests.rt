@@ -90,7 +90,9 @@ fn is_whole(alloc: Global, request: &[u8]) -> Result<bool, Fault> {
 /// The reply to a request from what the database holds, which is opened for this alone.
 fn reply_to(rt: &HostRuntime, request: &[u8], database: &str) -> Result<Reply, Trouble> {
     let mut office = database::open_if_free(rt, database, PATIENCE)?;
-    answer(rt.alloc(), request, &mut office).map_err(|fault| Trouble::from(Fault::from(fault)))
+    office
+        .answer(rt.alloc(), request)
+        .map_err(|fault| Trouble::from(Fault::from(fault)))
 }
 
 /// The connection for as long as a request may take to come, or its reply to go.

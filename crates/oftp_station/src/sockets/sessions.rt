@@ -6,7 +6,6 @@ use crate::sockets::addresses::accepted;
 use crate::sockets::callers::{Trouble, settled};
 use crate::sockets::connection::Connection;
 use crate::tracing::{Trace, Traced};
-use oftp_durable::serve_durable;
 use oftp_engine::{End, Role, RunFault};
 use oftp_partners::{Book, Partner};
 use oftp_words::{Fault, Outcome, write_line};
@@ -117,13 +116,6 @@ fn serve_commands(
         Traced::writer(connection, station.trace),
     );
     let book = station.book;
-    let end = serve_durable(
-        rt.alloc(),
-        &mut office,
-        book,
-        role,
-        &mut reader,
-        &mut writer,
-    )?;
+    let end = office.serve(rt.alloc(), book, role, &mut reader, &mut writer)?;
     Ok(end)
 }

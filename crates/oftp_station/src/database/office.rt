@@ -1,0 +1,210 @@
+//! The office over a database's files, and what the program has it do.
+
+use oftp_durable::{operate_durable, serve_durable};
+use oftp_engine::{End, Operator, Port, Role, RunFault, Told};
+use oftp_listing::{ListFault, Reply, ReportKind, answer, report};
+use oftp_partners::Book;
+use oftp_register::Office;
+use oftp_store::SqlOffice;
+use sqlite::{Alter, FileFrom, FileStore, Unknown};
+use std::alloc::Global;
+use std::io::{Read, Write};
+
+/// The office over files, in which a torn write is supposed to leave each octet old or new.
+pub(super) type FileOffice = SqlOffice<FileStore<FileFrom<Unknown>>>;
+
+/// The office over a database's files, which are given up when it is dropped.
+///
+/// It hides what store it is over. A function that drops a [`FileOffice`], or calls what is generic over offices with one, is proved
+/// with all that the store is; this is so for two functions here, and for none that has a `DatabaseOffice`.
+pub struct DatabaseOffice {
+    office: FileOffice,
+}
+
+impl Drop for DatabaseOffice {
+    fn drop(self) {
+        let DatabaseOffice { office } = self;
+        let _ = office;
+    }
+}
+
+/// What is done with an office, whatever it keeps its register in.
+pub trait Errand {
+    /// What it comes to.
+    type Outcome;
+
+    /// Does it.
+    fn run<O: Office>(self, office: &mut O) -> Self::Outcome;
+}
+
+/// What is done with an office over a store, whatever store it is.
+trait StoreErrand {
+    // What it comes to.
+    type Outcome;
+
+    // Does it.
+    fn run_over<S: Alter>(self, office: &mut SqlOffice<S>) -> Self::Outcome;
+}
+
+impl DatabaseOffice {
+    /// The office that is over these files.
+    pub(super) fn new(office: FileOffice) -> DatabaseOffice {
+        DatabaseOffice { office }
+    }
+
+    /// Lends the office to an errand over a store.
+    fn lend<E: StoreErrand>(&mut self, errand: E) -> E::Outcome {
+        errand.run_over(&mut self.office)
+    }
+
+    /// Does what can be done with any office.
+    pub fn run<E: Errand>(&mut self, errand: E) -> E::Outcome {
+        self.lend(AnyStore(errand))
+    }
+
+    /// Serves a session, as [`serve_durable`] does.
+    pub fn serve<R: Read, W: Write>(
+        &mut self,
+        alloc: Global,
+        book: &Book,
+        role: Role<'_>,
+        reader: &mut Port<R>,
+        writer: &mut Port<W>,
+    ) -> Result<End, RunFault> {
+        self.lend(Session {
+            alloc,
+            book,
+            role,
+            reader,
+            writer,
+        })
+    }
+
+    /// Does what an operator wants, as [`operate_durable`] does.
+    pub fn operate<W: Write>(
+        &mut self,
+        alloc: Global,
+        book: &Book,
+        operator: &Operator<'_>,
+        writer: &mut Port<W>,
+    ) -> Result<Told, RunFault> {
+        self.lend(Call {
+            alloc,
+            book,
+            operator,
+            writer,
+        })
+    }
+
+    /// Writes a report, as [`report`] does.
+    pub fn report<W: Write>(
+        &mut self,
+        alloc: Global,
+        kind: ReportKind,
+        writer: &mut Port<W>,
+    ) -> Result<(), ListFault> {
+        self.run(Reporting {
+            alloc,
+            kind,
+            writer,
+        })
+    }
+
+    /// Answers a request, as [`answer`] does.
+    pub fn answer(&mut self, alloc: Global, request: &[u8]) -> Result<Reply, ListFault> {
+        self.run(Request { alloc, request })
+    }
+}
+
+/// An errand that needs no more of the office than that it is one.
+struct AnyStore<E>(E);
+
+impl<E: Errand> StoreErrand for AnyStore<E> {
+    type Outcome = E::Outcome;
+
+    fn run_over<S: Alter>(self, office: &mut SqlOffice<S>) -> E::Outcome {
+        let AnyStore(errand) = self;
+        errand.run(office)
+    }
+}
+
+/// A session that is served.
+struct Session<'a, R, W> {
+    alloc: Global,
+    book: &'a Book,
+    role: Role<'a>,
+    reader: &'a mut Port<R>,
+    writer: &'a mut Port<W>,
+}
+
+impl<R: Read, W: Write> StoreErrand for Session<'_, R, W> {
+    type Outcome = Result<End, RunFault>;
+
+    fn run_over<S: Alter>(self, office: &mut SqlOffice<S>) -> Result<End, RunFault> {
+        let Session {
+            alloc,
+            book,
+            role,
+            reader,
+            writer,
+        } = self;
+        serve_durable(alloc, office, book, role, reader, writer)
+    }
+}
+
+/// What an operator wants.
+struct Call<'a, W> {
+    alloc: Global,
+    book: &'a Book,
+    operator: &'a Operator<'a>,
+    writer: &'a mut Port<W>,
+}
+
+impl<W: Write> StoreErrand for Call<'_, W> {
+    type Outcome = Result<Told, RunFault>;
+
+    fn run_over<S: Alter>(self, office: &mut SqlOffice<S>) -> Result<Told, RunFault> {
+        let Call {
+            alloc,
+            book,
+            operator,
+            writer,
+        } = self;
+        operate_durable(alloc, office, book, operator, writer)
+    }
+}
+
+/// A report that is written.
+struct Reporting<'a, W> {
+    alloc: Global,
+    kind: ReportKind,
+    writer: &'a mut Port<W>,
+}
+
+impl<W: Write> Errand for Reporting<'_, W> {
+    type Outcome = Result<(), ListFault>;
+
+    fn run<O: Office>(self, office: &mut O) -> Result<(), ListFault> {
+        let Reporting {
+            alloc,
+            kind,
+            writer,
+        } = self;
+        report(alloc, kind, office, writer)
+    }
+}
+
+/// A request that is answered.
+struct Request<'a> {
+    alloc: Global,
+    request: &'a [u8],
+}
+
+impl Errand for Request<'_> {
+    type Outcome = Result<Reply, ListFault>;
+
+    fn run<O: Office>(self, office: &mut O) -> Result<Reply, ListFault> {
+        let Request { alloc, request } = self;
+        answer(alloc, request, office)
+    }
+}
