@@ -1,4 +1,4 @@
-//! What is worked out by hand, from the standard and from the rows: commands, streams, virtual files, and what stands on registers.
+//! What has to be a test: allocations that are refused, memory that is taken, streams in a million pieces, and what stands on registers. The rest is data of oftp_answers.
 #![tactic(auto)]
 
 #[cfg(test)]

@@ -21,7 +21,7 @@ const LIMITS: Limits = Limits {
 };
 
 /// A change in short. Files go by a letter, in V with a longest record of 3, from O1 to O2.
-#[derive(Clone, Copy, Debug)]
+#[derive(Clone, Copy)]
 enum Act {
     Submit(&'static [u8], &'static [&'static [u8]]),
     Start(&'static [u8], u64),
@@ -185,31 +185,35 @@ fn kind_name(kind: ResponseKind) -> &'static str {
     }
 }
 
+fn add_in(all: &mut String, entry: &IncomingEntry, units: u64) -> Result<(), OfficeFault> {
+    let (letter, state, rows) = (letter(&entry.identity), entry.state, entry.rows);
+    write!(all, "in {letter} {state:?} {rows}/{units}")?;
+    if let Some(response) = &entry.response {
+        write!(all, " {} {:?}", kind_name(response.kind), response.dispatch)?;
+    }
+    write!(all, "; ")?;
+    Ok(())
+}
+
 fn add_incoming(all: &mut String, office: &mut PlainOffice) -> Result<(), OfficeFault> {
     for entry in office.list_in()? {
-        let letter = letter(&entry.identity);
         let units = office.units_of(Side::Incoming, entry.no)?;
-        let IncomingEntry { rows, state, .. } = &entry;
-        write!(all, "in {letter} {state:?} {rows}/{units}")?;
-        match &entry.response {
-            Some(response) => {
-                let dispatch = response.dispatch;
-                let kind = kind_name(response.kind);
-                write!(all, " {kind} {dispatch:?}; ")?;
-            }
-            None => write!(all, "; ")?,
-        }
+        add_in(all, &entry, units)?;
     }
+    Ok(())
+}
+
+fn add_out(all: &mut String, entry: &OutgoingEntry, units: u64) -> Result<(), OfficeFault> {
+    let (letter, state) = (letter(&entry.identity), state_name(entry.state));
+    let (rows, mark) = (entry.rows, entry.mark);
+    write!(all, "out {letter} {state} {rows}/{units} mark {mark}; ")?;
     Ok(())
 }
 
 fn add_outgoing(all: &mut String, office: &mut PlainOffice) -> Result<(), OfficeFault> {
     for entry in office.list_out()? {
-        let letter = letter(&entry.identity);
-        let state = state_name(entry.state);
         let units = office.units_of(Side::Outgoing, entry.no)?;
-        let OutgoingEntry { rows, mark, .. } = &entry;
-        write!(all, "out {letter} {state} {rows}/{units} mark {mark}; ")?;
+        add_out(all, &entry, units)?;
     }
     Ok(())
 }

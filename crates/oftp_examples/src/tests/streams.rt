@@ -1,6 +1,6 @@
-//! Streams in pieces, faults in them, and the memory that a deframer takes.
+//! The memory that a deframer takes, a stream in a million pieces, and one that is cut in one call.
 
-use oftp_wire::{Deframer, FrameFault, cut, header};
+use oftp_wire::{Deframer, FrameFault, cut};
 use std::process::Abort;
 use std::test::Fail;
 
@@ -50,26 +50,6 @@ fn take_cuts(rt: &impl Abort, deframer: &mut Deframer) -> Result<(), FrameFault>
     Ok(())
 }
 
-#[test]
-fn one_octet_at_a_time(rt: HostRuntime) -> Result<(), Fail> {
-    let mut deframer = Deframer::new(rt.alloc(), LIMIT);
-    for octet in [0x10u8, 0, 0, 5] {
-        deframer.feed(&[octet])?;
-        assert!(rt; matches!(deframer.next(), Ok(None)));
-    }
-    deframer.feed(&[0x50])?;
-    assert!(rt; matches!(deframer.next(), Ok(Some([0x50]))));
-    assert!(rt; matches!(deframer.next(), Ok(None)));
-    Ok(())
-}
-
-#[test]
-fn three_frames_any_cut(rt: HostRuntime) -> Result<(), Fail> {
-    let mut deframer = Deframer::new(rt.alloc(), LIMIT);
-    take_cuts(&rt, &mut deframer)?;
-    Ok(())
-}
-
 /// It is also run with every allocation refused from some number on: either the reservation is refused, or the test passes, since
 /// behind `with_room` no allocation is left that could be. With a deframer of `new` it fails, since the first growth is refused then.
 #[test]
@@ -84,81 +64,17 @@ fn no_memory_within_room(rt: HostRuntime) -> Result<(), Fail> {
 }
 
 #[test]
-fn short_or_long_frame(rt: HostRuntime) -> Result<(), Fail> {
-    for header in [[0x10u8, 0, 0, 4], [0x10, 1, 0x86, 0xA4]] {
-        let mut deframer = Deframer::new(rt.alloc(), LIMIT);
-        deframer.feed(&header)?;
-        assert!(rt; matches!(deframer.next(), Err(FrameFault::BadLength)));
-        assert!(rt; matches!(deframer.feed(&[0x10]), Err(FrameFault::BadLength)));
-        assert!(rt; matches!(deframer.next(), Err(FrameFault::BadLength)));
-    }
-    Ok(())
-}
-
-#[test]
-fn told_fault_stays(rt: HostRuntime) -> Result<(), Fail> {
-    let cases: [(&[u8], FrameFault); 4] = [
-        (&[0x20], FrameFault::BadHeader),
-        (&[0x11, 0, 0, 5, 0x50], FrameFault::BadHeader),
-        (&[0x10, 0, 0, 4], FrameFault::BadLength),
-        (&[0x10, 1, 0x86, 0xA4], FrameFault::BadLength),
-    ];
-    for (octets, fault) in cases {
-        let mut deframer = Deframer::new(rt.alloc(), LIMIT);
-        deframer.feed(octets)?;
-        for _ in 0..3 {
-            assert!(rt;
-                matches!(deframer.next(), Err(told) if told == fault),
-                "{fault:?}"
-            );
-            assert_eq!(rt; deframer.feed(&STREAM), Err(fault), "{fault:?}");
-        }
-    }
-    Ok(())
-}
-
-#[test]
 fn million_pieces_of_one_octet(rt: HostRuntime) -> Result<(), Fail> {
+    let mut frame = Vec::from_slice(rt.alloc(), &[0x10, 1, 0x86, 0xA3])?;
+    frame.resize(LIMIT, b'D')?;
     let mut deframer = Deframer::new(rt.alloc(), LIMIT);
     for _ in 0..10 {
-        for octet in [0x10u8, 1, 0x86, 0xA3] {
-            deframer.feed(&[octet])?;
-        }
-        for _ in 0..99_999 {
+        for octet in &frame {
             assert!(rt; matches!(deframer.next(), Ok(None)));
-            deframer.feed(b"D")?;
+            deframer.feed(&[*octet])?;
         }
         assert!(rt; matches!(deframer.next(), Ok(Some(command)) if command.len() == 99_999));
     }
-    Ok(())
-}
-
-#[test]
-fn faults_in_words(rt: HostRuntime) -> Result<(), Fail> {
-    for (fault, words) in [
-        (FrameFault::BadHeader, "no stream header begins so"),
-        (
-            FrameFault::BadLength,
-            "a stream header has a length out of range",
-        ),
-        (FrameFault::Memory, "out of memory"),
-    ] {
-        assert_eq!(rt; fault.to_string(rt.alloc())?.as_str(), words);
-    }
-    Ok(())
-}
-
-#[test]
-fn header_ends(rt: HostRuntime) -> Result<(), Fail> {
-    assert!(rt; header(1) == Some([0x10, 0, 0, 5]));
-    assert!(rt; header(99_999) == Some([0x10, 1, 0x86, 0xA3]));
-    Ok(())
-}
-
-#[test]
-fn header_outside(rt: HostRuntime) -> Result<(), Fail> {
-    assert!(rt; header(0).is_none());
-    assert!(rt; header(100_000).is_none());
     Ok(())
 }
 

@@ -38,7 +38,7 @@ fn changes_are_fit_or_not(rt: HostRuntime) -> Result<(), Fail> {
         Act::Close(2, &[]),
     ];
     let office = office_after(alloc, &acts)?;
-    for (act, fits) in [
+    for (at, (act, fits)) in [
         (Act::Submit(b"N", &[b"abc"]), true),
         (Act::Submit(b"N", &[b"abcd"]), false),
         (Act::Keep(1, &[b"abc"]), true),
@@ -47,9 +47,12 @@ fn changes_are_fit_or_not(rt: HostRuntime) -> Result<(), Fail> {
         // These are refused, so they leave no file.
         (Act::Keep(2, &[b"abcd"]), true),
         (Act::Close(3, &[b"abcd"]), true),
-    ] {
+    ]
+    .into_iter()
+    .enumerate()
+    {
         let change = change(alloc, act)?;
-        assert_eq!(rt; office.is_fit(&change), fits, "at {act:?}");
+        assert_eq!(rt; office.is_fit(&change), fits, "at {at}");
     }
     Ok(())
 }
