@@ -1,5 +1,5 @@
 #!/usr/bin/env python3
-"""Counts rows, command lines, texts of books, files of rows/listing, tests and wrong bodies, and compares the numbers with those that
+"""Counts rows, command lines, texts of books, files of rows/listing, worked examples, tests and wrong bodies, and compares the numbers with those that
 are written down in checks/counts.txt, so that one that is lost is noticed.
 
     checks/counts.py
@@ -32,13 +32,24 @@ def count_tests():
     return sum(len(re.findall(r"(?m)^\s*#\[test\]", path.read_text())) for path in ROOT.glob("crates/*/src/**/*.rt"))
 
 
+def count_examples():
+    """The calls of crates/oftp_answers, and the lines that they have to answer."""
+    lines = (ROOT / "crates/oftp_answers/stdout").read_text(encoding="utf-8").splitlines()
+    answers = [it for it in lines if it.startswith("  ")]
+    calls = [it for it in lines if it and not it.startswith(("#", "  "))]
+    return len(calls), len(answers)
+
+
 def counted():
     """What there is, by the names of checks/counts.txt."""
+    calls, answers = count_examples()
     return {
         "rows": len(list(ROWS.glob("*/*.row"))),
         "command lines": count_lines(),
         "listing files": len(list(ROWS.glob("listing/*.listing"))),
         "texts of books": len(list(book_faults.cases())),
+        "worked examples": calls,
+        "lines that they answer": answers,
         "tests": count_tests(),
         "wrong bodies that the gate tries": count_files("crates/*/must-fail/*.edit"),
         "wrong bodies beside the gate": count_files("checks/wrong_bodies/*/*.edit"),
