@@ -2,7 +2,7 @@
 
 use super::playing::{FEW, Image, NO_STOP, Step, play};
 use Step::{Batch, Migrate, Number, Open};
-use std::alloc::Global;
+use std::alloc::{AllocError, Global};
 use std::process::Abort;
 use std::test::Fail;
 
@@ -130,24 +130,24 @@ const FOREIGN: [&str; 3] = [
     "CREATE VIEW v AS SELECT 1",
 ];
 
-// An office's store is refused after an edit, and has so many objects and rows of `about`.
-fn refuses(
+// What is done behind an edit: neither opening has the store.
+const OPENINGS: [Step<'static>; 4] = [
+    Open(&[]),
+    Migrate(&[]),
+    Number(OBJECTS),
+    Number("SELECT count(*) FROM about"),
+];
+
+fn steps_of(
     alloc: Global,
-    rt: &impl Abort,
+    before: &[Step<'static>],
     edit: &'static str,
-    counts: [&'static str; 2],
-) -> Result<(), Fail> {
-    let steps = [
-        Open(&[]),
-        Batch(edit),
-        Open(&[]),
-        Migrate(&[]),
-        Number(OBJECTS),
-        Number("SELECT count(*) FROM about"),
-    ];
-    let [objects, rows] = counts;
-    let wanted = ["open", "wrong schema", "wrong schema", objects, rows];
-    tell(alloc, rt, &steps, &wanted)
+    openings: &[Step<'static>],
+) -> Result<Vec<Step<'static>>, AllocError> {
+    let mut steps = Vec::from_slice(alloc, before)?;
+    steps.push(Batch(edit))?;
+    steps.extend_from_slice(openings)?;
+    Ok(steps)
 }
 
 /// A store that is neither empty nor an office's is refused, and keeps what it has.
@@ -155,16 +155,14 @@ fn refuses(
 fn wrong_schema(rt: HostRuntime) -> Result<(), Fail> {
     for row in EDITS {
         let (edit, objects, rows) = *row;
-        refuses(rt.alloc(), &rt, edit, [objects, rows])?;
+        let steps = steps_of(rt.alloc(), &[Open(&[])], edit, &OPENINGS)?;
+        let wanted = ["open", "wrong schema", "wrong schema", objects, rows];
+        tell(rt.alloc(), &rt, steps.as_slice(), &wanted)?;
     }
     for edit in FOREIGN {
-        let steps = [Batch(edit), Open(&[]), Migrate(&[]), Number(OBJECTS)];
-        tell(
-            rt.alloc(),
-            &rt,
-            &steps,
-            &["wrong schema", "wrong schema", "1"],
-        )?;
+        let steps = steps_of(rt.alloc(), &[], edit, &OPENINGS[..3])?;
+        let wanted = ["wrong schema", "wrong schema", "1"];
+        tell(rt.alloc(), &rt, steps.as_slice(), &wanted)?;
     }
     Ok(())
 }

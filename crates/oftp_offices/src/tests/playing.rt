@@ -99,8 +99,12 @@ fn ask_all<O: Office>(alloc: Global, office: &mut O, asks: &[Ask], said: &mut Ve
 
 /// Plays steps over an office in memory, which has no database.
 pub(super) fn play_plain(alloc: Global, limits: Limits, steps: &[Step<'_>]) -> Vec<String> {
-    let mut office = PlainOffice::new(alloc, limits);
     let mut said = Vec::new(alloc);
+    if !are_limits(limits) {
+        say(alloc, &mut said, "no office is opened so");
+        return said;
+    }
+    let mut office = PlainOffice::new(alloc, limits);
     for step in steps {
         if let Step::Open(asks) = step {
             ask_all(alloc, &mut office, asks, &mut said);

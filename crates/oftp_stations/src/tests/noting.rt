@@ -45,27 +45,27 @@ pub(crate) struct Stop {
 impl Noting {
     /// An office with an empty register, that may stop.
     pub(crate) fn new(alloc: Global, stop: Option<Stop>) -> Noting {
+        let mut office = Noting::over(PlainOffice::new(alloc, LIMITS));
+        office.stop = stop;
+        office
+    }
+
+    /// An office that does what one in memory does.
+    pub(crate) fn over(office: PlainOffice) -> Noting {
         Noting {
-            office: PlainOffice::new(alloc, LIMITS),
+            office,
             most: 0,
             loses: false,
             is_stopped: false,
-            stop,
+            stop: None,
             looks: false,
             faults: 0,
         }
     }
 
-    /// An office with limits and an empty register.
-    pub(crate) fn within(alloc: Global, limits: Limits) -> Noting {
-        let mut office = Noting::new(alloc, None);
-        office.office = PlainOffice::new(alloc, limits);
-        office
-    }
-
     /// An office for a file of one octet that has stopped, but for the look-up of a response where `looks` is true.
     pub(crate) fn failing(alloc: Global, looks: bool) -> Noting {
-        let mut office = Noting::within(alloc, ONE_OCTET);
+        let mut office = Noting::over(PlainOffice::new(alloc, ONE_OCTET));
         office.is_stopped = true;
         office.looks = looks;
         office

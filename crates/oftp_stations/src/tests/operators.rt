@@ -5,6 +5,7 @@ use super::hearing::call;
 use super::noting::Noting;
 use oftp_engine::{Operator, Refusal, RunFault, Submission, Told};
 use oftp_partners::read;
+use oftp_register::PlainOffice;
 use oftp_vfile::{Format, Limits};
 use std::alloc::Global;
 use std::process::Abort;
@@ -132,7 +133,7 @@ fn limits_of_files(rt: HostRuntime) -> Result<(), Fail> {
     tells(
         rt.alloc(),
         &rt,
-        &mut Noting::within(rt.alloc(), NARROW),
+        &mut Noting::over(PlainOffice::new(rt.alloc(), NARROW)),
         &rows,
     )
 }
