@@ -1,0 +1,138 @@
+#!/bin/bash
+# Runs the program, and the tests of refused growths, with each of their allocations refused in turn; and the test of the deframer's
+# room with every allocation behind the reservation refused. No answer may differ: only a fault may stand in its place. What the
+# program wrote by then is a beginning of the whole answer; where the register was refused memory, ESID 08 stands behind it. It wants a
+# C compiler. The program is that of OFTP_STATION, or else the one that was last proved. The tests are proved and built if need be; with
+# the word `built` they are taken as the last `rt ci` left them, and with the word `program` they are left out.
+set -euo pipefail
+how=${1-}
+root=$(cd "$(dirname "$0")/../.." && pwd)
+room=$(mktemp -d)
+trap 'rm -rf "$room"' EXIT
+cc -shared -fPIC -O1 -o "$room/refuse.so" "$root/checks/faults/refuse_allocation.c"
+cd "$room"
+
+fail() {
+    echo "$name, allocation $number: $*"
+    exit 1
+}
+
+# Runs the words with the allocation of this number refused. It answers whether there was such an allocation.
+is_refused() {
+    rm -f reached answer
+    status=0
+    FAIL_ALLOC=$number FAIL_ALLOC_REACHED=$room/reached LD_PRELOAD=$room/refuse.so "$@" > out 2> err || status=$?
+    [ -e reached ]
+}
+
+check_whole() {
+    cmp out whole_out || fail 'another line'
+    if [ -e whole ]; then cmp answer whole || fail 'another answer'; fi
+}
+
+# Checks what the program left: the same as with ample memory, or a fault and a beginning of the same.
+check_left() {
+    case "$status $(cat err)" in
+        '0 ')
+            check_whole
+            return
+            ;;
+        '1 fault: 4 memory') ;;
+        '1 fault: 3 office')
+            if [ "$(tail -c 11 answer | od -An -tx1 | tr -d ' \n')" != 1000000b4630383030300d ]; then
+                fail "the answer doesn't end by ESID 08"
+            fi
+            truncate -s -11 answer
+            ;;
+        *) fail "status $status, $(cat out err)" ;;
+    esac
+    told=$((told + 1))
+    if [ -s out ]; then fail 'a line beside the fault'; fi
+    if [ -e answer ] && ! cmp -s -n "$(stat -c %s answer)" answer whole; then
+        fail 'the answer is no beginning of the whole one'
+    fi
+}
+
+# Checks how a test ended: it passed, or its own growth was refused. `AllocError` is the test's, and no fault of the crate under test.
+check_passed() {
+    case "$status $(head -n 1 err)" in
+        '0 '*) ;;
+        '101 error: AllocError') told=$((told + 1)) ;;
+        *) fail "status $status, $(cat out err)" ;;
+    esac
+}
+
+# Refuses one allocation after the other, up to the run that has no such allocation.
+each() {
+    local check=$1
+    shift
+    number=1
+    told=0
+    while is_refused "$@"; do
+        "$check"
+        number=$((number + 1))
+    done
+    if [ "$status" != 0 ]; then fail "status $status, and none was refused"; fi
+    if [ "$number" = 1 ]; then fail 'there is none'; fi
+    echo "$name: $((number - 1)) allocations refused in turn, $told told"
+}
+
+each_of_program() {
+    name=$1
+    rm -f whole answer
+    "$program" "$@" > whole_out
+    if [ -e answer ]; then mv answer whole; fi
+    each check_left "$program" "$@"
+    check_whole
+    if [ "$told" = 0 ]; then fail 'no refusal was told'; fi
+}
+
+# Names a test of a crate, and proves and builds the crate's tests if need be.
+take_test() {
+    name="$1 $2"
+    tests=$root/crates/$1/out/$1_tests
+    if [ "$how" != built ]; then
+        (cd "$root/crates/$1" && rt test) > told_of_tests 2>&1 || { cat told_of_tests; exit 1; }
+    fi
+    if ! "$tests" --list | grep -qxF "$2: test"; then
+        echo "$name: no such test"
+        exit 1
+    fi
+}
+
+each_of_test() {
+    take_test "$1" "$2"
+    each check_passed "$tests" "$2"
+}
+
+# Refuses every allocation from some number on, up to the number from which the test passes: what was refused before is the
+# reservation and nothing else, so that no allocation behind it is needed.
+none_behind_reservation() {
+    take_test "$1" "$2"
+    export FAIL_ALLOC_ON=1
+    number=1
+    while is_refused "$tests" "$2" && [ "$status" != 0 ]; do
+        case "$status $(head -n 1 err)" in
+            '101 error: "no memory was reserved"') ;;
+            *) fail "status $status, $(cat out err)" ;;
+        esac
+        number=$((number + 1))
+    done
+    unset FAIL_ALLOC_ON
+    if [ "$status" != 0 ]; then fail "status $status, $(cat out err)"; fi
+    if [ "$number" = 1 ]; then fail 'nothing was reserved'; fi
+    echo "$name: passes with every allocation behind the reservation refused"
+}
+
+book=$root/examples/supplier/book.toml
+program=${OFTP_STATION:-$root/crates/oftp_station/out/oftp_station}
+each_of_program check --book "$book"
+each_of_program feed --book "$book" "$root/examples/repeated_end_response.octets" answer
+each_of_program feed --book "$book" "$root/examples/one_file.octets" answer
+if [ "$how" = program ]; then
+    echo 'LEFT OUT, since only the gate builds them: the tests of refused growths and of the room that the deframer reserves'
+    exit
+fi
+none_behind_reservation oftp_examples tests::streams::no_memory_within_room
+each_of_test oftp_examples tests::files::refused_and_taken_again
+each_of_test oftp_examples tests::registers::memory::each_allocation_refused

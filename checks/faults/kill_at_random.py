@@ -1,0 +1,402 @@
+#!/usr/bin/env python3
+"""Kills the program by SIGKILL at random moments, and looks at what it left.
+
+    checks/faults/kill_at_random.py [--seconds N] [--seed N]       30 seconds, and another seed each time, where none is given
+
+Each trial gives the program one command over a database that earlier trials left: a session in which a file comes in, through a pipe
+in pieces of random sizes; one in which a file goes out; one in which responses come, or go; `submit`; `release` or `refuse`. After a
+random time it is killed, unless it ended before. Then the tables are read by stock sqlite3, and the program tells them by `report`.
+They have to stand for all changes that the octets and the lines that came out answer, and else for no more than what comes next:
+never for less, and never for half a change. The next trial goes on with what is left. The seed is printed, and at a failure all that
+is left is kept in a folder. The last line is `N passed, M failed`.
+"""
+
+import argparse
+import random
+import subprocess
+import sys
+import tempfile
+import time
+from pathlib import Path
+
+sys.path.insert(0, str(Path(__file__).resolve().parents[1] / "lib"))
+
+import oftp
+import tables
+from killed import BLOCK, BUFFER, CREDIT, Station, Wrong, keep, rows_of
+
+# How many octets of a file a full DATA carries: each 63 behind a header octet.
+FULL = (BUFFER - 1) // 64 * 63 + max((BUFFER - 1) % 64 - 1, 0)
+WINDOW = FULL * CREDIT
+FILES_OF_A_DATABASE = 6
+# From how many trials of a kind on some have to be killed.
+ENOUGH = 20
+PARTNER = {"originator": "O0177CARMAKER", "destination": "O0013SUPPLIER"}
+STAMP = {"date": "20240131", "time": "1015300001"}
+
+
+def frame(kind, **fields):
+    return oftp.frame(oftp.spell(kind, fields))
+
+
+OPENS = frame("SSID", code="O0177CARMAKER", password="CARPW", buffer=str(BUFFER), credit=str(CREDIT), mode="B")
+ENDS = frame("ESID", reason="00")
+
+
+def data_frames(octets):
+    """The DATA of an unstructured file from some row on, each as full as the buffer lets it be."""
+    frames = []
+    for at in range(0, len(octets), FULL):
+        piece = octets[at : at + FULL]
+        payload = b"".join(
+            bytes([min(63, len(piece) - begin) | (0x80 if at + begin + 63 >= len(octets) else 0)]) + piece[begin : begin + 63]
+            for begin in range(0, len(piece), 63)
+        )
+        frames.append(frame("DATA", payload=payload))
+    return frames or [frame("DATA", payload=b"\x80")]
+
+
+def count(commands, kind):
+    return sum(1 for which, _ in commands if which == kind)
+
+
+class FileIn:
+    """A file comes in, and is offered again after each kill, from wherever the partner likes."""
+
+    name = "a file comes in"
+
+    def __init__(self, station):
+        self.station = station
+        self.number = 0
+        self.begin_file()
+
+    def begin_file(self):
+        chance = self.station.chance
+        if self.number % FILES_OF_A_DATABASE == 0:
+            self.station.begin_anew()
+            self.number = 0
+        self.number += 1
+        self.octets = chance.randbytes(chance.choice([0, 1, 5000, 200_000, 400_000, WINDOW * 10]))
+        # What is left of it: its state and how many rows, or None where it isn't there.
+        self.left = None
+
+    def trial(self):
+        chance = self.station.chance
+        kept = self.left[1] if self.left else 0
+        offered = chance.choice([0, kept, kept + 3, chance.randint(0, 600)])
+        begin = min(offered, kept)
+        frames = data_frames(self.octets[begin * BLOCK :])
+        offer = frame("SFID", dataset=f"ASN.{self.number:04}", format="U", restart=str(offered), **STAMP, **PARTNER)
+        end = frame("EFID", records="0", units=str(len(self.octets)))
+        if self.is_whole():
+            frames, end = [], b""
+        commands, was_killed = self.station.session(self.name, b"".join([OPENS, offer, *frames, end, ENDS]))
+        allowed = self.allowed(begin, len(frames), commands)
+        self.look()
+        if self.left not in (allowed if was_killed else allowed[-1:]):
+            raise Wrong(f"{self.left} is left, and it should be one of {allowed}")
+        if self.is_whole() and (count(commands, "EFPA") or count(commands, "SFNA")):
+            self.begin_file()
+        return was_killed
+
+    def is_whole(self):
+        return self.left is not None and self.left[0] == "whole"
+
+    def look(self):
+        """Reads what is left of the file: its rows begin the rows that it was offered with."""
+        found = self.station.tables()
+        file = [entry for entry in found["in_file"] if entry["no"] == self.number]
+        bodies = tables.bodies(found, "in_file", self.number)
+        if bodies != rows_of(self.octets)[: len(bodies)]:
+            raise Wrong("the rows kept aren't those that came")
+        self.left = (file[0]["state"], len(bodies)) if file else None
+
+    def allowed(self, begin, frames, commands):
+        """What may be left: what was answered last, and what comes behind it."""
+        whole = ("whole", len(rows_of(self.octets)))
+        if self.is_whole() or count(commands, "EFPA"):
+            return [whole]
+        answers = [fields for kind, fields in commands if kind == "SFPA"]
+        if not answers:
+            return [self.left, ("open", begin)]
+        if answers[0].get("count", str(begin)) != str(begin):
+            raise Wrong(f"the station takes the file from row {answers[0]}, not {begin}")
+        windows = count(commands, "CDT")
+        behind = whole if windows == frames // CREDIT else self.kept_at(begin, windows + 1)
+        return [self.kept_at(begin, windows), behind]
+
+    def kept_at(self, begin, windows):
+        """What is kept once so many windows are: whole blocks alone."""
+        return ("open", min(begin * BLOCK + windows * WINDOW, len(self.octets)) // BLOCK)
+
+
+class FileOut:
+    """A file goes out, and is offered again after each kill. The partner takes it from wherever it likes, up to what is offered."""
+
+    name = "a file goes out"
+
+    def __init__(self, station):
+        self.station = station
+        self.number = 0
+        self.begin_file()
+
+    def begin_file(self):
+        station = self.station
+        if self.number % FILES_OF_A_DATABASE == 0:
+            station.begin_anew()
+            self.number = 0
+        self.number += 1
+        self.octets = station.chance.randbytes(station.chance.choice([0, 1, 5000, 200_000, 400_000, WINDOW * 10]))
+        path = station.room / "file"
+        path.write_bytes(self.octets)
+        subprocess.run([*submission(station, f"INV.{self.number:04}"), path], check=True, capture_output=True)
+        self.left = ("waiting", 0)
+
+    def trial(self):
+        chance = self.station.chance
+        state, offered = self.left
+        begin = chance.choice([offered, chance.randint(0, offered)])
+        is_duplicate = state == "closing" and chance.random() < 0.5
+        frames = data_frames(self.octets[begin * BLOCK :])
+        answer = frame("SFNA", reason="13") if is_duplicate else frame("SFPA", count=str(begin))
+        credits = frame("CDT") * (0 if is_duplicate else len(frames) // CREDIT)
+        end = b"" if is_duplicate else frame("EFPA")
+        octets = b"".join([frame("SSRM"), OPENS, answer, credits, end, ENDS])
+        commands, was_killed = self.station.session(self.name, octets, *self.station.called())
+        self.compare_frames(commands, offered, frames)
+        allowed = [("handed", offered)] if is_duplicate else self.allowed(begin, len(frames), commands)
+        if is_duplicate and not count(commands, "CD"):
+            allowed = [self.left, *allowed]
+        self.look()
+        if self.left not in (allowed if was_killed else allowed[-1:]):
+            raise Wrong(f"{self.left} is left, and it should be one of {allowed}")
+        if self.left[0] == "handed":
+            self.begin_file()
+        return was_killed
+
+    def compare_frames(self, commands, offered, frames):
+        """What came out is what the file is, from the row that the partner asked for."""
+        offers = [fields for kind, fields in commands if kind == "SFID" and fields]
+        if offers and offers[0]["restart"] != str(offered):
+            raise Wrong(f"row {offers[0]['restart']} is offered, not {offered}")
+        sent = [fields["payload"] for kind, fields in commands if kind == "DATA" and fields]
+        if any(frame("DATA", payload=payload) != wanted for payload, wanted in zip(sent, frames)):
+            raise Wrong("the file goes out with other octets")
+
+    def look(self):
+        found = self.station.tables()
+        if len(found["out_file"]) != self.number:
+            raise Wrong(f"{len(found['out_file'])} files are there, and {self.number} were submitted")
+        file = found["out_file"][-1]
+        if tables.bodies(found, "out_file", self.number) != rows_of(self.octets):
+            raise Wrong("the rows to be sent aren't those of the file")
+        self.left = (file["state"], file["mark"])
+
+    def allowed(self, begin, frames, commands):
+        """What may be left: each change that may be made behind the last one that is answered. A CDT that was read is answered by the
+        DATA behind it, the last one by EFID."""
+        sent = count(commands, "DATA")
+        states = self.states(begin, frames)
+        if count(commands, "CD"):
+            return states[-1:]
+        if count(commands, "EFID"):
+            return states[-2:]
+        windows = -(-sent // CREDIT) - 1 if sent else 0
+        least = 1 + windows if sent else 0
+        return states[least : 2 + sent // CREDIT + (sent == frames)]
+
+    def states(self, begin, frames):
+        """What the file is before the session, once the start is answered, after each CDT, when its end goes out, and at the end."""
+        states = [self.left, ("waiting", 0) if self.left[0] == "closing" else self.left]
+        for windows in range(1, frames // CREDIT + 1):
+            states.append(("waiting", begin + min(windows * WINDOW, len(self.octets) - begin * BLOCK) // BLOCK))
+        mark = states[-1][1]
+        return [*states, ("closing", mark), ("handed", mark)]
+
+
+def submission(station, dataset):
+    """The words of a command that submits a file."""
+    options = ["--dataset", dataset, "--date", STAMP["date"], "--time", STAMP["time"], "--to", "O0177CARMAKER", "--format", "U"]
+    return station.words("submit", *options)
+
+
+class Submission:
+    """The operator submits files."""
+
+    name = "submit"
+
+    def __init__(self, station):
+        self.station = station
+        self.files = []
+
+    def trial(self):
+        station = self.station
+        if len(self.files) >= 4 * FILES_OF_A_DATABASE:
+            station.begin_anew()
+            self.files = []
+        octets = station.chance.randbytes(station.chance.choice([0, 10, 50_000, 300_000]))
+        path = station.room / "file"
+        path.write_bytes(octets)
+        number = len(self.files) + 1
+        line, was_killed = station.until_killed(self.name, [*submission(station, f"INV.{number:04}"), path])
+        found = station.tables()
+        self.check(octets, line, found)
+        return was_killed
+
+    def check(self, octets, line, found):
+        number = len(self.files) + 1
+        if line and not f"done: submit {number}\n".encode().startswith(line):
+            raise Wrong(f"it told {line!r}")
+        if len(found["out_file"]) not in ([number] if line else [number - 1, number]):
+            raise Wrong(f"it told {line!r}, and {len(found['out_file'])} files are there")
+        if len(found["out_file"]) == number:
+            self.files.append(octets)
+        for at, wanted in enumerate(self.files, 1):
+            if tables.bodies(found, "out_file", at) != rows_of(wanted) or found["out_file"][at - 1]["state"] != "waiting":
+                raise Wrong(f"file {at} isn't the one that was submitted")
+
+
+class Release:
+    """The operator releases and refuses files that came, and their responses go out."""
+
+    name = "release"
+    files = 12
+
+    def __init__(self, station):
+        self.station = station
+        self.begin_anew()
+
+    def begin_anew(self):
+        """A database with whole files."""
+        station = self.station
+        station.begin_anew()
+        given = station.room / "given"
+        files = [
+            frame("SFID", dataset=f"ASN.{number:04}", format="U", **STAMP, **PARTNER)
+            + frame("DATA", payload=b"\x80")
+            + frame("EFID", records="0", units="0")
+            for number in range(1, self.files + 1)
+        ]
+        given.write_bytes(b"".join([OPENS, *files, ENDS]))
+        subprocess.run(station.words("feed", given, station.room / "answer"), check=True, capture_output=True)
+        # The kind of each response that is issued, in order.
+        self.issued = []
+        self.sent = 0
+
+    def trial(self):
+        if self.sent == self.files:
+            self.begin_anew()
+        is_session = self.sent < len(self.issued) and (len(self.issued) == self.files or self.station.chance.random() < 0.4)
+        return self.send() if is_session else self.issue()
+
+    def issue(self):
+        number = len(self.issued) + 1
+        kind = self.station.chance.choice(["EERP", "NERP"])
+        words = ("release", str(number)) if kind == "EERP" else ("refuse", str(number), "12", "WRONG PLANT")
+        line, was_killed = self.station.until_killed(self.name, self.station.words(*words))
+        issued = self.look()
+        if line and not f"done: {words[0]} {number}\n".encode().startswith(line):
+            raise Wrong(f"it told {line!r}")
+        if [row["kind"] for row in issued] not in ([*self.issued, kind], *([] if line else [self.issued])):
+            raise Wrong(f"it told {line!r}, and {issued} are issued")
+        self.issued = [row["kind"] for row in issued]
+        return was_killed
+
+    def send(self):
+        due = len(self.issued) - self.sent
+        octets = b"".join([frame("SSRM"), OPENS, frame("RTR") * due, ENDS])
+        commands, was_killed = self.station.session("responses go out", octets, *self.station.called())
+        kinds = [kind for kind, _ in commands if kind in ("EERP", "NERP")]
+        if kinds != self.issued[self.sent : self.sent + len(kinds)]:
+            raise Wrong(f"{kinds} went out, of {self.issued} from {self.sent} on")
+        issued = self.look()
+        sent = [row["sent"] for row in issued]
+        least = self.sent + (len(kinds) if count(commands, "CD") else max(len(kinds) - 1, 0))
+        if sum(sent) not in (least, self.sent + len(kinds)) or sent != sorted(sent, reverse=True):
+            raise Wrong(f"{kinds} went out from {self.sent} on, and {sent} are sent")
+        self.sent = sum(sent)
+        return was_killed
+
+    def look(self):
+        return self.station.tables()["issued"]
+
+
+class Responses:
+    """Responses of the partner's come, for files of which the station knows nothing."""
+
+    name = "responses come"
+
+    def __init__(self, station):
+        self.station = station
+        self.filed = 0
+
+    def trial(self):
+        if self.filed > 200:
+            self.station.begin_anew()
+            self.filed = 0
+        # The partner sends again what wasn't answered, and the last one that was.
+        first = max(self.filed - 1, 0)
+        sent = [self.spelled(number) for number in range(first, first + 30)]
+        commands, was_killed = self.station.session(self.name, b"".join([OPENS, *sent, ENDS]))
+        answered = count(commands, "RTR")
+        received = self.station.tables()["received"]
+        least = max(self.filed, first + answered)
+        if len(received) not in (least, max(self.filed, first + answered + 1)):
+            raise Wrong(f"{answered} were answered from {first} on, and {len(received)} are filed")
+        for number, row in enumerate(received):
+            if (row["dataset"], row["kind"]) != (f"INV.{number:04}", self.kind(number)):
+                raise Wrong(f"response {number} is {row}")
+        self.filed = len(received)
+        return was_killed
+
+    def kind(self, number):
+        return "NERP" if number % 3 == 0 else "EERP"
+
+    def spelled(self, number):
+        kind = self.kind(number)
+        more = {"creator": "O0177CARMAKER", "reason": "09", "text": "NO PLANT"} if kind == "NERP" else {}
+        return frame(kind, dataset=f"INV.{number:04}", **STAMP, **PARTNER, **more)
+
+
+SCENARIOS = [FileIn, FileOut, Submission, Release, Responses]
+
+
+def run_all(room, seconds, chance):
+    """Runs trials of each scenario in turn until the time is up. It answers how many went well and ill."""
+    running = []
+    for scenario in SCENARIOS:
+        folder = room / scenario.__name__
+        folder.mkdir()
+        running.append(scenario(Station(folder, chance)))
+    told = {scenario.name: [0, 0] for scenario in running}
+    end = time.monotonic() + seconds
+    while time.monotonic() < end:
+        for scenario in running:
+            try:
+                was_killed = scenario.trial()
+            except (Wrong, tables.Damaged, subprocess.SubprocessError) as why:
+                print(f"{scenario.name}: {why}; it is kept in {keep(scenario.station.room)}")
+                return sum(trials for trials, _ in told.values()), 1
+            told[scenario.name][0] += 1
+            told[scenario.name][1] += was_killed
+    for name, (trials, killed) in told.items():
+        print(f"{name}: {trials} trials, {killed} of them killed")
+    never = [name for name, (trials, killed) in told.items() if trials >= ENOUGH and not killed]
+    print("".join(f"{name}: the program was never killed\n" for name in never), end="")
+    return sum(trials for trials, _ in told.values()), len(never)
+
+
+def main():
+    parser = argparse.ArgumentParser(description=__doc__.splitlines()[0])
+    parser.add_argument("--seconds", type=float, default=30)
+    parser.add_argument("--seed", type=int, default=random.SystemRandom().randrange(10**6))
+    taken = parser.parse_args()
+    print(f"seed {taken.seed}")
+    with tempfile.TemporaryDirectory() as room:
+        passed, failed = run_all(Path(room), taken.seconds, random.Random(taken.seed))
+    print(f"{passed} passed, {failed} failed")
+    return 1 if failed or not passed else 0
+
+
+if __name__ == "__main__":
+    sys.exit(main())

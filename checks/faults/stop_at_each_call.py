@@ -1,0 +1,267 @@
+#!/usr/bin/env python3
+"""Stops each command of a day and of some rows at each of its calls on the database, and refuses its allocations in turn.
+
+    checks/faults/stop_at_each_call.py [--allocations N] [--every N]      as many allocations of each command, 25 where there is no number,
+                                                                          spread over all; and each Nth call, where a number is given
+
+The commands are those of the rows below, each over the database that the ones before it left. At each call that changes a file of the
+database the program is killed before it; killed behind half of a write; or told a failure, then and at each later call. Each time, what
+came out has to be a beginning of the whole answer, but for the ESID 08 behind it, and the tables, read by stock sqlite3 and told by the
+program, have to hold all that it answers, and no more than the next change. A command is then given again, and ends as always; so is a
+session, and it goes on as the model of a station has it (checks/lib/model.py): a file that came in part goes on from the row that the station
+answers, and is fetched whole. It wants a C compiler. The last line is `N passed, M failed`.
+"""
+
+import argparse
+import os
+import shutil
+import subprocess
+import sys
+import tempfile
+from concurrent.futures import ThreadPoolExecutor
+from pathlib import Path
+
+sys.path.insert(0, str(Path(__file__).resolve().parents[1] / "lib"))
+
+import acts
+import goes_on
+import model
+import oftp
+import tables
+from goes_on import Wrong
+from program import PROGRAM
+from row_files import ROWS, Call, Row, Session, content
+from shims import compile_library, stopping
+
+# The rows, and the octets of the file that the partner sends in them, if it is to go on with it.
+STOPPED = {
+    "day/a_day": content(0, 2500),
+    "receiving/empty_file": b"",
+    "receiving/wrong_count": None,
+    "listening/repeated_end_response": None,
+    "sending/three_octets_out": None,
+    "sending/refusal_goes_out": None,
+    "operator/migrated": None,
+}
+NO_RESOURCES = oftp.frame(oftp.spell("ESID", {"reason": "08"}))
+# Rows whose first session is held in memory too, with each of its allocations refused.
+IN_MEMORY = ["receiving/empty_file", "taken_up/broken_and_taken_up", "listening/repeated_end_response"]
+OURS = {"about": [{"id": 1, "schema": 2}]}
+# What the program may tell where the disk fails, which is also that of the file that is fetched, and where memory is refused.
+FAULTS = {
+    "fail": ["fault: 6 store 1\n", "fault: 3 office\n", "fault: 7 file\n"],
+    "refuse": ["fault: 4 memory\n", "fault: 3 office\n", "fault: 6 store 2\n"],
+}
+
+
+def given(words, room, environment):
+    """Gives the program these words in a folder."""
+    return subprocess.run(words, cwd=room, capture_output=True, env={**os.environ, **environment}, check=False, timeout=60)
+
+
+class Command:
+    """A command of a row, with the folder that it is given in, what it tells, and what it may leave."""
+
+    def __init__(self, act, base, file):
+        self.act = act
+        self.base = base
+        # A session in which the station calls sends no file of the partner's.
+        self.file = None if isinstance(act, Call) or act.role else file
+        self.name = act.words[0] if isinstance(act, Call) else f"session {len(act.joined('in'))}"
+        with tempfile.TemporaryDirectory() as room:
+            self.line, self.whole, _, self.left = self.run(Path(room), {})
+            self.states = self.all_states()
+
+    def all_states(self):
+        """The tables that there are in turn, with the octets that are out by then: each change of a session is made before the frame that
+        answers it, as the model of a station has it."""
+        before = tables.read(self.base / "database")
+        opened = before if before["about"] else {**model.Register().tables(), **OURS}
+        states = [(0, before), (0, opened)]
+        if isinstance(self.act, Call):
+            return [*states, (0, self.left)]
+        session = goes_on.session_of(self.act, goes_on.register_of(opened))
+        model.play(session, self.act.joined("in"))
+        return states + [(out, {**found, **OURS}) for out, found in session.moments]
+
+    def lacks(self, how):
+        """Why there has to be a call that is stopped in this way, or None: each command takes memory, and one that changes tables writes."""
+        if how == "refuse":
+            return "takes memory, and no allocation is refused"
+        return "changes the tables, and no call on the database is stopped" if self.left != self.states[0][1] else None
+
+    def run(self, room, environment):
+        """Gives the command in a copy of its folder. It answers what it told, the octets out, how it ended, and the tables left."""
+        shutil.copytree(self.base, room, dirs_exist_ok=True)
+        done = given(self.words(room), room, environment)
+        out = acts.octets_in(room / "answer") if isinstance(self.act, Session) else b""
+        return done.stdout, out, (done.returncode, done.stderr.decode()), tables.read(room / "database")
+
+    def words(self, room):
+        if isinstance(self.act, Session):
+            source = room / "given"
+            source.write_bytes(self.act.joined("in"))
+            return acts.words_of(self.act, room / "database", source, room / "answer")
+        options = {"--db": room / "database", "--book": self.act.book}
+        taken = [word for option in acts.OPTIONS[self.act.words[0]] for word in (option, options[option])]
+        return [PROGRAM, self.act.words[0], *taken, *self.act.words[1:]]
+
+    def stop(self, how, number, library):
+        """Stops the command at this call. It answers whether there is such a call."""
+        with tempfile.TemporaryDirectory() as path:
+            room = Path(path) / "room"
+            reached = Path(path) / "reached"
+            line, out, ended, left = self.run(room, stopping(how, number, library, reached))
+            if not reached.exists():
+                return False
+            self.judge(how, line, out, ended, left)
+            self.judge_next(room, left)
+        return True
+
+    def judge(self, how, line, out, ended, left):
+        status, told = ended
+        if status == 0 or (status, line) == (1, self.line):
+            if (line, out, left) != (self.line, self.whole, self.left):
+                raise Wrong("it ended as always, and left something else")
+            return
+        if how in FAULTS and (status != 1 or told not in FAULTS[how]):
+            raise Wrong(f"status {status}, {told!r}")
+        if how not in FAULTS and status != -9:
+            raise Wrong(f"status {status}, {told!r}")
+        if told == "fault: 7 file\n" and self.name != "fetch":
+            raise Wrong("no file is made")
+        if told == "fault: 3 office\n" and isinstance(self.act, Session):
+            if not out.endswith(NO_RESOURCES):
+                raise Wrong("the partner isn't told by ESID 08")
+            out = out[: -len(NO_RESOURCES)]
+        if not self.whole.startswith(out) or not self.line.startswith(line):
+            raise Wrong(f"what came out begins no whole answer: {len(out)} octets, {line!r}")
+        if left not in self.allowed(line, out):
+            raise Wrong(f"{len(out)} octets and {line!r} are out, and the tables don't fit them")
+
+    def allowed(self, line, out):
+        """The tables that may be left: with each change that is answered by an octet that is out, and no other but the next one."""
+        if line:
+            return [self.left]
+        first = max((at for at, (there, _) in enumerate(self.states) if there < len(out)), default=0)
+        return [left for there, left in self.states[first:] if there <= len(out)]
+
+    def judge_next(self, room, left):
+        """The program opens what is left, changes nothing of it, and does what it is asked again."""
+        database = room / "database"
+        if left["about"] == OURS["about"]:
+            done = given([PROGRAM, "report", "--db", database, "in"], room, {})
+            if done.returncode != 0 or len(done.stdout.splitlines()) != 1 + len(left["in_file"]) or tables.read(database) != left:
+                raise Wrong(f"the program tells other tables: status {done.returncode}, {done.stdout!r}, {done.stderr!r}")
+        if isinstance(self.act, Session):
+            goes_on.go_on(self.act, room, left, self.file)
+            return
+        done = given(self.words(room), room, {})
+        if done.stderr or tables.read(database) != self.left:
+            raise Wrong(f"given again, it doesn't end as always: {done.stdout!r}, {done.stderr!r}")
+
+
+class InMemory(Command):
+    """A session with a register in memory, which leaves nothing."""
+
+    def words(self, room):
+        (room / "given").write_bytes(self.act.joined("in"))
+        return acts.words_of(self.act, None, room / "given", room / "answer")
+
+    def all_states(self):
+        return [(0, self.left)]
+
+    def judge_next(self, room, left):
+        if self.run(room, {}) != (self.line, self.whole, (0, ""), self.left):
+            raise Wrong("with ample memory it doesn't end as always")
+
+
+def commands_of(name, file, room):
+    """Each command of a row but reports, with the folder as the ones before it left it."""
+    now = room / name.replace("/", "_")
+    now.mkdir()
+    for number, act in enumerate(Row(ROWS / f"{name}.row").acts):
+        base = room / f"{now.name}_{number}"
+        shutil.copytree(now, base)
+        if isinstance(act, Session) or (isinstance(act, Call) and act.words[0] != "report"):
+            yield Command(act, base, file)
+        why = acts.play_act(acts.in_one_piece, act, now, now / "database")
+        if why:
+            raise SystemExit(f"{name} goes otherwise: {why}")
+        for name in ("given", "answer"):
+            (now / name).unlink(missing_ok=True)
+
+
+def all_commands(room):
+    for name, file in STOPPED.items():
+        yield from commands_of(name, file, room)
+    (room / "empty").mkdir()
+    for name in IN_MEMORY:
+        yield InMemory(Row(ROWS / f"{name}.row").sessions()[0], room / "empty", None)
+
+
+def numbers_of(command, library, how, most, every):
+    """The numbers of the calls at which a command is stopped: each of them, or some that are spread over all."""
+    if not is_there(command, library, how, 1):
+        return []
+    count = 1
+    while is_there(command, library, how, 2 * count):
+        count *= 2
+    low, high = count, 2 * count
+    while high - low > 1:
+        middle = (low + high) // 2
+        low, high = (middle, high) if is_there(command, library, how, middle) else (low, middle)
+    step = every if most is None else max(low // most, 1)
+    return range(1, low + 1, step)
+
+
+def is_there(command, library, how, number):
+    with tempfile.TemporaryDirectory() as path:
+        reached = Path(path) / "reached"
+        room = Path(path) / "room"
+        shutil.copytree(command.base, room)
+        given(command.words(room), room, stopping(how, number, library, reached))
+        return reached.exists()
+
+
+def stop_each(command, how, numbers, library, runners):
+    """Stops a command at each of these calls. It answers how many went well, and what went ill."""
+
+    def one(number):
+        try:
+            return None if command.stop(how, number, library) else "there is no such call"
+        except (Wrong, tables.Damaged, subprocess.SubprocessError) as why:
+            return str(why)
+
+    return [f"{command.name}, {how} at {number}: {why}" for number, why in zip(numbers, runners.map(one, numbers)) if why]
+
+
+def main():
+    parser = argparse.ArgumentParser(description=__doc__.splitlines()[0])
+    parser.add_argument("--allocations", type=int, default=25)
+    parser.add_argument("--every", type=int, default=1)
+    taken = parser.parse_args()
+    passed, failed = 0, 0
+    with tempfile.TemporaryDirectory() as path, ThreadPoolExecutor(max_workers=os.cpu_count()) as runners:
+        room = Path(path)
+        libraries = {how: compile_library(room, name) for how, name in (("fail", "stop_calls"), ("refuse", "refuse_allocation"))}
+        for command in all_commands(room):
+            tried = []
+            for how in ("refuse",) if isinstance(command, InMemory) else ("kill", "tear", "fail", "refuse"):
+                library = libraries.get(how, libraries["fail"])
+                most = taken.allocations if how == "refuse" and not isinstance(command, InMemory) else None
+                numbers = numbers_of(command, library, how if how == "refuse" else "fail", most, taken.every)
+                faults = stop_each(command, how, numbers, library, runners)
+                if not numbers and command.lacks(how):
+                    faults = [f"{command.name}, {how}: it {command.lacks(how)}"]
+                print("\n".join(faults[:5]), end="\n" if faults else "")
+                failed += len(faults)
+                passed += max(len(numbers) - len(faults), 0)
+                tried.append(f"{len(numbers)} {how}")
+            print(f"{command.name}: {', '.join(tried)}", flush=True)
+    print(f"{passed} passed, {failed} failed")
+    return 1 if failed or not passed else 0
+
+
+if __name__ == "__main__":
+    sys.exit(main())

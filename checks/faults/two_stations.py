@@ -1,0 +1,242 @@
+#!/usr/bin/env python3
+"""Joins two stations, each the program over a database of its own, and breaks their connection.
+
+    checks/faults/two_stations.py [--every N]              the connection breaks after each Nth octet in turn, 29 where there is no number
+    checks/faults/two_stations.py --stops [--every N]      the supplier is killed at each Nth of its calls on its database instead
+
+The car maker has a file of 2,500 octets for the supplier. One round is: a session begun by the car maker; the supplier's operator
+releases the file, if it is there; a session begun by the supplier. In the first round the connection breaks once so many octets have
+passed, in either direction, or one of the supplier's three programs is killed before it writes, syncs or cuts a file of its database;
+the second round is whole. Then the file is delivered at the car maker, whole at the supplier, and there is one response for it at
+either side, whatever broke. `--stops` wants a C compiler. The last line is `N passed, M failed`.
+"""
+
+import argparse
+import os
+import select
+import shutil
+import subprocess
+import sys
+import tempfile
+from concurrent.futures import ThreadPoolExecutor
+from pathlib import Path
+
+sys.path.insert(0, str(Path(__file__).resolve().parents[1] / "lib"))
+
+import tables
+from program import PROGRAM, ROOT
+from row_files import content
+from shims import compile_library, stopping
+
+FILE = content(0, 2500)
+IDENTITY = ["--dataset", "ASN.0001", "--date", "20240131", "--time", "1015300001"]
+
+
+class Wrong(Exception):
+    """What is left isn't what it should be."""
+
+
+class Stop:
+    """Where a station is stopped: at this call of this program of its, counted from 1. The file `reached` is made then."""
+
+    def __init__(self, library, program, call):
+        self.library = library
+        self.program = program
+        self.call = call
+        self.reached = None
+
+
+class Station:
+    """A station: its database, its book, the other one's code, and where it is stopped."""
+
+    def __init__(self, room, name, other, stop=None):
+        self.database = room / name
+        self.book = ROOT / "examples" / name / "book.toml"
+        self.other = other
+        self.stop = stop
+        self.programs = 0
+
+    def environment(self):
+        """The environment of its next program."""
+        self.programs += 1
+        if self.stop is None or self.stop.program != self.programs:
+            return None
+        return {**os.environ, **stopping("kill", self.stop.call, self.stop.library, self.stop.reached)}
+
+    def is_stopped(self):
+        return self.stop is not None and self.stop.reached.exists()
+
+    def give(self, command, *rest):
+        words = [PROGRAM, command, "--db", self.database, "--book", self.book, *rest]
+        return subprocess.run(words, capture_output=True, check=False, timeout=60, env=self.environment())
+
+    def begin_session(self, is_caller, given, answer):
+        role = ["--role", "initiator", "--partner", self.other] if is_caller else []
+        words = [PROGRAM, "feed", "--db", self.database, "--book", self.book, *role, f"/dev/fd/{given}", f"/dev/fd/{answer}"]
+        pipes = {"stdout": subprocess.PIPE, "stderr": subprocess.PIPE}
+        return subprocess.Popen(words, pass_fds=[given, answer], env=self.environment(), **pipes)
+
+
+def join(caller, called, octets):
+    """A session of two stations. It breaks once so many octets have passed, where there is a number. It answers how many passed."""
+    programs, sources, sinks = [], [], []
+    for station, is_caller in ((caller, True), (called, False)):
+        given, sink = os.pipe()
+        source, answer = os.pipe()
+        programs.append(station.begin_session(is_caller, given, answer))
+        os.close(given)
+        os.close(answer)
+        sources.append(source)
+        sinks.append(sink)
+    try:
+        passed = pass_on({sources[0]: sinks[1], sources[1]: sinks[0]}, octets)
+        told = [program.communicate(timeout=60) for program in programs]
+    finally:
+        for program in programs:
+            program.kill()
+    was_stopped = caller.is_stopped() or called.is_stopped()
+    is_broken = was_stopped or (octets is not None and passed == octets)
+    for program, (out, err) in zip(programs, told):
+        is_killed = was_stopped and program.returncode == -9
+        if program.returncode != 0 and not is_killed and not (is_broken and err == b"fault: 2 write\n"):
+            raise Wrong(f"a session ended by status {program.returncode}, {out!r}, {err!r}")
+    return passed
+
+
+def pass_on(ends, octets):
+    """Passes octets on from each source to its sink, until the sources end, or so many have passed. It closes all."""
+    passed = 0
+    while ends and passed != octets:
+        ready, _, _ = select.select(list(ends), [], [], 60)
+        if not ready:
+            raise Wrong("nothing passes any more")
+        piece = os.read(ready[0], 4096 if octets is None else min(octets - passed, 4096))
+        try:
+            os.write(ends[ready[0]], piece)
+        except BrokenPipeError:
+            piece = b""  # the session has ended on that side
+        passed += len(piece)
+        if not piece:
+            os.close(ends.pop(ready[0]))
+            os.close(ready[0])
+    for source, sink in ends.items():
+        os.close(source)
+        os.close(sink)
+    return passed
+
+
+def play_round(car_maker, supplier, octets):
+    """One round, which breaks once so many octets have passed, where there is a number. It answers how many passed."""
+    passed = join(car_maker, supplier, octets)
+    supplier.give("release", "1")
+    if octets is None or passed == octets:
+        return passed + join(supplier, car_maker, None)
+    return passed + join(supplier, car_maker, octets - passed)
+
+
+def play(room, first, octets, stop=None):
+    """Both rounds, over databases of their own, and what is left then. It answers how many octets passed in the first."""
+    with tempfile.TemporaryDirectory(dir=room) as path:
+        folder = Path(path)
+        for end in ("", "-wal"):
+            if Path(f"{first}{end}").exists():
+                shutil.copyfile(f"{first}{end}", folder / f"carmaker{end}")
+        car_maker = Station(folder, "carmaker", "O0013SUPPLIER")
+        if stop is not None:
+            stop.reached = folder / "reached"
+        supplier = Station(folder, "supplier", "O0177CARMAKER", stop)
+        passed = play_round(car_maker, supplier, octets)
+        if stop is not None and not supplier.is_stopped():
+            return None
+        if octets is not None or stop is not None:
+            play_round(car_maker, supplier, None)
+        check(tables.read(car_maker.database), tables.read(supplier.database))
+        return passed
+
+
+def check(at_car_maker, at_supplier):
+    """The file is delivered, and whole, and answered once."""
+    for name, found in (("the car maker", at_car_maker), ("the supplier", at_supplier)):
+        why = tables.unfit(found)
+        if why:
+            raise Wrong(f"{name}: {why}")
+    if [(file["state"], file["reason"]) for file in at_car_maker["out_file"]] != [("delivered", "")]:
+        raise Wrong(f"the file isn't delivered: {at_car_maker['out_file']}")
+    bodies = tables.bodies(at_supplier, "in_file", 1)
+    if [file["state"] for file in at_supplier["in_file"]] != ["whole"] or [len(body) for body in bodies] != [1024, 1024, 452]:
+        raise Wrong(f"the file isn't whole: {at_supplier['in_file']}, {len(bodies)} rows")
+    if b"".join(bodies) != FILE:
+        raise Wrong("the file that came isn't the one that was sent")
+    if [(row["no"], row["kind"], row["sent"]) for row in at_supplier["issued"]] != [(1, "EERP", 1)] or at_supplier["received"]:
+        raise Wrong(f"the supplier's responses: {at_supplier['issued']}, {at_supplier['received']}")
+    if [(row["no"], row["kind"]) for row in at_car_maker["received"]] != [(1, "EERP")] or at_car_maker["issued"]:
+        raise Wrong(f"the car maker's responses: {at_car_maker['received']}, {at_car_maker['issued']}")
+
+
+def told(room, first, octets):
+    """Why a case came out otherwise, or None."""
+    try:
+        play(room, first, octets)
+    except (Wrong, tables.Damaged, subprocess.SubprocessError) as why:
+        return f"broken after {octets} octets: {why}"
+    return None
+
+
+def told_of_stop(room, first, stop):
+    """Whether there is such a call, and why the case came out otherwise, or None."""
+    try:
+        return play(room, first, None, stop) is not None, None
+    except (Wrong, tables.Damaged, subprocess.SubprocessError) as why:
+        return True, f"program {stop.program} of the supplier, killed at call {stop.call}: {why}"
+
+
+def break_each(room, first, whole, every, players):
+    """Breaks the connection after each of these octets. It answers how many cases there are, and why some came out otherwise."""
+    places = range(1, whole, every)
+    return len(places), [why for why in players.map(lambda octets: told(room, first, octets), places) if why]
+
+
+def stop_each(room, first, every, players):
+    """Kills each program of the supplier at each of these calls. It answers how many cases there are, and why some came out otherwise."""
+    library = compile_library(room, "stop_calls")
+    cases, faults = 0, []
+    for program in (1, 2, 3):
+        at, is_there = 1, True
+        while is_there:
+            calls = range(at, at + 16 * every, every)
+            tried = list(players.map(lambda call: told_of_stop(room, first, Stop(library, program, call)), calls))
+            reached = [why for was_reached, why in tried if was_reached]
+            cases, faults = cases + len(reached), faults + [why for why in reached if why]
+            at, is_there = at + 16 * every, len(reached) == len(calls)
+        if at == 1 + 16 * every and not reached:
+            cases, faults = cases + 1, [*faults, f"program {program} of the supplier: no call of it is stopped"]
+        print(f"program {program} of the supplier: {cases} stops so far", flush=True)
+    return cases, faults
+
+
+def main():
+    parser = argparse.ArgumentParser(description=__doc__.splitlines()[0])
+    parser.add_argument("--every", type=int, default=29)
+    parser.add_argument("--stops", action="store_true")
+    given = parser.parse_args()
+    with tempfile.TemporaryDirectory() as path:
+        room = Path(path)
+        first = room / "carmaker"
+        (room / "file").write_bytes(FILE)
+        done = Station(room, "carmaker", "O0013SUPPLIER").give("submit", *IDENTITY, "--to", "O0013SUPPLIER", "--format", "U", room / "file")
+        if done.stdout != b"done: submit 1\n":
+            raise SystemExit(f"the file isn't submitted: {done}")
+        whole = play(room, first, None)
+        print(f"{whole} octets pass in a round that doesn't break")
+        with ThreadPoolExecutor(max_workers=os.cpu_count()) as players:
+            if given.stops:
+                cases, faults = stop_each(room, first, given.every, players)
+            else:
+                cases, faults = break_each(room, first, whole, given.every, players)
+    print("".join(f"{why}\n" for why in faults), end="")
+    print(f"{cases + 1 - len(faults)} passed, {len(faults)} failed")
+    return 1 if faults else 0
+
+
+if __name__ == "__main__":
+    sys.exit(main())

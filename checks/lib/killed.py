@@ -1,0 +1,162 @@
+"""A station whose programs are killed at random moments: its database and its book, and what is left of it by stock sqlite3 and by the
+program's own reports."""
+
+import os
+import random
+import select
+import shutil
+import subprocess
+import tempfile
+import threading
+import time
+from pathlib import Path
+
+import oftp
+import tables
+from program import PROGRAM
+
+BLOCK = 1024
+BUFFER = 2048
+CREDIT = 8
+BOOK = f"""[station]
+code = 'O0013SUPPLIER'
+buffer = {BUFFER}
+credit = {CREDIT}
+restart = true
+
+[[partner]]
+code = 'O0177CARMAKER'
+expects = 'CARPW'
+sends = 'SUPPW'
+mode = 'B'
+address = '127.0.0.1:3305'
+"""
+
+
+class Wrong(Exception):
+    """What is left isn't what the answers say."""
+
+
+def kinds_of(octets):
+    """The commands that came out, in order, each a kind and its fields. One that is cut has no fields, and a header alone is left out."""
+    commands = []
+    for spelled in oftp.frames_of(octets):
+        if len(spelled) > 4:
+            is_whole = int.from_bytes(spelled[1:4], "big") == len(spelled)
+            commands.append(oftp.read(spelled[4:]) if is_whole else (oftp.KIND_OF[spelled[4:5].decode()], {}))
+    return commands
+
+
+def rows_of(octets):
+    return [octets[at : at + BLOCK] for at in range(0, len(octets), BLOCK)]
+
+
+class Station:
+    """A database, and the program that is killed over it."""
+
+    def __init__(self, room, chance):
+        self.room = room
+        self.chance = chance
+        self.database = room / "database"
+        self.book = room / "book.toml"
+        self.book.write_text(BOOK)
+        self.usual_time = {}
+
+    def begin_anew(self):
+        for end in ("", "-wal"):
+            Path(f"{self.database}{end}").unlink(missing_ok=True)
+
+    def words(self, command, *rest):
+        return [PROGRAM, command, "--db", self.database, "--book", self.book, *rest]
+
+    def until_killed(self, name, words, **how):
+        """Runs a command and kills it after a random time, or lets it end. It answers its standard output, and whether it was killed."""
+        usual = self.usual_time.setdefault(name, 0.3)
+        begin = time.monotonic()
+        with subprocess.Popen(words, stdout=subprocess.PIPE, stderr=subprocess.PIPE, **how) as program:
+            for end in how.get("pass_fds", []):
+                os.close(end)
+            told, _, _ = select.select([program.stdout], [], [], self.chance.uniform(0, 1.05 * usual))
+            self.usual_time[name] = (usual + 2 * (time.monotonic() - begin)) / 3 if told else usual * 1.1
+            if told and self.chance.random() < 0.5:
+                program.wait(60)
+            elif told:
+                time.sleep(self.chance.uniform(0, 0.003))
+            program.kill()
+            out, err = program.communicate()
+        if program.returncode not in (0, -9):
+            raise Wrong(f"{name}: status {program.returncode}, {out!r}, {err!r}")
+        return out, program.returncode == -9
+
+    def session(self, name, octets, *role):
+        """A session with these octets, through a pipe in pieces of random sizes. It answers the commands that came out, and whether it
+        was killed."""
+        source, sink = os.pipe()
+        answer = self.room / "answer"
+        answer.unlink(missing_ok=True)
+        seed = self.chance.random()
+        writer = threading.Thread(target=write_pieces, args=(sink, octets, random.Random(seed)))
+        writer.start()
+        try:
+            words = self.words("feed", *role, f"/dev/fd/{source}", answer)
+            _, was_killed = self.until_killed(name, words, pass_fds=[source])
+        finally:
+            writer.join()
+        return kinds_of(answer.read_bytes() if answer.exists() else b""), was_killed
+
+    def called(self):
+        return ["--role", "initiator", "--partner", "O0177CARMAKER"]
+
+    def tables(self):
+        """The tables that are left. The program has to tell the same, and to leave them so."""
+        found = tables.read(self.database)
+        why = tables.unfit(found)
+        if why:
+            raise Wrong(why)
+        for kind, table in (("in", "in_file"), ("out", "out_file"), ("issued", "issued"), ("received", "received")):
+            if not found[table]:
+                continue
+            done = subprocess.run([PROGRAM, "report", "--db", self.database, kind], capture_output=True, check=False, timeout=60)
+            if done.returncode != 0 or done.stderr:
+                raise Wrong(f"report {kind}: status {done.returncode}, {done.stderr!r}")
+            told = [line.split(",") for line in done.stdout.decode().splitlines()]
+            for entry, line in zip(found[table], told[1:]):
+                self.compare(found, table, entry, dict(zip(told[0], line)))
+            if len(told) - 1 != len(found[table]):
+                raise Wrong(f"report {kind} has {len(told) - 1} lines, not {len(found[table])}")
+        after = tables.read(self.database)
+        if any(after[table] != found[table] for table in tables.TABLES):
+            raise Wrong("a report changed the tables")
+        return found
+
+    def compare(self, found, table, entry, line):
+        wanted = {name: str(entry[name]) for name in line if name in entry}
+        if table in tables.ROWS_OF:
+            bodies = tables.bodies(found, table, entry["no"])
+            wanted |= {"rows": str(len(bodies)), "units": str(sum(map(len, bodies)))}
+        if table == "issued":
+            wanted["sent"] = "yes" if entry["sent"] else "no"
+        for name, value in wanted.items():
+            if line[name] != value:
+                raise Wrong(f"the report says {line}, the table {wanted}")
+
+
+def write_pieces(sink, octets, chance):
+    at = 0
+    greatest = chance.choice([64, 4096, 65536, len(octets) + 1])
+    try:
+        while at < len(octets):
+            size = chance.randint(1, greatest)
+            at += os.write(sink, octets[at : at + size])
+            if chance.random() < 0.02:
+                time.sleep(chance.uniform(0, 0.003))
+    except BrokenPipeError:
+        pass
+    os.close(sink)
+
+
+def keep(room):
+    """Keeps what is left, for whoever looks into it."""
+    kept = tempfile.mkdtemp(prefix="killed_")
+    shutil.copytree(room, kept, dirs_exist_ok=True)
+    return kept

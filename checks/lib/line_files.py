@@ -1,0 +1,313 @@
+"""The command lines of rows/lines as they are written: rows/README.md says how. Each line is given to the program in a folder of its own,
+and tells why it comes out otherwise than is said."""
+
+import os
+import resource
+import shlex
+import subprocess
+import tempfile
+from pathlib import Path
+
+import tables
+from acts import check_left
+from program import PROGRAM
+from row_files import ROWS, Bad, Remains, Row, octets_of
+
+LINES = ROWS / "lines"
+SECONDS = 30
+BAD = 2
+DATABASE = ("db", "db-wal")
+# The words before a text that is taken as it stands.
+TEXTS = ("line", "bad", "out", "err")
+
+
+class Given:
+    """Words that the program is given, with what is said of its answer: its output and status, and the files that it makes."""
+
+    def __init__(self, words, is_bad):
+        self.words = words
+        self.is_bad = is_bad
+        self.status = BAD if is_bad else 0
+        self.output = None
+        self.most = None
+        self.out = ""
+        self.err = ""
+        self.made = {}
+
+    def take(self, first, rest, text):
+        if first == "octets":
+            self.words.append(octets_of(rest))
+        elif first == "output":
+            self.output = rest[0]
+        elif first == "most":
+            self.most = int(rest[0])
+        elif first in ("out", "err"):
+            setattr(self, first, f"{getattr(self, first)}{text}\n")
+        elif first == "help":
+            self.err = (LINES / f"help_of_{rest[0]}.txt").read_text(encoding="utf-8")
+        elif first == "status":
+            self.status = int(rest[0])
+        elif first == "made":
+            self.made[rest[0]] = octets_of(rest[1:]) if rest[1:] else None
+        elif first == "answer":
+            self.made[rest[0]] = session_of(rest[1]).joined("out")[: int(rest[2]) if rest[2:] else None]
+        else:
+            raise ValueError("no line begins so")
+
+    def run(self, folder):
+        """Gives the program the words. It answers why it comes out otherwise, or None."""
+        before = found_in(folder)
+        with open(self.output or os.devnull, "wb") as output:
+            done = subprocess.run(
+                [PROGRAM, *self.words],
+                cwd=folder,
+                stdout=output if self.output else subprocess.PIPE,
+                stderr=subprocess.PIPE,
+                preexec_fn=self.limit,
+                restore_signals=False,  # so that a file which gets too long is a fault of its write
+                timeout=SECONDS,
+                check=False,
+            )
+        return self.why_otherwise(done) or self.why_changed(before, found_in(folder))
+
+    def limit(self):
+        if self.most is not None:
+            resource.setrlimit(resource.RLIMIT_FSIZE, (self.most, self.most))
+
+    def why_otherwise(self, done):
+        out, err = (done.stdout or b"").decode(), done.stderr.decode()
+        told = err.startswith(self.err) if self.is_bad else err == self.err
+        if (done.returncode, out, told) == (self.status, self.out, True):
+            return None
+        wanted = f"wanted {self.out!r}, {self.err!r} and status {self.status}"
+        return f"{wanted}, got {out!r}, {err!r} and status {done.returncode}"
+
+    def why_changed(self, before, after):
+        """Why the folder isn't as it was, but for what is to be made, or None."""
+        made = {*self.made, *(DATABASE if "db" in self.made else ())}
+        for name in sorted(before.keys() | after.keys()):
+            if name not in made and before.get(name) != after.get(name):
+                return f"{name} is {'gone' if name not in after else 'another' if name in before else 'new'}"
+        for name, octets in self.made.items():
+            if name not in after:
+                return f"{name} isn't there"
+            mode, found = after[name]
+            if octets is not None and found != octets:
+                return f"{name} has other octets"
+            if name in before and before[name][0] != mode:
+                return f"{name} has other permissions"
+        return None
+
+
+class Line(Remains):
+    """A line under its name: what is done in its folder, in order, and what is left in the database."""
+
+    def __init__(self, name, is_bad=False):
+        super().__init__()
+        self.name = name
+        self.is_bad = is_bad
+        self.acts = [lambda folder: make_book(folder, "usual")]
+
+    def take(self, first, rest, text):
+        if first == "words":
+            self.acts.append(Given(rest, self.is_bad))
+        elif first == "left":
+            self.take_left(rest)
+        elif first in DONE_BEFORE:
+            self.acts.append(lambda folder: DONE_BEFORE[first](folder, *rest))
+        else:
+            self.acts[-1].take(first, rest, text)
+
+    def run(self):
+        """Does all that the line says, in a new folder. It answers why it comes out otherwise, or None."""
+        with tempfile.TemporaryDirectory() as path:
+            folder = Path(path)
+            for act in self.acts:
+                why = act.run(folder) if isinstance(act, Given) else act(folder)
+                if why:
+                    return f"{shown(act.words)}: {why}"
+            return self.why_left(folder)
+
+    def why_left(self, folder):
+        if self.left is None:
+            return None
+        left = tables.read(folder / "db")
+        return tables.unfit(left) or check_left(self, left)
+
+
+def shown(words):
+    return shlex.join(str(word) for word in words)
+
+
+def found_in(folder):
+    """What is in the folder: of each name its permissions, and its octets or what it is."""
+    found = {}
+    for path in folder.iterdir():
+        what = os.readlink(path) if path.is_symlink() else "a folder" if path.is_dir() else path.read_bytes()
+        found[path.name] = (path.lstat().st_mode, what)
+    return found
+
+
+def session_of(name):
+    """The first session of a row."""
+    return Row(ROWS / f"{name}.row").sessions()[0]
+
+
+def make_file(folder, name, *words):
+    (folder / name).write_bytes(octets_of(words))
+
+
+def make_book(folder, name):
+    (folder / "book").write_bytes((ROWS / "books" / f"{name}.toml").read_bytes())
+
+
+def make_book_of(folder, count):
+    """The usual book, with further partners up to so many."""
+    station, one = (ROWS / "books/usual.toml").read_text(encoding="utf-8").split("[[partner]]")
+    more = [one.replace("O0177CARMAKER", f"P{number}") for number in range(1, int(count))]
+    (folder / "book").write_text("[[partner]]".join([station, one, *more]), encoding="utf-8")
+
+
+def make_input(folder, name, row):
+    (folder / name).write_bytes(session_of(row).joined("in"))
+
+
+def make_folder(folder, name):
+    (folder / name).mkdir()
+
+
+def make_name(folder, name, other):
+    os.link(folder / other, folder / name)
+
+
+def make_link(folder, name, other):
+    (folder / name).symlink_to(other)
+
+
+def set_mode(folder, name, mode):
+    (folder / name).chmod(int(mode, 8))
+
+
+# What stands before the words of a line.
+DONE_BEFORE = {
+    "file": make_file,
+    "book": make_book,
+    "partners": make_book_of,
+    "sends": make_input,
+    "folder": make_folder,
+    "same": make_name,
+    "link": make_link,
+    "mode": set_mode,
+}
+
+
+def bad_line(name, words, *text):
+    """A bad line with its whole text."""
+    line = Line(name)
+    given = Given(words, False)
+    given.status = BAD
+    given.err = "".join(f"{part}\n" for part in text)
+    line.acts.append(given)
+    return line
+
+
+class Argument:
+    """An argument of a command: as texts show it, the words that give it, and whether it is needed."""
+
+    def __init__(self, words, is_needed):
+        # `--db <DATABASE> db` is an option with its value, `<FILE> content` a word.
+        self.is_option = words[0].startswith("--")
+        self.shown = " ".join(words[:-1])
+        self.words = [words[0], words[-1]] if self.is_option else [words[-1]]
+        self.is_needed = is_needed
+
+
+class Command:
+    """A command with its arguments in the order of its usage."""
+
+    def __init__(self, name):
+        self.name = name
+        self.arguments = []
+
+    def take(self, first, rest):
+        if first not in ("needs", "may"):
+            raise ValueError("no line begins so")
+        self.arguments.append(Argument(rest, first == "needs"))
+
+    def usage(self):
+        parts = [each.shown if each.is_needed else f"[{each.shown}]" for each in self.arguments]
+        return " ".join(["oftp_station", self.name, *parts])
+
+    def words(self, left_out=None):
+        """The words that give each argument that is needed, but for one."""
+        given = [each.words for each in self.arguments if each.is_needed and each is not left_out]
+        return [self.name, *(word for words in given for word in words)]
+
+    def bad(self, what, words, *error):
+        """A bad line, whose text has the command's usage."""
+        return bad_line(f"{self.name} {what}", words, *error, "", f"Usage: {self.usage()}", "", "For more information, try '--help'.")
+
+    def unknown(self):
+        """The bad line with an option that it doesn't have. What the text proposes instead isn't said."""
+        line = Line(f"{self.name} with an option that it doesn't have", True)
+        line.take("words", [*self.words(), "--nothing=1"], "")
+        line.take("err", [], "error: unexpected argument '--nothing' found")
+        return line
+
+    def without(self, argument):
+        """The bad line in which an argument is left out. Where it is a word the others take its place, so the last one is missing."""
+        missing = argument if argument.is_option else self.arguments[-1]
+        error = "error: the following required arguments were not provided:"
+        return self.bad(f"without {argument.shown}", self.words(argument), error, f"  {missing.shown}")
+
+    def twice(self, argument):
+        """The bad line in which an argument is given twice."""
+        words = [*self.words(), *argument.words, *([] if argument.is_needed else argument.words)]
+        error = f"unexpected argument '{argument.words[0]}' found"
+        if argument.is_option:
+            error = f"the argument '{argument.shown}' cannot be used multiple times"
+        return self.bad(f"with {argument.shown} twice", words, f"error: {error}")
+
+    def lines(self):
+        """The bad lines that its arguments make."""
+        missing = [self.without(argument) for argument in self.arguments if argument.is_needed]
+        return [self.unknown(), *missing, *(self.twice(argument) for argument in self.arguments)]
+
+
+def read(path):
+    """The lines of a file of rows/lines, and its commands."""
+    read_here = []
+    for line in path.read_text(encoding="utf-8").splitlines():
+        if not line.strip() or line.startswith("#"):
+            continue
+        first, _, text = line.partition(" ")
+        try:
+            rest = [] if first in TEXTS else shlex.split(text)
+            if first in ("line", "bad"):
+                read_here.append(Line(text, first == "bad"))
+            elif first == "command":
+                read_here.append(Command(rest[0]))
+            elif isinstance(read_here[-1], Command):
+                read_here[-1].take(first, rest)
+            else:
+                read_here[-1].take(first, rest, text)
+        except (AttributeError, IndexError, KeyError, OSError, ValueError) as why:
+            raise Bad(f"{path}: {line}: {why}") from why
+    return read_here
+
+
+def usages(commands):
+    """Lines that name no command: the text has the usage of each."""
+    usage = ["", "Usage:", *(f"  {command.usage()}" for command in commands)]
+    return [
+        bad_line("no words", [], "error: a command is missing", *usage),
+        bad_line("help behind no command", ["--help"], "error: unknown command '--help'", *usage),
+    ]
+
+
+def all_lines(path):
+    read_here = read(path)
+    commands = [each for each in read_here if isinstance(each, Command)]
+    lines = [each for each in read_here if isinstance(each, Line)]
+    varied = [line for command in commands for line in command.lines()]
+    return lines + varied + (usages(commands) if commands else [])

@@ -1,0 +1,24 @@
+"""The C files of checks/faults, which stand before the calls of a program: they stop it at a call, or refuse an allocation or a port. Here
+each is compiled, and told where it has to stop the program."""
+
+import subprocess
+
+from program import ROOT
+
+FAULTS = ROOT / "checks/faults"
+
+
+def stopping(how, number, library, reached):
+    """The environment in which the call of this number is stopped; the file `reached` is made then."""
+    if how == "refuse":
+        named = {"FAIL_ALLOC": number, "FAIL_ALLOC_REACHED": reached}
+    else:
+        named = {"STOP_AT": number, "STOP_HOW": how, "STOP_REACHED": reached}
+    return {"LD_PRELOAD": str(library), **{name: str(value) for name, value in named.items()}}
+
+
+def compile_library(room, name):
+    """A file of checks/faults as a library that a program can be given, in this folder."""
+    library = room / f"{name}.so"
+    subprocess.run(["cc", "-shared", "-fPIC", "-O1", "-o", library, FAULTS / f"{name}.c", "-ldl"], check=True)
+    return library

@@ -1,0 +1,61 @@
+#!/usr/bin/env python3
+"""Holds the text of the crates to the manner of docs/CONTRIBUTING.md, as far as a script can see it.
+
+    checks/lint/manner.py
+
+No body of a function in src/ has more than 40 lines, no line of a clause, a definition or a proof more than 200 characters, and each file
+begins with the line that says what it has: `//!` in src/, `--` in specs/ and proofs/, answers and lists of modules aside. It prints each
+place that differs, and `N passed, M failed`, in files.
+"""
+
+import re
+import sys
+from pathlib import Path
+
+sys.path.insert(0, str(Path(__file__).resolve().parents[1] / "lib"))
+
+from crate_text import OPAQUE, body_of
+from program import ROOT
+
+MOST_LINES = 40
+MOST_CHARACTERS = 200
+
+
+def long_bodies(text):
+    """The functions whose bodies have too many lines."""
+    text = OPAQUE.sub(lambda it: re.sub(r"[^\n]", " ", it.group()), text)
+    for head in re.finditer(r"\bfn\s+(\w+)\s*[(<]", text):
+        body = body_of(text, head.end() - 1)
+        lines = text.count("\n", *body) - 1 if body else 0
+        if lines > MOST_LINES:
+            yield f"{head.group(1)}: a body of {lines} lines"
+
+
+def faults(path):
+    """What differs in a file."""
+    text = path.read_text(encoding="utf-8")
+    for number, line in enumerate(text.splitlines(), 1):
+        if len(line) > MOST_CHARACTERS and not re.match(r"\s*(ghost |pub )?use\b", line):
+            yield f"{number}: {len(line)} characters"
+    if path.suffix == ".rt":
+        yield from long_bodies(text)
+    begin = "//! " if path.suffix == ".rt" else "-- "
+    listed = path.name in ("Answers.antt", "Invariants.antt", "Lib.antt")
+    if not listed and not text.startswith(begin):
+        yield f"1: no `{begin.strip()}`"
+
+
+def main():
+    files = sorted(it for part in ("src", "specs", "proofs") for kind in ("rt", "antt") for it in ROOT.glob(f"crates/*/{part}/**/*.{kind}"))
+    failed = 0
+    for path in files:
+        found = list(faults(path))
+        failed += bool(found)
+        for it in found:
+            print(f"{path.relative_to(ROOT)}: {it}")
+    print(f"{len(files) - failed} passed, {failed} failed")
+    return 1 if failed or not files else 0
+
+
+if __name__ == "__main__":
+    sys.exit(main())

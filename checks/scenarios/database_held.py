@@ -1,0 +1,177 @@
+#!/usr/bin/env python3
+"""Tries commands over a database that another process holds.
+
+    checks/scenarios/database_held.py
+
+The holder is a session of the program that waits for its partner, or this script, which takes the locks of SQLite as the program does.
+A second command waits for the database. Where it is given up within ten seconds, the command is carried out; else it ends with
+`fault: 6 store 1`, and the holder's session goes on as if nothing had been. Meanwhile stock sqlite3 finds the database locked. All
+cases run at once, so it takes some twelve seconds. The last line is `N passed, M failed`.
+"""
+
+import fcntl
+import os
+import sqlite3
+import subprocess
+import sys
+import tempfile
+import time
+from concurrent.futures import ThreadPoolExecutor
+from pathlib import Path
+
+sys.path.insert(0, str(Path(__file__).resolve().parents[1] / "lib"))
+
+import row_files
+from program import PROGRAM
+
+BOOK = row_files.ROWS / "books/usual.toml"
+# Where SQLite's locks on a database file lie: the pending, the reserved and the shared ones.
+LOCKS = (1 << 30, 512)
+PATIENCE = 10
+# What a command may take beside its wait, on a machine with other work, whose host may be busy too.
+SLACK = 25
+# How many times a case is tried that is late.
+TIMES = 3
+
+
+class Wrong(Exception):
+    """A case that came out otherwise."""
+
+
+class Late(Exception):
+    """A case that shows nothing, since this machine was too busy for it to be in time."""
+
+
+class SessionHolds:
+    """A session of the program, which has greeted its partner and waits."""
+
+    def __init__(self, database):
+        source, self.sink = os.pipe()
+        self.answers, answer = os.pipe()
+        words = [PROGRAM, "feed", "--db", database, "--book", BOOK, f"/dev/fd/{source}", f"/dev/fd/{answer}"]
+        self.program = subprocess.Popen(words, stdout=subprocess.PIPE, stderr=subprocess.PIPE, pass_fds=[source, answer])
+        os.close(source)
+        os.close(answer)
+        row = row_files.Row(row_files.ROWS / "receiving/one_octet.row")
+        self.steps = row.sessions()[0].steps
+        self.greeting = os.read(self.answers, 4096)
+
+    def give_up(self):
+        """The partner goes on, and a file comes: nothing of the session is lost by what others tried."""
+        octets = self.greeting
+        for side, wanted in self.steps[1:]:
+            if side == "in":
+                os.write(self.sink, wanted)
+            else:
+                octets += os.read(self.answers, len(wanted))
+        os.close(self.sink)
+        out, err = self.program.communicate(timeout=30)
+        os.close(self.answers)
+        if (out, err) != (b"end: partner 00\n", b"") or octets != b"".join(wanted for side, wanted in self.steps if side == "out"):
+            raise Wrong(f"the holder's session ended by {out!r}, {err!r}, after {len(octets)} octets")
+
+
+class ScriptHolds:
+    """This script, by the locks alone."""
+
+    def __init__(self, database):
+        self.file = open(database, "r+b")
+        fcntl.lockf(self.file, fcntl.LOCK_EX | fcntl.LOCK_NB, LOCKS[1], LOCKS[0])
+
+    def give_up(self):
+        self.file.close()
+
+
+def case(holder, command, seconds):
+    """Holds a database for so many seconds, or until the command ends where there is no number, and gives the command meanwhile."""
+    with tempfile.TemporaryDirectory() as room:
+        database = Path(room) / "database"
+        subprocess.run([PROGRAM, "init", "--db", database], check=True, capture_output=True)
+        holds = holder(database)
+        begin = time.monotonic()
+        words = [PROGRAM, command[0], "--db", database, *command[1:]]
+        waiting = subprocess.Popen(words, stdout=subprocess.PIPE, stderr=subprocess.PIPE)
+        if seconds is None:
+            out, err = waiting.communicate(timeout=PATIENCE + SLACK)
+            holds.give_up()
+        else:
+            time.sleep(seconds)
+            if waiting.poll() is not None and time.monotonic() - begin < PATIENCE - 1:
+                raise Wrong(f"it didn't wait: {waiting.communicate()}")
+            holds.give_up()
+            given_up = time.monotonic() - begin
+            out, err = waiting.communicate(timeout=PATIENCE + SLACK)
+            if given_up > PATIENCE - 1:
+                raise Late(f"it was given up after {given_up:.1f} s")
+        check(waiting.returncode, out, err, time.monotonic() - begin, seconds)
+
+
+def check(status, out, err, taken, seconds):
+    if seconds is None:
+        if (status, out, err) != (1, b"", b"fault: 6 store 1\n"):
+            raise Wrong(f"status {status}, {out!r}, {err!r}")
+        if not PATIENCE - 1 <= taken <= PATIENCE + SLACK:
+            raise Wrong(f"it waited {taken:.1f} s")
+    elif (status, err) != (0, b"") or out == b"":
+        raise Wrong(f"status {status}, {out!r}, {err!r}")
+
+
+def is_locked_for_others(holder, _command, _seconds):
+    """Stock sqlite3 can't read while the program holds the database, and can afterwards."""
+    with tempfile.TemporaryDirectory() as room:
+        database = Path(room) / "database"
+        holds = holder(database)
+        connection = sqlite3.connect(database, timeout=0)
+        try:
+            connection.execute("SELECT * FROM about")
+            raise Wrong("sqlite3 reads what is held")
+        except sqlite3.OperationalError:
+            pass
+        finally:
+            connection.close()
+        holds.give_up()
+        connection = sqlite3.connect(database, timeout=0)
+        if connection.execute("SELECT * FROM about").fetchall() != [(1, 2)]:
+            raise Wrong("sqlite3 reads other tables")
+        connection.close()
+
+
+CASES = [
+    (case, SessionHolds, ["report", "in"], None),
+    (case, ScriptHolds, ["init"], None),
+    (case, SessionHolds, ["report", "in"], 2),
+    (case, ScriptHolds, ["release", "--book", BOOK, "1"], None),
+    (case, ScriptHolds, ["report", "out"], 4),
+    (is_locked_for_others, SessionHolds, ["sqlite3"], 0),
+]
+
+
+def told(what):
+    """Runs a case, once more where it was late. It answers what the case is, and why it came out otherwise, or None."""
+    run, holder, command, seconds = what
+    until = "until it ends" if seconds is None else f"for {seconds} s"
+    name = f"{command[0]} over a database that {holder.__name__.replace('Holds', '').lower()} holds {until}"
+    for _ in range(TIMES):
+        try:
+            run(holder, command, seconds)
+        except Late as late:
+            why = late
+            continue
+        except (Wrong, OSError, subprocess.SubprocessError) as wrong:
+            return name, wrong
+        return name, None
+    return name, why
+
+
+def main():
+    failed = 0
+    with ThreadPoolExecutor(max_workers=len(CASES)) as runners:
+        for name, why in runners.map(told, CASES):
+            failed += why is not None
+            print(f"{name}: {why or 'as it must be'}")
+    print(f"{len(CASES) - failed} passed, {failed} failed")
+    return 1 if failed else 0
+
+
+if __name__ == "__main__":
+    sys.exit(main())

@@ -1,0 +1,48 @@
+#!/bin/bash
+# Holds the units of examples/service against systemd-analyze, and its stunnel.conf against stunnel, where these are installed. The
+# last line is `N passed, M failed`.
+set -euo pipefail
+root=$(cd "$(dirname "$0")/../.." && pwd)
+room=$(mktemp -d)
+trap 'rm -rf "$room"' EXIT
+passed=0
+failed=0
+
+count() {
+    if "$@" > "$room/said" 2>&1; then
+        passed=$((passed + 1))
+    else
+        failed=$((failed + 1))
+        cat "$room/said"
+    fi
+}
+
+# The unit is verified under a name that systemd starts, with a program and a user that are here.
+verify() {
+    sed -e 's|/usr/local/bin/oftp_station|/bin/true|; s/^User=oftp/User=root/' "$root/examples/service/$1" > "$room/${1/@./@O0177CARMAKER.}"
+    systemd-analyze verify --man=no "$room/${1/@./@O0177CARMAKER.}" && ! grep -q 'Unknown\|Failed to parse\|not executable\|Invalid' "$room/said"
+}
+
+# It binds free ports, and goes on until it is ended.
+starts() {
+    timeout 2 stunnel "$room/conf" || [ "$?" = 124 ]
+}
+
+if command -v systemd-analyze > /dev/null; then
+    for unit in oftp-listen.service oftp-call@.service oftp-call@.timer oftp-http.service; do
+        count verify "$unit"
+    done
+else
+    echo 'NOT TRIED for want of systemd: the units of examples/service'
+fi
+if command -v stunnel > /dev/null; then
+    openssl req -x509 -newkey rsa:2048 -nodes -days 1 -subj /CN=station -keyout "$room/key" -out "$room/cert" 2> /dev/null
+    sed -e "s|/etc/oftp/station.key|$room/key|; s|/etc/oftp/.*pem|$room/cert|; s|^setuid.*||; s|^setgid.*||; s|^pid.*|pid = $room/pid|" \
+        -e 's/^accept = .*/accept = 127.0.0.1:0/' "$root/examples/service/stunnel.conf" > "$room/conf"
+    sed -i '1i foreground = yes' "$room/conf"
+    count starts
+else
+    echo 'NOT TRIED for want of stunnel: examples/service/stunnel.conf'
+fi
+echo "$passed passed, $failed failed"
+[ "$failed" = 0 ]

@@ -1,0 +1,513 @@
+#!/usr/bin/env python3
+"""Tries `listen`, `call` and `http` as processes, with partners and callers that this script plays over sockets.
+
+    checks/scenarios/sockets.py
+
+Among the callers are ones that are slow, silent, gone, or send on after the end. Each case has a port and a database of its own, and
+all run at once, so it takes some twenty seconds. The last line is `N passed, M failed`.
+"""
+
+import fcntl
+import re
+import socket
+import struct
+import subprocess
+import sys
+import tempfile
+import time
+from concurrent.futures import ThreadPoolExecutor
+from pathlib import Path
+
+sys.path.insert(0, str(Path(__file__).resolve().parents[1] / "lib"))
+
+import oftp
+import row_files
+import tables
+from program import PROGRAM, ROOT
+from services import BOOK, CARMAKER, LONG, Service, Wrong, expect, free_port, rest_of
+
+# Where SQLite's locks on a database file lie: the pending, the reserved and the shared ones.
+LOCKS = (1 << 30, 512)
+# How long what needs no wait may take there: a busy host has stopped all of it for nine seconds.
+SOON = 25
+GREATEST = {"buffer": "16384", "credit": "99"}
+
+
+def steps_of(row):
+    """The steps of a row's first session, and the line for its end."""
+    session = row_files.Row(row_files.ROWS / f"{row}.row").sessions()[0]
+    return session.steps, session.end[1]
+
+
+def receive(connection, size):
+    """So many octets, or as many as come before the end."""
+    octets = b""
+    while len(octets) < size:
+        piece = connection.recv(size - len(octets))
+        if not piece:
+            break
+        octets += piece
+    return octets
+
+
+def converse(connection, steps):
+    """Plays the partner's side of a session, and closes."""
+    with connection:
+        for side, octets in steps:
+            if side == "in":
+                connection.sendall(octets)
+            else:
+                expect(receive(connection, len(octets)), octets, "the station sent")
+        expect(rest_of(connection), b"", "behind its last answer")
+
+
+def play(service, row, host="127.0.0.1"):
+    """A session of a row with the service, and the line for it."""
+    steps, end = steps_of(row)
+    converse(service.caller(host), steps)
+    expect(service.line() + "\n", end, "the line")
+
+
+# ---- listen
+
+
+def sessions_one_after_another(room):
+    """Each line is out before the next session begins; the port is free again at once."""
+    with Service(room, "listen", "--sessions", "2") as service:
+        play(service, "receiving/file_in_one_session")
+        play(service, "opening/wrong_password")
+        service.ends()
+    with Service(room, "listen", port=service.port) as again:
+        play(again, "opening/unknown_code")
+        again.ends()
+
+
+def many_connections(room):
+    steps, end = steps_of("opening/wrong_password")
+    with Service(room, "listen", "--sessions", "200") as service:
+        for _ in range(200):
+            converse(service.caller(), steps)
+            expect(service.line() + "\n", end, "the line")
+        service.ends()
+
+
+def octet_each_two_seconds(room):
+    """A partner that is slow isn't silent, though all that it says takes longer than the patience."""
+    steps, end = steps_of("opening/wrong_password")
+    with Service(room, "listen", "--patience", "12") as service:
+        caller = service.caller()
+        expect(receive(caller, len(steps[0][1])), steps[0][1], "the greeting")
+        for place in range(8):
+            caller.sendall(steps[1][1][place : place + 1])
+            time.sleep(2)
+        converse(caller, [("in", steps[1][1][8:]), steps[2]])
+        expect(service.line() + "\n", end, "the line")
+        service.ends()
+
+
+def silent_partner(room):
+    with Service(room, "listen", "--patience", "2", "--sessions", "2") as service:
+        begin = time.monotonic()
+        with service.caller() as caller:
+            expect(service.line(), "fault: 1 read", "the line")
+            if not 1.5 <= time.monotonic() - begin <= 2 + SOON:
+                raise Wrong(f"it waited {time.monotonic() - begin:.1f} s")
+            expect(rest_of(caller), steps_of("opening/wrong_password")[0][0][1], "the greeting")
+        play(service, "receiving/one_octet")
+        service.ends()
+
+
+def partner_that_reads_nothing(room):
+    """The station has a file for a partner, who answers the offer and then reads nothing."""
+    book = room / "book"
+    book.write_text(BOOK.read_text().replace("buffer = 128", "buffer = 16384").replace("credit = 2", "credit = 99"))
+    file = room / "file"
+    file.write_bytes(bytes(1 << 21))
+    with Service(room, "listen", "--patience", "2", book=book) as service:
+        service.submit(file)
+        with service.caller(is_narrow=True) as caller:
+            opening = oftp.spell("SSID", {"code": CARMAKER, "password": "CARPW", "mode": "B", **GREATEST})
+            for command in (opening, b"R", oftp.spell("SFPA", {"count": "0"})):
+                caller.sendall(oftp.frame(command))
+            expect(service.line(), "fault: 2 write", "the line")
+        service.ends()
+
+
+def callers_who_leave(room):
+    """One leaves at once, one within a session, and one by a reset; then a session is served."""
+    steps, _ = steps_of("receiving/one_octet")
+    with Service(room, "listen", "--sessions", "4") as service:
+        service.caller().close()
+        if service.line() not in ("end: input", "fault: 1 read", "fault: 2 write"):
+            raise Wrong("the line of one who left at once")
+        with service.caller() as caller:
+            receive(caller, len(steps[0][1]))
+            caller.sendall(steps[1][1][:10])
+            caller.shutdown(socket.SHUT_WR)
+            expect(rest_of(caller), b"", "behind the greeting")
+        expect(service.line(), "end: input", "the line of one who left")
+        caller = service.caller()
+        receive(caller, len(steps[0][1]))
+        caller.setsockopt(socket.SOL_SOCKET, socket.SO_LINGER, struct.pack("ii", 1, 0))
+        caller.close()
+        expect(service.line(), "fault: 1 read", "the line of one who reset")
+        play(service, "receiving/one_octet")
+        service.ends()
+
+
+def octets_after_the_end(room):
+    """What comes behind the station's ESID takes nothing away from it."""
+    steps, end = steps_of("opening/wrong_password")
+    with Service(room, "listen") as service:
+        with service.caller() as caller:
+            caller.sendall(steps[1][1] + bytes(1 << 20))
+            time.sleep(0.5)
+            expect(rest_of(caller), steps[0][1] + steps[2][1], "the station sent")
+        expect(service.line() + "\n", end, "the line")
+        service.ends()
+
+
+def partner_who_stays_after_the_end(room):
+    """A partner who doesn't close holds the station for a bounded time."""
+    steps, end = steps_of("opening/wrong_password")
+    with Service(room, "listen", "--sessions", "2", "--patience", "0") as service:
+        with service.caller() as caller:
+            caller.sendall(steps[1][1])
+            expect(rest_of(caller), steps[0][1] + steps[2][1], "the station sent")
+            begin = time.monotonic()
+            expect(service.line() + "\n", end, "the line")
+            if time.monotonic() - begin > 5 + SOON:
+                raise Wrong(f"it stayed for {time.monotonic() - begin:.1f} s")
+            play(service, "receiving/one_octet")
+        service.ends()
+
+
+def stopped_within_a_session(room):
+    """What was answered before a SIGTERM is there."""
+    steps, _ = steps_of("receiving/file_in_one_session")
+    with Service(room, "listen", "--sessions", "9") as service:
+        play(service, "receiving/one_octet")
+        caller = service.caller()
+        for side, octets in steps[:-1]:
+            if side == "in":
+                caller.sendall(octets.replace(b"ASN.0001", b"ASN.0002"))
+            else:
+                expect(receive(caller, len(octets)), octets, "the station sent")
+        service.program.terminate()
+        expect(rest_of(caller), b"", "behind its last answer")
+        service.program.wait(LONG)
+        caller.close()
+        files = [(entry["dataset"], entry["state"]) for entry in tables.read(service.database)["in_file"]]
+        expect(files, [("ASN.0001", "whole"), ("ASN.0002", "whole")], "the files")
+
+
+def kinds_of(octets):
+    """The kinds of the commands in whole frames."""
+    return [oftp.read(frame[4:])[0] for frame in oftp.frames_of(octets)]
+
+
+def traced(room):
+    """A trace has a line for each command of both directions and one for the end, with the time, and no password."""
+    trace = room / "trace"
+    rows = ["receiving/file_in_one_session", "opening/wrong_password"]
+    with Service(room, "listen", "--sessions", "3", "--trace", trace) as service:
+        for row in rows:
+            play(service, row)
+        with service.caller() as caller:
+            caller.sendall(b"\x20\x00\x00\x05\x43")
+            rest_of(caller)
+        service.line()
+        service.ends()
+    told = trace.read_text()
+    if re.search("PW|PASS", told):
+        raise Wrong("a password is in the trace")
+    lines = [re.fullmatch(r"20\d\d-\d\d-\d\dT\d\d:\d\d:\d\d(?:\.\d+)?Z (?:([<>]) )?(.*)", line) for line in told.splitlines()]
+    sessions = "\n".join(f"{line[1]} {line[2]}" for line in lines).split("\nNone end: ")
+    expect(len(sessions), 4, "how many sessions are traced")
+    for row, session in zip(rows, sessions):
+        steps, _ = steps_of(row)
+        for mark, side in ("<", "in"), (">", "out"):
+            found = [line.split()[1].rstrip(",") for line in session.splitlines() if line.startswith(mark)]
+            expect(found, kinds_of(b"".join(octets for way, octets in steps if way == side)), f"{row}: {side}")
+    expect("< fault at octet 0: no stream header begins so" in sessions[2], True, "the fault is told")
+
+
+def nothing_to_print_to(room):
+    """A service whose line can't be written ends, and what was answered stands."""
+    steps, _ = steps_of("receiving/one_octet")
+    with open("/dev/full", "wb") as output, Service(room, "listen", "--sessions", "2", output=output) as service:
+        converse(service.caller(), steps)
+        service.ends(1, b"fault: 2 write\n")
+        expect(tables.read(service.database)["in_file"][0]["state"], "whole", "the file")
+
+
+def operator_while_it_listens(room):
+    with Service(room, "listen", "--sessions", "2") as service:
+        play(service, "receiving/one_octet")
+        expect(service.give("release", "1").stdout, b"done: release 1\n", "release")
+        expect(service.give("fetch", "1", room / "fetched").stdout, b"done: fetch 1\n", "fetch")
+        expect((room / "fetched").read_bytes(), b"A", "the file")
+        play(service, "opening/wrong_password")
+        service.ends()
+
+
+def database_held(room):
+    """A caller is sent away while another program holds the database, and the next one is served."""
+    with Service(room, "listen", "--sessions", "3") as service:
+        play(service, "opening/wrong_password")
+        with open(service.database, "r+b") as file:
+            fcntl.lockf(file, fcntl.LOCK_EX, LOCKS[1], LOCKS[0])
+            begin = time.monotonic()
+            with service.caller() as caller:
+                expect(rest_of(caller), b"", "the station sent")
+            expect(service.line(), "fault: 6 store 1", "the line")
+            if not 9 <= time.monotonic() - begin <= 10 + SOON:
+                raise Wrong(f"it waited {time.monotonic() - begin:.1f} s")
+        play(service, "receiving/one_octet")
+        service.ends()
+
+
+def other_addresses(room):
+    with Service(room, "listen", "--address", "127.0.0.2", port=free_port("127.0.0.2")) as service:
+        play(service, "receiving/one_octet", "127.0.0.2")
+        service.ends()
+    if not socket.has_ipv6:
+        return
+    try:
+        port = free_port("::1")
+    except OSError:
+        return
+    with Service(room, "listen", "--address", "::1", port=port) as service:
+        play(service, "opening/wrong_password", "::1")
+        service.ends()
+
+
+def sockets_that_fail(room):
+    """A port in use, and addresses that are none; faults of the book and of the database come first."""
+    with socket.socket() as taken:
+        taken.bind(("127.0.0.1", 0))
+        taken.listen()
+        port = taken.getsockname()[1]
+        for command in ("listen", "http"):
+            with Service(room, command, port=port) as service:
+                service.ends(1, b"fault: 8 socket\n")
+        with Service(room, "listen", book=room / "none", port=port) as service:
+            service.ends(1, b"fault: 7 file\n")
+        with Service(room, "listen", "--address", "192.0.2.1") as service:
+            service.ends(1, b"fault: 8 socket\n")
+        (room / "folder").mkdir()
+        (room / "folder/database").mkdir()
+        with Service(room / "folder", "http", port=port) as service:
+            service.ends(1, b"fault: 6 store 1\n")
+
+
+# ---- call
+
+
+def book_with(room, address):
+    book = room / "book"
+    book.write_text(BOOK.read_text().replace("127.0.0.1:3305", address))
+    return book
+
+
+def call(room, address, *words, partner=CARMAKER):
+    words = [PROGRAM, "call", "--db", room / "database", "--book", book_with(room, address), "--partner", partner, *words]
+    return subprocess.Popen(words, stdout=subprocess.PIPE, stderr=subprocess.PIPE)
+
+
+def told(program):
+    out, err = program.communicate(timeout=LONG)
+    return program.returncode, out, err
+
+
+def calls(room):
+    """The station calls a partner; also one who then says nothing, and who closes at once."""
+    steps, end = steps_of("calling/initiator_alone")
+    with socket.socket() as partner:
+        partner.bind(("127.0.0.1", 0))
+        partner.listen()
+        partner.settimeout(LONG)
+        address = f"localhost:{partner.getsockname()[1]}"
+        program = call(room, address)
+        converse(partner.accept()[0], steps)
+        expect(told(program), (0, end.encode(), b""), "the call")
+        program = call(room, address, "--patience", "1")
+        with partner.accept()[0]:
+            expect(told(program), (1, b"", b"fault: 1 read\n"), "the call of a silent partner")
+        program = call(room, address)
+        partner.accept()[0].close()
+        expect(told(program), (0, b"end: input\n", b""), "the call of one who left")
+    expect(told(call(room, address)), (1, b"", b"fault: 8 socket\n"), "the call of nobody")
+    expect(told(call(room, "nowhere")), (1, b"", b"fault: 8 socket\n"), "the call of no address")
+    expect(told(call(room, address, partner="O0099OTHER")), (1, b"refused: 2 unknown\n", b""), "the call of a stranger")
+
+
+def partner_who_does_not_answer(room):
+    """A partner's machine leaves a connection without an answer: the call is given up in time, and holds no database until then."""
+    with socket.socket() as partner, socket.socket() as other:
+        partner.bind(("127.0.0.1", 0))
+        # With one who waits to be accepted the queue is full, and whoever comes next isn't answered.
+        partner.listen(0)
+        other.connect(partner.getsockname())
+        begin = time.monotonic()
+        with call(room, f"127.0.0.1:{partner.getsockname()[1]}", "--patience", "15") as program:
+            time.sleep(1)
+            words = [PROGRAM, "report", "--db", room / "database", "out"]
+            report = subprocess.run(words, capture_output=True, timeout=LONG, check=False)
+            expect((report.returncode, report.stderr, program.poll()), (0, b"", None), "a report while it connects")
+            expect(told(program), (1, b"", b"fault: 8 socket\n"), "the call of one who doesn't answer")
+        took = time.monotonic() - begin
+        if not 15 <= took < 15 + SOON:
+            raise Wrong(f"the call took {took:.1f} s")
+
+
+def two_programs(room):
+    """A car maker calls a supplier, who has a file for it."""
+    port = free_port()
+    supplier, carmaker = room / "supplier", room / "carmaker"
+    books = {}
+    for station in (supplier, carmaker):
+        station.mkdir()
+        books[station] = station / "book"
+        text = (ROOT / "examples" / station.name / "book.toml").read_text()
+        books[station].write_text(text.replace("127.0.0.1:3306", f"127.0.0.1:{port}"))
+    file = room / "file"
+    file.write_bytes(row_files.content(0, 2500))
+    with Service(supplier, "listen", book=books[supplier], port=port) as service:
+        service.submit(file)
+        words = ["--db", carmaker / "database", "--book", books[carmaker], "--partner", "O0013SUPPLIER"]
+        while True:
+            done = subprocess.run([PROGRAM, "call", *words], capture_output=True, timeout=LONG, check=False)
+            if done.stderr != b"fault: 8 socket\n":
+                break
+            time.sleep(0.05)
+        expect((done.returncode, done.stderr), (0, b""), f"the call, which told {done.stdout!r}")
+        service.line()
+        service.ends()
+    fetched = room / "fetched"
+    words = [PROGRAM, "fetch", "--db", carmaker / "database", "1", fetched]
+    expect(subprocess.run(words, capture_output=True, timeout=LONG, check=False).stdout, b"done: fetch 1\n", "fetch")
+    expect(fetched.read_bytes(), file.read_bytes(), "the file")
+
+
+# ---- http
+
+
+def ask(service, *pieces):
+    """The reply to a request that comes in these pieces. The caller keeps its own side open."""
+    with service.caller() as caller:
+        for piece in pieces:
+            caller.sendall(piece)
+            time.sleep(0.02)
+        return rest_of(caller)
+
+
+def expect_reply(reply, status, body):
+    head, _, rest = reply.partition(b"\r\n\r\n")
+    lines = head.split(b"\r\n")
+    expect(lines[0].split()[1], status, "the status")
+    if b"Connection: close" not in lines or f"Content-Length: {len(rest)}".encode() not in lines:
+        raise Wrong(f"the head {head!r}")
+    if body is not None:
+        expect(rest, body, "the body")
+
+
+def requests(room):
+    get = b"GET /in HTTP/1.1\r\nHost: a\r\n\r\n"
+    with Service(room, "http", "--requests", "9") as service:
+        expect_reply(ask(service, get), b"200", b"[]")
+        expect_reply(ask(service, *(bytes([octet]) for octet in get)), b"200", b"[]")
+        expect_reply(ask(service, b"HEAD /in HTTP/1.1\r\n\r\n"), b"405", None)
+        expect_reply(ask(service, b"GET /in HTTP/1.1\r\nConnection: keep-alive\r\n\r\n" + get), b"200", b"[]")
+        expect_reply(ask(service, b"GET /in/7 HTTP/1.0\r\n\r\n"), b"404", None)
+        expect_reply(ask(service, b"GET /in HTTP/1.1\r\nX: " + b"a" * 9000), b"400", None)
+        # A body of 1 MiB: the request is too long where its head comes with more of it than a request may have.
+        reply = ask(service, b"POST /in HTTP/1.1\r\nContent-Length: 1048576\r\n\r\n" + bytes(1 << 20))
+        expect_reply(reply, b"400" if b" 400 " in reply else b"405", None)
+        with service.caller() as caller:
+            caller.sendall(get[:-2])
+            caller.shutdown(socket.SHUT_WR)
+            expect(rest_of(caller), b"", "the reply to half a head")
+        caller = service.caller()
+        caller.setsockopt(socket.SOL_SOCKET, socket.SO_LINGER, struct.pack("ii", 1, 0))
+        caller.close()
+        service.ends()
+
+
+def slow_request(room):
+    """A request has ten seconds, however it drips."""
+    with Service(room, "http", "--requests", "2") as service:
+        begin = time.monotonic()
+        with service.caller() as caller:
+            try:
+                while time.monotonic() - begin < 10 + SOON:
+                    caller.sendall(b"G")
+                    time.sleep(0.5)
+                raise Wrong("it waited on")
+            except ConnectionError:
+                pass
+            if time.monotonic() - begin < 9:
+                raise Wrong(f"it waited {time.monotonic() - begin:.1f} s")
+        expect_reply(ask(service, b"GET /out HTTP/1.1\r\n\r\n"), b"200", b"[]")
+        service.ends()
+
+
+def listing_while_it_listens(room):
+    """Both services share one database."""
+    with Service(room, "listen", "--sessions", "1") as listener, Service(room, "http", "--requests", "1") as lister:
+        play(listener, "receiving/one_octet")
+        reply = ask(lister, b"GET /in/1 HTTP/1.1\r\n\r\n")
+        expect_reply(reply, b"200", None)
+        if b"ASN.0001" not in reply:
+            raise Wrong(f"it shows {reply!r}")
+        listener.ends()
+        lister.ends()
+
+
+CASES = [
+    sessions_one_after_another,
+    many_connections,
+    octet_each_two_seconds,
+    silent_partner,
+    partner_that_reads_nothing,
+    callers_who_leave,
+    octets_after_the_end,
+    partner_who_stays_after_the_end,
+    stopped_within_a_session,
+    traced,
+    nothing_to_print_to,
+    operator_while_it_listens,
+    database_held,
+    other_addresses,
+    sockets_that_fail,
+    calls,
+    partner_who_does_not_answer,
+    two_programs,
+    requests,
+    slow_request,
+    listing_while_it_listens,
+]
+
+
+def tried(case):
+    """Runs a case. It answers why it came out otherwise, or None."""
+    with tempfile.TemporaryDirectory() as room:
+        try:
+            case(Path(room))
+        except (Wrong, OSError, subprocess.SubprocessError) as why:
+            return f"{type(why).__name__}: {why}"
+    return None
+
+
+def main():
+    failed = 0
+    with ThreadPoolExecutor(max_workers=len(CASES)) as runners:
+        for case, why in zip(CASES, runners.map(tried, CASES)):
+            failed += why is not None
+            print(f"{case.__name__.replace('_', ' ')}: {why or 'as it must be'}")
+    print(f"{len(CASES) - failed} passed, {failed} failed")
+    return 1 if failed else 0
+
+
+if __name__ == "__main__":
+    sys.exit(main())

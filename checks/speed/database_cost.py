@@ -1,0 +1,367 @@
+#!/usr/bin/env python3
+"""What a register in a database costs, beside the same work over stock sqlite3.
+
+    checks/speed/database_cost.py [--assert] [--runs N]       with `--assert` it fails where a bound is passed; each time is the least of
+                                                              N runs, 3 where none is given. What is wanted is told beside the bound
+
+Files come in and go out by `feed` in one session, at large and at small windows, over a database on this disk. Beside it, a plain C
+program over libsqlite3 (`plain_store.c`) does the same to its own database: one statement for each row, one transaction for each
+window, with the same journal mode and synchronous=FULL. Where there is no C compiler or no sqlite3.h, Python's sqlite3 does it.
+Then: the memory of a file of 64 MiB, the opening of 100 MiB, and reports and a session over 10,000 files. It takes the program as it
+was last built; the last line is `N passed, M failed`.
+"""
+
+import argparse
+import os
+import shutil
+import sqlite3
+import subprocess
+import sys
+import tempfile
+import time
+from pathlib import Path
+from typing import NamedTuple
+
+sys.path.insert(0, str(Path(__file__).resolve().parents[1] / "lib"))
+
+import one_file
+from one_file import BOOK, FILE, MEBI, frame_of
+from program import PROGRAM, ROOT
+from row_files import in_subrecords
+
+BLOCK = 1024
+OUTGOING = {"dataset": "INV.0001", "date": "20240201", "time": "0800000001"}
+
+# Each case: what it is, the octets of the file, the buffer, the credit, the octets that a DATA carries (as many as the buffer lets it
+# carry where there is no number), and how many times as long as stock sqlite3 it should take, and may take.
+RECEIVED = [
+    ("a file comes in, large windows", 8 * MEBI, 16384, 99, None, 1.5, 5),
+    ("a file comes in, small windows", MEBI, 128, 2, None, 1.3, 4),
+    ("500 times 16 rows come in", 500 * 16 * BLOCK, 8324, 2, 8 * BLOCK, 1.5, 4),
+]
+SENT = [
+    ("a file goes out, large windows", 8 * MEBI, 16384, 99, 1.5, 12),
+    ("a file goes out, small windows", MEBI, 128, 2, 1.3, 6),
+]
+
+
+class Room:
+    """A folder with what the runs take: books, octets, and databases to copy."""
+
+    def __init__(self, path):
+        self.path = path
+        self.plain = build_plain(path)
+        self.empty = path / "empty"
+        run_quietly([PROGRAM, "init", "--db", self.empty])
+        settle(self.empty)
+
+    def book(self, buffer, credit):
+        path = self.path / f"book_{buffer}_{credit}.toml"
+        path.write_text(BOOK.format(buffer=buffer, credit=credit))
+        return path
+
+    def copy_of(self, database):
+        """A copy of a database, on the disk before anything is measured."""
+        copy = self.path / "copy"
+        for end in ("-wal", "-shm"):
+            Path(f"{copy}{end}").unlink(missing_ok=True)
+        shutil.copyfile(database, copy)
+        with open(copy, "rb") as file:
+            os.fsync(file)
+        return copy
+
+
+def build_plain(path):
+    """The C program, or None where it can't be built."""
+    words = ["cc", "-O2", "-o", path / "plain_store", ROOT / "checks/speed/plain_store.c", "-lsqlite3"]
+    if shutil.which("cc") and subprocess.run(words, capture_output=True, check=False).returncode == 0:
+        return path / "plain_store"
+    return None
+
+
+def settle(database):
+    """Brings all of a database into its one file."""
+    connection = sqlite3.connect(database)
+    connection.execute("PRAGMA wal_checkpoint(TRUNCATE)")
+    connection.close()
+
+
+def run_quietly(words):
+    subprocess.run(words, check=True, stdout=subprocess.DEVNULL)
+
+
+class Taken(NamedTuple):
+    """What a run took: the seconds on the clock and those of the processor, and the KiB of memory, at least this script's own."""
+
+    seconds: float
+    processor: float
+    memory: int = 0
+
+
+def run(words):
+    """Runs a program to its end, and says what it took."""
+    begin = time.monotonic()
+    with open(os.devnull, "wb") as nowhere:
+        to_nowhere = [(os.POSIX_SPAWN_DUP2, nowhere.fileno(), 1)]
+        pid = os.posix_spawn(str(words[0]), [str(word) for word in words], os.environ, file_actions=to_nowhere)
+        _, status, used = os.wait4(pid, 0)
+    if status != 0:
+        raise SystemExit(f"{words[0]} {words[1]} failed with status {os.waitstatus_to_exitcode(status)}")
+    return Taken(time.monotonic() - begin, used.ru_utime + used.ru_stime, used.ru_maxrss)
+
+
+def make(size, buffer, credit, carried, path):
+    """Writes the octets of a session with one file."""
+    size, carried = int(size), int(carried)
+    if carried == 0:
+        one_file.make(size, buffer, credit, path)
+        return
+    opening = frame_of("SSID", code="O0177CARMAKER", password="CARPW", buffer=buffer, credit=credit, mode="B")
+    offer = frame_of("SFID", size=str((size + 1023) // 1024), **FILE)
+    pieces = [b"A" * min(carried, size - at) for at in range(0, size, carried)]
+    frames = [frame_of("DATA", payload=in_subrecords(piece, at == len(pieces) - 1)) for at, piece in enumerate(pieces)]
+    end = frame_of("EFID", records="0", units=str(size))
+    Path(path).write_bytes(b"".join([opening, offer, *frames, end, frame_of("ESID", reason="00")]))
+
+
+def full_payload(buffer):
+    """How many octets of a file the fullest DATA carries."""
+    whole, rest = divmod(buffer - 1, 64)
+    return whole * 63 + max(rest - 1, 0)
+
+
+def receive(room, size, buffer, credit, carried, runs):
+    """What the program and plain sqlite3 take at least for one file that comes in."""
+    given, answer, book = room.path / "given", room.path / "answer", room.book(buffer, credit)
+    # In a process of its own, since the memory that is told of a program is at least that of the script that starts it.
+    run_quietly([sys.executable, __file__, "--make", str(size), str(buffer), str(credit), str(carried or 0), given])
+    taken, plain = [], []
+    for _ in range(runs):
+        database = room.copy_of(room.empty)
+        taken.append(run([PROGRAM, "feed", "--db", database, "--book", book, given, answer]))
+        check_received(database, size, answer)
+        database = room.copy_of(room.empty)
+        if room.plain:
+            plain.append(run([room.plain, "receive", database, given, answer, credit]))
+            check_received(database, size, answer)
+        else:
+            plain.append(receive_by_python(database, size, credit * (carried or full_payload(buffer))))
+    return min(taken), min(plain)
+
+
+def check_received(database, size, answer):
+    """The file is there, whole, and so is its answer."""
+    connection = sqlite3.connect(database)
+    found = connection.execute("SELECT state, (SELECT sum(length(body)) FROM in_row) FROM in_file").fetchall()
+    connection.close()
+    if found != [("whole", size)] or answer.read_bytes()[-6:] != frame_of("EFPA", change="N"):
+        raise SystemExit(f"the file wasn't taken: {found}")
+
+
+def receive_by_python(database, size, window):
+    """What Python's sqlite3 takes for the same statements."""
+    body = b"A" * BLOCK
+    begin = time.monotonic(), time.process_time()
+    connection = opened_by_python(database)
+    connection.execute("INSERT INTO in_file VALUES (1, 'ASN.0001', '20240131', '1015300001', 'A', 'B', 'U', 0, '', 'open')")
+    kept = 0
+    for came in range(window, size, window):
+        if came // BLOCK > kept:
+            connection.execute("BEGIN IMMEDIATE")
+            for at in range(kept, came // BLOCK):
+                connection.execute("INSERT INTO in_row VALUES (1, ?, ?)", (at, body))
+            connection.execute("COMMIT")
+            kept = came // BLOCK
+    connection.execute("BEGIN IMMEDIATE")
+    for at in range(kept, size // BLOCK):
+        connection.execute("INSERT INTO in_row VALUES (1, ?, ?)", (at, body))
+    connection.execute("UPDATE in_file SET state = 'whole'")
+    connection.execute("COMMIT")
+    taken = Taken(time.monotonic() - begin[0], time.process_time() - begin[1])
+    connection.close()
+    return taken
+
+
+def opened_by_python(database):
+    connection = sqlite3.connect(database, isolation_level=None)
+    connection.execute("PRAGMA journal_mode = WAL")
+    connection.execute("PRAGMA synchronous = FULL")
+    connection.execute("PRAGMA foreign_keys = ON")
+    return connection
+
+
+def send(room, size, buffer, credit, runs):
+    """What the program and plain sqlite3 take at least for one file that goes out."""
+    given, answer, book = room.path / "given", room.path / "answer", room.book(buffer, credit)
+    frames = -(-size // full_payload(buffer))
+    opening = frame_of("SSID", code="O0177CARMAKER", password="CARPW", buffer=str(buffer), credit=str(credit), mode="B")
+    answers = [frame_of("SFPA", count="0"), frame_of("CDT") * (frames // credit), frame_of("EFPA"), frame_of("ESID", reason="00")]
+    given.write_bytes(b"".join([frame_of("SSRM"), opening, *answers]))
+    full = room.path / "full"
+    fill_out(room, full, size)
+    taken, plain = [], []
+    for _ in range(runs):
+        database = room.copy_of(full)
+        role = ["--role", "initiator", "--partner", "O0177CARMAKER"]
+        taken.append(run([PROGRAM, "feed", "--db", database, "--book", book, *role, given, answer]))
+        check_sent(database, answer, frames)
+        database = room.copy_of(full)
+        if room.plain:
+            plain.append(run([room.plain, "send", database, given, answer, credit, buffer]))
+            check_sent(database, answer, frames)
+        else:
+            plain.append(send_by_python(database, size, credit * full_payload(buffer)))
+    return min(taken), min(plain)
+
+
+def fill_out(room, full, size):
+    """A database with one file that waits."""
+    shutil.copyfile(room.empty, full)
+    connection = sqlite3.connect(full)
+    values = (*OUTGOING.values(), "O0013SUPPLIER", "O0177CARMAKER")
+    with connection:
+        connection.execute("INSERT INTO out_file VALUES (1, ?, ?, ?, ?, ?, 'U', 0, '', 0, 'waiting', '')", values)
+        rows = ((at, b"A" * BLOCK) for at in range(size // BLOCK))
+        connection.executemany("INSERT INTO out_row VALUES (1, ?, ?)", rows)
+    connection.close()
+    settle(full)
+
+
+def check_sent(database, answer, frames):
+    connection = sqlite3.connect(database)
+    found = connection.execute("SELECT state FROM out_file").fetchall()
+    connection.close()
+    octets = answer.read_bytes()
+    if found != [("handed",)] or len(octets) < frames * 100:
+        raise SystemExit(f"the file wasn't sent: {found}")
+
+
+def send_by_python(database, size, window):
+    begin = time.monotonic(), time.process_time()
+    connection = opened_by_python(database)
+    marked = 0
+    for gone in range(window, size + 1, window):
+        query = "SELECT body FROM out_row WHERE no = 1 AND pos >= ? ORDER BY pos LIMIT ?"
+        b"".join(body for (body,) in connection.execute(query, (marked, gone // BLOCK - marked)))
+        if gone // BLOCK > marked:
+            marked = gone // BLOCK
+            connection.execute("UPDATE out_file SET mark = ? WHERE no = 1", (marked,))
+    for state in ("closing", "handed"):
+        connection.execute("UPDATE out_file SET state = ? WHERE no = 1", (state,))
+    taken = Taken(time.monotonic() - begin[0], time.process_time() - begin[1])
+    connection.close()
+    return taken
+
+
+def fill_large(room, mebis):
+    """A database with so many MiB in two files that came."""
+    large = room.path / "large"
+    shutil.copyfile(room.empty, large)
+    connection = sqlite3.connect(large)
+    with connection:
+        for number in (1, 2):
+            values = (number, f"ASN.{number:04}", "20240131", "1015300001", "O0177CARMAKER", "O0013SUPPLIER")
+            connection.execute("INSERT INTO in_file VALUES (?, ?, ?, ?, ?, ?, 'U', 0, '', 'whole')", values)
+            rows = ((number, at, os.urandom(BLOCK)) for at in range(mebis * MEBI // 2 // BLOCK))
+            connection.executemany("INSERT INTO in_row VALUES (?, ?, ?)", rows)
+    connection.close()
+    settle(large)
+    return large
+
+
+def fill_many(room, files):
+    """A database with so many files that came, each answered, and as many that went out, each delivered."""
+    many = room.path / "many"
+    shutil.copyfile(room.empty, many)
+    connection = sqlite3.connect(many)
+    with connection:
+        for no in range(1, files + 1):
+            name, ours, theirs = f"N.{no:06}", "O0013SUPPLIER", "O0177CARMAKER"
+            values = (no, name, "20240131", "1015300001", theirs, ours)
+            connection.execute("INSERT INTO in_file VALUES (?, ?, ?, ?, ?, ?, 'U', 0, '', 'whole')", values)
+            connection.execute("INSERT INTO in_row VALUES (?, 0, ?)", (no, b"A" * 100))
+            connection.execute("INSERT INTO issued VALUES (?, 'EERP', '', '', 1)", (no,))
+            values = (no, name, ours, theirs)
+            connection.execute("INSERT INTO out_file VALUES (?, ?, '20240201', '0800000001', ?, ?, 'U', 0, '', 0, 'delivered', '')", values)
+            connection.execute("INSERT INTO out_row VALUES (?, 0, ?)", (no, b"A" * 100))
+            connection.execute("INSERT INTO received VALUES (?, 'EERP', ?, '20240201', '0800000001', ?, ?, '')", values)
+    connection.close()
+    settle(many)
+    return many
+
+
+def idle_session(room):
+    """The octets of a partner that is called and gets nothing."""
+    given = room.path / "idle"
+    opening = frame_of("SSID", code="O0177CARMAKER", password="CARPW", buffer="128", credit="2", mode="B")
+    given.write_bytes(b"".join([frame_of("SSRM"), opening, frame_of("ESID", reason="00")]))
+    return given
+
+
+class Told:
+    """Prints the figures, and counts those that pass their bounds."""
+
+    def __init__(self, plain):
+        self.passed = 0
+        self.failed = 0
+        print(f"{'seconds (of the processor)':<44} station           {plain}")
+
+    def beside(self, name, taken, plain, wanted, most):
+        times = taken.seconds / plain.seconds
+        line = f"{name:<42} {shown(taken)} {shown(plain)} {times:6.2f} times, wanted {wanted}, bound {most}"
+        self.judge(times <= most, line)
+
+    def within(self, name, taken, wanted, most):
+        self.judge(taken.seconds <= most, f"{name:<42} {shown(taken)}  wanted {wanted} s, bound {most} s, {taken.memory // 1024} MiB")
+
+    def memory(self, name, taken, plain, mebis):
+        line = f"{name:<42} {shown(taken)} {shown(plain)} {taken.memory // 1024} MiB, bound {mebis} MiB"
+        self.judge(taken.memory <= mebis * 1024, line)
+
+    def judge(self, is_good, line):
+        self.passed += is_good
+        self.failed += not is_good
+        print(line if is_good else f"{line}: TOO MUCH", flush=True)
+
+
+def shown(taken):
+    return f"{taken.seconds:8.3f} ({taken.processor:6.3f})"
+
+
+def measure(room, runs):
+    told = Told("plain C" if room.plain else "Python")
+    for name, size, buffer, credit, carried, wanted, most in RECEIVED:
+        told.beside(name, *receive(room, size, buffer, credit, carried, runs), wanted, most)
+    for name, size, buffer, credit, wanted, most in SENT:
+        told.beside(name, *send(room, size, buffer, credit, runs), wanted, most)
+    told.memory("64 MiB come in", *receive(room, 64 * MEBI, 16384, 99, None, 1), 128)
+    large = fill_large(room, 100)
+    told.within("100 MiB are opened", least(runs, ["init", "--db", large]), 1, 8)
+    many, book = fill_many(room, 10_000), room.book(128, 2)
+    told.within("10,000 files are reported", least(runs, ["report", "--db", many, "in"]), 1, 5)
+    role = ["--role", "initiator", "--partner", "O0177CARMAKER"]
+    words = ["feed", "--db", many, "--book", book, *role, idle_session(room), room.path / "answer"]
+    told.within("a session with nothing, over 10,000 files", least(runs, words), 1, 4)
+    return told
+
+
+def least(runs, words):
+    return min(run([PROGRAM, *words]) for _ in range(runs))
+
+
+def main():
+    if sys.argv[1:2] == ["--make"]:
+        make(*sys.argv[2:])
+        return 0
+    parser = argparse.ArgumentParser(description=__doc__.splitlines()[0])
+    parser.add_argument("--assert", action="store_true", dest="is_asserted")
+    parser.add_argument("--runs", type=int, default=3)
+    taken = parser.parse_args()
+    with tempfile.TemporaryDirectory() as path:
+        told = measure(Room(Path(path)), taken.runs)
+    print(f"{told.passed} passed, {told.failed} failed")
+    return 1 if taken.is_asserted and told.failed else 0
+
+
+if __name__ == "__main__":
+    sys.exit(main())

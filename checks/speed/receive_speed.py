@@ -1,0 +1,88 @@
+#!/usr/bin/env python3
+"""Gives `feed` one file in one session, at several sizes, buffers and credits, and prints the time and the memory that it took, beside
+a plain copy of the same octets.
+
+    checks/speed/receive_speed.py [--assert]      with `--assert` it fails where the largest file needs more than one and a half times its
+                                                  size in memory, or costs per octet three times what a file of a thousandth does, or where
+                                                  a file that turns out an octet longer doesn't end the session
+
+It takes the program of OFTP_STATION, or else the one that was last proved. The last line is then `N passed, M failed`.
+"""
+
+import os
+import shutil
+import subprocess
+import sys
+import tempfile
+import time
+from pathlib import Path
+
+sys.path.insert(0, str(Path(__file__).resolve().parents[1] / "lib"))
+
+from one_file import BOOK, MOST, frame_of, make
+from program import PROGRAM
+
+
+def run(words):
+    """Runs a program to its end. It answers the seconds and the KiB of memory that it took, which are at least this script's own."""
+    begin = time.monotonic()
+    with open(os.devnull, "wb") as nowhere:
+        pid = os.posix_spawn(words[0], words, os.environ, file_actions=[(os.POSIX_SPAWN_DUP2, nowhere.fileno(), 1)])
+        _, status, used = os.wait4(pid, 0)
+    if status != 0:
+        raise SystemExit(f"{words[0]} failed with status {os.waitstatus_to_exitcode(status)}")
+    return time.monotonic() - begin, used.ru_maxrss
+
+
+def receive(room, size, buffer, credit):
+    """Gives `feed` one file. It answers the seconds, the KiB, and the octets that come out."""
+    given, answer, book = room / "given", room / "answer", room / "book.toml"
+    # In a process of its own, since the memory that is told of a program is at least that of the script that starts it.
+    subprocess.run([sys.executable, __file__, "--make", str(size), str(buffer), str(credit), given], check=True)
+    book.write_text(BOOK.format(buffer=buffer, credit=credit))
+    seconds, memory = run([PROGRAM, "feed", "--book", str(book), str(given), str(answer)])
+    return seconds, memory, answer.read_bytes()
+
+
+def measure(room, size, buffer, credit):
+    """Receives one file. It answers the seconds, the KiB, and the seconds of a plain copy."""
+    seconds, memory, answer = receive(room, size, buffer, credit)
+    if not answer.endswith(frame_of("EFPA", change="N")):
+        raise SystemExit("the file wasn't taken")
+    begin = time.monotonic()
+    shutil.copyfile(room / "given", room / "copy")
+    return seconds, memory, time.monotonic() - begin
+
+
+def ends_at_the_limit(room):
+    """Whether a file that is offered within the limit and passes it by an octet ends the session by ESID 06."""
+    _, _, answer = receive(room, MOST + 1, 16384, 99)
+    return answer.endswith(frame_of("ESID", reason="06"))
+
+
+def main():
+    if sys.argv[1:2] == ["--make"]:
+        make(*sys.argv[2:])
+        return 0
+    cases = [(MOST, 16384, 99), (64 * 1024, 16384, 99), (MOST, 128, 1), (64 * 1024, 128, 1)]
+    print("octets      buffer credit  seconds   MB/s  memory/KiB  plain copy/s")
+    taken = {}
+    with tempfile.TemporaryDirectory() as room:
+        for size, buffer, credit in cases:
+            seconds, memory, plain = min(measure(Path(room), size, buffer, credit) for _ in range(3))
+            taken[size, buffer] = (seconds, memory)
+            print(f"{size:<11} {buffer:<6} {credit:<6} {seconds:8.3f} {size / seconds / 1e6:6.0f} {memory:11} {plain:13.3f}")
+        is_ended = ends_at_the_limit(Path(room))
+        print(f"a file of an octet more {'ends' if is_ended else 'does not end'} the session")
+    failed = 0
+    if "--assert" in sys.argv[1:]:
+        seconds, memory = taken[MOST, 16384]
+        failed += memory > 64 * 1024 * 3 // 2
+        slower = {buffer: taken[MOST, buffer][0] / 1024 > 3 * max(taken[64 * 1024, buffer][0], 0.001) for buffer in (16384, 128)}
+        failed += sum(slower.values()) + (not is_ended)
+        print(f"{4 - failed} passed, {failed} failed")
+    return 1 if failed else 0
+
+
+if __name__ == "__main__":
+    sys.exit(main())

@@ -1,0 +1,450 @@
+#!/usr/bin/env python3
+"""Tries wrong bodies: edits of crates/CRATE/must-fail/ and of checks/wrong_bodies/CRATE/ alike, of which the prover must refuse each.
+
+    checks/wrong_bodies/wrong_bodies.py [--jobs N] [CRATE ..]  tries all of these crates, or of all, and writes down in the ledger each crate whose edits were all refused
+    checks/wrong_bodies/wrong_bodies.py CRATE/NAME ..          tries these alone, and writes nothing down
+    checks/wrong_bodies/wrong_bodies.py --record [CRATE ..]    as the first; an edit that names no refusal gets the line of what refused it, for a person to read over
+    checks/wrong_bodies/wrong_bodies.py --fits                 says whether each edit can be applied to the text that it turns
+    checks/wrong_bodies/wrong_bodies.py --ledger               says whether each crate with edits is what it was when all of them were refused
+    checks/wrong_bodies/wrong_bodies.py --of-the-day           tries one crate, another each day, whatever the ledger says
+
+Many edits are tried in one check, over a copy of the crate and over the proofs that its out/ kept: in a round no two edits turn one function. rattle checks
+a function against the contracts of those that it calls, so it tells a function that fails by itself from one that only calls such a function. An edit
+is refused where a function that it turns fails by itself. What a round doesn't judge is tried in a later one, and at the end alone. An edit that turns no
+function, but a definition or a constant, is tried alone, over the whole crate.
+
+A line `refused by: WORD, ..` of an edit names what has to refuse it. It is compared with the goals that rattle names as not proved in that function:
+`returns-in-Err-clause-took` stands for the clause `took`. The words are
+
+    the name of a clause   a goal of that clause
+    ensures                a goal of clauses without a name, of a trait's contract, or of all clauses where the prover shows them as one fact
+    invariant              the invariant of a type
+    loop                   an invariant of a loop, which carries clauses through it
+    safety                 any other demand: an overflow, an index, what a called function requires, a measure
+
+For an edit that turns no function a word is `PATH.WORD`, as `packing::put_from.count`, of any function that fails by itself, or the name of a lemma
+or a law that does.
+Each word has to be among what refused the edit; others may be there too. An edit fails as NOT REFUSED where the crate is proved with it; as BAD EDIT where it
+can't be applied or doesn't compile; where nothing refuses it but that a proof names what it took away; and where it names no refusal, or another.
+
+The ledger, checks/wrong_bodies/ledger.txt, has a line for each crate with edits: the sum of its src/, specs/, proofs/ and edits when all were
+refused, how many, and the day. A crate that changed since is to be tried again. The sum says nothing of the crates below: a contract there can turn
+what refuses an edit, and so can another toolchain. That is what the try of the day is for, by which each crate is tried again within a few weeks.
+The last line is `N passed, M failed`.
+"""
+
+import datetime
+import hashlib
+import os
+import re
+import resource
+import shutil
+import subprocess
+import sys
+import tempfile
+from pathlib import Path
+
+sys.path.insert(0, str(Path(__file__).resolve().parents[1] / "lib"))
+
+from edits import REFUSED_BY, Edit, Unfit, edits_of, functions_of, turned_texts
+from program import ROOT
+
+LEDGER = ROOT / "checks" / "wrong_bodies" / "ledger.txt"
+PARTS = ("src", "specs", "proofs")
+# What a proof says where an edit took away a name that it cites, and what then rests on that proof.
+TAKEN_AWAY = re.compile(r"has no field|is not in scope|has no `|was not admitted|that depend on `")
+
+# What the prover says of a text that it can't read, in src/ and specs/; another error there is of a fact that doesn't hold.
+UNREADABLE = re.compile(r"is not in scope|has no field|is no name|operand is missing|expected the end|cannot continue")
+
+
+def kit():
+    """The folder of the toolchain, in which rt stands."""
+    return Path(os.path.realpath(shutil.which("rt"))).parent.parent
+
+
+def listed():
+    """Each crate of crates.txt with the libraries that it stands on."""
+    lines = [it for it in (ROOT / "crates.txt").read_text(encoding="utf-8").splitlines() if it and not it.startswith("#")]
+    return {name: rest.split() for name, _, rest in (it.partition(":") for it in lines)}
+
+
+def below(crate):
+    """The crates of the repository that a crate stands on, in the order of crates.txt."""
+    crates = listed()
+    found, left = set(), [crate]
+    while left:
+        new = [it for it in crates[left.pop()] if it in crates and it not in found]
+        found.update(new)
+        left += new
+    return [it for it in crates if it in found]
+
+
+def build(crate):
+    """Has a crate and the libraries below it proved and built as they are, where they don't stand; without that a refusal says nothing.
+
+    What `rt ci` left has no stamp, and is taken as it is.
+    """
+    rlibs = {it: ROOT / "crates" / it / "out" / "rlib" for it in (*below(crate), crate)}
+    if all((at / f"{it}.rlib").is_dir() and not (at / "stamp").is_file() for it, at in rlibs.items()):
+        return True
+    return subprocess.run(["rt", "lib", "--jobs", "1"], cwd=ROOT / "crates" / crate, stdout=sys.stderr).returncode == 0
+
+
+def words_of_check(crate):
+    """The words of a check of the crate, as `rt must-fail` gives them."""
+    crates, rlib = listed(), lambda it: ROOT / "crates" / it / "out" / "rlib"
+    externs = {it: kit() / "rlibs" / f"{it}.rlib" for it in ("std", *crates[crate]) if it not in crates}
+    externs.update({it: rlib(it) / f"{it}.rlib" for it in crates[crate] if it in crates})
+    words = ["--crate-name", crate, "src/main.rt" if (ROOT / "crates" / crate / "src" / "main.rt").is_file() else "src/lib.rt"]
+    for name, path in externs.items():
+        words += ["--extern", f"{name}={path}"]
+    for path in (kit() / "rlibs", *map(rlib, below(crate))):
+        words += ["-L", f"dependency={path}"]
+    return [*words, "--antt-project", f"{kit()}/rattle/logic/antt-project.json", "--logic-built", f"{kit()}/logic_built", "--links", f"{crate}="]
+
+
+class Room:
+    """A folder for the checks of one crate, with what its out/ kept; `jobs` is how many each check gets."""
+
+    def __init__(self, crate, folder, jobs):
+        self.crate, self.folder, self.jobs = crate, Path(folder), jobs
+        self.functions = functions_of(crate)
+        kept = ROOT / "crates" / crate / "out" / "incremental"
+        if kept.is_dir():
+            shutil.copytree(kept, self.folder / "incremental")
+
+    def check(self, texts, only):
+        """What rattle says of the crate with these texts, of these functions or, without any, of all."""
+        for part in PARTS:
+            shutil.rmtree(self.folder / part, ignore_errors=True)
+            if (ROOT / "crates" / self.crate / part).is_dir():
+                shutil.copytree(ROOT / "crates" / self.crate / part, self.folder / part)
+        for path, text in texts.items():
+            (self.folder / path).write_text(text, encoding="utf-8")
+        words = [kit() / "bin" / "rattle", "check", *words_of_check(self.crate), "--jobs", str(self.jobs), "--incremental", self.folder / "incremental"]
+        for it in only:
+            words += ["--only", it.name.partition("::")[2]]
+        ran = subprocess.run(words, cwd=self.folder, stdin=subprocess.DEVNULL, stdout=subprocess.PIPE, stderr=subprocess.STDOUT, text=True, errors="replace")
+        return ran.stdout
+
+    def turned(self, edit):
+        """The functions that an edit turns, or none where it turns something else too."""
+        found = [next((it for it in self.functions if it.has(*at)), None) for at in edit.lines]
+        return [] if None in found else list(dict.fromkeys(found))
+
+
+class Failures:
+    """What a check says: `goals` has for each function the goals that aren't proved, `taken` those that fail for a name that an edit took away."""
+
+    def __init__(self, said, room):
+        self.goals, self.taken, self.lemmas, self.unread = {}, {}, [], []
+        self.said, self.functions, self.folder = said, room.functions, room.folder
+        self.is_judged = bool(re.search(r"^(?:only=|logic=(?:not-)?proved)", said, re.M))
+        self.is_proved = bool(re.search(r"^(?:only=(\d+) proved=\1$|logic=proved)", said, re.M))
+        for line in said.splitlines():
+            self.read(line)
+
+    def first(self):
+        """The first line that tells an error, shortened."""
+        lines = self.said.splitlines()
+        return next((it for it in lines if ": error" in it), next((it for it in lines if re.match(r"fn .*: no", it)), lines[-1] if lines else ""))[:300]
+
+    def read(self, line):
+        """Takes what one line says."""
+        fault = re.match(r"(?:\./)?(\S+?):(\d+):\d+: error(\[[\w-]+\])?: (?:`([^`]*)`: )?(.*)", line)
+        open_goal = re.match(r"note: (src/\S+?):(\d+):\d+: it is not proved that .*?\(`([^`]*)`\)", line)
+        joint = re.match(r"note: `([^`]*)` of (proofs/\S+) must prove: record \{(.*)", line)
+        unproved = re.match(r"fn (\S+): no.*`search` did not prove (`[^;]*)", line)
+        if fault and fault[1].startswith("proofs/"):
+            self.of_proof(fault[1], fault[4], fault[5])
+        elif fault and fault[4] and not fault[3] and not UNREADABLE.search(fault[5]):
+            self.lemmas.append(fault[4])
+        elif fault:
+            self.unread.append((fault[1], int(fault[2]) - 1))
+        elif open_goal:
+            for it in self.functions:
+                if it.has(open_goal[1], int(open_goal[2]) - 1):
+                    self.goals.setdefault(it.name, []).append(open_goal[3])
+        elif unproved:
+            self.goals.setdefault(unproved[1], []).extend(re.findall(r"`([^`]*)`", unproved[2]))
+        elif joint:
+            self.part(self.owner(joint[2]), joint[1], joint[3])
+
+    def part(self, owner, goal, text):
+        """Takes the text of a goal that holds several clauses: it fails by those that are shown false or, where none is, by each."""
+        function = next((it for it in self.functions if it.name == owner), None)
+        found = re.findall(r"(?:^|; )(\w+) : ⊥", text) or re.findall(r"(?:^|; )(\w+) : ", text)
+        clauses = [it for it in found if function and it in function.clauses]
+        if clauses and goal in self.goals.get(owner, []):
+            kept = [it for it in self.goals[owner] if it != goal]
+            self.goals[owner] = kept + [f"{goal}-clause-{it}" for it in clauses]
+
+    def of_proof(self, path, name, text):
+        """Takes an error of a proof: of a function's answers, or of a lemma."""
+        owner = self.owner(path)
+        cited = re.match(r"\d+ declarations? that .*: (.*)", text)
+        names = cited[1].split(", ") if cited else [name]
+        if not owner:
+            self.lemmas += [it for it in names if it and not cited]
+        elif TAKEN_AWAY.search(text) and not cited:
+            self.taken.setdefault(owner, []).extend(names)
+        else:
+            goals = re.findall(r"(?m)^(?:abbrev )?pub (\S+) : goal\.", (self.folder / path).read_text(encoding="utf-8"))
+            self.goals.setdefault(owner, []).extend(it for it in names if it in goals)
+
+    def owner(self, path):
+        """The function whose answers a file has, or None."""
+        parts = path.split("/")
+        return next((it.name for it in self.functions if it.name.split("::")[1:] == parts[1:-1]), None)
+
+
+def word_of(goal, function):
+    """The word that stands for a goal of a function."""
+    if re.search(r"-requires\b", goal):
+        return "safety"
+    if "-clause-" in goal:
+        return re.sub(r"-\d+$", "", goal.rpartition("-clause-")[2])
+    if goal.startswith("returns"):
+        return function.clauses[0] if len(function.clauses) == 1 and function.clauses[0] else "ensures"
+    if re.search(r"-(preserved|init)\b", goal):
+        return "loop"
+    return "invariant" if goal.startswith("invariant_of-") else "safety"
+
+
+def words_of(goals, function):
+    """The words of a function's goals, the clauses first."""
+    words = list(dict.fromkeys(word_of(it, function) for it in goals))
+    return sorted(words, key=lambda it: it in ("loop", "invariant", "safety"))
+
+
+def words_of_all(failures):
+    """The words of all functions that fail by themselves, and the lemmas that do."""
+    named = {it.name: it for it in failures.functions}
+    words = [f"{name.partition('::')[2]}.{it}" for name, goals in failures.goals.items() if name in named for it in words_of(goals, named[name])]
+    return list(dict.fromkeys([*words, *failures.lemmas]))
+
+
+def verdict(edit, turned, failures):
+    """What refuses an edit in a check that was judged, in words, none where nothing does; and whether that is only for a name that it took away."""
+    if not turned:
+        return words_of_all(failures), False
+    words = [word for it in turned for word in words_of(failures.goals.get(it.name, []), it)]
+    return words, not words and any(it.name in failures.taken for it in turned)
+
+
+def in_rounds(edits, room):
+    """The edits in rounds, in which no two turn one function; one that turns none has a round of its own."""
+    rounds, alone = [], []
+    for edit in edits:
+        mine = {it.name for it in room.turned(edit)}
+        fit = next((it for it in rounds if not it[0] & mine), None)
+        if not mine:
+            alone.append([edit])
+        elif fit:
+            fit[0].update(mine)
+            fit[1].append(edit)
+        else:
+            rounds.append((mine, [edit]))
+    return [*(it for _, it in rounds), *alone]
+
+
+def processor():
+    """The seconds of a processor that the checks so far took."""
+    used = resource.getrusage(resource.RUSAGE_CHILDREN)
+    return used.ru_utime + used.ru_stime
+
+
+def tell(text):
+    """Tells how far the trial is, beside what it prints."""
+    print(text, file=sys.stderr, flush=True)
+
+
+def try_round(edits, room):
+    """Tries edits together: what refuses each that is judged, and the others, those whose own lines can't be read first."""
+    only = dict.fromkeys(it for edit in edits for it in room.turned(edit))
+    failures = Failures(room.check(turned_texts(edits), only), room)
+    blamed = [it for it in edits if any(at in it.lines for at in failures.unread)]
+    if blamed or not failures.is_judged:
+        return {}, blamed, [it for it in edits if it not in blamed], failures
+    found = {it: verdict(it, room.turned(it), failures) for it in edits}
+    refused = {it: words for it, (words, _) in found.items() if words}
+    tell(f"{room.crate}: a check of {len(edits)} edits, of which it refuses {len(refused)}; {processor():.0f} s of a processor so far")
+    return refused, [], [it for it in edits if it not in refused], failures
+
+
+def try_alone(edit, room):
+    """Tries an edit alone: what refuses it, or why it fails."""
+    refused, _, _, failures = try_round([edit], room)
+    if edit in refused:
+        return refused[edit], None
+    if failures.unread or not failures.is_judged:
+        return [], f"BAD EDIT: the prover can't read it: {failures.first()}"
+    if verdict(edit, room.turned(edit), failures)[1]:
+        return [], "refused only because a proof names what it took away: turn a value, and keep the names"
+    return [], "NOT REFUSED: what it turns is proved with it" if failures.is_proved else f"NOT REFUSED by what it turns: {failures.first()}"
+
+
+def try_all(edits, room):
+    """Tries the edits of a crate: what refuses each, or why it fails, and how many checks that took."""
+    found, left, alone, checks = {}, in_rounds(edits, room), [], 0
+    while left:
+        tried = left.pop(0)
+        if len(tried) == 1:
+            alone += tried
+            continue
+        refused, blamed, others, _ = try_round(tried, room)
+        checks += 1
+        found.update({it: (words, None) for it, words in refused.items()})
+        alone += blamed
+        if blamed and others:
+            left.append(others)
+        elif others and not refused:
+            left += [others[: len(others) // 2], others[len(others) // 2 :]]
+        else:
+            alone += others
+    found.update({it: try_alone(it, room) for it in alone})
+    return found, checks + len(alone)
+
+
+def compared(edit, words, why):
+    """Why an edit fails, or None: what it names has to be among what refused it."""
+    if why:
+        return why
+    if not edit.refused_by:
+        return f"it names no refusal, and this refuses it: {', '.join(words)}"
+    lost = [it for it in edit.refused_by if it not in words]
+    return f"refused by {', '.join(words)}, and not by {', '.join(lost)}" if lost else None
+
+
+def record(edit, words):
+    """Writes what refused an edit into one that names nothing: its clauses, or the other demand where no clause refused it."""
+    clauses = [it for it in words if it.rpartition(".")[2] not in ("loop", "invariant", "safety")] or words[:1]
+    if words and not edit.refused_by:
+        text = edit.path.read_text(encoding="utf-8")
+        edit.path.write_text(f"{text.rstrip()}\n{REFUSED_BY}{', '.join(clauses)}\n", encoding="utf-8")
+        edit.refused_by = clauses
+
+
+def try_crate(crate, jobs, is_recording, named=()):
+    """Tries the edits of a crate, those that are named or all, and returns how many they are and how many fail. What they cost is printed too."""
+    edits, lost = read_all([crate])
+    edits = [it for it in edits if not named or it.name in named]
+    if not build(crate):
+        print(f"{crate} isn't proved as it is, so none of its edits was tried")
+        return len(edits) + lost, len(edits) + lost
+    before = processor()
+    with tempfile.TemporaryDirectory(prefix="wrong-bodies-") as folder:
+        found, checks = try_all(edits, Room(crate, folder, jobs))
+    failed = lost
+    for edit in edits:
+        words, why = found[edit]
+        if is_recording:
+            record(edit, words)
+        why = compared(edit, words, why)
+        print(f"{edit.name}: {why or 'refused by ' + ', '.join(words)}", flush=True)
+        failed += bool(why)
+    print(f"{crate}: {len(edits)} edits in {checks} checks, {processor() - before:.0f} s of a processor", flush=True)
+    return len(edits) + lost, failed
+
+
+def read_all(crates):
+    """The edits of these crates, or of all, and how many can't be applied, each of which it tells."""
+    edits, lost = [], 0
+    for path in edits_of(crates):
+        try:
+            edits.append(Edit(path))
+        except Unfit as why:
+            print(f"{path.relative_to(ROOT)}: BAD EDIT: {why}")
+            lost += 1
+    return edits, lost
+
+
+def fit():
+    """Says which edits can't be applied, and which name no refusal, without which none passes."""
+    edits, lost = read_all([])
+    unnamed = [it for it in edits if not it.refused_by]
+    for crate in sorted({it.crate for it in unnamed}):
+        print(f"{crate}: {sum(it.crate == crate for it in unnamed)} edits name no refusal: checks/wrong_bodies/wrong_bodies.py --record {crate} finds it")
+    return len(edits) + lost, lost
+
+
+def sum_of(crate):
+    """The sum of a crate's sources and of its edits, wherever they stand."""
+    folder = ROOT / "crates" / crate
+    files = {str(it.relative_to(folder)): it for part in PARTS for it in (folder / part).rglob("*") if it.is_file()}
+    files.update({it.name: it for it in edits_of([crate])})
+    total = hashlib.sha256()
+    for name in sorted(files):
+        total.update(f"{name} {hashlib.sha256(files[name].read_bytes()).hexdigest()}\n".encode())
+    return total.hexdigest()
+
+
+def lines_of_ledger():
+    """The lines of the ledger, by crate: how many edits, the day and the sum."""
+    lines = LEDGER.read_text(encoding="utf-8").splitlines() if LEDGER.is_file() else []
+    return {it.split()[0]: it.split()[1:] for it in lines}
+
+
+def today():
+    """The day, as UTC has it."""
+    return datetime.datetime.now(datetime.timezone.utc).date()
+
+
+def write_line(crate):
+    """Writes down that all edits of a crate were refused."""
+    lines = lines_of_ledger()
+    lines[crate] = [str(len(edits_of([crate]))), today().isoformat(), sum_of(crate)]
+    LEDGER.write_text("".join(f"{' '.join([it, *lines[it]])}\n" for it in sorted(lines)), encoding="utf-8")
+
+
+def crates_with_edits():
+    """The crates that have edits."""
+    return sorted({Edit.crate_of(it) for it in edits_of([])})
+
+
+def held_to_ledger():
+    """Says which crates aren't what the ledger has."""
+    lines, crates = lines_of_ledger(), crates_with_edits()
+    lost = [it for it in crates if lines.get(it, [])[::2] != [str(len(edits_of([it]))), sum_of(it)]]
+    for it in lost:
+        print(f"{it} changed since all its wrong bodies were refused, or never were: run checks/wrong_bodies/wrong_bodies.py {it}")
+    gone = sorted({*lines} - {*crates})
+    for it in gone:
+        print(f"{it} stands in the ledger and has no edits")
+    return len(crates) + len(gone), len(lost) + len(gone)
+
+
+def crate_of_the_day():
+    """The crate that is tried today, whatever the ledger says."""
+    crates = crates_with_edits()
+    return crates[today().toordinal() % len(crates)]
+
+
+def try_and_write(named, jobs, is_recording):
+    """Tries the edits that are named, by crate or one by one, or all, and writes down each crate of which all were tried and refused."""
+    tried = []
+    for crate in dict.fromkeys(it.partition("/")[0] for it in named or crates_with_edits()):
+        some = [it for it in named if it.startswith(f"{crate}/")]
+        tried.append(try_crate(crate, jobs, is_recording, some))
+        if not some and not tried[-1][1]:
+            write_line(crate)
+    return tried
+
+
+def main(words):
+    jobs = int(words.pop(words.index("--jobs") + 1)) if "--jobs" in words else 1
+    named = [it for it in words if not it.startswith("--")]
+    if "--fits" in words or "--ledger" in words:
+        tried = [call() for word, call in (("--fits", fit), ("--ledger", held_to_ledger)) if word in words]
+    elif "--of-the-day" in words:
+        tried = [try_crate(crate_of_the_day(), jobs, False)]
+    else:
+        tried = try_and_write(named, jobs, "--record" in words)
+    failed = sum(it for _, it in tried)
+    print(f"{sum(it for it, _ in tried) - failed} passed, {failed} failed")
+    return 1 if failed or not any(it for it, _ in tried) else 0
+
+
+if __name__ == "__main__":
+    sys.exit(main(sys.argv[1:]))
