@@ -1,5 +1,5 @@
-"""The C files of checks/faults, which stand before the calls of a program: they stop it at a call, or refuse an allocation or a port. Here
-each is compiled, and told where it has to stop the program."""
+"""The C files of checks/faults as libraries that are loaded before the C library, and the environment that tells them at which call they
+stop the program, or which allocation they refuse."""
 
 import subprocess
 
