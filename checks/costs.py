@@ -9,7 +9,6 @@ counts for the same crate. What a process takes within the last half second of i
 
 import os
 import pathlib
-import re
 import subprocess
 import sys
 import time
