@@ -26,12 +26,13 @@ def read(path):
 
 
 def processes():
-    """Each process with its parent and the seconds of a processor that it has taken."""
+    """Each process with its parent, its name, and the seconds of a processor that it has taken. The name has the time of its start too, since
+    a number is given again."""
     found = {}
     for name in os.listdir("/proc"):
         fields = read(f"/proc/{name}/stat").rpartition(b") ")[2].split() if name.isdigit() else []
         if fields:
-            found[int(name)] = int(fields[1]), (int(fields[11]) + int(fields[12])) / TICKS
+            found[int(name)] = int(fields[1]), (name, fields[19]), (int(fields[11]) + int(fields[12])) / TICKS
     return found
 
 
@@ -66,27 +67,31 @@ class Costs:
         self.taken = {}
 
     def label(self, pid, found):
-        """What a process counts for: its own label, or that of the next process above it that has one. None is no process below the command."""
+        """What a process counts for: its own label, or that of the next process above it that has one. None is no process below the command.
+        A label of its own is kept; one that has none yet may become the prover at the next look."""
         if pid == self.top:
             return ("", "the rest")
         if pid not in found or pid == 1:
             return None
-        if pid not in self.labels:
-            above = self.label(found[pid][0], found)
-            self.labels[pid] = above and (label_of(pid) or above)
-        return self.labels[pid]
+        above, name, _ = found[pid]
+        if name not in self.labels:
+            own, label = label_of(pid), self.label(above, found)
+            if not own or not label:
+                return label
+            self.labels[name] = own
+        return self.labels[name]
 
     def look(self):
         found = processes()
-        for pid, (_, seconds) in found.items():
+        for pid, (_, name, seconds) in found.items():
             label = self.label(pid, found)
             if label:
-                self.taken[pid, label] = max(seconds, self.taken.get((pid, label), 0))
+                self.taken[name] = label, seconds
 
     def sums(self):
         """The seconds of each crate and kind."""
         sums = {}
-        for (_, label), seconds in self.taken.items():
+        for label, seconds in self.taken.values():
             sums[label] = sums.get(label, 0) + seconds
         return sums
 
