@@ -133,6 +133,6 @@ if [ "$how" = program ]; then
     echo 'LEFT OUT, since only the gate builds them: the tests of refused growths and of the room that the deframer reserves'
     exit
 fi
-none_behind_reservation oftp_examples tests::streams::no_memory_within_room
-each_of_test oftp_examples tests::files::refused_and_taken_again
-each_of_test oftp_examples tests::registers::memory::each_allocation_refused
+none_behind_reservation oftp_test_register tests::streams::no_memory_within_room
+each_of_test oftp_test_register tests::files::refused_and_taken_again
+each_of_test oftp_test_register tests::registers::memory::each_allocation_refused

@@ -7,8 +7,9 @@ Each trial gives the program one command over a database that earlier trials lef
 in pieces of random sizes; one in which a file goes out; one in which responses come, or go; `submit`; `release` or `refuse`. After a
 random time it is killed, unless it ended before. Then the tables are read by stock sqlite3, and the program tells them by `report`.
 They have to stand for all changes that the octets and the lines that came out answer, and else for no more than what comes next:
-never for less, and never for half a change. The next trial goes on with what is left. The seed is printed, and at a failure all that
-is left is kept in a folder. The last line is `N passed, M failed`.
+never for less, and never for half a change. The next trial goes on with what is left. It goes on behind its time until a trial of each
+kind was killed, and fails where five minutes more bring none. The seed is printed, and at a failure all that is left is kept in a
+folder. The last line is `N passed, M failed`.
 """
 
 import argparse
@@ -29,8 +30,8 @@ from killed import BLOCK, BUFFER, CREDIT, Station, Wrong, keep, rows_of
 FULL = (BUFFER - 1) // 64 * 63 + max((BUFFER - 1) % 64 - 1, 0)
 WINDOW = FULL * CREDIT
 FILES_OF_A_DATABASE = 6
-# From how many trials of a kind on some have to be killed.
-ENOUGH = 20
+# Some trials of each kind have to be killed. Where none was when the time is up, it goes on for so many seconds at most.
+LONGEST = 300
 PARTNER = {"originator": "O0177CARMAKER", "destination": "O0013SUPPLIER"}
 STAMP = {"date": "20240131", "time": "1015300001"}
 
@@ -361,6 +362,11 @@ class Responses:
 SCENARIOS = [FileIn, FileOut, Submission, Release, Responses]
 
 
+def unkilled(told):
+    """The kinds of which no trial was killed yet."""
+    return [name for name, (_, killed) in told.items() if not killed]
+
+
 def run_all(room, seconds, chance):
     """Runs trials of each scenario in turn until the time is up. It answers how many went well and ill."""
     running = []
@@ -370,7 +376,8 @@ def run_all(room, seconds, chance):
         running.append(scenario(Station(folder, chance)))
     told = {scenario.name: [0, 0] for scenario in running}
     end = time.monotonic() + seconds
-    while time.monotonic() < end:
+    last = end + LONGEST
+    while time.monotonic() < end or (time.monotonic() < last and unkilled(told)):
         for scenario in running:
             try:
                 was_killed = scenario.trial()
@@ -381,7 +388,7 @@ def run_all(room, seconds, chance):
             told[scenario.name][1] += was_killed
     for name, (trials, killed) in told.items():
         print(f"{name}: {trials} trials, {killed} of them killed")
-    never = [name for name, (trials, killed) in told.items() if trials >= ENOUGH and not killed]
+    never = unkilled(told)
     print("".join(f"{name}: the program was never killed\n" for name in never), end="")
     return sum(trials for trials, _ in told.values()), len(never)
 

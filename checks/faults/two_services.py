@@ -10,7 +10,8 @@ by SIGKILL, after a time or at a place in what is said. After each round both da
 stations promise (`promised`): a file that one has handed over is whole and equal at the other, and what it holds as delivered or
 returned was answered so there. Behind a number of rounds come two sessions that nothing breaks: then all is delivered or returned.
 
-Four pairs of stations live at once. The seed is printed: it repeats what is chosen, and not how far a program is when it is killed. At
+Four pairs of stations live at once. It goes on behind its time until programs and commands were killed, connections broken and transfers
+went on, and fails where five minutes more don't bring them. The seed is printed: it repeats what is chosen, and not how far a program is when it is killed. At
 a failure all that happened to the pair is printed too, and what is left is kept. The last line is `N passed, M failed`.
 """
 
@@ -41,8 +42,8 @@ ROUNDS_OF_A_LIFE = 24
 FILES = 10
 MOST = 20_000
 LONG = 60
-# What has to come in so many rounds, or more.
-ENOUGH = 200
+# What has to come. Where some of it hasn't when the time is up, lives follow for so many seconds more, at most.
+LONGEST = 300
 WANTED = ["commands killed", "programs killed", "connections broken", "transfers that went on"]
 IDENTITY = ["dataset", "date", "time", "originator", "destination"]
 STAMP = ["--date", "20240201", "--time", "0800000001"]
@@ -572,7 +573,8 @@ class Pair:
 
 
 def live(room, chance, until):
-    """Lives of pairs, one after another, until the time is up. It answers what they did, and why the last one went wrong, or None."""
+    """Lives of pairs, one after another and one at least, until the time is up. It answers what they did, and why the last one went wrong,
+    or None."""
     count = Counter()
     with socket.create_server(("127.0.0.1", 0)) as post, held_port() as holder:
         while True:
@@ -590,6 +592,20 @@ def live(room, chance, until):
                 return count, None
 
 
+def live_side_by_side(room, chances, until, players):
+    """Lives of pairs beside each other. It answers what they did, and why some went wrong."""
+    count, faults = Counter(), []
+    for done, why in players.map(lambda chance: live(room, chance, until), chances):
+        count += done
+        faults += [why] if why else []
+    return count, faults
+
+
+def missing(count):
+    """What has to come and hasn't yet."""
+    return [name for name in WANTED if not count[name]]
+
+
 def main():
     parser = argparse.ArgumentParser(description=__doc__.splitlines()[0])
     parser.add_argument("--seconds", type=float, default=30)
@@ -597,18 +613,18 @@ def main():
     taken = parser.parse_args()
     print(f"seed {taken.seed}")
     until = time.monotonic() + taken.seconds
-    count, faults = Counter(), []
+    last = until + LONGEST
     with tempfile.TemporaryDirectory() as room, ThreadPoolExecutor(max_workers=PAIRS) as players:
         chances = [random.Random(f"{taken.seed} {place}") for place in range(PAIRS)]
-        for done, why in players.map(lambda chance: live(room, chance, until), chances):
-            count += done
-            faults += [why] if why else []
+        count, faults = live_side_by_side(Path(room), chances, until, players)
+        while missing(count) and not faults and time.monotonic() < last:
+            more, faults = live_side_by_side(Path(room), chances, 0, players)
+            count += more
     print("".join(f"{why}\n" for why in faults), end="")
     rounds = count.pop("rounds", 0)
     print(", ".join(f"{number} {name}" for name, number in sorted(count.items())))
-    never = [name for name in WANTED if rounds >= ENOUGH and not count[name]]
-    faults += [f"no {name}" for name in never]
-    print("".join(f"no {name}, in {rounds} rounds\n" for name in never), end="")
+    faults += [f"no {name}" for name in missing(count)]
+    print("".join(f"no {name}, in {rounds} rounds\n" for name in missing(count)), end="")
     print(f"{rounds} passed, {len(faults)} failed")
     return 1 if faults or not rounds else 0
 

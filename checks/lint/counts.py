@@ -37,8 +37,8 @@ def count_tests():
 
 
 def count_examples():
-    """The calls of crates/oftp_answers, and the lines that they have to answer."""
-    lines = (ROOT / "crates/oftp_answers/stdout").read_text(encoding="utf-8").splitlines()
+    """The calls of crates/oftp_test_codec, and the lines that they have to answer."""
+    lines = (ROOT / "crates/oftp_test_codec/stdout").read_text(encoding="utf-8").splitlines()
     answers = [it for it in lines if it.startswith("  ")]
     calls = [it for it in lines if it and not it.startswith(("#", "  "))]
     return len(calls), len(answers)

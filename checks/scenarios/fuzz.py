@@ -8,8 +8,9 @@ A life is a database, or a register in memory, and what is done to it: sessions 
 what the model of the station has out, but for mistakes of every kind; and submissions, releases, refusals and fetches between them. The
 octets of a session are then changed here and there, and given to `feed` in a file, or through a pipe in pieces of random sizes. Each
 time the octets out, the lines, the exit status and the tables that are left have to be the model's. A life has a seed of its own; where
-something differs, the seed is printed, with all that was done in words, and `--seed N --sessions 1` plays that life again. It fails also
-where 5,000 sessions don't take each step of the step tables. The last line is `N passed, M failed`, which counts sessions.
+something differs, the seed is printed, with all that was done in words, and `--seed N --sessions 1` plays that life again. It goes on
+behind its time until each step of the step tables was taken, unless `--sessions` says how many there are, and fails where five minutes
+more leave one out. The last line is `N passed, M failed`, which counts sessions.
 """
 
 import argparse
@@ -40,8 +41,11 @@ RECORDS = [1, 2, 3, 3, 10, 62, 63, 64, 65, 127, 128, 300, 2000, 16384]
 # How often a session breaks in a phase.
 BREAKS = {"receives": 0.08, "sends": 0.1, "awaits EFPA": 0.3, "awaits RTR": 0.1, "offers": 0.05}
 TEXTS = ["", "", "", "OK", "NO PLANT", "ü€\U0001f600", "a" * 999, "€" * 333, "\n\x1b[2J\x7f", "'; DROP TABLE in_file; --"]
-# What has to come about in so many sessions: each step of the step tables, these answers and turns, and these changes of a file's state.
-ENOUGH = 5000
+# What has to come about: each step of the step tables, these answers and turns, and these changes of a file's state. Where some of it hasn't
+# when the time is up, sessions follow for so many seconds more, at most.
+LONGEST = 300
+# So many seeds are more than one turn plays.
+SEEDS = 10**7
 REASONS = {"SFNA": "01 02 03 05 06 13 14 99", "ESID": "01 02 03 04 06 07 10 12"}
 TURNS = "SSRM,SSID,SFPA,SFPA later,DATA,CDT,EFID,EFPA N,EFPA Y,EFNA 10,EFNA 11,RTR,EERP,NERP 09,SFID,SFID later,CD,ESID 00".split(",")
 REFUSALS = [f"{kind} {reason}" for kind, reasons in REASONS.items() for reason in reasons.split()]
@@ -545,6 +549,33 @@ def work(share):
     return sessions, steps, why
 
 
+class Played:
+    """What was played so far: sessions, steps, and how many lives differed."""
+
+    def __init__(self, taken):
+        self.jobs = min(taken.jobs, taken.sessions or taken.jobs)
+        self.most = -(-(taken.sessions or 10**9) // self.jobs)
+        self.first = taken.seed
+        self.sessions = 0
+        self.failed = 0
+        self.steps = collections.Counter()
+
+    def play(self, seconds):
+        """Plays lives of seeds that weren't played yet for so many seconds, in a process for each job."""
+        deadline = time.monotonic() + seconds
+        shares = [(range(self.first + job, self.first + SEEDS, self.jobs), deadline, self.most) for job in range(self.jobs)]
+        self.first += SEEDS
+        with multiprocessing.Pool(self.jobs) as pool:
+            for sessions, steps, why in pool.imap_unordered(work, shares):
+                self.sessions += sessions
+                self.steps += steps
+                self.failed += why is not None
+                print(why or "", end="\n" if why else "", flush=True)
+
+    def missing(self):
+        return sorted(WANTED - set(self.steps))
+
+
 def main():
     parser = argparse.ArgumentParser(description=__doc__.splitlines()[0])
     parser.add_argument("--seconds", type=float, default=20)
@@ -555,27 +586,20 @@ def main():
     taken = parser.parse_args()
     if Path("/dev/shm").is_dir():
         tempfile.tempdir = "/dev/shm"
-    jobs = min(taken.jobs, taken.sessions or taken.jobs)
-    most = -(-(taken.sessions or 10**9) // jobs)
-    deadline = time.monotonic() + taken.seconds
     print(f"seed {taken.seed}", flush=True)
-    shares = [(range(taken.seed + job, taken.seed + 10**9, jobs), deadline, most) for job in range(jobs)]
-    sessions, failed, steps = 0, 0, collections.Counter()
-    with multiprocessing.Pool(jobs) as pool:
-        for held, found, why in pool.imap_unordered(work, shares):
-            sessions += held
-            steps += found
-            failed += why is not None
-            print(why or "", end="\n" if why else "", flush=True)
+    played = Played(taken)
+    played.play(taken.seconds)
+    last = time.monotonic() + LONGEST
+    while played.missing() and not taken.sessions and not played.failed and time.monotonic() < last:
+        played.play(10)
     if taken.steps:
-        print("\n".join(f"{count:8} {step}" for step, count in sorted(steps.items())))
-    missing = WANTED - set(steps)
-    if missing and sessions >= ENOUGH and not failed:
-        failed += 1
-        print(f"never seen: {', '.join(sorted(missing))}")
-    print(f"{steps.total()} steps, {len(steps)} of them different, in {sessions} sessions")
-    print(f"{sessions} passed, {failed} failed")
-    return 1 if failed or not sessions else 0
+        print("\n".join(f"{count:8} {step}" for step, count in sorted(played.steps.items())))
+    if played.missing():
+        played.failed += not taken.sessions
+        print(f"never seen: {', '.join(played.missing())}")
+    print(f"{played.steps.total()} steps, {len(played.steps)} of them different, in {played.sessions} sessions")
+    print(f"{played.sessions} passed, {played.failed} failed")
+    return 1 if played.failed or not played.sessions else 0
 
 
 if __name__ == "__main__":

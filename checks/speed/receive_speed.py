@@ -3,8 +3,10 @@
 a plain copy of the same octets.
 
     checks/speed/receive_speed.py [--assert]      with `--assert` it fails where the largest file needs more than one and a half times its
-                                                  size in memory, or costs per octet three times what a file of a thousandth does, or where
-                                                  a file that turns out an octet longer doesn't end the session
+                                                  size in memory, or costs per octet twice what a sixteenth of it does, or where a file that
+                                                  turns out an octet longer doesn't end the session
+
+What the program takes for a session without a file is taken off before two files are compared, so that work is compared with work.
 
 It takes the program of OFTP_STATION, or else the one that was last proved. The last line is then `N passed, M failed`.
 """
@@ -21,6 +23,10 @@ sys.path.insert(0, str(Path(__file__).resolve().parents[1] / "lib"))
 
 from one_file import BOOK, MOST, frame_of, make
 from program import PROGRAM
+
+# A sixteenth of the largest file, whose octets are to cost as much each.
+PART = MOST // 16
+CASES = [(size, buffer, credit) for buffer, credit in ((16384, 99), (128, 1)) for size in (MOST, PART)]
 
 
 def run(words):
@@ -64,24 +70,30 @@ def main():
     if sys.argv[1:2] == ["--make"]:
         make(*sys.argv[2:])
         return 0
-    cases = [(MOST, 16384, 99), (64 * 1024, 16384, 99), (MOST, 128, 1), (64 * 1024, 128, 1)]
     print("octets      buffer credit  seconds   MB/s  memory/KiB  plain copy/s")
     taken = {}
     with tempfile.TemporaryDirectory() as room:
-        for size, buffer, credit in cases:
-            seconds, memory, plain = min(measure(Path(room), size, buffer, credit) for _ in range(3))
+        for size, buffer, credit in CASES:
+            seconds, memory, plain = min(measure(Path(room), size, buffer, credit) for _ in range(3 if size == MOST else 9))
             taken[size, buffer] = (seconds, memory)
             print(f"{size:<11} {buffer:<6} {credit:<6} {seconds:8.3f} {size / seconds / 1e6:6.0f} {memory:11} {plain:13.3f}")
+        start = min(receive(Path(room), 0, 16384, 99)[0] for _ in range(9))
         is_ended = ends_at_the_limit(Path(room))
-        print(f"a file of an octet more {'ends' if is_ended else 'does not end'} the session")
-    failed = 0
-    if "--assert" in sys.argv[1:]:
-        seconds, memory = taken[MOST, 16384]
-        failed += memory > 64 * 1024 * 3 // 2
-        slower = {buffer: taken[MOST, buffer][0] / 1024 > 3 * max(taken[64 * 1024, buffer][0], 0.001) for buffer in (16384, 128)}
-        failed += sum(slower.values()) + (not is_ended)
-        print(f"{4 - failed} passed, {failed} failed")
+    print(f"a session without a file: {start:.3f} s; a file of an octet more {'ends' if is_ended else 'does not end'} the session")
+    if "--assert" not in sys.argv[1:]:
+        return 0
+    dear = [dearer(taken[MOST, buffer][0] - start, taken[PART, buffer][0] - start, buffer) for buffer in (16384, 128)]
+    failed = sum(dear) + (taken[MOST, 16384][1] > 64 * 1024 * 3 // 2) + (not is_ended)
+    print(f"{4 - failed} passed, {failed} failed")
     return 1 if failed else 0
+
+
+def dearer(whole, part, buffer):
+    """Whether an octet of the largest file takes twice what one of a sixteenth of it does, or more. A clock that tells nothing of the part is
+    no measure."""
+    times = whole / MOST / max(part / PART, 1e-12)
+    print(f"buffer {buffer}: an octet of {MOST} takes {times:.2f} times what one of {PART} does, bound 2")
+    return part <= 0 or times >= 2
 
 
 if __name__ == "__main__":

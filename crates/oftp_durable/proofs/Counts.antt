@@ -43,7 +43,7 @@ use Rattle.oftp_session.specs.declared.link.WhenDone.TheVariants.{ChangeDirectio
 use Rattle.oftp_session.specs.Settings.{Setting}
 use Rattle.oftp_session.specs.Phases.{AwaitingEnd, AwaitingRtr, AwaitingSsid, AwaitingStart, EndedHere, EndedThere, GivingWay, InitiatorOpening, ListenerIdle, Offer, Phase, Receipt, Receiving, ResponderOpening, Sending, SpeakerIdle, Step, Transfer, fails, frame_of, is_over, unexpected}
 use Rattle.oftp_session.specs.Opening.{Agreement, came_awaiting_ssid, came_initiator_opening, open_step, opened_step, ssid_verdict}
-use Rattle.oftp_session.specs.Opening.{offer_step as offers_session}
+use Rattle.oftp_session.specs.Opening.{calling_step}
 use Rattle.oftp_session.specs.Listener.{came_listener_idle, end_response, is_between, negative_end_response, response_step}
 use Rattle.oftp_session.specs.Receiving.{came_receiving, carried_by, data_step, end_step, is_window_full, offer_step, offered_identity, on_end_verdict, on_start_verdict, on_taken, verdict_on, with_payload}
 use Rattle.oftp_session.specs.Speaker.{came_awaiting_rtr, nothing_next, offers, on_item, response_of, speaks}
@@ -59,18 +59,18 @@ use Rattle.oftp_durable.proofs.Limits.{all_limits}
 -- one step
 
 -- where SFPA is sent, a file is started with its count
-abbrev Starts : Option Command → Option Change → Type 0
-Starts None change = ⊤
-Starts (Some (command.Sfpa sfpa)) change =
+abbrev SfpaStarts : Option Command → Option Change → Type 0
+SfpaStarts None change = ⊤
+SfpaStarts (Some (command.Sfpa sfpa)) change =
     (identity : Identity) × (format : Format) × (longest : ℕ) × (description : List ℕ) × (change ≡ Some (Start identity format longest description sfpa.restart))
-Starts (Some _) change = ⊤
+SfpaStarts (Some _) change = ⊤
 
 abbrev StepStarts : Step → Type 0
-StepStarts s = Starts s.output s.change
+StepStarts s = SfpaStarts s.output s.change
 
-either : (b : Bool) (x y : Step) → StepStarts x → StepStarts y → StepStarts (cond b x y)
-either true x y p q = p
-either false x y p q = q
+either_starts : (b : Bool) (x y : Step) → StepStarts x → StepStarts y → StepStarts (cond b x y)
+either_starts true x y p q = p
+either_starts false x y p q = q
 
 unexpected_starts : (c : Command) → StepStarts (unexpected c)
 unfolding unexpected
@@ -89,7 +89,7 @@ sfid_starts setting contact r sfid = verdict_starts contact r sfid (verdict_on s
 
 response_starts : (setting : Setting) (contact : Contact) (r : Register) (response : Received) → StepStarts (response_step setting contact r response)
 unfolding response_step
-response_starts setting contact r response = either (is_between setting contact response.identity) _ _ tt tt
+response_starts setting contact r response = either_starts (is_between setting contact response.identity) _ _ tt tt
 
 listener_starts : (setting : Setting) (contact : Contact) (r : Register) (c : Command) → StepStarts (came_listener_idle setting contact r c)
 unfolding came_listener_idle
@@ -102,12 +102,12 @@ listener_starts setting contact r other = unexpected_starts other
 -- a file that comes
 
 taken_starts : (contact : Contact) (f : Receipt) (payload : List ℕ) (read : Result Taking TakeFault) → StepStarts (on_taken contact f payload read)
-taken_starts contact f payload (Ok t) = either (is_window_full contact (with_payload f payload)) _ _ tt tt
+taken_starts contact f payload (Ok t) = either_starts (is_window_full contact (with_payload f payload)) _ _ tt tt
 taken_starts contact f payload (Err fault) = tt
 
 data_starts : (contact : Contact) (f : Receipt) (payload : List ℕ) → StepStarts (data_step contact f payload)
 unfolding data_step
-data_starts contact f payload = either (nat_lt contact.link.buffer (length payload + 1)) _ _ tt (taken_starts contact f payload (taken (carried_by f) payload))
+data_starts contact f payload = either_starts (nat_lt contact.link.buffer (length payload + 1)) _ _ tt (taken_starts contact f payload (taken (carried_by f) payload))
 
 close_starts : (contact : Contact) (r : Register) (f : Receipt) (t : Taking) (verdict : EndVerdict) → StepStarts (on_end_verdict contact r f t verdict)
 close_starts contact r f t «end».Accept = tt
@@ -117,7 +117,7 @@ end_starts : (contact : Contact) (r : Register) (f : Receipt) (efid : Efid) → 
 unfolding end_step
 end_starts contact r f efid =
     let t = carried_by f in
-    either (is_open t.stage) _ _ tt (close_starts contact r f t (end_verdict efid (counts_of t).0 (counts_of t).1))
+    either_starts (is_open t.stage) _ _ tt (close_starts contact r f t (end_verdict efid (counts_of t).0 (counts_of t).1))
 
 receiving_starts : (contact : Contact) (r : Register) (f : Receipt) (c : Command) → StepStarts (came_receiving contact r f c)
 unfolding came_receiving
@@ -127,7 +127,7 @@ receiving_starts contact r f other = unexpected_starts other
 
 -- how a session opens
 
-offer_starts : (setting : Setting) (called : Option Partner) → StepStarts (offers_session setting called)
+offer_starts : (setting : Setting) (called : Option Partner) → StepStarts (calling_step setting called)
 offer_starts setting None = tt
 offer_starts setting (Some partner) = tt
 
@@ -158,13 +158,13 @@ rtr_starts contact number other = unexpected_starts other
 
 answer_starts : (contact : Contact) (offer : Offer) (c : Command) → StepStarts (came_awaiting_start contact offer c)
 unfolding came_awaiting_start
-answer_starts contact offer (command.Sfpa sfpa) = either (nat_le sfpa.restart offer.from) _ _ tt tt
+answer_starts contact offer (command.Sfpa sfpa) = either_starts (nat_le sfpa.restart offer.from) _ _ tt tt
 answer_starts contact offer (command.Sfna sfna) = tt
 answer_starts contact offer other = unexpected_starts other
 
 sending_starts : (contact : Contact) (t : Transfer) (c : Command) → StepStarts (came_sending contact t c)
 unfolding came_sending
-sending_starts contact t command.Cdt = either (nat_lt 0 (credit_left contact t)) _ _ tt tt
+sending_starts contact t command.Cdt = either_starts (nat_lt 0 (credit_left contact t)) _ _ tt tt
 sending_starts contact t other = unexpected_starts other
 
 ended_starts : (contact : Contact) (t : Transfer) (c : Command) → StepStarts (came_awaiting_end contact t c)
@@ -195,7 +195,7 @@ nothing_starts : (contact : Contact) (done : WhenDone) → StepStarts (nothing_n
 nothing_starts contact ChangeDirection = tt
 nothing_starts contact EndSession = tt
 
-kind_starts : (station : List ℕ) (e : IssuedEntry) (kind : ResponseKind) (change : Option Change) → Starts (Some (response_of station e kind)) change
+kind_starts : (station : List ℕ) (e : IssuedEntry) (kind : ResponseKind) (change : Option Change) → SfpaStarts (Some (response_of station e kind)) change
 kind_starts station e EndResponse change = tt
 kind_starts station e NegativeEndResponse change = tt
 
@@ -218,7 +218,7 @@ next_starts contact t None = tt
 
 sends_starts : (contact : Contact) (t : Transfer) → StepStarts (turned_sending contact t)
 unfolding turned_sending
-sends_starts contact t = either (nat_lt 0 (credit_left contact t)) _ _ (next_starts contact t (slice_get (payloads_in contact t) t.sent)) tt
+sends_starts contact t = either_starts (nat_lt 0 (credit_left contact t)) _ _ (next_starts contact t (slice_get (payloads_in contact t) t.sent)) tt
 
 turned_starts : (setting : Setting) (p : Phase) (r : Register) → StepStarts (turned setting p r)
 unfolding turned
@@ -261,15 +261,15 @@ abbrev Behind : List Change → ℕ → Command → Type 0
 Behind changes after (command.Sfpa sfpa) = HasStart changes after sfpa.restart
 Behind changes after _ = ⊤
 
-record IsSaid (changes : List Change) (o : Output) : Type 0 where
+record IsSpoken (changes : List Change) (o : Output) : Type 0 where
   command : Command
   octets : o.octets ≡ frame_of command
   behind : Behind changes o.after command
 
 abbrev AllSaid : Course → Type 0
-AllSaid c = AllByRecursion (IsSaid c.changes) c.outputs
+AllSaid c = AllByRecursion (IsSpoken c.changes) c.outputs
 
-behind_now : (changes : List Change) (change : Option Change) (c : Command) → Starts (Some c) change → Behind (with_change changes change) (length (with_change changes change)) c
+behind_now : (changes : List Change) (change : Option Change) (c : Command) → SfpaStarts (Some c) change → Behind (with_change changes change) (length (with_change changes change)) c
 behind_now changes change (command.Sfpa sfpa) (identity, format, longest, description, is) =
     let k = Start identity format longest description sfpa.restart in
     subst (λ (x : Option Change). HasStart (with_change changes x) (length (with_change changes x)) sfpa.restart) (sym is)
@@ -291,21 +291,21 @@ behind_more changes more after (command.Sfpa sfpa) h =
     }
 behind_more changes more after _ h = tt
 
-said_more : (changes more : List Change) (outputs : List Output) → AllByRecursion (IsSaid changes) outputs → AllByRecursion (IsSaid (changes ++ more)) outputs
+said_more : (changes more : List Change) (outputs : List Output) → AllByRecursion (IsSpoken changes) outputs → AllByRecursion (IsSpoken (changes ++ more)) outputs
 said_more changes more [] h = h
 said_more changes more (o ∷ outputs) h =
     (record { command = h.0.command; octets = h.0.octets; behind = behind_more changes more o.after h.0.command h.0.behind }, said_more changes more outputs h.1)
 
-said_with : (changes : List Change) (change : Option Change) (outputs : List Output) → AllByRecursion (IsSaid changes) outputs → AllByRecursion (IsSaid (with_change changes change)) outputs
+said_with : (changes : List Change) (change : Option Change) (outputs : List Output) → AllByRecursion (IsSpoken changes) outputs → AllByRecursion (IsSpoken (with_change changes change)) outputs
 said_with changes None outputs h = h
 said_with changes (Some k) outputs h = said_more changes (k ∷ []) outputs h
 
-said_push : (changes : List Change) (outputs : List Output) (o : Output) → AllByRecursion (IsSaid changes) outputs → IsSaid changes o → AllByRecursion (IsSaid changes) (outputs ++ o ∷ [])
+said_push : (changes : List Change) (outputs : List Output) (o : Output) → AllByRecursion (IsSpoken changes) outputs → IsSpoken changes o → AllByRecursion (IsSpoken changes) (outputs ++ o ∷ [])
 said_push changes [] o h now = (now, h)
 said_push changes (p ∷ outputs) o h now = (h.0, said_push changes outputs o h.1 now)
 
-said_step : (changes : List Change) (outputs : List Output) (change : Option Change) (output : Option Command) → Starts output change → AllByRecursion (IsSaid changes) outputs
-    → AllByRecursion (IsSaid (with_change changes change)) (with_output outputs output (length (with_change changes change)))
+said_step : (changes : List Change) (outputs : List Output) (change : Option Change) (output : Option Command) → SfpaStarts output change → AllByRecursion (IsSpoken changes) outputs
+    → AllByRecursion (IsSpoken (with_change changes change)) (with_output outputs output (length (with_change changes change)))
 said_step changes outputs change None starts h = said_with changes change outputs h
 said_step changes outputs change (Some c) starts h =
     let after = length (with_change changes change) in
@@ -353,8 +353,8 @@ unfolding run
 run_said limit s c h = run_by_said (suc (length s)) limit s c h
 
 -- so many rows were kept
-kept_of : (r last : Register) (changes : List Change) (after : ℕ) (c : Command) → apply_all r changes ≡ Ok last → Behind changes after c → KeepsCount r changes after c
-kept_of r last changes after (command.Sfpa sfpa) made h =
+count_is_kept : (r last : Register) (changes : List Change) (after : ℕ) (c : Command) → apply_all r changes ≡ Ok last → Behind changes after c → KeepsCount r changes after c
+count_is_kept r last changes after (command.Sfpa sfpa) made h =
     let k = Start h.identity h.format h.longest h.description sfpa.restart in
     let parts : fold go_on_by (apply_all r h.before) (k ∷ h.later) ≡ Ok last = sym (fold-append go_on_by (Ok r) h.before (k ∷ h.later)) ∙ sym (ap (apply_all r) h.all) ∙ made in
     let old = all_limits (k ∷ h.later) (apply_all r h.before) last parts in
@@ -377,12 +377,13 @@ kept_of r last changes after (command.Sfpa sfpa) made h =
       kept = counts.0;
       left = counts.1;
     }
-kept_of r last changes after _ made h = tt
+count_is_kept r last changes after _ made h = tt
 
-answers_of : (r last : Register) (changes : List Change) (outputs : List Output) → apply_all r changes ≡ Ok last → AllByRecursion (IsSaid changes) outputs → AllByRecursion (IsAnswer r changes) outputs
+answers_of : (r last : Register) (changes : List Change) (outputs : List Output) → apply_all r changes ≡ Ok last
+    → AllByRecursion (IsSpoken changes) outputs → AllByRecursion (IsAnswer r changes) outputs
 answers_of r last changes [] made h = h
 answers_of r last changes (o ∷ outputs) made h =
-    (record { command = h.0.command; octets = h.0.octets; kept = kept_of r last changes o.after h.0.command made h.0.behind }, answers_of r last changes outputs made h.1)
+    (record { command = h.0.command; octets = h.0.octets; kept = count_is_kept r last changes o.after h.0.command made h.0.behind }, answers_of r last changes outputs made h.1)
 
 pub no_answer_passes : NoAnswerPasses
 no_answer_passes session r sound =

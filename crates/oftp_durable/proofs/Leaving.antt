@@ -17,15 +17,15 @@ use Rattle.oftp_tables.specs.Tables.{register_in}
 use Rattle.oftp_store.specs.Views.{view_of}
 use Rattle.oftp_engine.specs.declared.operating.Operator.{Operator}
 use Rattle.oftp_engine.specs.declared.operating.Told.{Told}
-use Rattle.oftp_ports.specs.declared.port.Port.{Port}
+use Rattle.oftp_io.specs.declared.port.Port.{Port}
 use Rattle.oftp_engine.specs.declared.serving.End.{End}
 use Rattle.oftp_engine.specs.declared.serving.RunFault.{RunFault}
 use Rattle.oftp_engine.specs.declared.serving.RunFault.TheVariants as fault
 use Rattle.oftp_engine.specs.Jobs.{LeavesSome, call_share}
 use Rattle.oftp_engine.specs.Operated.{Operates}
 use Rattle.oftp_engine.specs.Operating.{Deed, IsDeed}
-use Rattle.oftp_engine.specs.Parts.{IsLeft, Leaves, Operates as Calls, course_of}
-use Rattle.oftp_ports.specs.Ports.{Wrote}
+use Rattle.oftp_engine.specs.Parts.{IsLeft, JobLeaves, OfCall, course_of}
+use Rattle.oftp_io.specs.Ports.{Wrote}
 use Rattle.oftp_engine.specs.Runs.{Course, Output, answered, octets_of, with_change}
 use Rattle.oftp_engine.specs.Served.{IsPrefix, IsWhole, Serves}
 use Rattle.oftp_engine.specs.Serving.{Took, last_frame, scene}
@@ -59,13 +59,13 @@ no_more : (octets : List ℕ) → octets ≡ octets ++ take 0 last_frame
 no_more octets = sym (append-nil octets)
 
 -- the register after the one change of a call, or before it
-pub one_left : (change : Option Change) (r s : Register) (n : ℕ) → apply_all r (take n (with_change [] change)) ≡ Ok s → (s ≡ r) ⊎ Makes change r s
-one_left None r s n h =
+pub none_or_one : (change : Option Change) (r s : Register) (n : ℕ) → apply_all r (take n (with_change [] change)) ≡ Ok s → (s ≡ r) ⊎ Makes change r s
+none_or_one None r s n h =
     let none : take n (with_change [] None) ≡ [] = take-nil n in
     let same : Ok r ≡ Ok s = sym (ap (apply_all r) none) ∙ h in
     let is : s ≡ r = cc in inl is
-one_left (Some k) r s zero h = let is : s ≡ r = cc in inl is
-one_left (Some k) r s (suc n) h = inr (sym (ap (λ (ks : List Change). apply_all r (k ∷ ks)) (take-nil n)) ∙ h)
+none_or_one (Some k) r s zero h = let is : s ≡ r = cc in inl is
+none_or_one (Some k) r s (suc n) h = inr (sym (ap (λ (ks : List Change). apply_all r (k ∷ ks)) (take-nil n)) ∙ h)
 
 -- what the engine says of an office over a database
 module _ (x : View) (limits : Limits) (faults : ℕ) (s : State) where
@@ -183,9 +183,9 @@ module _ {W : Type 0} (contents : W → Option (List ℕ)) (x : View) (a b : Por
       left = left;
       parts = λ file identity so db may.
           let q = left.left db may in
-          let made = one_left deed.change x.register q.register q.count q.replay in
-          let leaves : Leaves (Calls book call) x.register q.register = elim made [ inl same ↦ inl same | inr done ↦ inr (deed, is, done) ] in
-          (q.register, q.holds, jobs_make_the_file file identity (Calls book call ∷ []) x.register q.register sound so (q.register, tt, leaves, refl));
+          let made = none_or_one deed.change x.register q.register q.count q.replay in
+          let leaves : JobLeaves (OfCall book call) x.register q.register = elim made [ inl same ↦ inl same | inr done ↦ inr (deed, is, done) ] in
+          (q.register, q.holds, jobs_make_the_file file identity (OfCall book call ∷ []) x.register q.register sound so (q.register, tt, leaves, refl));
     }
 
     all_made : (deed : Deed) → IsDeed book x.register call deed → (out : ℕ) → Wrote contents a b (take out deed.line)

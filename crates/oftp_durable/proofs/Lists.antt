@@ -10,7 +10,7 @@ use Rattle.oftp_register.specs.Changes.{apply_all}
 use Rattle.oftp_register.specs.Offices.{View}
 use Rattle.oftp_register.specs.Register.{Register}
 use Rattle.oftp_register.specs.Soundness.{IsSound}
-use Rattle.oftp_open.specs.Stands.{IsContentOf}
+use Rattle.oftp_tables.specs.Stands.{IsContentOf}
 use Rattle.oftp_session.specs.Phases.{register_after}
 use Rattle.oftp_tables.specs.Tables.{register_in}
 use Rattle.oftp_store.specs.Views.{view_of}
@@ -18,8 +18,8 @@ use Rattle.oftp_engine.specs.declared.running.Job.{Job}
 use Rattle.oftp_engine.specs.declared.running.Job.TheVariants as job
 use Rattle.oftp_engine.specs.declared.serving.RunFault.{RunFault}
 use Rattle.oftp_engine.specs.declared.serving.RunFault.TheVariants as fault
-use Rattle.oftp_engine.specs.Jobs.{Call, EndsWith, Entry, JobStops, JobsDone, Runs, Session, Stop, after_jobs, changes_of, share_of}
-use Rattle.oftp_engine.specs.Parts.{BringsParts, File, IsLeft, Leaves, Operates, Serves, course_of}
+use Rattle.oftp_engine.specs.Jobs.{CallEntry, EndsWith, Entry, JobStops, JobsDone, Runs, SessionEntry, Stop, after_jobs, changes_of, share_of}
+use Rattle.oftp_engine.specs.Parts.{BringsParts, File, IsLeft, JobLeaves, OfCall, OfSession, course_of}
 use Rattle.oftp_engine.specs.Runs.{run, started}
 use Rattle.oftp_engine.specs.declared.serving.Role.{Role}
 use Rattle.oftp_engine.specs.Served.{IsPrefix, setting_of}
@@ -28,7 +28,7 @@ use Rattle.oftp_engine.proofs.Jobs.{replay_on, replay_one}
 use Rattle.oftp_engine.proofs.PartRuns.{IsSoIn, job_leaves}
 use Rattle.oftp_durable.specs.Headline.{ButForOffice, LeavesAlone, session_of}
 use Rattle.oftp_durable.specs.Lists.{BringAll, BringsLast, ListLeaves, beginning}
-use Rattle.oftp_durable.proofs.Leaving.{one_left, prefix_all, prefix_of}
+use Rattle.oftp_durable.proofs.Leaving.{none_or_one, prefix_all, prefix_of}
 
 ends_from : (old new : View) (f : RunFault) → EndsWith old new f → EndsWith (beginning old.register old.told) new f
 ends_from old new fault.Read h = h
@@ -86,7 +86,7 @@ module _ {R W : Type 0} (remaining : R → Option (List ℕ)) (contents : W → 
   jobs_so r [] (old ∷ olds) news done brings so = absurd done
   jobs_so r (e ∷ es) [] news done brings so = absurd done
   jobs_so r (e ∷ es) (old ∷ olds) [] done brings so = absurd done
-  jobs_so r (Session setting given stop ∷ es) (old ∷ olds) (new ∷ news) (d, done) (here, brings) so =
+  jobs_so r (SessionEntry setting given stop ∷ es) (old ∷ olds) (new ∷ news) (d, done) (here, brings) so =
       let c = run stop given (started setting r) in
       let made = replay_all stop setting given r c.register so.sound refl in
       let all : IsLeft c r c.register = record {
@@ -94,20 +94,20 @@ module _ {R W : Type 0} (remaining : R → Option (List ℕ)) (contents : W → 
         most = omega arith;
         replay = ap (apply_all r) (take_all (length c.changes) c.changes (omega arith)) ∙ made;
       } in
-      then_so r (Session setting given stop) es made
-      (jobs_so c.register es olds news done brings (job_leaves file identity (Serves (session_of setting given stop)) r c.register so here all))
-  jobs_so r (Call deed stop ∷ es) (job.Session old ∷ olds) (new ∷ news) (d, done) brings so = absurd d
-  jobs_so r (Call deed stop ∷ es) (job.Call old ∷ olds) (job.Session new ∷ news) (d, done) brings so = absurd d
-  jobs_so r (Call deed stop ∷ es) (job.Call old ∷ olds) (job.Call new ∷ news) (d, done) brings so =
+      then_so r (SessionEntry setting given stop) es made
+      (jobs_so c.register es olds news done brings (job_leaves file identity (OfSession (session_of setting given stop)) r c.register so here all))
+  jobs_so r (CallEntry deed stop ∷ es) (job.Session old ∷ olds) (new ∷ news) (d, done) brings so = absurd d
+  jobs_so r (CallEntry deed stop ∷ es) (job.Call old ∷ olds) (job.Session new ∷ news) (d, done) brings so = absurd d
+  jobs_so r (CallEntry deed stop ∷ es) (job.Call old ∷ olds) (job.Call new ∷ news) (d, done) brings so =
       let after = register_after r deed.change in
-      then_so r (Call deed stop) es (replay_one deed.change r after d.made)
-      (jobs_so after es olds news done brings (job_leaves file identity (Operates book old.call) r after so tt (inr (deed, d.is, d.made))))
+      then_so r (CallEntry deed stop) es (replay_one deed.change r after d.made)
+      (jobs_so after es olds news done brings (job_leaves file identity (OfCall book old.call) r after so tt (inr (deed, d.is, d.made))))
 
   -- a session or a call that was broken off
   session_so : (r s : Register) (role : Role) (given : List ℕ) (changes : List Change) (m : ℕ) → changes ≡ (course_of (session_of (setting_of book role) given None) r).changes
       → BringsParts file identity (session_of (setting_of book role) given None) r → m ≤ length changes → apply_all r (take m changes) ≡ Ok s → IsSoIn file identity r → IsSoIn file identity s
   session_so r s role given changes m is brings most made so =
-      job_leaves file identity (Serves (session_of (setting_of book role) given None)) r s so brings (record {
+      job_leaves file identity (OfSession (session_of (setting_of book role) given None)) r s so brings (record {
         count = m;
         most = subst (λ (ks : List Change). m ≤ length ks) is most;
         replay = subst (λ (ks : List Change). apply_all r (take m ks) ≡ Ok s) is made;
@@ -118,18 +118,18 @@ module _ {R W : Type 0} (remaining : R → Option (List ℕ)) (contents : W → 
       → IsSoIn file identity r → IsSoIn file identity s
   last_so r s (job.Session was) (job.Session now) stop fault.Read h brings m most made so = absurd h
   last_so r s (job.Session was) (job.Session now) stop fault.Write h brings m most made so = absurd h
-  last_so r s (job.Session was) (job.Session now) stop fault.Office h brings m most made so = session_so r s was.role h.given stop.changes m h.changes brings most made so
-  last_so r s (job.Session was) (job.Session now) stop fault.Memory h brings m most made so = session_so r s was.role h.given stop.changes m h.changes brings most made so
+  last_so r s (job.Session was) (job.Session now) stop fault.Office h brings m most made so = session_so r s was.role h.cut.given stop.changes m h.cut.changes brings most made so
+  last_so r s (job.Session was) (job.Session now) stop fault.Memory h brings m most made so = session_so r s was.role h.cut.given stop.changes m h.cut.changes brings most made so
   last_so r s (job.Session was) (job.Call now) stop fault h brings m most made so = absurd h
   last_so r s (job.Call was) (job.Session now) stop fault h brings m most made so = absurd h
   last_so r s (job.Call was) (job.Call now) stop fault.Read h brings m most made so = absurd h
   last_so r s (job.Call was) (job.Call now) stop fault.Write h brings m most made so = absurd h
   last_so r s (job.Call was) (job.Call now) stop fault.Office h brings m most made so =
-      let left = one_left h.deed.change r s m (subst (λ (ks : List Change). apply_all r (take m ks) ≡ Ok s) h.changes made) in
-      let leaves : Leaves (Operates book was.call) r s = elim left [ inl same ↦ inl same | inr done ↦ inr (h.deed, h.is, done) ] in
-      job_leaves file identity (Operates book was.call) r s so tt leaves
+      let left = none_or_one h.deed.change r s m (subst (λ (ks : List Change). apply_all r (take m ks) ≡ Ok s) h.changes made) in
+      let leaves : JobLeaves (OfCall book was.call) r s = elim left [ inl same ↦ inl same | inr done ↦ inr (h.deed, h.is, done) ] in
+      job_leaves file identity (OfCall book was.call) r s so tt leaves
   last_so r s (job.Call was) (job.Call now) stop fault.Memory h brings m most made so =
-      let left = one_left None r s m (subst (λ (ks : List Change). apply_all r (take m ks) ≡ Ok s) h.changes made) in
+      let left = none_or_one None r s m (subst (λ (ks : List Change). apply_all r (take m ks) ≡ Ok s) h.changes made) in
       let same : s ≡ r = elim left [ inl same ↦ same | inr same ↦ same ] in
       subst (IsSoIn file identity) (sym same) so
 

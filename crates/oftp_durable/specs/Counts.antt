@@ -12,7 +12,7 @@ use Rattle.oftp_register.specs.Changes.{apply, apply_all}
 use Rattle.oftp_register.specs.Register.{Register}
 use Rattle.oftp_session.specs.Phases.{frame_of}
 use Rattle.oftp_register.specs.Soundness.{IsSound}
-use Rattle.oftp_engine.specs.Parts.{IsOpenWith, Session, course_of, rows_of}
+use Rattle.oftp_engine.specs.Parts.{IsOpenWith, SessionData, course_of, rows_here}
 use Rattle.oftp_engine.specs.Runs.{Output}
 
 -- The last of the first `after` changes starts a file with this count. So many of its rows were kept before, and just these after it.
@@ -29,8 +29,8 @@ pub record IsKept (r : Register) (changes : List Change) (after count : ℕ) : T
   pub reached : apply_all r before ≡ Ok old
   pub new : Register
   pub made : apply old (Start identity format longest description count) ≡ Ok new
-  pub kept : count ≤ length (rows_of (in_at old identity))
-  pub left : IsOpenWith (take count (rows_of (in_at old identity))) (in_at new identity)
+  pub kept : count ≤ length (rows_here (in_at old identity))
+  pub left : IsOpenWith (take count (rows_here (in_at old identity))) (in_at new identity)
 
 -- a restart count that is answered is one that was kept
 abbrev pub KeepsCount : Register → List Change → ℕ → Command → Type 0
@@ -44,9 +44,9 @@ pub record IsAnswer (r : Register) (changes : List Change) (o : Output) : Type 0
   pub kept : KeepsCount r changes o.after command
 
 -- each restart count that a session answers is one that was kept
-abbrev pub AnswersAreKept : Session → Register → Type 0
+abbrev pub AnswersAreKept : SessionData → Register → Type 0
 AnswersAreKept session r = AllByRecursion (IsAnswer r (course_of session r).changes) (course_of session r).outputs
 
 -- for every session from every register
 abbrev pub NoAnswerPasses : Type 0
-NoAnswerPasses = (session : Session) (r : Register) → IsSound r → AnswersAreKept session r
+NoAnswerPasses = (session : SessionData) (r : Register) → IsSound r → AnswersAreKept session r

@@ -11,18 +11,18 @@ use Rattle.oftp_register.specs.Changes.{apply_all}
 use Rattle.oftp_register.specs.Register.{Register}
 use Rattle.oftp_session.specs.Settings.{Setting}
 use Rattle.oftp_tables.specs.Tables.{register_in}
-use Rattle.oftp_open.specs.Stands.{IsContentOf, Stands}
+use Rattle.oftp_tables.specs.Stands.{IsContentOf, Stands}
 use Rattle.oftp_store.specs.Opens.{Has}
 use Rattle.oftp_engine.specs.declared.operating.Operator.{Operator}
 use Rattle.oftp_engine.specs.declared.operating.Told.{Told}
-use Rattle.oftp_ports.specs.declared.port.Port.{Port}
+use Rattle.oftp_io.specs.declared.port.Port.{Port}
 use Rattle.oftp_engine.specs.declared.serving.End.{End}
 use Rattle.oftp_engine.specs.declared.serving.RunFault.{RunFault}
 use Rattle.oftp_engine.specs.declared.serving.RunFault.TheVariants as fault
 use Rattle.oftp_engine.specs.Jobs.{call_share}
 use Rattle.oftp_engine.specs.Operating.{Deed, IsDeed}
-use Rattle.oftp_engine.specs.Parts.{BringsParts, File, IsSoFar, Session, course_of}
-use Rattle.oftp_ports.specs.Ports.{Wrote}
+use Rattle.oftp_engine.specs.Parts.{BringsParts, File, IsSoFar, SessionData, course_of}
+use Rattle.oftp_io.specs.Ports.{Wrote}
 use Rattle.oftp_engine.specs.Runs.{answered, octets_of}
 use Rattle.oftp_engine.specs.Served.{IsPrefix}
 use Rattle.oftp_engine.specs.Serving.{last_frame}
@@ -56,7 +56,7 @@ ButForOffice (Ok x) holds = holds
 ButForOffice (Err fault) holds = UnlessOffice fault holds
 
 -- a session over these octets, whose writer had taken so many octets when it told a fault, if it did
-abbrev pub session_of : Setting → List ℕ → Option ℕ → Session
+abbrev pub session_of : Setting → List ℕ → Option ℕ → SessionData
 session_of setting given stop = record { setting = setting; limit = stop; stream = given }
 
 -- the run stops short only where the writer told a fault, and ESID 08 follows it only where the office told one

@@ -12,7 +12,7 @@ use Rattle.oftp_engine.specs.declared.running.Job.{Job}
 use Rattle.oftp_engine.specs.declared.running.Job.TheVariants as job
 use Rattle.oftp_engine.specs.declared.serving.RunFault.{RunFault}
 use Rattle.oftp_engine.specs.declared.serving.RunFault.TheVariants as fault
-use Rattle.oftp_engine.specs.Jobs.{Call, Entry, JobStops, Runs, Session, Stop, after_jobs, changes_of, share_of}
+use Rattle.oftp_engine.specs.Jobs.{CallEntry, Entry, JobStops, Runs, SessionEntry, Stop, after_jobs, changes_of, share_of}
 use Rattle.oftp_engine.specs.Parts.{BringsParts, File, IsSoFar}
 use Rattle.oftp_engine.specs.Served.{setting_of}
 use Rattle.oftp_durable.specs.Headline.{LeavesPrefix, LeavesSoFar, session_of}
@@ -32,17 +32,17 @@ beginning r faults = record {
 -- the sessions among jobs that were done bring parts of the file
 abbrev pub BringAll : File → Identity → Register → List Entry → Type 0
 BringAll file identity r [] = ⊤
-BringAll file identity r (Session setting given stop ∷ es) =
-    BringsParts file identity (session_of setting given stop) r × BringAll file identity (share_of r (Session setting given stop)).register es
-BringAll file identity r (Call deed stop ∷ es) = BringAll file identity (share_of r (Call deed stop)).register es
+BringAll file identity r (SessionEntry setting given stop ∷ es) =
+    BringsParts file identity (session_of setting given stop) r × BringAll file identity (share_of r (SessionEntry setting given stop)).register es
+BringAll file identity r (CallEntry deed stop ∷ es) = BringAll file identity (share_of r (CallEntry deed stop)).register es
 
 module _ {R W : Type 0} (remaining : R → Option (List ℕ)) (contents : W → Option (List ℕ)) (book : BookData) where
   -- so does a session that was broken off
   abbrev pub BringsLast : File → Identity → (r : Register) (was now : Job R W) (stop : Stop) (fault : RunFault) → JobStops remaining contents book r was now stop fault → Type 0
   BringsLast file identity r (job.Session was) (job.Session now) stop fault.Read h = ⊤
   BringsLast file identity r (job.Session was) (job.Session now) stop fault.Write h = ⊤
-  BringsLast file identity r (job.Session was) (job.Session now) stop fault.Office h = BringsParts file identity (session_of (setting_of book was.role) h.given None) r
-  BringsLast file identity r (job.Session was) (job.Session now) stop fault.Memory h = BringsParts file identity (session_of (setting_of book was.role) h.given None) r
+  BringsLast file identity r (job.Session was) (job.Session now) stop fault.Office h = BringsParts file identity (session_of (setting_of book was.role) h.cut.given None) r
+  BringsLast file identity r (job.Session was) (job.Session now) stop fault.Memory h = BringsParts file identity (session_of (setting_of book was.role) h.cut.given None) r
   BringsLast file identity r (job.Session was) (job.Call now) stop fault h = ⊤
   BringsLast file identity r (job.Call was) (job.Session now) stop fault h = ⊤
   BringsLast file identity r (job.Call was) (job.Call now) stop fault h = ⊤

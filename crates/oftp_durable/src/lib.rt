@@ -2,13 +2,13 @@
 #![tactic(auto)]
 
 mod calling;
+mod jobs;
 mod laws;
-mod listing;
 mod opening;
 mod serving;
 
 pub use calling::operate_durable;
+pub use jobs::{Ran, run_at, run_durable};
 pub use laws::no_answer_passes;
-pub use listing::{Ran, run_at, run_durable};
 pub use opening::open_durable;
 pub use serving::serve_durable;

@@ -6,7 +6,7 @@ ghost use Rattle.oftp_register.specs.Register.{Register};
 ghost use Rattle.oftp_tables.specs.Tables.{register_in};
 ghost use Rattle.oftp_store.specs.Opens.{Has};
 ghost use Rattle.oftp_store.specs.Shown.{database_of, limits_of, shown};
-ghost use Rattle.oftp_ports.specs.Ports.{Puts};
+ghost use Rattle.oftp_io.specs.Ports.{Puts};
 ghost use Rattle.oftp_engine.specs.Served.{Gave, InputEnded, ReaderTold, Serves, WriterTold, setting_of};
 ghost use Rattle.oftp_engine.specs.Serving.{scene};
 ghost use Rattle.oftp_durable.specs.Headline.{ButForOffice, LeavesAlone, SessionLeaves};

@@ -12,7 +12,7 @@ use Rattle.oftp_session.specs.Phases.{Phase, ResponderOpening, InitiatorOpening,
 use Rattle.oftp_session.specs.Listener.{end_response, negative_end_response}
 use Rattle.oftp_register.specs.ByIdentity.{out_at, in_at}
 use Rattle.oftp_engine.specs.TwoStations.{Has, IsAnsweredBy}
-use Rattle.oftp_engine.specs.Standing.{IsQuiet, IsOfferOf, IsIssuedBy, ComesFrom, IsBeginning, IsWholeAt, MayTake, MayHear, MayAnswerStart, MayCredit, MayAnswerEnd, MayAnswerResponse, MayOpen, MayCome}
+use Rattle.oftp_engine.proofs.Standing.{IsQuiet, IsOfferOf, IsIssuedBy, ComesFrom, IsBeginning, IsWholeAt, MayTake, MayHear, MayAnswerStart, MayCredit, MayAnswerEnd, MayAnswerResponse, MayOpen, MayCome}
 use Rattle.oftp_engine.proofs.Fitting.{IsSameContent}
 use Rattle.oftp_engine.proofs.Later.{IsLater, IsLaterFile, Stays}
 

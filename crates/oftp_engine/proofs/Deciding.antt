@@ -18,14 +18,15 @@ use Rattle.oftp_session.specs.Calls.{Makes}
 use Rattle.oftp_engine.specs.declared.operating.Operator.{Operator}
 use Rattle.oftp_engine.specs.declared.operating.Outcome.{Outcome}
 use Rattle.oftp_engine.specs.declared.operating.Told.{Told}
-use Rattle.oftp_ports.specs.declared.port.Port.{Port}
+use Rattle.oftp_io.specs.declared.port.Port.{Port}
 use Rattle.oftp_engine.specs.declared.serving.RunFault.{RunFault}
 use Rattle.oftp_engine.specs.declared.serving.RunFault.TheVariants as fault
-use Rattle.oftp_ports.specs.Ports.{Sent}
+use Rattle.oftp_io.specs.Ports.{Sent}
 use Rattle.oftp_engine.specs.Serving.{Took, scene}
-use Rattle.oftp_engine.specs.Operating.{Deed, IsDeed, decided, makes, refused, released, verb_of}
-use Rattle.oftp_engine.specs.Operated.{Attempts, AttemptsErr, MayFail, Operates, OperatesErr, came_out, line_as, told_as}
-use Rattle.oftp_ports.proofs.Bytes.{appends_none}
+use Rattle.oftp_engine.specs.Operating.{Deed, IsDeed, decided, makes, refused, released}
+use Rattle.oftp_engine.specs.InsideOperating.{verb_of, Attempts, AttemptsErr, MayFail, came_out, line_as, told_as}
+use Rattle.oftp_engine.specs.Operated.{Operates, OperatesErr}
+use Rattle.oftp_io.proofs.Bytes.{appends_none}
 
 -- a change that is refused leaves the register alone
 left_by : (verb : List ℕ) (n : ℕ) (change : Change) (r : Register) (now : View) (wanted : Result Register Cause) → apply r change ≡ wanted

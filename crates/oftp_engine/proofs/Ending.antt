@@ -18,15 +18,16 @@ use Rattle.oftp_session.specs.Calls.{Seen}
 use Rattle.oftp_engine.specs.declared.serving.RunFault.{RunFault}
 use Rattle.oftp_engine.specs.declared.serving.RunFault.TheVariants as fault
 use Rattle.oftp_engine.specs.Runs.{Course, Output, run, started, octets_of, answered, advance, is_stopped, with_change}
-use Rattle.oftp_engine.specs.Serving.{Grows, Leads, Reaches, Scene, Took, BreaksOff, OfficeFails, IsShort, Fails, Comes, IsOver, Sound, Counted, last_frame}
-use Rattle.oftp_engine.specs.Served.{whole, broken_off, IsPrefix, LeavesPrefix, IsWhole, IsBrokenOff, IsOfficeFault, IsOutOfMemory, ServesErr, StopsWithin}
+use Rattle.oftp_engine.specs.Serving.{Scene, Took, last_frame}
+use Rattle.oftp_engine.specs.InsideServing.{Grows, Leads, Reaches, BreaksOff, OfficeFails, IsShort, Fails, Comes, IsOver, Sound, Counted}
+use Rattle.oftp_engine.specs.Served.{whole, broken_off, IsPrefix, OfficeLeaves, IsWhole, IsBrokenOff, IsOfficeFault, IsOutOfMemory, ServesErr, StopsWithin}
 use Rattle.oftp_engine.proofs.Courses.{grows_on, grows_step, run_grows, run_over, run_waits, run_stopped, sound_start}
 use Rattle.oftp_engine.proofs.Phases.{over_from}
 use Rattle.oftp_engine.proofs.Progress.{octets_step}
 use Rattle.oftp_engine.proofs.Stepping.{made_register}
 
 -- what the law gives of an office that stood and is clean: its register was sound, and where it stands a stop leaves its register alone
-pub record IsLawful (old new : View) : Type 0 where
+pub record KeepsLaw (old new : View) : Type 0 where
   pub stood : old.stands
   pub sound : IsSound old.register
   pub alone : new.stands → Only new.register new
@@ -34,7 +35,7 @@ pub record IsLawful (old new : View) : Type 0 where
 -- by the law of an office
 pub lawful : {O : Type 0} (view : O → View) (sound : (o : O) → (view o).clean → (view o).stands → IsSound (view o).register)
     (alone : (o : O) → (view o).clean → (view o).stands → Only (view o).register (view o)) (old new : O)
-    → (view old).clean → (view new).clean → (view old).stands → IsLawful (view old) (view new)
+    → (view old).clean → (view new).clean → (view old).stands → KeepsLaw (view old) (view new)
 lawful view sound alone old new before now stood = record { stood = stood; sound = sound old before stood; alone = alone new now }
 
 pub answered_most : (outputs : List Output) (n most : ℕ) → Counted most outputs → answered outputs n ≤ most
@@ -72,7 +73,7 @@ whole_waits setting given t seen old new h turn waits =
     let rests : run None (t ++ []) h.at ≡ h.at = ap (λ (x : List ℕ). run None x h.at) (append-nil t) ∙ run_waits None t h.at turn waits in
     whole_is setting given t old.office.register h.at h.went.leads rests
 
-pub is_whole : (setting : Setting) (given t : List ℕ) (seen : Seen) (old new : Scene) (law : IsLawful old.office new.office)
+pub is_whole : (setting : Setting) (given t : List ℕ) (seen : Seen) (old new : Scene) (law : KeepsLaw old.office new.office)
     (h : Comes (started setting old.office.register) given t seen old new)
     → whole setting given old.office.register ≡ h.at → IsWhole setting given old new
 is_whole setting given t seen old new law h e = record {
@@ -104,7 +105,7 @@ take_past {A = A} xs ys n =
     ∙ ap (λ (x : List A). x ++ take n (drop (length xs) (xs ++ ys))) (take_at xs ys (length xs) refl)
     ∙ ap (λ (x : List A). xs ++ take n x) (drop_at xs ys (length xs) refl)
 
-pub is_broken_off : (setting : Setting) (given : List ℕ) (old new : Scene) (law : IsLawful old.office new.office)
+pub is_broken_off : (setting : Setting) (given : List ℕ) (old new : Scene) (law : KeepsLaw old.office new.office)
     → BreaksOff (started setting old.office.register) given old new → IsBrokenOff setting given old new
 is_broken_off setting given old new law h =
     let before : List ℕ = octets_of h.at.outputs in
@@ -177,7 +178,7 @@ prefix_at r d w least holds' content g sd le holds = record {
 
 leaves_prefix : (r : Register) (d w : Course) (step : Step) (change : Option Change) (least : ℕ) (left : View)
     → step.change ≡ change → Grows d w → Grows (advance d step) w → Sound r d → Sound r (advance d step) → least ≤ length d.changes
-    → WithOrWithout change d.register left → LeavesPrefix w r least (length d.changes) left
+    → WithOrWithout change d.register left → OfficeLeaves w r least (length d.changes) left
 leaves_prefix r d w step None least left e g h sd se le only = λ k l. prefix_at r d w least left.holds k g sd le (only k l)
 leaves_prefix r d w step (Some change) least left e g h sd se le only = λ k l.
     elim (only k l) [
@@ -197,10 +198,10 @@ leaves_prefix r d w step (Some change) least left e g h sd se le only = λ k l.
           }
     ]
 
-stops_within : (setting : Setting) (given : List ℕ) (r : Register) (d : Course) (step : Step) (made : ℕ) → Reaches (started setting r) given d (advance d step)
+stopped_within : (setting : Setting) (given : List ℕ) (r : Register) (d : Course) (step : Step) (made : ℕ) → Reaches (started setting r) given d (advance d step)
     → Grows d (whole setting given r) → Sound r d → (made ≡ length d.changes) ⊎ (made ≡ length (advance d step).changes) → StopsWithin setting given r d.outputs made
 unfolding is_stopped
-stops_within setting given r d step made reaches g sd which =
+stopped_within setting given r d step made reaches g sd which =
     let h = reaches.same [] None refl in
     record {
       at = d;
@@ -227,7 +228,7 @@ is_office_fault setting given old new sound h =
     let kept : answered h.at.outputs (length (octets_of h.at.outputs)) ≤ length h.at.changes = answered_most h.at.outputs (length (octets_of h.at.outputs)) (length h.at.changes) sd.counted in
     let more : length h.at.changes ≤ length (advance h.at h.step).changes = few h.at (advance h.at h.step) step in
     let within : (made : ℕ) → (made ≡ length h.at.changes) ⊎ (made ≡ length (advance h.at h.step).changes) → StopsWithin setting given r h.at.outputs made =
-    λ made which. stops_within setting given r h.at h.step made h.reaches g sd which in
+    λ made which. stopped_within setting given r h.at h.step made h.reaches g sd which in
     elim h.cases [
       | inl x ↦ record {
         outs = h.at.outputs;
@@ -261,7 +262,7 @@ is_office_fault setting given old new sound h =
       }
     ]
 
-pub is_out_of_memory : (setting : Setting) (given : List ℕ) (old new : Scene) (law : IsLawful old.office new.office)
+pub is_out_of_memory : (setting : Setting) (given : List ℕ) (old new : Scene) (law : KeepsLaw old.office new.office)
     → IsShort (started setting old.office.register) given old new → IsOutOfMemory setting given old new
 is_out_of_memory setting given old new law h =
     let r : Register = old.office.register in
@@ -296,7 +297,7 @@ is_out_of_memory setting given old new law h =
     }
 
 -- each fault
-pub serves_from : (setting : Setting) (given : List ℕ) (old new : Scene) (law : IsLawful old.office new.office) (f : RunFault)
+pub serves_from : (setting : Setting) (given : List ℕ) (old new : Scene) (law : KeepsLaw old.office new.office) (f : RunFault)
     → Fails (started setting old.office.register) given old new f → ServesErr setting given old new f
 serves_from setting given old new law fault.Read h = absurd h
 serves_from setting given old new law fault.Write h = is_broken_off setting given old new law h

@@ -18,10 +18,10 @@ use Rattle.oftp_session.specs.Settings.{Setting}
 use Rattle.oftp_session.specs.Phases.{Step, esid_of, is_over}
 use Rattle.oftp_session.specs.Steps.{opening, Holds}
 use Rattle.oftp_engine.specs.Runs.{Course, started, advance}
-use Rattle.oftp_engine.specs.World.{Station, World, Call, Submits, Releases, Refuses, turned_round, stopped_with, stops_at, left_after, latest, called_for, begins, fails_at, may_stop, told}
+use Rattle.oftp_engine.specs.World.{Station, World, Order, ToSubmit, ToRelease, ToRefuse, turned_round, stopped_with, stops_at, left_after, latest, called_for, begins, fails_at, may_stop, told}
 use Rattle.oftp_engine.specs.TwoStations.{IfAny}
-use Rattle.oftp_engine.specs.Standing.{AllFit, HasRoom, Stands, IsSoundStation, IsInSession, MayLeave, LeftBy, Leaves, MayCome, MayComeTo, Meet}
-use Rattle.oftp_engine.specs.Grounds.{Grounds}
+use Rattle.oftp_engine.proofs.Standing.{AllFit, HasRoom, WorldStands, IsSoundStation, IsInSession, MayLeave, LeftBy, StationLeaves, MayCome, MayComeTo, Meet}
+use Rattle.oftp_engine.proofs.Grounds.{Grounds}
 use Rattle.oftp_engine.proofs.Kept.{BothFit, apply_fits}
 use Rattle.oftp_engine.proofs.Later.{IsLater, later_self, apply_later}
 use Rattle.oftp_engine.proofs.Coming.{may_come_end, may_come_later}
@@ -35,7 +35,7 @@ meet_round None (Some d) x y h = tt
 meet_round (Some c) None x y h = tt
 meet_round (Some c) (Some d) x y h = elim h [ inl k ↦ inr k | inr k ↦ inl k ]
 
-pub stands_round : (w : World) → Stands w → Stands (turned_round w)
+pub stands_round : (w : World) → WorldStands w → WorldStands (turned_round w)
 stands_round w h = record {
   one = h.other;
   other = h.one;
@@ -45,11 +45,11 @@ stands_round w h = record {
 }
 
 -- where a session is known
-pub at_session : (s : Station) (c : Course) (r : Register) → s.session ≡ Some c → MayLeave s.start c r → Leaves s r
+pub at_session : (s : Station) (c : Course) (r : Register) → s.session ≡ Some c → MayLeave s.start c r → StationLeaves s r
 at_session s c r e m = subst (λ o. LeftBy s.start o r) (sym e) m
 
 -- a station breaks off or stops: it leaves a register that a stop may leave now
-pub stands_stopped : (w : World) (r : Register) → Leaves w.one r → Stands w → Stands (record w { one = stopped_with w.one r })
+pub stands_stopped : (w : World) (r : Register) → StationLeaves w.one r → WorldStands w → WorldStands (record w { one = stopped_with w.one r })
 stands_stopped w r leaves h = record {
   one = record { registers = λ s e. subst IsSound (sym e) (h.one.registers r leaves); room = h.one.room; session = tt; coming = refl };
   other = record { registers = h.other.registers; room = h.other.room; session = h.other.session; coming = coming w.other.session h.other.coming };
@@ -60,17 +60,18 @@ stands_stopped w r leaves h = record {
   where
     coming : (session : Option Course) → MayComeTo session w.other.coming w.one → MayComeTo session w.other.coming (stopped_with w.one r)
     coming None k = k
-    coming (Some d) k = λ there e. k there (subst (Leaves w.one) (sym e) leaves)
+    coming (Some d) k = λ there e. k there (subst (StationLeaves w.one) (sym e) leaves)
 
-pub stands_broken : (w : World) (c : Course) → w.one.session ≡ Some c → Stands w → Stands (record w { one = stopped_with w.one c.register })
+pub stands_broken : (w : World) (c : Course) → w.one.session ≡ Some c → WorldStands w → WorldStands (record w { one = stopped_with w.one c.register })
 stands_broken w c e h =
     let s : IsInSession w.one.start c = subst (λ o. IfAny o (IsInSession w.one.start)) e h.one.session in
     stands_stopped w c.register (at_session w.one c c.register e s.now) h
 
-pub stands_after_stop : (w : World) (c : Course) (n : ℕ) → w.one.session ≡ Some c → Stands w → Stands (stops_at w c c.outputs n)
+pub stands_after_stop : (w : World) (c : Course) (n : ℕ) → w.one.session ≡ Some c → WorldStands w → WorldStands (stops_at w c c.outputs n)
 stands_after_stop w c n e h = by (nat_le (latest c.outputs) n && nat_le n (length c.changes)) refl
   where
-    by : (b : Bool) → (nat_le (latest c.outputs) n && nat_le n (length c.changes)) ≡ b → Stands (let v : World = cond b (record w { one = stopped_with w.one (left_after w.one.start c n) }) w in v)
+    by : (b : Bool) → (nat_le (latest c.outputs) n && nat_le n (length c.changes)) ≡ b
+        → WorldStands (let v : World = cond b (record w { one = stopped_with w.one (left_after w.one.start c n) }) w in v)
     by false g = h
     by true g =
         let parts = and_parts (nat_le (latest c.outputs) n) (nat_le n (length c.changes)) g in
@@ -79,20 +80,20 @@ stands_after_stop w c n e h = by (nat_le (latest c.outputs) n && nat_le n (lengt
 
 -- an operator's call where there is no session
 
-call_fit : (s : Station) (call : Call) (r : Register) → IsFit r (called_for s call)
+call_fit : (s : Station) (call : Order) (r : Register) → IsFit r (called_for s call)
 unfolding IsFit
-call_fit s (Submits f) r = f.is_file
-call_fit s (Releases n) r = (refl, refl, refl)
-call_fit s (Refuses n reason text) r = tt
+call_fit s (ToSubmit f) r = f.is_file
+call_fit s (ToRelease n) r = (refl, refl, refl)
+call_fit s (ToRefuse n reason text) r = tt
 
-call_grounds : (s : Station) (call : Call) (r there : Register) → Grounds r there (called_for s call)
-call_grounds s (Submits f) r there = tt
-call_grounds s (Releases n) r there = tt
-call_grounds s (Refuses n reason text) r there = tt
+call_grounds : (s : Station) (call : Order) (r there : Register) → Grounds r there (called_for s call)
+call_grounds s (ToSubmit f) r there = tt
+call_grounds s (ToRelease n) r there = tt
+call_grounds s (ToRefuse n reason text) r there = tt
 
 -- a change of the one station while it has no session
 pub stands_changed : (w : World) (k : Change) (s : Register) → w.one.session ≡ None → IsFit w.one.start k → ((there : Register) → Grounds w.one.start there k)
-    → apply w.one.start k ≡ Ok s → Stands w → Stands (record w { one = record w.one { start = s } })
+    → apply w.one.start k ≡ Ok s → WorldStands w → WorldStands (record w { one = record w.one { start = s } })
 stands_changed w k s none fit grounds made h = record {
   one = record {
     registers = λ r e. subst IsSound (sym (is r e)) (apply_keeps w.one.start k s sound fit made);
@@ -106,7 +107,7 @@ stands_changed w k s none fit grounds made h = record {
   meet = subst (λ o. Meet o w.one.coming w.other.session w.other.coming) (sym none) tt;
 }
   where
-    before : Leaves w.one w.one.start
+    before : StationLeaves w.one w.one.start
     before = subst (λ o. LeftBy w.one.start o w.one.start) (sym none) refl
 
     sound : IsSound w.one.start
@@ -115,9 +116,9 @@ stands_changed w k s none fit grounds made h = record {
     is : (r : Register) → LeftBy s w.one.session r → r ≡ s
     is r e = subst (λ o. LeftBy s o r) none e
 
-    both : (r' : Register) → Leaves w.other r' → BothFit s r'
+    both : (r' : Register) → StationLeaves w.other r' → BothFit s r'
     both r' d =
-        let b : Leaves w.one w.one.start = subst (λ o. LeftBy w.one.start o w.one.start) (sym none) refl in
+        let b : StationLeaves w.one w.one.start = subst (λ o. LeftBy w.one.start o w.one.start) (sym none) refl in
         apply_fits w.one.start k s r' (h.one.registers w.one.start b) (h.other.registers r' d) (grounds r') made (h.to_other w.one.start r' b d, h.to_one w.one.start r' b d)
 
     coming : (session : Option Course) → MayComeTo session w.other.coming w.one → MayComeTo session w.other.coming (record w.one { start = s })
@@ -126,11 +127,11 @@ stands_changed w k s none fit grounds made h = record {
         (may_come_later w.one.start s d.phase w.other.coming (apply_later w.one.start k s
         (h.one.registers w.one.start (subst (λ o. LeftBy w.one.start o w.one.start) (sym none) refl)) made) (m w.one.start (subst (λ o. LeftBy w.one.start o w.one.start) (sym none) refl)))
 
-pub stands_operated : (w : World) (call : Call) → w.one.session ≡ None → Stands w
-    → Stands (record w { one = record w.one { start = result_unwrap_or (apply w.one.start (called_for w.one call)) w.one.start } })
+pub stands_operated : (w : World) (call : Order) → w.one.session ≡ None → WorldStands w
+    → WorldStands (record w { one = record w.one { start = result_unwrap_or (apply w.one.start (called_for w.one call)) w.one.start } })
 stands_operated w call none h = by (apply w.one.start (called_for w.one call)) refl
   where
-    by : (result : Result Register Cause) → apply w.one.start (called_for w.one call) ≡ result → Stands (record w { one = record w.one { start = result_unwrap_or result w.one.start } })
+    by : (result : Result Register Cause) → apply w.one.start (called_for w.one call) ≡ result → WorldStands (record w { one = record w.one { start = result_unwrap_or result w.one.start } })
     by (Ok s) e = stands_changed w (called_for w.one call) s none (call_fit w.one call w.one.start) (λ there. call_grounds w.one call w.one.start there) e h
     by (Err cause) e = h
 
@@ -140,24 +141,24 @@ step_made : (r after there : Register) (change : Option Change) → IsSound r �
 step_made r after there None sound sound' g made fit = subst (λ x. BothFit x there) (sym made) fit
 step_made r after there (Some k) sound sound' g made fit = apply_fits r k after there sound sound' g made fit
 
-pub step_fits : (w : World) (c : Course) (step : Step) (after : Register) → w.one.session ≡ Some c → Stands w → Makes step.change c.register after
-    → ((there : Register) → Leaves w.other there → IfAny step.change (Grounds c.register there))
-    → (r there : Register) → MayLeave w.one.start (advance c step) r → Leaves w.other there → BothFit r there
+pub step_fits : (w : World) (c : Course) (step : Step) (after : Register) → w.one.session ≡ Some c → WorldStands w → Makes step.change c.register after
+    → ((there : Register) → StationLeaves w.other there → IfAny step.change (Grounds c.register there))
+    → (r there : Register) → MayLeave w.one.start (advance c step) r → StationLeaves w.other there → BothFit r there
 step_fits w c step after e h made grounds r there leaves there_leaves =
     let s : IsInSession w.one.start c = subst (λ o. IfAny o (IsInSession w.one.start)) e h.one.session in
-    let now : Leaves w.one c.register = at_session w.one c c.register e s.now in
+    let now : StationLeaves w.one c.register = at_session w.one c c.register e s.now in
     let few : latest c.outputs ≤ length c.changes = omega (arith, s.now.least, s.now.most) in
     elim (leaves_next w.one.start c step after r few s.replay made leaves) [
       | inl is ↦ subst (λ x. BothFit x there) (sym is)
           (step_made c.register after there step.change (h.one.registers c.register now) (h.other.registers there there_leaves) (grounds there there_leaves) made
           (h.to_other c.register there now there_leaves, h.to_one c.register there now there_leaves))
-      | inr k ↦ (let b : Leaves w.one r = at_session w.one c r e k.1 in (h.to_other r there b there_leaves, h.to_one r there b there_leaves))
+      | inr k ↦ (let b : StationLeaves w.one r = at_session w.one c r e k.1 in (h.to_other r there b there_leaves, h.to_one r there b there_leaves))
     ]
 
 -- A stop within a step: the step was made, or not, and what it said is lost.
 
-stopped_at : (w : World) (r : Register) → IsSound r → ((there : Register) → Leaves w.other there → BothFit r there)
-    → ((d : Course) → w.other.session ≡ Some d → MayCome r d.phase w.other.coming) → Stands w → Stands (record w { one = stopped_with w.one r })
+stopped_at : (w : World) (r : Register) → IsSound r → ((there : Register) → StationLeaves w.other there → BothFit r there)
+    → ((d : Course) → w.other.session ≡ Some d → MayCome r d.phase w.other.coming) → WorldStands w → WorldStands (record w { one = stopped_with w.one r })
 stopped_at w r sound fit come h = record {
   one = record { registers = λ s e. subst IsSound (sym e) sound; room = h.one.room; session = tt; coming = refl };
   other = record { registers = h.other.registers; room = h.other.room; session = h.other.session; coming = coming w.other.session refl h.other.coming };
@@ -177,14 +178,14 @@ later_made r after (Some k) sound made = apply_later r k after sound made
 silent : Step → Step
 silent s = record s { output = None }
 
-pub stands_within : (w : World) (c : Course) (step : Step) (after : Register) (n : ℕ) → w.one.session ≡ Some c → Stands w → IsSound after → Makes step.change c.register after
-    → ((there : Register) → Leaves w.other there → IfAny step.change (Grounds c.register there))
-    → Stands (stops_at w (advance c step) c.outputs n)
+pub stands_within : (w : World) (c : Course) (step : Step) (after : Register) (n : ℕ) → w.one.session ≡ Some c → WorldStands w → IsSound after → Makes step.change c.register after
+    → ((there : Register) → StationLeaves w.other there → IfAny step.change (Grounds c.register there))
+    → WorldStands (stops_at w (advance c step) c.outputs n)
 unfolding advance silent
 stands_within w c step after n e h sound made grounds = by (nat_le (latest c.outputs) n && nat_le n (length (advance c step).changes)) refl
   where
     by : (b : Bool) → (nat_le (latest c.outputs) n && nat_le n (length (advance c step).changes)) ≡ b
-        → Stands (let v : World = cond b (record w { one = stopped_with w.one (left_after w.one.start (advance c step) n) }) w in v)
+        → WorldStands (let v : World = cond b (record w { one = stopped_with w.one (left_after w.one.start (advance c step) n) }) w in v)
     by false g = h
     by true g =
         let parts = and_parts (nat_le (latest c.outputs) n) (nat_le n (length (advance c step).changes)) g in
@@ -192,13 +193,13 @@ stands_within w c step after n e h sound made grounds = by (nat_le (latest c.out
         let leaves : MayLeave w.one.start (advance c (silent step)) r =
         record { changes = n; least = leb-true (latest c.outputs) n parts.0; most = leb-true n (length (advance c step).changes) parts.1; is = refl } in
         let s : IsInSession w.one.start c = subst (λ o. IfAny o (IsInSession w.one.start)) e h.one.session in
-        let now : Leaves w.one c.register = at_session w.one c c.register e s.now in
+        let now : StationLeaves w.one c.register = at_session w.one c c.register e s.now in
         let few : latest c.outputs ≤ length c.changes = omega (arith, s.now.least, s.now.most) in
         let which = leaves_next w.one.start c (silent step) after r few s.replay made leaves in
         stopped_at w r
         (elim which [ inl is ↦ subst IsSound (sym is) sound | inr k ↦ h.one.registers r (at_session w.one c r e k.1) ])
         (λ there d. step_fits w c (silent step) after e h made grounds r there leaves d)
-        (λ d is. let come : (there : Register) → Leaves w.one there → MayCome there d.phase w.other.coming = subst (λ o. MayComeTo o w.other.coming w.one) is h.other.coming in
+        (λ d is. let come : (there : Register) → StationLeaves w.one there → MayCome there d.phase w.other.coming = subst (λ o. MayComeTo o w.other.coming w.one) is h.other.coming in
         elim which [
           | inl same ↦ subst (λ x. MayCome x d.phase w.other.coming) (sym same)
               (may_come_later c.register after d.phase w.other.coming (later_made c.register after step.change (h.one.registers c.register now) made) (come c.register now))
@@ -209,16 +210,16 @@ stands_within w c step after n e h sound made grounds = by (nat_le (latest c.out
 -- A fault of the office within a step: the station stops as it would else, and tells the other one.
 
 -- a station without a session tells the other one that the session ends
-stands_told : (w : World) (e : Esid) → w.one.session ≡ None → Stands w → Stands (record w { other = told w.other (Some (command.Esid e)) })
+stands_told : (w : World) (e : Esid) → w.one.session ≡ None → WorldStands w → WorldStands (record w { other = told w.other (Some (command.Esid e)) })
 stands_told w e none h = by w.other.session refl
   where
     by : (session : Option Course) → w.other.session ≡ session
-        → Stands (let v : World = record w { other = cond (is_some session) (record w.other { coming = w.other.coming ++ command.Esid e ∷ [] }) w.other } in v)
+        → WorldStands (let v : World = record w { other = cond (is_some session) (record w.other { coming = w.other.coming ++ command.Esid e ∷ [] }) w.other } in v)
     by None q = h
     by (Some d) q =
         let coming = w.other.coming ++ command.Esid e ∷ [] in
-        let old : (there : Register) → Leaves w.one there → MayCome there d.phase w.other.coming = subst (λ o. MayComeTo o w.other.coming w.one) q h.other.coming in
-        let now : (there : Register) → Leaves w.one there → MayCome there d.phase coming = λ there m. may_come_end there d.phase w.other.coming e (old there m) in
+        let old : (there : Register) → StationLeaves w.one there → MayCome there d.phase w.other.coming = subst (λ o. MayComeTo o w.other.coming w.one) q h.other.coming in
+        let now : (there : Register) → StationLeaves w.one there → MayCome there d.phase coming = λ there m. may_come_end there d.phase w.other.coming e (old there m) in
         let silent = subst (λ o. MayComeTo o w.one.coming w.other) none h.one.coming in
         record {
           one = record {
@@ -238,13 +239,13 @@ stands_told w e none h = by w.other.session refl
           meet = subst (λ o. Meet o w.one.coming w.other.session coming) (sym none) tt;
         }
 
-pub stands_failed : (w : World) (c : Course) (step : Step) (after : Register) (n : ℕ) → w.one.session ≡ Some c → Stands w → IsSound after → Makes step.change c.register after
-    → ((there : Register) → Leaves w.other there → IfAny step.change (Grounds c.register there)) → Stands (fails_at w (advance c step) c.outputs n)
+pub stands_failed : (w : World) (c : Course) (step : Step) (after : Register) (n : ℕ) → w.one.session ≡ Some c → WorldStands w → IsSound after → Makes step.change c.register after
+    → ((there : Register) → StationLeaves w.other there → IfAny step.change (Grounds c.register there)) → WorldStands (fails_at w (advance c step) c.outputs n)
 stands_failed w c step after n e h sound made grounds =
     by (may_stop (advance c step) c.outputs n) (stands_within w c step after n e h sound made grounds)
   where
-    by : (b : Bool) → Stands (let v : World = cond b (record w { one = stopped_with w.one (left_after w.one.start (advance c step) n) }) w in v)
-        → Stands (let v : World = cond b (record { one = stopped_with w.one (left_after w.one.start (advance c step) n); other = told w.other (Some (esid_of ResourcesNotAvailable)) }) w in v)
+    by : (b : Bool) → WorldStands (let v : World = cond b (record w { one = stopped_with w.one (left_after w.one.start (advance c step) n) }) w in v)
+        → WorldStands (let v : World = cond b (record { one = stopped_with w.one (left_after w.one.start (advance c step) n); other = told w.other (Some (esid_of ResourcesNotAvailable)) }) w in v)
     by true s = stands_told (record w { one = stopped_with w.one (left_after w.one.start (advance c step) n) }) (record { reason = session_number ResourcesNotAvailable; text = [] }) refl s
     by false s = s
 
@@ -288,10 +289,10 @@ begun_sound s other other' called none h = record {
   coming = λ there d. opens_come called there;
 }
 
-pub stands_called : (w : World) → w.one.session ≡ None → w.other.session ≡ None → Stands w → Stands (record { one = begins w.one (Some w.one.partner); other = begins w.other None })
+pub stands_called : (w : World) → w.one.session ≡ None → w.other.session ≡ None → WorldStands w → WorldStands (record { one = begins w.one (Some w.one.partner); other = begins w.other None })
 stands_called w none none' h =
-    let first : Leaves w.one w.one.start = subst (λ o. LeftBy w.one.start o w.one.start) (sym none) refl in
-    let first' : Leaves w.other w.other.start = subst (λ o. LeftBy w.other.start o w.other.start) (sym none') refl in
+    let first : StationLeaves w.one w.one.start = subst (λ o. LeftBy w.one.start o w.one.start) (sym none) refl in
+    let first' : StationLeaves w.other w.other.start = subst (λ o. LeftBy w.other.start o w.other.start) (sym none') refl in
     let one : (r : Register) → MayLeave w.one.start (started (record { book = w.one.book; called = Some w.one.partner }) w.one.start) r → r ≡ w.one.start =
     λ r m. begun_leaves w.one.start (record { book = w.one.book; called = Some w.one.partner }) r m in
     let other : (r : Register) → MayLeave w.other.start (started (record { book = w.other.book; called = None }) w.other.start) r → r ≡ w.other.start =
@@ -301,5 +302,5 @@ stands_called w none none' h =
       other = begun_sound w.other w.one (begins w.one (Some w.one.partner)) None none' h.other;
       to_other = λ r s m k. subst (λ x. AllFit x s) (sym (one r m)) (subst (AllFit w.one.start) (sym (other s k)) (h.to_other w.one.start w.other.start first first'));
       to_one = λ r s m k. subst (λ x. AllFit x r) (sym (other s k)) (subst (AllFit w.other.start) (sym (one r m)) (h.to_one w.one.start w.other.start first first'));
-      meet = inr (refl, refl, record { role = refl; opens = refl; told = refl });
+      meet = inr (record { role = refl; none = refl; calling = record { role = refl; opens = refl; told = refl } });
     }

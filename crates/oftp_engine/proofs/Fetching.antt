@@ -11,19 +11,19 @@ use Rattle.oftp_register.specs.LookUps.{file_rows}
 use Rattle.oftp_register.specs.Offices.{Only, View, next_count}
 use Rattle.oftp_register.specs.declared.entries.IncomingEntry.{IncomingEntry}
 use Rattle.oftp_register.specs.declared.entries.Side.TheVariants as side
-use Rattle.oftp_ports.specs.declared.port.Port.{Port}
-use Rattle.oftp_ports.specs.Ports.{Puts, SentAll, SentPart}
-use Rattle.oftp_ports.proofs.Puts.{puts_none, puts_on}
+use Rattle.oftp_io.specs.declared.port.Port.{Port}
+use Rattle.oftp_io.specs.Ports.{Puts, SentAll, SentPart}
+use Rattle.oftp_io.proofs.Puts.{puts_none, puts_on}
 use Rattle.oftp_engine.specs.declared.serving.RunFault.{RunFault}
 use Rattle.oftp_engine.specs.declared.serving.RunFault.TheVariants as fault
-use Rattle.oftp_engine.specs.Fetched.{FetchesErr, HasFile, IsAnswered, IsBegun, IsUnanswered, fetched, piece_of}
+use Rattle.oftp_engine.specs.Fetched.{FetchesErr, HasFile, OfficeAnswered, IsPartOut, OfficeUnanswered, fetched, piece_of}
 use Rattle.oftp_engine.specs.Served.{WriterErr}
 
 -- the rows before one are out
 pub record IsFetched {W : Type 0} (contents : W → Option (List ℕ)) (e : IncomingEntry) (from : ℕ) (old now : View) (front here : Port W) : Type 0 where
   pub few : from ≤ e.rows
   pub clean : now.clean → old.clean
-  pub answered : IsAnswered old now
+  pub answered : OfficeAnswered old now
   pub told : here.faults ≡ front.faults
   pub out : Puts contents front here
   pub pieces : now.clean → old.stands → Appends (contents front.inner) (contents here.inner) (piece_of old.register e 0 from)
@@ -39,7 +39,7 @@ file_more : (r : Register) (e : IncomingEntry) (from : ℕ) → from ≤ e.rows 
 file_more r e from few = ap (piece_of r e 0) (omega (arith, few)) ∙ piece_more r e from (e.rows - from)
 
 -- an office that answered, and then answered or not
-answered_on : (old mid new : View) → IsAnswered old mid → (new.clean → mid.clean) → IsAnswered mid new → IsAnswered old new
+answered_on : (old mid new : View) → OfficeAnswered old mid → (new.clean → mid.clean) → OfficeAnswered mid new → OfficeAnswered old new
 answered_on old mid new p clean q = record {
   told = q.told ∙ p.told;
   stays = λ h stood.
@@ -48,7 +48,7 @@ answered_on old mid new p clean q = record {
       (now.0, now.1 ∙ was.1);
 }
 
-unanswered_on : (e : IncomingEntry) (old mid new : View) → IsAnswered old mid → (new.clean → mid.clean) → IsUnanswered e mid new → IsUnanswered e old new
+unanswered_on : (e : IncomingEntry) (old mid new : View) → OfficeAnswered old mid → (new.clean → mid.clean) → OfficeUnanswered e mid new → OfficeUnanswered e old new
 unanswered_on e old mid new p clean q = record {
   told = elim q.told [ inl none ↦ inl (none ∙ p.told) | inr one ↦ inr (one ∙ ap next_count p.told) ];
   fault = λ h stood has.
@@ -76,7 +76,7 @@ fetched_none contents e v port = record {
 module _ {W : Type 0} (contents : W → Option (List ℕ)) (e : IncomingEntry) (from most : ℕ) (old mid new : View) (front here next : Port W)
     (so : IsFetched contents e from old mid front here) (clean : new.clean → mid.clean) where
   -- the next piece
-  pub fetched_on : (piece : List ℕ) → from + most ≤ e.rows → IsAnswered mid new → (new.clean → mid.stands → piece ≡ piece_of mid.register e from most)
+  pub fetched_on : (piece : List ℕ) → from + most ≤ e.rows → OfficeAnswered mid new → (new.clean → mid.stands → piece ≡ piece_of mid.register e from most)
       → Puts contents here next → SentAll contents here next piece → IsFetched contents e (from + most) old new front next
   fetched_on piece fits answered is out sent = record {
     few = fits;
@@ -94,7 +94,7 @@ module _ {W : Type 0} (contents : W → Option (List ℕ)) (e : IncomingEntry) (
   }
 
   -- where the next one isn't there, a beginning of the file is out
-  pub fetched_so_far : new.clean → old.stands → IsBegun (fetched old.register e) (contents front.inner) (contents here.inner)
+  pub fetched_so_far : new.clean → old.stands → IsPartOut (fetched old.register e) (contents front.inner) (contents here.inner)
   fetched_so_far h stood =
       let done = piece_of old.register e 0 from in
       let rest = piece_of old.register e from (e.rows - from) in
@@ -107,7 +107,7 @@ module _ {W : Type 0} (contents : W → Option (List ℕ)) (e : IncomingEntry) (
 
   -- where it is out in part
   pub fetched_in_part : (piece : List ℕ) → from + most ≤ e.rows → (new.clean → mid.stands → piece ≡ piece_of mid.register e from most)
-      → SentPart contents here next piece → new.clean → old.stands → IsBegun (fetched old.register e) (contents front.inner) (contents next.inner)
+      → SentPart contents here next piece → new.clean → old.stands → IsPartOut (fetched old.register e) (contents front.inner) (contents next.inner)
   fetched_in_part piece fits is sent h stood =
       let was = so.answered.stays (clean h) stood in
       let same : piece ≡ piece_of old.register e from most = is h was.0 ∙ ap (λ (r : Register). piece_of r e from most) was.1 in
@@ -126,7 +126,7 @@ module _ {W : Type 0} (contents : W → Option (List ℕ)) (e : IncomingEntry) (
       }
 
   -- what the office told then
-  pub answered_so : IsAnswered mid new → IsAnswered old new
+  pub answered_so : OfficeAnswered mid new → OfficeAnswered old new
   answered_so answered = answered_on old mid new so.answered clean answered
 
   pub fetches_err : (f : RunFault) → FetchesErr e mid new f → FetchesErr e old new f

@@ -17,7 +17,7 @@ use Rattle.oftp_register.proofs.OutgoingLemmas.{allowed_ok}
 use Rattle.oftp_engine.proofs.PartRows.{cut_begins}
 use Rattle.oftp_engine.specs.TwoStations.{Has, is_handed, IsAnsweredBy}
 use Rattle.oftp_vfile.specs.VirtualFile.{BeginsWith}
-use Rattle.oftp_engine.specs.Standing.{IsPartOf, Fits}
+use Rattle.oftp_engine.proofs.Standing.{IsPartOf, FileFits}
 use Rattle.oftp_register.specs.ByIdentity.{WasStarted}
 
 -- states that are told apart
@@ -40,7 +40,7 @@ pub record IsSameContent (x y : Outgoing) : Type 0 where
   pub rows : y.rows ≡ x.rows
 
 -- a file that isn't held as handed over now
-refit : (x y : Outgoing) (e : Option Incoming) → IsSameContent x y → is_handed y.state ≡ false → Fits (Some x) e → Fits (Some y) e
+refit : (x y : Outgoing) (e : Option Incoming) → IsSameContent x y → is_handed y.state ≡ false → FileFits (Some x) e → FileFits (Some y) e
 refit x y None same h fit = h
 refit x y (Some e) same h fit = record {
   format = fit.format ∙ sym same.format;
@@ -52,40 +52,29 @@ refit x y (Some e) same h fit = record {
   returned = λ k. absurd ((not_handed y.state h).1 k);
 }
 
--- a file that is handed over where it is whole
-hand_over : (x : Outgoing) (e : Option Incoming) → Has e (λ e. e.state ≡ Whole) → Fits (Some x) e → let y : Outgoing = record x { state = Handed } in Fits (Some y) e
-hand_over x None w fit = absurd w
-hand_over x (Some e) w fit = record {
+-- a file in another state, where it is whole there
+whole_fits : (x : Outgoing) (e : Incoming) (state : OutgoingState) → e.state ≡ Whole → (state ≡ Delivered → IsAnsweredBy EndResponse e) → (state ≡ Returned → IsAnsweredBy NegativeEndResponse e)
+    → IsPartOf x e → let y : Outgoing = record x { state = state } in IsPartOf y e
+whole_fits x e state w delivered returned fit = record {
   format = fit.format;
   longest = fit.longest;
   begins = fit.begins;
   whole = fit.whole;
   handed = λ k. w;
-  delivered = λ k. absurd (let q : Handed ≡ Delivered = k in cc);
-  returned = λ k. absurd (let q : Handed ≡ Returned = k in cc);
+  delivered = delivered;
+  returned = returned;
 }
+
+-- a file that is handed over where it is whole
+hand_over : (x : Outgoing) (e : Option Incoming) → Has e (λ e. e.state ≡ Whole) → FileFits (Some x) e → let y : Outgoing = record x { state = Handed } in FileFits (Some y) e
+hand_over x None w fit = absurd w
+hand_over x (Some e) w fit = whole_fits x e Handed w (λ k. absurd (let q : Handed ≡ Delivered = k in cc)) (λ k. absurd (let q : Handed ≡ Returned = k in cc)) fit
 
 -- a file that a response answers, which was issued to the whole file there
 pub answered_fits : (x : Outgoing) (kind : ResponseKind) (e : Incoming) → e.state ≡ Whole → IsAnsweredBy kind e → IsPartOf x e → let y : Outgoing =
     record x { state = answered_as kind } in IsPartOf y e
-answered_fits x EndResponse e w a fit = record {
-  format = fit.format;
-  longest = fit.longest;
-  begins = fit.begins;
-  whole = fit.whole;
-  handed = λ k. w;
-  delivered = λ k. a;
-  returned = λ k. absurd (let q : Delivered ≡ Returned = k in cc);
-}
-answered_fits x NegativeEndResponse e w a fit = record {
-  format = fit.format;
-  longest = fit.longest;
-  begins = fit.begins;
-  whole = fit.whole;
-  handed = λ k. w;
-  returned = λ k. a;
-  delivered = λ k. absurd (let q : Returned ≡ Delivered = k in cc);
-}
+answered_fits x EndResponse e w a fit = whole_fits x e Delivered w (λ k. a) (λ k. absurd (let q : Delivered ≡ Returned = k in cc)) fit
+answered_fits x NegativeEndResponse e w a fit = whole_fits x e Returned w (λ k. absurd (let q : Returned ≡ Delivered = k in cc)) (λ k. a) fit
 
 pub settle_state : (x : Outgoing) (kind : ResponseKind) (e : Incoming) (state : OutgoingState) → state ≡ x.state → e.state ≡ Whole → IsAnsweredBy kind e → IsPartOf x e
     → let y : Outgoing = record x { state = answered kind state } in IsPartOf y e
@@ -104,30 +93,30 @@ waits (Refused reason) h = refl
 waits Delivered h = absurd (cc)
 waits Returned h = absurd (cc)
 
-pub marked_fits : (rows : ℕ) (x y : Outgoing) (e : Option Incoming) → marked rows x ≡ Ok y → Fits (Some x) e → Fits (Some y) e
+pub marked_fits : (rows : ℕ) (x y : Outgoing) (e : Option Incoming) → marked rows x ≡ Ok y → FileFits (Some x) e → FileFits (Some y) e
 marked_fits rows x y e h fit =
     let made = allowed_ok (is_waiting x.state && nat_le rows (length x.rows)) (record x { mark = rows }) y h in
     let now : Outgoing = record x { mark = rows } in
-    subst (λ (z : Outgoing). Fits (Some z) e) made.1 (refit x now e (record { format = refl; longest = refl; rows = refl })
+    subst (λ (z : Outgoing). FileFits (Some z) e) made.1 (refit x now e (record { format = refl; longest = refl; rows = refl })
     (waits x.state (and_parts (is_waiting x.state) (nat_le rows (length x.rows)) made.0).0) fit)
 
-pub closing_fits : (x y : Outgoing) (e : Option Incoming) → closing x ≡ Ok y → Fits (Some x) e → Fits (Some y) e
+pub closing_fits : (x y : Outgoing) (e : Option Incoming) → closing x ≡ Ok y → FileFits (Some x) e → FileFits (Some y) e
 closing_fits x y e h fit =
     let now : Outgoing = record x { state = Closing } in
-    subst (λ (z : Outgoing). Fits (Some z) e) (allowed_ok (is_waiting x.state) now y h).1 (refit x now e (record { format = refl; longest = refl; rows = refl }) refl fit)
+    subst (λ (z : Outgoing). FileFits (Some z) e) (allowed_ok (is_waiting x.state) now y h).1 (refit x now e (record { format = refl; longest = refl; rows = refl }) refl fit)
 
-pub refused_fits : (reason : ℕ) (x y : Outgoing) (e : Option Incoming) → refused reason x ≡ Ok y → Fits (Some x) e → Fits (Some y) e
+pub refused_fits : (reason : ℕ) (x y : Outgoing) (e : Option Incoming) → refused reason x ≡ Ok y → FileFits (Some x) e → FileFits (Some y) e
 refused_fits reason x y e h fit =
     let now : Outgoing = record x { state = Refused reason } in
-    subst (λ (z : Outgoing). Fits (Some z) e) (allowed_ok (is_waiting x.state || is_closing x.state) now y h).1 (refit x now e (record { format = refl; longest = refl; rows = refl }) refl fit)
+    subst (λ (z : Outgoing). FileFits (Some z) e) (allowed_ok (is_waiting x.state || is_closing x.state) now y h).1 (refit x now e (record { format = refl; longest = refl; rows = refl }) refl fit)
 
-pub reopened_fits : (x y : Outgoing) (e : Option Incoming) → reopened x ≡ Ok y → Fits (Some x) e → Fits (Some y) e
+pub reopened_fits : (x y : Outgoing) (e : Option Incoming) → reopened x ≡ Ok y → FileFits (Some x) e → FileFits (Some y) e
 reopened_fits x y e h fit =
     let now : Outgoing = record x { state = Waiting; mark = 0 } in
-    subst (λ (z : Outgoing). Fits (Some z) e) (allowed_ok (is_closing x.state) now y h).1 (refit x now e (record { format = refl; longest = refl; rows = refl }) refl fit)
+    subst (λ (z : Outgoing). FileFits (Some z) e) (allowed_ok (is_closing x.state) now y h).1 (refit x now e (record { format = refl; longest = refl; rows = refl }) refl fit)
 
-pub handed_fits : (x y : Outgoing) (e : Option Incoming) → handed x ≡ Ok y → Has e (λ e. e.state ≡ Whole) → Fits (Some x) e → Fits (Some y) e
-handed_fits x y e h w fit = subst (λ (z : Outgoing). Fits (Some z) e) (allowed_ok (is_closing x.state) (record x { state = Handed }) y h).1 (hand_over x e w fit)
+pub handed_fits : (x y : Outgoing) (e : Option Incoming) → handed x ≡ Ok y → Has e (λ e. e.state ≡ Whole) → FileFits (Some x) e → FileFits (Some y) e
+handed_fits x y e h w fit = subst (λ (z : Outgoing). FileFits (Some z) e) (allowed_ok (is_closing x.state) (record x { state = Handed }) y h).1 (hand_over x e w fit)
 
 -- Changes of an incoming file.
 
@@ -136,8 +125,8 @@ unhanded : (f : Outgoing) (e : Incoming) → e.state ≡ Open → IsPartOf f e �
 unhanded f e o fit = elim (cases_Bool (is_handed f.state)) [ inl k ↦ absurd (open_or_whole e.state o (fit.handed k)) | inr k ↦ k ]
 
 -- an open file, with other rows
-pub opened_fits : (out : Option Outgoing) (x : Incoming) (rows : List (List ℕ)) → x.state ≡ Open → Has out (λ f. BeginsWith f.rows rows) → Fits out (Some x) → let y : Incoming =
-    record x { rows = rows; state = Open } in Fits out (Some y)
+pub opened_fits : (out : Option Outgoing) (x : Incoming) (rows : List (List ℕ)) → x.state ≡ Open → Has out (λ f. BeginsWith f.rows rows) → FileFits out (Some x) → let y : Incoming =
+    record x { rows = rows; state = Open } in FileFits out (Some y)
 opened_fits None x rows o g fit = absurd fit
 opened_fits (Some f) x rows o g fit =
     let un = unhanded f x o fit in
@@ -151,8 +140,8 @@ opened_fits (Some f) x rows o g fit =
       returned = λ k. absurd ((not_handed f.state un).1 k);
     }
 
-pub closed_fits : (out : Option Outgoing) (x : Incoming) (rows : List (List ℕ)) → x.state ≡ Open → Has out (λ f. rows ≡ f.rows) → Fits out (Some x) → let y : Incoming =
-    record x { rows = rows; state = Whole } in Fits out (Some y)
+pub closed_fits : (out : Option Outgoing) (x : Incoming) (rows : List (List ℕ)) → x.state ≡ Open → Has out (λ f. rows ≡ f.rows) → FileFits out (Some x) → let y : Incoming =
+    record x { rows = rows; state = Whole } in FileFits out (Some y)
 closed_fits None x rows o g fit = absurd fit
 closed_fits (Some f) x rows o g fit =
     let un = unhanded f x o fit in
@@ -168,8 +157,8 @@ closed_fits (Some f) x rows o g fit =
 
 -- another response, of the same kind where there was one
 pub answer_fits : (out : Option Outgoing) (x : Incoming) (response : Option Issued)
-    → ((kind : ResponseKind) → IsAnsweredBy kind x → let y : Incoming = record x { response = response } in IsAnsweredBy kind y) → Fits out (Some x) → let y : Incoming =
-    record x { response = response } in Fits out (Some y)
+    → ((kind : ResponseKind) → IsAnsweredBy kind x → let y : Incoming = record x { response = response } in IsAnsweredBy kind y) → FileFits out (Some x) → let y : Incoming =
+    record x { response = response } in FileFits out (Some y)
 answer_fits None x response a fit = absurd fit
 answer_fits (Some f) x response a fit = record {
   format = fit.format;
@@ -190,10 +179,10 @@ issued_first response file Whole after h = first file.response h
     first None g = refl
     first (Some other) g = absurd (cc)
 
-pub issued_fits : (response : Issued) (out : Option Outgoing) (x y : Incoming) → issued response x ≡ Ok y → Fits out (Some x) → Fits out (Some y)
+pub issued_fits : (response : Issued) (out : Option Outgoing) (x y : Incoming) → issued response x ≡ Ok y → FileFits out (Some x) → FileFits out (Some y)
 issued_fits response out x y h fit =
     let none = issued_first response x x.state y h in
-    subst (λ (z : Incoming). Fits out (Some z)) (issued_on_ok response x x.state y h).1
+    subst (λ (z : Incoming). FileFits out (Some z)) (issued_on_ok response x x.state y h).1
     (answer_fits out x (Some response) (λ kind a. absurd (let q : None ≡ Some a.response = sym none ∙ a.issued in cc)) fit)
 
 -- a response that was sent is of the kind that it was
@@ -212,17 +201,17 @@ sent_answers x y kind h a =
       same = sent_kind made.0 made.1 made.0.dispatch made.4 ∙ ap (λ (i : Issued). i.kind) was ∙ a.same;
     }
 
-pub sent_fits : (out : Option Outgoing) (x y : Incoming) → sent x ≡ Ok y → Fits out (Some x) → Fits out (Some y)
-sent_fits out x y h fit =
+pub sent_still_fits : (out : Option Outgoing) (x y : Incoming) → sent x ≡ Ok y → FileFits out (Some x) → FileFits out (Some y)
+sent_still_fits out x y h fit =
     let made = sent_of_ok x x.response y h in
     let answers : (kind : ResponseKind) → IsAnsweredBy kind x → let z : Incoming = record x { response = Some made.1 } in IsAnsweredBy kind z =
     λ kind a. subst (IsAnsweredBy kind) (sym made.3) (sent_answers x y kind h a) in
-    subst (λ (z : Incoming). Fits out (Some z)) made.3 (answer_fits out x (Some made.1) answers fit)
+    subst (λ (z : Incoming). FileFits out (Some z)) made.3 (answer_fits out x (Some made.1) answers fit)
 
 -- a file that starts, with the header of the other's file
 pub started_fits : (out : Option Outgoing) (header : Incoming) (count : ℕ) (old : Option Incoming) (new : Incoming) → header.state ≡ Open → header.rows ≡ []
     → Has out (λ f. (header.format ≡ f.format) × (header.longest ≡ f.longest))
-    → WasStarted header count old new → Fits out old → Fits out (Some new)
+    → WasStarted header count old new → FileFits out old → FileFits out (Some new)
 started_fits None header count old new o none g was fit = absurd g
 started_fits (Some f) header count None new o none g was fit =
     subst (λ (z : Incoming). IsPartOf f z) (sym was.0) (record {

@@ -9,13 +9,13 @@ use Rattle.oftp_wire.specs.Header.{frame, header_of, IsCommand}
 use Rattle.oftp_wire.specs.Stream.{Whole, front, command_in, head_of, Reads}
 use Rattle.oftp_wire.proofs.Fronts.{front_frame, front_rest}
 use Rattle.oftp_engine.specs.Runs.{Course, came_in, is_stopped, settled, on_front, next_in, run_by, run}
-use Rattle.oftp_engine.specs.Frames.{at_rest, over_commands}
+use Rattle.oftp_engine.specs.Frames.{with_fault, over_commands}
 use Rattle.oftp_engine.proofs.Courses.{run_enough}
 
 cond_else : (b : Bool) (d x y : Course) → x ≡ y → cond b d x ≡ cond b d y
 cond_else b d x y e = ap (λ (z : Course). cond b d z) e
 
-at_end : (go_on : List ℕ → Course → Course) (s : List ℕ) (d : Course) (fault : Option FrameFault) → on_front go_on s d (head_of fault) ≡ at_rest d fault
+at_end : (go_on : List ℕ → Course → Course) (s : List ℕ) (d : Course) (fault : Option FrameFault) → on_front go_on s d (head_of fault) ≡ with_fault d fault
 unfolding on_front
 at_end go_on s d None = refl
 at_end go_on s d (Some fault) = refl

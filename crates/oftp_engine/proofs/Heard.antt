@@ -1,5 +1,5 @@
 -- What comes to a session that waits, from the one that speaks: by the phase of the one that speaks.
-use Rattle.std.proofs.Common.{◌≡◌, ℕ, Bool, true, false, List, [], ◌∷◌, ◌++◌, map, take, All, refl, sym, ◌∙◌, subst, inl, inr}
+use Rattle.std.proofs.Common.{◌≡◌, ℕ, Bool, true, false, List, [], ◌∷◌, ◌++◌, map, take, All, refl, sym, ◌∙◌, subst}
 use Rattle.oftp_wire.specs.declared.command.Command.{Command}
 use Rattle.oftp_wire.specs.declared.command.Command.TheVariants as command
 use Rattle.oftp_wire.specs.declared.command.Efid.{Efid}
@@ -8,7 +8,7 @@ use Rattle.oftp_session.specs.Phases.{Phase, Offer, Transfer, ResponderOpening, 
 use Rattle.oftp_session.specs.declared.state.Contact.{Contact}
 use Rattle.oftp_session.specs.Receiving.{offered_identity}
 use Rattle.oftp_session.specs.Sending.{payloads_in}
-use Rattle.oftp_engine.specs.Standing.{IsTold, IsTaking, IsCredit, IsResponseCommand, OpensWith, Speaks, Talk}
+use Rattle.oftp_engine.proofs.Standing.{SsrmGoes, SsidComes, ResponseGoes, RtrComes, SfidGoes, SfpaComes, SfnaComes, EfidGoes, AnswerComes, IsTold, IsTaking, IsCredit, IsResponseCommand, OpensWith, Speaks, Talk}
 
 -- one that calls is greeted
 pub record IsGreeted (c : Command) (rest : List Command) (one other : Talk) : Type 0 where
@@ -76,43 +76,41 @@ told_none c rest one h k = absurd (let q : c ∷ rest ≡ [] = sym h ∙ k.told 
 
 opening_heard : (c : Command) (rest : List Command) (one other : Talk) (calls : Bool) → one.coming ≡ c ∷ rest → other.phase ≡ AwaitingSsid → other.calls ≡ calls
     → OpensWith calls other.coming one → Heard c rest one other
-opening_heard c rest one other true h e role s = told_none c rest one h s.2
+opening_heard c rest one other true h e role s = told_none c rest one h s.listens
 opening_heard c rest one other false h e role s = elim s [
-  | inl k ↦ (let l = one_left c command.Ssrm rest (sym h ∙ k.1.told) in
-      Greeted (record { opens = k.1.opens; calls = k.1.role; is = l.0; alone = l.1; called = role; awaits = e; none = k.0 }))
-  | inr k ↦ absurd (let q : c ∷ rest ≡ [] = sym h ∙ k.2.told in cc)
+  | SsrmGoes none k ↦ (let l = one_left c command.Ssrm rest (sym h ∙ k.told) in
+      Greeted (record { opens = k.opens; calls = k.role; is = l.0; alone = l.1; called = role; awaits = e; none = none }))
+  | SsidComes ssid comes k ↦ absurd (let q : c ∷ rest ≡ [] = sym h ∙ k.told in cc)
 ]
 
 pub heard : (c : Command) (rest : List Command) (one other : Talk) (p : Phase) → one.coming ≡ c ∷ rest → other.phase ≡ p → Speaks other p one → Heard c rest one other
-heard c rest one other ResponderOpening h e s = absurd (let q : c ∷ rest ≡ [] = sym h ∙ s.2.told in cc)
+heard c rest one other ResponderOpening h e s = absurd (let q : c ∷ rest ≡ [] = sym h ∙ s.calling.told in cc)
 heard c rest one other InitiatorOpening h e s = absurd s
 heard c rest one other AwaitingSsid h e s = opening_heard c rest one other other.calls h e refl s
-heard c rest one other (ListenerIdle contact) h e s = told_none c rest one h s.1
+heard c rest one other (ListenerIdle contact) h e s = told_none c rest one h s.listens
 heard c rest one other (Receiving contact f) h e s = absurd s
-heard c rest one other (SpeakerIdle contact done) h e s = told_none c rest one h s.1
-heard c rest one other (GivingWay contact) h e s = told_none c rest one h s.1
+heard c rest one other (SpeakerIdle contact done) h e s = told_none c rest one h s.listens
+heard c rest one other (GivingWay contact) h e s = told_none c rest one h s.listens
 heard c rest one other (AwaitingRtr contact number) h e s = elim s [
-  | inl k ↦ (let l = one_left c k.1 rest (sym h ∙ k.3.told) in
-      Response (record { contact = k.3.contact; listens = k.3.listens; is = subst IsResponseCommand (sym l.0) k.2; alone = l.1; there = contact; number = number; awaits = e; none = k.0 }))
-  | inr k ↦ told_none c rest one h k.1
+  | ResponseGoes none response is k ↦ (let l = one_left c response rest (sym h ∙ k.told) in
+      Response (record { contact = k.contact; listens = k.listens; is = subst IsResponseCommand (sym l.0) is; alone = l.1; there = contact; number = number; awaits = e; none = none }))
+  | RtrComes comes k ↦ told_none c rest one h k
 ]
 heard c rest one other (AwaitingStart contact offer) h e s = elim s [
-  | inl k ↦ (let l = one_left c (command.Sfid k.1) rest (sym h ∙ k.3.told) in
-      Offered (record { contact = k.3.contact; listens = k.3.listens; sfid = k.1; is = l.0; alone = l.1; there = contact; offer = offer; awaits = e; none = k.0; same = k.2 }))
-  | inr m ↦ elim m [
-    | inl k ↦ nothing_taken k.2.on_the_way k.2.receipt.payloads k.2.all (sym h ∙ k.2.told)
-    | inr k ↦ told_none c rest one h k.2
-  ]
+  | SfidGoes none sfid same k ↦ (let l = one_left c (command.Sfid sfid) rest (sym h ∙ k.told) in
+      Offered (record { contact = k.contact; listens = k.listens; sfid = sfid; is = l.0; alone = l.1; there = contact; offer = offer; awaits = e; none = none; same = same }))
+  | SfpaComes from comes k ↦ nothing_taken k.on_the_way k.receipt.payloads k.all (sym h ∙ k.told)
+  | SfnaComes sfna comes k ↦ told_none c rest one h k
 ]
   where
     nothing_taken : (on_the_way payloads : List (List ℕ)) → payloads ++ on_the_way ≡ [] → c ∷ rest ≡ map command.Data on_the_way ++ [] → Heard c rest one other
     nothing_taken [] payloads all told = absurd (let q : c ∷ rest ≡ [] = told in cc)
     nothing_taken (p ∷ ps) [] all told = absurd (let q : p ∷ ps ≡ [] = all in cc)
     nothing_taken (p ∷ ps) (x ∷ xs) all told = absurd (let q : x ∷ (xs ++ p ∷ ps) ≡ [] = all in cc)
-heard c rest one other (Sending contact t) h e s = Sent (record { there = contact; transfer = t; sends = e; credits = s.0; takes = s.1 })
+heard c rest one other (Sending contact t) h e s = Sent (record { there = contact; transfer = t; sends = e; credits = s.credits; takes = s.takes })
 heard c rest one other (AwaitingEnd contact t) h e s = elim s [
-  | inl k ↦ Ended (record { there = contact; transfer = t; awaits = e; credits = k.0; efid = k.1; takes = k.2 })
-  | inr k ↦ told_none c rest one h k.5
+  | EfidGoes credits efid k ↦ Ended (record { there = contact; transfer = t; awaits = e; credits = credits; efid = efid; takes = k })
+  | AnswerComes credits all answer is comes k ↦ told_none c rest one h k
 ]
 heard c rest one other (EndedHere reason) h e s = absurd s
 heard c rest one other (EndedThere reason) h e s = absurd s

@@ -19,11 +19,13 @@ use Rattle.oftp_engine.specs.declared.running.SessionJob.{SessionJob}
 use Rattle.oftp_engine.specs.declared.serving.End.{End}
 use Rattle.oftp_engine.specs.declared.serving.RunFault.{RunFault}
 use Rattle.oftp_engine.specs.declared.serving.RunFault.TheVariants as fault
-use Rattle.oftp_engine.specs.Runs.{answered, octets_of, with_change}
+use Rattle.oftp_engine.specs.Runs.{Course, run, started, Output, answered, octets_of, with_change}
 use Rattle.oftp_engine.specs.Serving.{scene}
 use Rattle.oftp_engine.specs.Served.{Gave, InputEnded, IsWhole, ReaderTold, Serves, setting_of, whole}
 use Rattle.oftp_engine.specs.Operated.{Operates}
-use Rattle.oftp_engine.specs.Jobs.{DoesJob, EndsWith, Entry, Session, SessionEnds, Call, IsGoneOn, IsJobDone, IsJobStopped, IsRun, IsRunning, IsStopped, JobDone, JobStops, JobsDone, LeavesSome, after_jobs, changes_of, share_of}
+use Rattle.oftp_engine.specs.Jobs.{IsOut, SessionCut, Stop, EndsWith, Entry, SessionEntry, SessionEnds, CallEntry, IsRun, IsStopped, JobDone, JobStops, JobsDone, LeavesSome, after_jobs, changes_of, share_of}
+use Rattle.oftp_engine.specs.InsideRunning.{DoesJob, IsGoneOn, IsJobDone, IsJobStopped}
+use Rattle.oftp_engine.proofs.JobsSoFar.{IsRunning}
 use Rattle.oftp_engine.proofs.Ending.{take_past}
 use Rattle.oftp_engine.proofs.Stepping.{made_register}
 
@@ -32,27 +34,55 @@ module _ {R W : Type 0} (remaining : R → Option (List ℕ)) (contents : W → 
   abbrev setting' : Setting
   setting' = setting_of book a.role
 
-  went_through : (answer : Result End RunFault) → b.role ≡ a.role → b.result ≡ Some answer → (given : List ℕ) → Gave remaining a.reader b.reader given
-      → IsWhole setting' given (scene contents x a.writer) (scene contents y b.writer) → SessionEnds setting' x.register given None answer
-      → ReaderTold a.reader b.reader answer → InputEnded remaining a.reader b.reader answer
+  -- a session that its list goes on after
+  went_through : (answer : Result End RunFault) → b.role ≡ a.role → b.result ≡ Some answer → (given : List ℕ) → Gave remaining a.reader b.reader given → (stop : Option ℕ)
+      → (let c : Course = run stop given (started setting' x.register) in IsOut contents a.writer b.writer (octets_of c.outputs) stop × (y.register ≡ c.register)
+      × (apply_all x.register c.changes ≡ Ok y.register)) → SessionEnds setting' x.register given stop answer
+      → ReaderTold a.reader b.reader answer → InputEnded remaining a.reader b.reader answer → y.stands → y.told ≡ x.told
       → IsJobDone remaining contents book x y (job.Session a) (job.Session b)
-  went_through answer role left given gave all ends told input = record {
-    entry = Session setting' given None;
+  went_through answer role left given gave stop made ends told input stands faults = record {
+    entry = SessionEntry setting' given stop;
     done = record {
       is = refl;
       role = role;
       gave = gave;
-      out = (record { contents = all.out.contents; moved = all.out.taken }, all.told);
+      out = made.0;
       answer = answer;
       result = left;
       ends = ends;
       reader_told = told;
       input_ended = input;
     };
-    register = all.register;
-    replay = all.replay;
-    stands = all.stands;
-    faults = all.faults;
+    register = made.1;
+    replay = made.2;
+    stands = stands;
+    faults = faults;
+  }
+
+  went_whole : (answer : Result End RunFault) → b.role ≡ a.role → b.result ≡ Some answer → (given : List ℕ) → Gave remaining a.reader b.reader given
+      → IsWhole setting' given (scene contents x a.writer) (scene contents y b.writer) → SessionEnds setting' x.register given None answer
+      → ReaderTold a.reader b.reader answer → InputEnded remaining a.reader b.reader answer
+      → IsJobDone remaining contents book x y (job.Session a) (job.Session b)
+  went_whole answer role left given gave all ends told input =
+      went_through answer role left given gave None ((record { contents = all.out.contents; moved = all.out.taken }, all.told), all.register, all.replay) ends told input all.stands all.faults
+
+  -- how far a session came that was broken off
+  abbrev stop_of : List ℕ → List Output → ℕ → Stop
+  stop_of given outs made = record { changes = (whole setting' given x.register).changes; answered = answered outs (length (octets_of outs)); made = made }
+
+  abbrev cut_by : (fault : RunFault) → b.role ≡ a.role → b.result ≡ Some (Err fault) → (given : List ℕ) → Gave remaining a.reader b.reader given → b.reader.faults ≡ a.reader.faults
+      → (outs later : List Output) → (whole setting' given x.register).outputs ≡ outs ++ later → (made : ℕ) → SessionCut remaining book x.register a b (stop_of given outs made) fault
+  cut_by fault role left given gave told outs later outputs made = record {
+    role = role;
+    given = given;
+    gave = gave;
+    outs = outs;
+    later = later;
+    outputs = outputs;
+    changes = refl;
+    least = refl;
+    reader = told;
+    result = left;
   }
 
   pub does_session : {T : Type 0} (answer : Result End RunFault) (result : Result T RunFault) → IsGoneOn answer result → b.role ≡ a.role → b.result ≡ Some answer
@@ -60,47 +90,23 @@ module _ {R W : Type 0} (remaining : R → Option (List ℕ)) (contents : W → 
       → ReaderTold a.reader b.reader answer → InputEnded remaining a.reader b.reader answer
       → DoesJob remaining contents book x y (job.Session a) (job.Session b) result
   does_session (Ok end) (Err f) gone role left given gave h told input = absurd gone
-  does_session (Ok end) (Ok u) gone role left given gave h told input = went_through (Ok end) role left given gave h.all (refl, h.ends, h.needed) told input
+  does_session (Ok end) (Ok u) gone role left given gave h told input = went_whole (Ok end) role left given gave h.all (refl, h.ends, h.needed) told input
   does_session (Err fault.Read) (Err f) gone role left given gave h told input = absurd gone
-  does_session (Err fault.Read) (Ok u) gone role left given gave h told input = went_through (Err fault.Read) role left given gave h.all (refl, h.live) told input
+  does_session (Err fault.Read) (Ok u) gone role left given gave h told input = went_whole (Err fault.Read) role left given gave h.all (refl, h.live) told input
   does_session (Err fault.Write) (Err f) gone role left given gave h told input = absurd gone
-  does_session (Err fault.Write) (Ok u) gone role left given gave h told input = record {
-    entry = Session setting' given (Some h.taken);
-    done = record {
-      is = refl;
-      role = role;
-      gave = gave;
-      out = (record { contents = h.out.contents; moved = h.out.taken }, h.short, h.told);
-      answer = Err fault.Write;
-      result = left;
-      ends = refl;
-      reader_told = told;
-      input_ended = input;
-    };
-    register = h.register;
-    replay = h.replay;
-    stands = h.stands;
-    faults = h.faults;
-  }
+  does_session (Err fault.Write) (Ok u) gone role left given gave h told input =
+      went_through (Err fault.Write) role left given gave (Some h.taken) ((record { contents = h.out.contents; moved = h.out.taken }, h.short, h.told), h.register, h.replay) refl told input
+      h.stands h.faults
   does_session (Err fault.Office) (Ok u) gone role left given gave h told input = absurd gone
   does_session (Err fault.Office) (Err f) gone role left given gave h told input =
       subst (IsJobStopped remaining contents book x y (job.Session a) (job.Session b)) (sym gone) (record {
-        stop = record { changes = (whole setting' given x.register).changes; answered = answered h.outs (length (octets_of h.outs)); made = h.made };
+        stop = stop_of given h.outs h.made;
         stops = record {
-          role = role;
-          given = given;
-          gave = gave;
-          outs = h.outs;
-          later = h.later;
-          outputs = h.outputs;
+          cut = cut_by fault.Office role left given gave told h.outs h.later h.outputs h.made;
           stopped = h.stopped;
           count = h.count;
           out = record { contents = h.out.contents; moved = h.out.taken };
           said = h.said;
-          changes = refl;
-          least = refl;
-          reader = told;
-          result = left;
         };
         leaves = record { kept = h.kept; few = h.few; register = h.register; left = h.left };
         ends = record { faults = h.faults };
@@ -108,21 +114,12 @@ module _ {R W : Type 0} (remaining : R → Option (List ℕ)) (contents : W → 
   does_session (Err fault.Memory) (Ok u) gone role left given gave h told input = absurd gone
   does_session (Err fault.Memory) (Err f) gone role left given gave h told input =
       subst (IsJobStopped remaining contents book x y (job.Session a) (job.Session b)) (sym gone) (record {
-        stop = record { changes = (whole setting' given x.register).changes; answered = answered h.outs (length (octets_of h.outs)); made = h.made };
+        stop = stop_of given h.outs h.made;
         stops = record {
-          role = role;
-          given = given;
-          gave = gave;
-          outs = h.outs;
-          later = h.later;
-          outputs = h.outputs;
+          cut = cut_by fault.Memory role left given gave told h.outs h.later h.outputs h.made;
           stopped = h.stopped;
           out = record { contents = h.out.contents; moved = h.out.taken };
           unfailed = h.told;
-          changes = refl;
-          least = refl;
-          reader = told;
-          result = left;
         };
         leaves = record {
           kept = h.kept;
@@ -220,7 +217,7 @@ module _ {R W : Type 0} (remaining : R → Option (List ℕ)) (contents : W → 
       → DoesJob remaining contents book x y (job.Call a) (job.Call b) result
   does_call (Ok told) (Err f) gone call left h = absurd gone
   does_call (Ok told) (Ok u) gone call left h = record {
-    entry = Call h.0 None;
+    entry = CallEntry h.0 None;
     done = record {
       is = h.1;
       call = call;
@@ -238,7 +235,7 @@ module _ {R W : Type 0} (remaining : R → Option (List ℕ)) (contents : W → 
   does_call (Err fault.Read) result gone call left h = absurd h
   does_call (Err fault.Write) (Err f) gone call left h = absurd gone
   does_call (Err fault.Write) (Ok u) gone call left h = record {
-    entry = Call h.0 (Some h.2.count);
+    entry = CallEntry h.0 (Some h.2.count);
     done = record {
       is = h.1;
       call = call;

@@ -91,8 +91,8 @@ open_later x rows next y h =
 content : (allowed : Bool) (x now y : Outgoing) → if_allowed allowed now ≡ Ok y → IsSameContent x now → IsSameContent x y
 content allowed x now y h same = subst (IsSameContent x) (allowed_ok allowed now y h).1 same
 
-issued_later : (response : Issued) (x y : Incoming) → issued response x ≡ Ok y → IsLaterFile x y
-issued_later response x y h =
+issued_is_later : (response : Issued) (x y : Incoming) → issued response x ≡ Ok y → IsLaterFile x y
+issued_is_later response x y h =
     let none = issued_first response x x.state y h in
     subst (IsLaterFile x) (issued_on_ok response x x.state y h).1
     (record { whole = λ w. w; answered = λ k a. absurd (let q : None ≡ Some a.response = sym none ∙ a.issued in cc) })
@@ -158,7 +158,7 @@ apply_later r (change.File kind identity reason creator text) s sound h =
     })
 apply_later r (change.Issue n kind reason text) s sound h =
     let response : Issued = record { kind = kind; reason = reason; text = text; dispatch = Due } in
-    on_incoming_later (issued response) (issued_same response) n r s sound h (λ x y d. issued_later response x y d)
+    on_incoming_later (issued response) (issued_same response) n r s sound h (λ x y d. issued_is_later response x y d)
 apply_later r (change.Mark n rows) s sound h = on_outgoing_later (marked rows) (marked_same rows) n r s sound h
     (λ x y d. content (is_waiting x.state && nat_le rows (length x.rows)) x (record x { mark = rows }) y d (record { format = refl; longest = refl; rows = refl }))
 apply_later r (change.BeginClosing n) s sound h = on_outgoing_later closing closing_same n r s sound h

@@ -9,14 +9,14 @@ use Rattle.oftp_session.specs.Steps.{came, turned}
 use Rattle.oftp_engine.specs.Runs.{Course, advance}
 use Rattle.oftp_engine.specs.World.{World}
 use Rattle.oftp_engine.specs.TwoStations.{IfAny}
-use Rattle.oftp_engine.specs.Standing.{HasRoom, Stands, IsInSession, Leaves, MayCome, MayComeTo, Meet}
+use Rattle.oftp_engine.proofs.Standing.{HasRoom, WorldStands, IsInSession, StationLeaves, MayCome, MayComeTo, Meet}
 use Rattle.oftp_engine.specs.Promise.{TwoStations}
 use Rattle.oftp_engine.proofs.Events.{at_session}
 use Rattle.oftp_engine.proofs.Stepped.{with_said}
 use Rattle.oftp_engine.proofs.Room.{came_room, turned_room}
 use Rattle.oftp_engine.proofs.StepGrounds.{came_grounds, turned_grounds}
 use Rattle.oftp_engine.proofs.Next.{came_next, turned_next}
-use Rattle.oftp_engine.proofs.Keeping.{StepsGoOn, two_stations}
+use Rattle.oftp_engine.proofs.Keeping.{StepsGoOn, two_stations_on}
 
 -- a step of one session: its change is made, and leaves a sound register, what the next phase says of it, and room
 pub record GoesOn (r : Register) (step : Step) : Type 0 where
@@ -29,25 +29,25 @@ pub record MeetsAgain (w : World) (c d : Course) (step : Step) (rest : List Comm
   pub meet : is_over step.phase ≡ false → Meet (Some (advance c step)) rest (Some d) (with_said w.other.coming step.output)
 
 pub record LinkGoesOn : Type 0 where
-  pub turns : (w : World) (c d : Course) → w.one.session ≡ Some c → w.other.session ≡ Some d → Stands w → GoesOn c.register (turned c.setting c.phase c.register)
+  pub turns : (w : World) (c d : Course) → w.one.session ≡ Some c → w.other.session ≡ Some d → WorldStands w → GoesOn c.register (turned c.setting c.phase c.register)
       → MeetsAgain w c d (turned c.setting c.phase c.register) w.one.coming
-  pub takes : (w : World) (c d : Course) (k : Command) (rest : List Command) → w.one.session ≡ Some c → w.other.session ≡ Some d → w.one.coming ≡ k ∷ rest → Stands w
+  pub takes : (w : World) (c d : Course) (k : Command) (rest : List Command) → w.one.session ≡ Some c → w.other.session ≡ Some d → w.one.coming ≡ k ∷ rest → WorldStands w
       → GoesOn c.register (came c.setting c.phase c.register k)
       → MeetsAgain w c d (came c.setting c.phase c.register k) rest
 
-pub in_session : (w : World) (c : Course) → w.one.session ≡ Some c → Stands w → IsInSession w.one.start c
-in_session w c e h = subst (λ o. IfAny o (IsInSession w.one.start)) e h.one.session
+pub is_in_session : (w : World) (c : Course) → w.one.session ≡ Some c → WorldStands w → IsInSession w.one.start c
+is_in_session w c e h = subst (λ o. IfAny o (IsInSession w.one.start)) e h.one.session
 
-pub now_leaves : (w : World) (c : Course) → w.one.session ≡ Some c → Stands w → Leaves w.one c.register
-now_leaves w c e h = at_session w.one c c.register e (in_session w c e h).now
+pub now_leaves : (w : World) (c : Course) → w.one.session ≡ Some c → WorldStands w → StationLeaves w.one c.register
+now_leaves w c e h = at_session w.one c c.register e (is_in_session w c e h).now
 
-comes_now : (w : World) (c : Course) → w.one.session ≡ Some c → Stands w → (there : Register) → Leaves w.other there → MayCome there c.phase w.one.coming
+comes_now : (w : World) (c : Course) → w.one.session ≡ Some c → WorldStands w → (there : Register) → StationLeaves w.other there → MayCome there c.phase w.one.coming
 comes_now w c e h = subst (λ o. MayComeTo o w.one.coming w.other) e h.one.coming
 
 pub steps_from : LinkGoesOn → StepsGoOn
 steps_from link = record {
   turns = λ w c e h. (
-      let k = in_session w c e h in
+      let k = is_in_session w c e h in
       let now = now_leaves w c e h in
       let step = turned c.setting c.phase c.register in
       let proceeds = turned_proceeds c.setting c.phase c.register (record { sound = h.one.registers c.register now; holds = k.holds }) in
@@ -65,11 +65,11 @@ steps_from link = record {
         },
       ));
   takes = λ w c command rest e q h. (
-      let k = in_session w c e h in
+      let k = is_in_session w c e h in
       let now = now_leaves w c e h in
       let sound = h.one.registers c.register now in
       let step = came c.setting c.phase c.register command in
-      let come : (there : Register) → Leaves w.other there → MayCome there c.phase (command ∷ rest) = λ there d. subst (MayCome there c.phase) q (comes_now w c e h there d) in
+      let come : (there : Register) → StationLeaves w.other there → MayCome there c.phase (command ∷ rest) = λ there d. subst (MayCome there c.phase) q (comes_now w c e h there d) in
       let proceeds = came_proceeds c.setting c.phase c.register command (record { sound = sound; holds = k.holds }) in
       let goes : GoesOn c.register step = record { proceeds = proceeds; room = came_room c.setting c.phase c.register command k.buffer k.room } in (
         register_after c.register step.change,
@@ -89,4 +89,4 @@ steps_from link = record {
 
 -- the promise, from what is left
 pub two_stations_left : LinkGoesOn → TwoStations
-two_stations_left link = two_stations (steps_from link)
+two_stations_left link = two_stations_on (steps_from link)

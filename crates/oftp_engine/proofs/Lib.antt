@@ -39,3 +39,6 @@ pub mod TakeLinks
 pub mod TwoStations
 pub mod Pieces
 pub mod Fetching
+pub mod JobsSoFar
+pub mod Standing
+pub mod Grounds

@@ -11,7 +11,7 @@ use Rattle.oftp_register.specs.Soundness.{IsSound}
 use Rattle.oftp_session.specs.Phases.{Phase, Receipt, Transfer, Receiving}
 use Rattle.oftp_session.specs.declared.state.Contact.{Contact}
 use Rattle.oftp_session.specs.Sending.{payloads_in}
-use Rattle.oftp_engine.specs.Standing.{ComesFrom, IsBeginning, MayTake, MayCome, IsTaking, Talk}
+use Rattle.oftp_engine.proofs.Standing.{ComesFrom, IsBeginning, MayTake, MayCome, IsTaking, Talk}
 use Rattle.oftp_engine.proofs.Says.{out_entry}
 
 -- payloads on the way, and what comes behind them

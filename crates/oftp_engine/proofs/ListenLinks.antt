@@ -1,5 +1,5 @@
 -- A command that comes to a listener or to one that opens, and the link between two sessions.
-use Rattle.std.proofs.Common.{◌≡◌, ◌⊎◌, ℕ, ◌+◌, Bool, true, false, cond, nat_lt, List, [], ◌∷◌, ◌++◌, length, map, take, All, Option, None, Some, is_some, Result, Ok, Err, refl, ap, sym, ◌∙◌, subst, inl, inr}
+use Rattle.std.proofs.Common.{◌≡◌, ◌⊎◌, ℕ, ◌+◌, Bool, true, nat_lt, List, [], ◌∷◌, ◌++◌, length, map, take, All, Option, None, Some, is_some, Result, Ok, Err, refl, ap, sym, ◌∙◌, subst, inl, inr}
 use Rattle.std.proofs.lemmas.List.Elements.{All-append, All-cons, All-head, All-nil, All-tail}
 use Rattle.oftp_wire.specs.declared.command.Command.{Command}
 use Rattle.oftp_wire.specs.declared.command.Command.TheVariants as command
@@ -29,19 +29,19 @@ use Rattle.oftp_register.specs.Verdicts.{end_verdict}
 use Rattle.oftp_register.specs.LookUps.{files_full}
 use Rattle.oftp_register.specs.Soundness.{IsSound}
 use Rattle.oftp_session.specs.Settings.{Setting}
-use Rattle.oftp_session.specs.Phases.{unexpected, Phase, Receipt, Transfer, Step, InitiatorOpening, AwaitingSsid, ListenerIdle, Receiving, AwaitingRtr, answers, quiet, fails}
+use Rattle.oftp_session.specs.Phases.{unexpected, Phase, Receipt, Transfer, InitiatorOpening, AwaitingSsid, ListenerIdle, Receiving, AwaitingRtr, answers, quiet, fails}
 use Rattle.oftp_session.specs.declared.state.Contact.{Contact}
-use Rattle.oftp_session.specs.Opening.{offer_step as offers_session}
+use Rattle.oftp_session.specs.Opening.{calling_step}
 use Rattle.oftp_session.specs.Opening.{Agreement, came_initiator_opening, came_awaiting_ssid, opened_step, open_step, ssid_verdict, contact_of, answering_ssid, calling_ssid}
 use Rattle.oftp_session.specs.Listener.{came_listener_idle, response_step, filing, is_between, end_response, negative_end_response}
 use Rattle.oftp_vfile.specs.Reading.{taken}
 use Rattle.oftp_session.specs.Receiving.{terms_within, offer_step, on_start_verdict, offered_identity, receipt_of, verdict_on, carried_by, rows_to_keep, keeping, with_payload, with_rows, on_taken, data_step, on_end_verdict, end_step, came_receiving, is_window_full, asks_to_speak}
 use Rattle.oftp_session.specs.Sending.{payloads_in}
 use Rattle.oftp_session.specs.Steps.{IsReceived}
-use Rattle.oftp_engine.specs.Standing.{MayCome, MayCredit, MayAnswerStart, MayAnswerEnd, IsWholeAt, IsOpening, IsTold, IsTaking, IsCredit, IsResponseCommand, IsEndAnswer, OpensWith, Speaks, Talk}
+use Rattle.oftp_engine.proofs.Standing.{SsrmGoes, SsidComes, RtrComes, SfpaComes, SfnaComes, EfidGoes, AnswerComes, MaySpeak, MayCome, MayCredit, MayAnswerStart, MayAnswerEnd, IsWholeAt, IsOpening, IsTold, IsTaking, IsCredit, IsResponseCommand, IsEndAnswer, OpensWith, Speaks, Talk}
 use Rattle.oftp_session.specs.Calls.{Makes}
 use Rattle.oftp_engine.proofs.Says.{refusal_is_true, closed_is_whole}
-use Rattle.oftp_engine.proofs.TurnLinks.{Linked, Links}
+use Rattle.oftp_engine.proofs.TurnLinks.{Linked, Links, either_links}
 use Rattle.oftp_engine.proofs.TakeLinks.{fails_links, leaves_links}
 use Rattle.oftp_engine.proofs.Link.{payload_link}
 use Rattle.oftp_engine.proofs.Heard.{IsGreeted, Heard, Greeted, Response, Offered, Sent, Ended, HearsResponse, HearsOffer, HearsData, HearsEnd, heard, one_left}
@@ -64,7 +64,7 @@ hears calls p c coming other mute s = elim s [ inl k ↦ absurd (mute k) | inr k
 -- it offers the session
 calling_links : (setting : Setting) (partner : Partner) (r after : Register) (calls : Bool) (coming : List Command) (other : Talk) → after ≡ r
     → IsGreeted command.Ssrm coming (to calls InitiatorOpening command.Ssrm coming) other
-    → Links calls coming other (offers_session setting (Some partner)) after
+    → Links calls coming other (calling_step setting (Some partner)) after
 calling_links setting partner r after calls coming other made h =
     let ssid = calling_ssid setting.book partner in
     record {
@@ -72,12 +72,12 @@ calling_links setting partner r after calls coming other made h =
           (subst (λ x. MayCome after AwaitingSsid (x ++ command.Ssid ssid ∷ [])) (sym h.none) tt);
       meet = λ _. inr (subst (λ p. Speaks (now_with other (other.coming ++ command.Ssid ssid ∷ [])) p (record { calls = calls; phase = AwaitingSsid; coming = coming })) (sym h.awaits)
           (subst (λ b. OpensWith b (other.coming ++ command.Ssid ssid ∷ []) (record { calls = calls; phase = AwaitingSsid; coming = coming })) (sym h.called)
-          (inr (ssid, ap (λ x. x ++ command.Ssid ssid ∷ []) h.none, record { role = h.calls; opens = refl; told = h.alone }))));
+          (SsidComes ssid (ap (λ x. x ++ command.Ssid ssid ∷ []) h.none) (record { role = h.calls; opens = refl; told = h.alone }))));
     }
 
 called_links : (setting : Setting) (called : Option Partner) (r after : Register) (calls : Bool) (coming : List Command) (other : Talk)
-    → Makes (offers_session setting called).change r after → MayCome r other.phase other.coming
-    → IsGreeted command.Ssrm coming (to calls InitiatorOpening command.Ssrm coming) other → Links calls coming other (offers_session setting called) after
+    → Makes (calling_step setting called).change r after → MayCome r other.phase other.coming
+    → IsGreeted command.Ssrm coming (to calls InitiatorOpening command.Ssrm coming) other → Links calls coming other (calling_step setting called) after
 called_links setting None r after calls coming other made come h = fails_links ProtocolViolation r after calls coming other made come
 called_links setting (Some partner) r after calls coming other made come h = calling_links setting partner r after calls coming other made h
 
@@ -112,14 +112,17 @@ answering setting letter a after calls coming other alone k =
       said = subst (λ p. MayCome after p (other.coming ++ command.Ssid ssid ∷ [])) (sym k.opens) (subst (λ x. MayCome after AwaitingSsid (x ++ command.Ssid ssid ∷ [])) (sym k.told) tt);
       meet = λ _. inr (subst (λ p. Speaks (now_with other (other.coming ++ command.Ssid ssid ∷ [])) p listener) (sym k.opens)
           (subst (λ b. OpensWith b (other.coming ++ command.Ssid ssid ∷ []) listener) (sym k.role)
-          (ssid, ap (λ x. x ++ command.Ssid ssid ∷ []) k.told, record { contact = contact_of a; listens = refl; told = alone })));
+          (record { ssid = ssid; comes = ap (λ x. x ++ command.Ssid ssid ∷ []) k.told; listens = record { contact = contact_of a; listens = refl; told = alone } })));
     }
 
 -- an initiator speaks
 speaking : (setting : Setting) (letter : Mode) (a : Agreement) (partner : Partner) (r after : Register) (calls : Bool) (coming : List Command) (other : Talk) → after ≡ r
     → MayCome r other.phase other.coming → coming ≡ [] → IsTold [] other
     → Links calls coming other (open_step setting letter a (Some partner)) after
-speaking setting letter a partner r after calls coming other made come alone k = record { said = subst (λ x. MayCome x other.phase other.coming) (sym made) come; meet = λ _. inl (alone, k) }
+speaking setting letter a partner r after calls coming other made come alone k = record {
+  said = subst (λ x. MayCome x other.phase other.coming) (sym made) come;
+  meet = λ _. inl (record { comes = alone; listens = k });
+}
 
 open_links : (setting : Setting) (letter : Mode) (verdict : Result Agreement SessionReason) (called : Option Partner) (r after : Register) (c : Command) (coming : List Command)
     (other : Talk) → setting.called ≡ called
@@ -129,12 +132,13 @@ open_links setting letter (Err reason) called r after c coming other e made come
 open_links setting letter (Ok a) None r after c coming other e made come s =
     subst (λ o. Links (is_some setting.called) coming other (open_step setting letter a o) after) (sym e)
     (elim s [
-      | inl k ↦ absurd (let q : c ∷ coming ≡ [] = k.0 in cc)
-      | inr k ↦ answering setting letter a after (is_some setting.called) coming other (awaits_alone k.0 c coming k.1) k.2
+      | SsrmGoes none k ↦ absurd (let q : c ∷ coming ≡ [] = none in cc)
+      | SsidComes ssid comes k ↦ answering setting letter a after (is_some setting.called) coming other (awaits_alone ssid c coming comes) k
     ])
 open_links setting letter (Ok a) (Some partner) r after c coming other e made come s =
     subst (λ o. Links (is_some setting.called) coming other (open_step setting letter a o) after) (sym e)
-    (speaking setting letter a partner r after (is_some setting.called) coming other (subst (λ o. Makes (open_step setting letter a o).change r after) e made) come (awaits_alone s.0 c coming s.1) s.2)
+    (speaking setting letter a partner r after (is_some setting.called) coming other (subst (λ o. Makes (open_step setting letter a o).change r after) e made) come
+    (awaits_alone s.ssid c coming s.comes) s.listens)
 
 pub await_links : (setting : Setting) (r after : Register) (c : Command) (coming : List Command) (other : Talk) → Makes (came_awaiting_ssid setting c).change r after
     → MayCome r other.phase other.coming
@@ -162,16 +166,14 @@ response_links : (setting : Setting) (contact : Contact) (r after : Register) (r
     → Makes (response_step setting contact r response).change r after → MayCome r other.phase other.coming
     → HearsResponse c coming (to calls (ListenerIdle contact) c coming) other → Links calls coming other (response_step setting contact r response) after
 unfolding response_step
-response_links setting contact r after response c calls coming other made come h = by (is_between setting contact response.identity) made
-  where
-    by : (b : Bool) → Makes (let s : Step = cond b (answers (ListenerIdle contact) (filing r response) command.Rtr) (fails InvalidData) in s).change r after
-        → Links calls coming other (let s : Step = cond b (answers (ListenerIdle contact) (filing r response) command.Rtr) (fails InvalidData) in s) after
-    by true m = record {
+response_links setting contact r after response c calls coming other made come h =
+    either_links (is_between setting contact response.identity) (answers (ListenerIdle contact) (filing r response) command.Rtr) (fails InvalidData) r after calls coming other
+    (λ m. record {
       said = subst (λ p. MayCome after p (other.coming ++ command.Rtr ∷ [])) (sym h.awaits) (subst (λ x. MayCome after (AwaitingRtr h.there h.number) (x ++ command.Rtr ∷ [])) (sym h.none) tt);
       meet = λ _. inr (subst (λ p. Speaks (now_with other (other.coming ++ command.Rtr ∷ [])) p (record { calls = calls; phase = ListenerIdle contact; coming = coming })) (sym h.awaits)
-          (inr (ap (λ x. x ++ command.Rtr ∷ []) h.none, record { contact = contact; listens = refl; told = h.alone })));
-    }
-    by false m = fails_links InvalidData r after calls coming other m come
+          (RtrComes (ap (λ x. x ++ command.Rtr ∷ []) h.none) (record { contact = contact; listens = refl; told = h.alone })));
+    })
+    (λ m. fails_links InvalidData r after calls coming other m come) made
 
 -- an offer is answered: a duplicate is refused as one only where the file is whole
 offer_links : (setting : Setting) (contact : Contact) (r after : Register) (sfid : Sfid) (calls : Bool) (coming : List Command) (other : Talk)
@@ -190,20 +192,16 @@ offer_links setting contact r after sfid calls coming other made h = by (verdict
           said = subst (λ p. MayCome after p (other.coming ++ answer ∷ [])) (sym h.awaits) (subst (λ x. MayAnswerStart after h.offer.file (x ++ answer ∷ [])) (sym h.none) tt);
           meet = λ _. inr (subst (λ p. Speaks (now_with other (other.coming ++ answer ∷ [])) p
               (record { calls = calls; phase = Receiving contact (receipt_of r sfid count); coming = coming })) (sym h.awaits)
-              (inr (inl (
-                count,
-                ap (λ x. x ++ answer ∷ []) h.none,
-                record {
-                  contact = contact;
-                  receipt = receipt_of r sfid count;
-                  takes = refl;
-                  same = named;
-                  from_row = refl;
-                  on_the_way = [];
-                  told = h.alone;
-                  all = refl;
-                },
-              ))));
+              (SfpaComes count (ap (λ x. x ++ answer ∷ []) h.none) (record {
+                contact = contact;
+                receipt = receipt_of r sfid count;
+                takes = refl;
+                same = named;
+                from_row = refl;
+                on_the_way = [];
+                told = h.alone;
+                all = refl;
+              })));
         }
     by (start.Refuse reason retry) v m =
         let answer : Command = command.Sfna (record { reason = start_number reason; retry = retry; text = [] }) in
@@ -212,13 +210,13 @@ offer_links setting contact r after sfid calls coming other made h = by (verdict
         (refusal_is_true r sfid (files_full r side.Incoming) (terms_within setting contact r.limits) reason retry v e)) in record {
           said = subst (λ p. MayCome after p (other.coming ++ answer ∷ [])) (sym h.awaits) (subst (λ x. MayAnswerStart after h.offer.file (x ++ answer ∷ [])) (sym h.none) (is_true, tt));
           meet = λ _. inr (subst (λ p. Speaks (now_with other (other.coming ++ answer ∷ [])) p (record { calls = calls; phase = ListenerIdle contact; coming = coming })) (sym h.awaits)
-              (inr (inr (_, ap (λ x. x ++ answer ∷ []) h.none, record { contact = contact; listens = refl; told = h.alone }))));
+              (SfnaComes _ (ap (λ x. x ++ answer ∷ []) h.none) (record { contact = contact; listens = refl; told = h.alone })));
         }
 
 -- a response came to a listener
 heard_response : (contact : Contact) (c : Command) (calls : Bool) (coming : List Command) (other : Talk) → IsResponseCommand c → Linked (to calls (ListenerIdle contact) c coming) other
     → HearsResponse c coming (to calls (ListenerIdle contact) c coming) other
-heard_response contact c calls coming other is (inl k) = absurd (let l = one_left c command.Cd coming k.0 in subst IsResponseCommand l.0 is)
+heard_response contact c calls coming other is (inl k) = absurd (let l = one_left c command.Cd coming k.comes in subst IsResponseCommand l.0 is)
 heard_response contact c calls coming other is (inr k) = elim (heard c coming (to calls (ListenerIdle contact) c coming) other other.phase refl refl k) [
   | Greeted h ↦ absurd (let q : ListenerIdle contact ≡ InitiatorOpening = h.opens in cc)
   | Response h ↦ h
@@ -230,7 +228,7 @@ heard_response contact c calls coming other is (inr k) = elim (heard c coming (t
 -- an offer came to a listener
 heard_offer : (contact : Contact) (sfid : Sfid) (calls : Bool) (coming : List Command) (other : Talk) → Linked (to calls (ListenerIdle contact) (command.Sfid sfid) coming) other
     → HearsOffer (command.Sfid sfid) coming (to calls (ListenerIdle contact) (command.Sfid sfid) coming) other
-heard_offer contact sfid calls coming other (inl k) = absurd (let l = one_left (command.Sfid sfid) command.Cd coming k.0 in let q : command.Sfid sfid ≡ command.Cd = l.0 in cc)
+heard_offer contact sfid calls coming other (inl k) = absurd (let l = one_left (command.Sfid sfid) command.Cd coming k.comes in let q : command.Sfid sfid ≡ command.Cd = l.0 in cc)
 heard_offer contact sfid calls coming other (inr k) = elim (heard (command.Sfid sfid) coming (to calls (ListenerIdle contact) (command.Sfid sfid) coming) other other.phase refl refl k) [
   | Greeted h ↦ absurd (let q : ListenerIdle contact ≡ InitiatorOpening = h.opens in cc)
   | Response h ↦ absurd h.is
@@ -240,8 +238,8 @@ heard_offer contact sfid calls coming other (inr k) = elim (heard (command.Sfid 
 ]
 
 -- the direction came to a listener
-heard_direction : (contact : Contact) (calls : Bool) (coming : List Command) (other : Talk) → Linked (to calls (ListenerIdle contact) command.Cd coming) other → (coming ≡ []) × IsTold [] other
-heard_direction contact calls coming other (inl k) = ((one_left command.Cd command.Cd coming k.0).1, k.1)
+heard_direction : (contact : Contact) (calls : Bool) (coming : List Command) (other : Talk) → Linked (to calls (ListenerIdle contact) command.Cd coming) other → MaySpeak [] coming other
+heard_direction contact calls coming other (inl k) = record { comes = (one_left command.Cd command.Cd coming k.comes).1; listens = k.listens }
 heard_direction contact calls coming other (inr k) = elim (heard command.Cd coming (to calls (ListenerIdle contact) command.Cd coming) other other.phase refl refl k) [
   | Greeted h ↦ absurd (let q : ListenerIdle contact ≡ InitiatorOpening = h.opens in cc)
   | Response h ↦ absurd h.is
@@ -267,11 +265,27 @@ listen_links setting contact r after _ calls coming other made come s = fails_li
 
 -- one that takes a file
 
+-- a file on its way: whose it is, from which row on, its payloads that were sent, and what comes behind them
+record Flow : Type 0 where
+  identity : Identity
+  from : ℕ
+  payloads : List (List ℕ)
+  behind : List Command
+
+abbrev TakesFlow : Flow → Talk → Type 0
+TakesFlow w talk = IsTaking w.identity w.from w.payloads w.behind talk
+
+abbrev data_flow : Contact → Transfer → Flow
+data_flow contact t = record { identity = t.file.identity; from = t.from; payloads = take t.sent (payloads_in contact t); behind = [] }
+
+abbrev end_flow : Contact → Transfer → Efid → Flow
+end_flow contact t efid = record { identity = t.file.identity; from = t.from; payloads = payloads_in contact t; behind = command.Efid efid ∷ [] }
+
 -- the other one sends payloads of a file, or has sent all of them
-record IsFeeding (identity : Identity) (from : ℕ) (payloads : List (List ℕ)) (behind : List Command) (other : Talk) : Type 0 where
+record IsFeeding (w : Flow) (other : Talk) : Type 0 where
   credits : All IsCredit other.coming
   may : (s : Register) (coming : List Command) → All IsCredit coming → MayCome s other.phase coming
-  goes : (coming : List Command) (one : Talk) → All IsCredit coming → IsTaking identity from payloads behind one → Speaks (now_with other coming) other.phase one
+  goes : (coming : List Command) (one : Talk) → All IsCredit coming → TakesFlow w one → Speaks (now_with other coming) other.phase one
 
 -- CDT alone may come to one that sends
 credits_come : (coming : List Command) → All IsCredit coming → MayCredit coming
@@ -285,42 +299,41 @@ credits_end s t [] h = tt
 credits_end s t (command.Cdt ∷ coming) h = tt
 credits_end s t (_ ∷ coming) h = absurd (All-head IsCredit _ coming h)
 
-data_feeds : (one other : Talk) (h : HearsData one other) → IsFeeding h.transfer.file.identity h.transfer.from (take h.transfer.sent (payloads_in h.there h.transfer)) [] other
+data_feeds : (one other : Talk) (h : HearsData one other) → IsFeeding (data_flow h.there h.transfer) other
 data_feeds one other h = record {
   credits = h.credits;
   may = λ s coming c. subst (λ p. MayCome s p coming) (sym h.sends) (credits_come coming c);
-  goes = λ coming x c k. subst (λ p. Speaks (now_with other coming) p x) (sym h.sends) (c, k);
+  goes = λ coming x c k. subst (λ p. Speaks (now_with other coming) p x) (sym h.sends) (record { credits = c; takes = k });
 }
 
-end_feeds : (one other : Talk) (h : HearsEnd one other) → IsFeeding h.transfer.file.identity h.transfer.from (payloads_in h.there h.transfer) (command.Efid h.efid ∷ []) other
+end_feeds : (one other : Talk) (h : HearsEnd one other) → IsFeeding (end_flow h.there h.transfer h.efid) other
 end_feeds one other h = record {
   credits = h.credits;
   may = λ s coming c. subst (λ p. MayCome s p coming) (sym h.awaits) (credits_end s h.transfer coming c);
-  goes = λ coming x c k. subst (λ p. Speaks (now_with other coming) p x) (sym h.awaits) (inl (c, h.efid, k));
+  goes = λ coming x c k. subst (λ p. Speaks (now_with other coming) p x) (sym h.awaits) (EfidGoes c h.efid k);
 }
 
 -- the payload is the next of those on the way
-record IsNextOf (f : Receipt) (payload : List ℕ) (coming : List Command) (identity : Identity) (from : ℕ) (payloads : List (List ℕ)) (behind : List Command) : Type 0 where
+record IsNextOf (f : Receipt) (payload : List ℕ) (coming : List Command) (w : Flow) : Type 0 where
   more : List (List ℕ)
-  rest : coming ≡ map command.Data more ++ behind
-  same : f.file.identity ≡ identity
-  place : f.from ≡ from
-  all : f.payloads ++ payload ∷ more ≡ payloads
+  rest : coming ≡ map command.Data more ++ w.behind
+  same : f.file.identity ≡ w.identity
+  place : f.from ≡ w.from
+  all : f.payloads ++ payload ∷ more ≡ w.payloads
 
-next_of : (contact : Contact) (f : Receipt) (payload : List ℕ) (calls : Bool) (coming : List Command) (identity : Identity) (from : ℕ) (payloads : List (List ℕ)) (behind : List Command)
-    → (command.Data payload ∷ coming ≡ behind → ⊥)
-    → IsTaking identity from payloads behind (to calls (Receiving contact f) (command.Data payload) coming) → IsNextOf f payload coming identity from payloads behind
-next_of contact f payload calls coming identity from payloads behind first k = by k.on_the_way k.told k.all
+next_of : (contact : Contact) (f : Receipt) (payload : List ℕ) (calls : Bool) (coming : List Command) (w : Flow) → (command.Data payload ∷ coming ≡ w.behind → ⊥)
+    → TakesFlow w (to calls (Receiving contact f) (command.Data payload) coming) → IsNextOf f payload coming w
+next_of contact f payload calls coming w first k = by k.on_the_way k.told k.all
   where
     is : f ≡ k.receipt
     is = let q : Receiving contact f ≡ Receiving k.contact k.receipt = k.takes in cc
 
-    by : (on_the_way : List (List ℕ)) → command.Data payload ∷ coming ≡ map command.Data on_the_way ++ behind → k.receipt.payloads ++ on_the_way ≡ payloads
-        → IsNextOf f payload coming identity from payloads behind
+    by : (on_the_way : List (List ℕ)) → command.Data payload ∷ coming ≡ map command.Data on_the_way ++ w.behind → k.receipt.payloads ++ on_the_way ≡ w.payloads
+        → IsNextOf f payload coming w
     by [] told all = absurd (first told)
     by (p ∷ ps) told all =
-        let q : command.Data payload ∷ coming ≡ command.Data p ∷ (map command.Data ps ++ behind) = told in
-        let rest : coming ≡ map command.Data ps ++ behind = cc in
+        let q : command.Data payload ∷ coming ≡ command.Data p ∷ (map command.Data ps ++ w.behind) = told in
+        let rest : coming ≡ map command.Data ps ++ w.behind = cc in
         let head : command.Data payload ≡ command.Data p = cc in
         let same : payload ≡ p = cc in
         record {
@@ -332,46 +345,43 @@ next_of contact f payload calls coming identity from payloads behind first k = b
         }
 
 -- the file goes on after a payload
-took_next : (contact : Contact) (f g : Receipt) (payload : List ℕ) (calls : Bool) (coming : List Command) (identity : Identity) (from : ℕ) (payloads : List (List ℕ))
-    (behind : List Command) → IsNextOf f payload coming identity from payloads behind
+took_next : (contact : Contact) (f g : Receipt) (payload : List ℕ) (calls : Bool) (coming : List Command) (w : Flow) → IsNextOf f payload coming w
     → g.file.identity ≡ f.file.identity → g.from ≡ f.from → g.payloads ≡ f.payloads ++ payload ∷ []
-    → IsTaking identity from payloads behind (record { calls = calls; phase = Receiving contact g; coming = coming })
-took_next contact f g payload calls coming identity from payloads behind n name goes more =
-    subst (λ x. IsTaking identity from payloads behind (record { calls = calls; phase = Receiving contact g; coming = x })) (sym n.rest)
-    (payload_link contact f g payload calls identity from payloads n.more behind n.same n.place n.all name goes more)
+    → TakesFlow w (record { calls = calls; phase = Receiving contact g; coming = coming })
+took_next contact f g payload calls coming w n name goes more =
+    subst (λ x. TakesFlow w (record { calls = calls; phase = Receiving contact g; coming = x })) (sym n.rest)
+    (payload_link contact f g payload calls w.identity w.from w.payloads n.more w.behind n.same n.place n.all name goes more)
 
-data_links : (contact : Contact) (f : Receipt) (payload : List ℕ) (r after : Register) (calls : Bool) (coming : List Command) (other : Talk) (identity : Identity) (from : ℕ)
-    (payloads : List (List ℕ)) (behind : List Command)
-    → Makes (data_step contact f payload).change r after → MayCome r other.phase other.coming → IsFeeding identity from payloads behind other
-    → IsNextOf f payload coming identity from payloads behind → Links calls coming other (data_step contact f payload) after
+data_links : (contact : Contact) (f : Receipt) (payload : List ℕ) (r after : Register) (calls : Bool) (coming : List Command) (other : Talk) (w : Flow)
+    → Makes (data_step contact f payload).change r after → MayCome r other.phase other.coming → IsFeeding w other
+    → IsNextOf f payload coming w → Links calls coming other (data_step contact f payload) after
 unfolding data_step
-data_links contact f payload r after calls coming other identity from payloads behind made come feeds n = by_size (nat_lt contact.link.buffer (length payload + 1)) made
+data_links contact f payload r after calls coming other w made come feeds n =
+    either_links (nat_lt contact.link.buffer (length payload + 1)) (fails BufferSizeError) (on_taken contact f payload (taken (carried_by f) payload)) r after calls coming other
+    (λ m. fails_links BufferSizeError r after calls coming other m come) (by_taken (taken (carried_by f) payload)) made
   where
-    by_window : (t : Taking) (full : Bool) → Makes (let s : Step =
-        cond full (answers (Receiving contact (with_rows (with_payload f payload) (rows_to_keep (with_payload f payload) t)))
-        (keeping f.number (rows_to_keep (with_payload f payload) t)) command.Cdt) (quiet (Receiving contact (with_payload f payload))) in s).change r after
-        → Links calls coming other (let s : Step = cond full (answers (Receiving contact (with_rows (with_payload f payload) (rows_to_keep (with_payload f payload) t)))
-        (keeping f.number (rows_to_keep (with_payload f payload) t)) command.Cdt) (quiet (Receiving contact (with_payload f payload))) in s) after
-    by_window t true m =
+    -- the window is full: its rows are kept, and CDT is said
+    kept : (t : Taking) → let g : Receipt = with_rows (with_payload f payload) (rows_to_keep (with_payload f payload) t) in
+        Links calls coming other (answers (Receiving contact g) (keeping f.number (rows_to_keep (with_payload f payload) t)) command.Cdt) after
+    kept t =
+        let g = with_rows (with_payload f payload) (rows_to_keep (with_payload f payload) t) in
         let credits : All IsCredit (other.coming ++ command.Cdt ∷ []) =
         All-append IsCredit other.coming (command.Cdt ∷ []) feeds.credits (All-cons IsCredit command.Cdt [] tt (All-nil IsCredit)) in record {
           said = feeds.may after (other.coming ++ command.Cdt ∷ []) credits;
-          meet = λ _. inr (feeds.goes (other.coming ++ command.Cdt ∷ []) _ credits
-              (took_next contact f (with_rows (with_payload f payload) (rows_to_keep (with_payload f payload) t)) payload calls coming identity from payloads behind n refl refl refl));
+          meet = λ _. inr (feeds.goes (other.coming ++ command.Cdt ∷ []) _ credits (took_next contact f g payload calls coming w n refl refl refl));
         }
-    by_window t false m = record {
-      said = subst (λ x. MayCome x other.phase other.coming) (sym m) come;
-      meet = λ _. inr (feeds.goes other.coming _ feeds.credits (took_next contact f (with_payload f payload) payload calls coming identity from payloads behind n refl refl refl));
-    }
 
     by_taken : (result : Result Taking TakeFault) → Makes (on_taken contact f payload result).change r after → Links calls coming other (on_taken contact f payload result) after
-    by_taken (Ok t) m = by_window t (is_window_full contact (with_payload f payload)) m
     by_taken (Err fault) m = fails_links _ r after calls coming other m come
-
-    by_size : (big : Bool) → Makes (let s : Step = cond big (fails BufferSizeError) (on_taken contact f payload (taken (carried_by f) payload)) in s).change r after
-        → Links calls coming other (let s : Step = cond big (fails BufferSizeError) (on_taken contact f payload (taken (carried_by f) payload)) in s) after
-    by_size true m = fails_links BufferSizeError r after calls coming other m come
-    by_size false m = by_taken (taken (carried_by f) payload) m
+    by_taken (Ok t) m =
+        let g = with_payload f payload in
+        either_links (is_window_full contact g) (answers (Receiving contact (with_rows g (rows_to_keep g t))) (keeping f.number (rows_to_keep g t)) command.Cdt)
+        (quiet (Receiving contact g)) r after calls coming other
+        (λ made. kept t)
+        (λ same. record {
+          said = subst (λ x. MayCome x other.phase other.coming) (sym same) come;
+          meet = λ _. inr (feeds.goes other.coming _ feeds.credits (took_next contact f g payload calls coming w n refl refl refl));
+        }) m
 
 -- EFID stands behind the last payload
 ended_alone : (contact : Contact) (f : Receipt) (efid was : Efid) (calls : Bool) (coming : List Command) (identity : Identity) (from : ℕ) (payloads : List (List ℕ))
@@ -404,7 +414,11 @@ end_links : (contact : Contact) (f : Receipt) (efid : Efid) (r after : Register)
     → Makes (end_step contact r f efid).change r after → MayCome r other.phase other.coming
     → (h : HearsEnd (to calls (Receiving contact f) (command.Efid efid) coming) other) → Links calls coming other (end_step contact r f efid) after
 unfolding end_step apply
-end_links contact f efid r after calls coming other sound holds made come h = by_open (is_open (carried_by f).stage) made
+end_links contact f efid r after calls coming other sound holds made come h =
+    either_links (is_open (carried_by f).stage) (fails ProtocolViolation)
+    (on_end_verdict contact r f (carried_by f) (end_verdict efid (counts_of (carried_by f)).0 (counts_of (carried_by f)).1)) r after calls coming other
+    (λ m. fails_links ProtocolViolation r after calls coming other m come)
+    (by_verdict (end_verdict efid (counts_of (carried_by f)).0 (counts_of (carried_by f)).1)) made
   where
     k : (coming ≡ []) × (f.file.identity ≡ h.transfer.file.identity)
     k = ended_alone contact f efid h.efid calls coming h.transfer.file.identity h.transfer.from (payloads_in h.there h.transfer) h.takes
@@ -414,7 +428,7 @@ end_links contact f efid r after calls coming other sound holds made come h = by
     answered answer is may change = record {
       said = subst (λ p. MayCome after p (other.coming ++ answer ∷ [])) (sym h.awaits) (answer_comes after h.transfer other.coming answer h.credits may);
       meet = λ _. inr (subst (λ p. Speaks (now_with other (other.coming ++ answer ∷ [])) p (record { calls = calls; phase = ListenerIdle contact; coming = coming })) (sym h.awaits)
-          (inr (other.coming, h.credits, answer, is, refl, record { contact = contact; listens = refl; told = k.0 })));
+          (AnswerComes other.coming h.credits answer is refl (record { contact = contact; listens = refl; told = k.0 })));
     }
 
     by_verdict : (verdict : EndVerdict) → Makes (on_end_verdict contact r f (carried_by f) verdict).change r after → Links calls coming other (on_end_verdict contact r f (carried_by f) verdict) after
@@ -423,13 +437,6 @@ end_links contact f efid r after calls coming other sound holds made come h = by
         let whole : IsWholeAt after h.transfer.file.identity = subst (IsWholeAt after) k.1 (closed_is_whole r after f rows sound holds m) in
         answered (command.Efpa (record { change_direction = asks_to_speak contact r })) tt (whole, tt) (Some (Close f.number rows))
     by_verdict («end».Refuse reason) m = answered (command.Efna (record { reason = end_number reason; text = [] })) tt tt (Some (GiveUp f.number))
-
-    by_open : (stays : Bool) → Makes (let s : Step = cond stays (fails ProtocolViolation)
-        (on_end_verdict contact r f (carried_by f) (end_verdict efid (counts_of (carried_by f)).0 (counts_of (carried_by f)).1)) in s).change r after
-        → Links calls coming other (let s : Step = cond stays (fails ProtocolViolation)
-        (on_end_verdict contact r f (carried_by f) (end_verdict efid (counts_of (carried_by f)).0 (counts_of (carried_by f)).1)) in s) after
-    by_open true m = fails_links ProtocolViolation r after calls coming other m come
-    by_open false m = by_verdict (end_verdict efid (counts_of (carried_by f)).0 (counts_of (carried_by f)).1) m
 
 -- what comes to one that takes a file
 heard_file : (contact : Contact) (f : Receipt) (c : Command) (calls : Bool) (coming : List Command) (other : Talk) → Linked (to calls (Receiving contact f) c coming) other
@@ -446,16 +453,14 @@ pub receive_links : (contact : Contact) (f : Receipt) (r after : Register) (c : 
     → Makes (came_receiving contact r f c).change r after → MayCome r other.phase other.coming
     → Linked (to calls (Receiving contact f) c coming) other → Links calls coming other (came_receiving contact r f c) after
 unfolding came_receiving unexpected
-receive_links contact f r after (command.Data payload) calls coming other sound holds made come s = elim (heard_file contact f (command.Data payload) calls coming other s) [
-  | inl h ↦ data_links contact f payload r after calls coming other h.transfer.file.identity h.transfer.from (take h.transfer.sent (payloads_in h.there h.transfer)) [] made come
-      (data_feeds (to calls (Receiving contact f) (command.Data payload) coming) other h)
-      (next_of contact f payload calls coming h.transfer.file.identity h.transfer.from (take h.transfer.sent (payloads_in h.there h.transfer)) []
-      (λ e. let q : command.Data payload ∷ coming ≡ [] = e in cc) h.takes)
-  | inr h ↦ data_links contact f payload r after calls coming other h.transfer.file.identity h.transfer.from (payloads_in h.there h.transfer) (command.Efid h.efid ∷ []) made come
-      (end_feeds (to calls (Receiving contact f) (command.Data payload) coming) other h)
-      (next_of contact f payload calls coming h.transfer.file.identity h.transfer.from (payloads_in h.there h.transfer) (command.Efid h.efid ∷ [])
-      (λ e. let q : command.Data payload ∷ coming ≡ command.Efid h.efid ∷ [] = e in cc) h.takes)
-]
+receive_links contact f r after (command.Data payload) calls coming other sound holds made come s =
+    let one = to calls (Receiving contact f) (command.Data payload) coming in
+    elim (heard_file contact f (command.Data payload) calls coming other s) [
+      | inl h ↦ data_links contact f payload r after calls coming other (data_flow h.there h.transfer) made come (data_feeds one other h)
+          (next_of contact f payload calls coming (data_flow h.there h.transfer) (λ e. let q : command.Data payload ∷ coming ≡ [] = e in cc) h.takes)
+      | inr h ↦ data_links contact f payload r after calls coming other (end_flow h.there h.transfer h.efid) made come (end_feeds one other h)
+          (next_of contact f payload calls coming (end_flow h.there h.transfer h.efid) (λ e. let q : command.Data payload ∷ coming ≡ command.Efid h.efid ∷ [] = e in cc) h.takes)
+    ]
 receive_links contact f r after (command.Efid efid) calls coming other sound holds made come s = elim (heard_file contact f (command.Efid efid) calls coming other s) [
   | inl h ↦ absurd (not_ended contact f efid calls coming h.transfer.file.identity h.transfer.from (take h.transfer.sent (payloads_in h.there h.transfer)) h.takes)
   | inr h ↦ end_links contact f efid r after calls coming other sound holds made come h

@@ -27,7 +27,7 @@ use Rattle.oftp_session.specs.declared.link.WhenDone.TheVariants.{ChangeDirectio
 use Rattle.oftp_session.specs.Settings.{Setting}
 use Rattle.oftp_session.specs.Phases.{Phase, Receipt, Offer, Transfer, Step, ResponderOpening, InitiatorOpening, AwaitingSsid, ListenerIdle, Receiving, SpeakerIdle, GivingWay, AwaitingRtr, AwaitingStart, Sending, AwaitingEnd, EndedHere, EndedThere, answers, quiet, fails, changes, unexpected}
 use Rattle.oftp_session.specs.declared.state.Contact.{Contact}
-use Rattle.oftp_session.specs.Opening.{offer_step as offers_session}
+use Rattle.oftp_session.specs.Opening.{calling_step}
 use Rattle.oftp_session.specs.Opening.{Agreement, came_initiator_opening, came_awaiting_ssid, opened_step, open_step, ssid_verdict}
 use Rattle.oftp_session.specs.Listener.{came_listener_idle, response_step, filing, is_between, end_response, negative_end_response}
 use Rattle.oftp_vfile.specs.Reading.{taken}
@@ -35,7 +35,7 @@ use Rattle.oftp_session.specs.Receiving.{offer_step, on_start_verdict, offered_i
 use Rattle.oftp_session.specs.Speaker.{came_awaiting_rtr, on_item, offers, speaks}
 use Rattle.oftp_session.specs.Sending.{came_awaiting_start, came_sending, came_awaiting_end, transfer_of, reopening, credited, new_mark, credit_left, turned_sending, sends_next, payloads_in, after_file}
 use Rattle.oftp_session.specs.Steps.{came, turned}
-use Rattle.oftp_engine.specs.Standing.{IsQuiet, IsOfferOf, IsBeginning, MayTake, MayHear, MayAnswerStart, MayCredit, MayAnswerEnd, MayAnswerResponse, MayOpen, MayCome}
+use Rattle.oftp_engine.proofs.Standing.{IsQuiet, IsOfferOf, IsBeginning, MayTake, MayHear, MayAnswerStart, MayCredit, MayAnswerEnd, MayAnswerResponse, MayOpen, MayCome}
 
 -- where nothing comes but an end of the session, it may come in each phase in which no file comes
 
@@ -203,7 +203,7 @@ initiate_next : (setting : Setting) (there : Register) (c : Command) (coming : L
 unfolding came_initiator_opening unexpected
 initiate_next setting there command.Ssrm coming h = by setting.called
   where
-    by : (called : Option Partner) → MayCome there (offers_session setting called).phase coming
+    by : (called : Option Partner) → MayCome there (calling_step setting called).phase coming
     by None = tt
     by (Some partner) = quiet_open coming h
 initiate_next setting there _ coming h = tt

@@ -38,8 +38,9 @@ use Rattle.oftp_engine.specs.declared.submitting.Fields.{Fields}
 use Rattle.oftp_engine.specs.declared.submitting.Offer.{Offer}
 use Rattle.oftp_engine.specs.declared.submitting.Submission.{Submission}
 use Rattle.oftp_engine.specs.Operating.{Deed, IsFileOf, Submits, decided, done_line, identity_of, is_too_big, refuses, registered}
-use Rattle.oftp_engine.specs.Operated.{Attempts, came_out_as, Registers}
-use Rattle.oftp_engine.specs.Offers.{AreFieldsOf, IsOffer, came_big, came_numbered, named_by}
+use Rattle.oftp_engine.specs.Operated.{Registers}
+use Rattle.oftp_engine.specs.InsideOperating.{Attempts, came_out_as}
+use Rattle.oftp_engine.specs.InsideSubmitting.{AreFieldsOf, IsOffer, came_big, came_numbered, named_by}
 use Rattle.oftp_engine.proofs.Deciding.{decides}
 
 -- how many octets a local form has: in V five more for each record
@@ -337,3 +338,34 @@ module _ (book : BookData) (r : Register) (s : Submission) (rows : List (List �
         | inr new ↦ sym (cond-false (is_outgoing r identity) (refuses refusal.Duplicate) sent new)
       ] in
       inl (rows, file, is ∙ again ∙ ap (cond (is_outgoing r identity) (refuses refusal.Duplicate)) (sym within) ∙ sym (cond-true here _ (refuses refusal.Unknown) found))
+
+-- a file came with the code of a partner in the book, and is named by what was read of it
+pub record IsArrived (book : BookData) (s : Submission) (offer : Offer) (identity : Identity) : Type 0 where
+  pub offered : IsOffer s offer
+  pub found : is_some (partner_at s.to.now book.partners) ≡ true
+  pub named : identity ≡ identity_of book s
+
+pub arrived : (book : BookData) (s : Submission) (read : Option Offer) (offer : Offer) (p : Partner) (code : List ℕ) (identity : Identity) → read ≡ Some offer → IfSome read (IsOffer s)
+    → Some p ≡ partner_at code book.partners → code ≡ s.to.now → identity ≡ named_by book p offer.fields → IsArrived book s offer identity
+arrived book s read offer p code identity is some value same named =
+    let offered = some_at (IsOffer s) read offer is some in
+    let to = is_addressed book s p offer.fields code offered.fields value same in
+    record { offered = offered; found = ap is_some to.found; named = named ∙ to.named }
+
+-- such a file is refused as too big, or registered
+module _ (book : BookData) (s : Submission) (offer : Offer) (identity : Identity) (it : IsArrived book s offer identity) (old new : View) (result : Result Outcome RunFault) where
+  pub attempts_big : is_too_big old.register.limits offer.rows ≡ true
+      → Attempts (codes "done: submit ") (λ deed. deed ≡ cond (is_outgoing old.register identity) (refuses refusal.Duplicate) (refuses refusal.Limit)) old new result
+      → Attempts (codes "done: submit ") (Submits book old.register s) old new result
+  attempts_big many does =
+      attempts_as (codes "done: submit ") _ (Submits book old.register s) old new result
+      (λ (deed : Deed) is. is_big book old.register s offer.rows (offered_file s offer it.offered) it.found many deed
+      (is ∙ ap (λ (i : Identity). cond (is_outgoing old.register i) (refuses refusal.Duplicate) (refuses refusal.Limit)) it.named)) does
+
+  pub attempts_sent : is_too_big old.register.limits offer.rows ≡ false
+      → Attempts (codes "done: submit ") (λ deed. deed ≡ registered identity s offer.rows old.register) old new result
+      → Attempts (codes "done: submit ") (Submits book old.register s) old new result
+  attempts_sent few does =
+      attempts_as (codes "done: submit ") _ (Submits book old.register s) old new result
+      (λ (deed : Deed) is. is_sent book old.register s offer.rows (offered_file s offer it.offered) it.found few deed
+      (is ∙ ap (λ (i : Identity). registered i s offer.rows old.register) it.named)) does

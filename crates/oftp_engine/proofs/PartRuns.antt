@@ -35,13 +35,13 @@ use Rattle.oftp_session.proofs.Proceeding.{turned_proceeds}
 use Rattle.oftp_engine.specs.declared.operating.Operator.{Operator}
 use Rattle.oftp_engine.specs.declared.operating.Operator.TheVariants as operator
 use Rattle.oftp_engine.specs.declared.operating.Refusal.TheVariants.{Duplicate, Field, Limit, Unknown}
-use Rattle.oftp_engine.specs.Frames.{at_rest, over_commands}
+use Rattle.oftp_engine.specs.Frames.{with_fault, over_commands}
 use Rattle.oftp_engine.specs.declared.submitting.Submission.{Submission}
 use Rattle.oftp_engine.specs.Operating.{Deed, IsDeed, IsFileOf, decided, identity_of, is_too_big, makes, refuses, registered, submitted}
 use Rattle.oftp_engine.proofs.Offers.{is_file}
-use Rattle.oftp_engine.specs.Parts.{AreParts, BringsParts, File, IsLeft, IsOpenWith, IsPart, IsSoFar, Job, JobsMakeTheFile, LeaveAll, Leaves, MayDo, NoCountPasses, Operates, PartsMakeTheFile, Serves, Session, course_of, rows_of}
+use Rattle.oftp_engine.specs.Parts.{AreParts, BringsParts, File, IsLeft, IsOpenWith, IsPart, IsSoFar, JobData, JobsMakeTheFile, LeaveAll, JobLeaves, MayDo, NoCountPasses, OfCall, PartsMakeTheFile, OfSession, SessionData, course_of, rows_here}
 use Rattle.oftp_engine.specs.Runs.{Course, advance, came_in, is_stopped, refusal, settled, started, step_on, turned_in, turns, with_change}
-use Rattle.oftp_engine.specs.Serving.{Sound}
+use Rattle.oftp_engine.specs.InsideServing.{Sound}
 use Rattle.oftp_engine.proofs.Courses.{grows_step, sound_start}
 use Rattle.oftp_engine.proofs.Folding.{folds_all}
 use Rattle.oftp_engine.proofs.PartChanges.{part_change}
@@ -136,7 +136,7 @@ module _ (file : File) (identity : Identity) (start : Register) where
       by suits so was (Ok command) part = came_part file identity c.register c.setting c.phase command suits so was part
       by suits so was (Err fault) part = refusal_so c.register (reason_of fault)
 
-  part_rest : (c : Course) (fault : Option FrameFault) → IsPartCourse file identity start c → IsPartCourse file identity start (at_rest c fault)
+  part_rest : (c : Course) (fault : Option FrameFault) → IsPartCourse file identity start c → IsPartCourse file identity start (with_fault c fault)
   part_rest c None h = h
   part_rest c (Some fault) h =
       part_step c (fails ProtocolViolation) (fails_proceed c.phase c.register ProtocolViolation) (λ suits so was. fails_so c.register ProtocolViolation) h
@@ -148,7 +148,7 @@ module _ (file : File) (identity : Identity) (start : Register) where
       d : Course
       d = settled limit c
 
-      by : (b : Bool) → IsPartCourse file identity start (cond b d (at_rest d fault))
+      by : (b : Bool) → IsPartCourse file identity start (cond b d (with_fault d fault))
       by true = part_settled limit c h
       by false = part_rest d fault (part_settled limit c h)
   part_over limit (m ∷ ms) fault c parts h =
@@ -179,7 +179,7 @@ first_course file identity setting r so = record {
     none (suc n) s within made = absurd (omega (arith, within))
 
 -- what a session leaves
-session_leaves : (file : File) (identity : Identity) (session : Session) (r s : Register) → IsSoIn file identity r → BringsParts file identity session r → IsLeft (course_of session r) r s
+session_leaves : (file : File) (identity : Identity) (session : SessionData) (r s : Register) → IsSoIn file identity r → BringsParts file identity session r → IsLeft (course_of session r) r s
     → IsSoIn file identity s
 session_leaves file identity session r s so brings left =
     let first = started session.setting r in
@@ -261,12 +261,12 @@ call_leaves file identity book (operator.Refuse n reason text) deed r s so is ma
 
 -- jobs in turn
 
-pub job_leaves : (file : File) (identity : Identity) (job : Job) (r s : Register) → IsSoIn file identity r → MayDo file identity job r → Leaves job r s → IsSoIn file identity s
-job_leaves file identity (Serves session) r s so may left = session_leaves file identity session r s so may left
-job_leaves file identity (Operates book call) r s so may (inl same) = subst (IsSoIn file identity) (sym same) so
-job_leaves file identity (Operates book call) r s so may (inr deed) = call_leaves file identity book call deed.0 r s so deed.1 deed.2
+pub job_leaves : (file : File) (identity : Identity) (job : JobData) (r s : Register) → IsSoIn file identity r → MayDo file identity job r → JobLeaves job r s → IsSoIn file identity s
+job_leaves file identity (OfSession session) r s so may left = session_leaves file identity session r s so may left
+job_leaves file identity (OfCall book call) r s so may (inl same) = subst (IsSoIn file identity) (sym same) so
+job_leaves file identity (OfCall book call) r s so may (inr deed) = call_leaves file identity book call deed.0 r s so deed.1 deed.2
 
-all_leave : (file : File) (identity : Identity) (jobs : List Job) (r s : Register) → IsSoIn file identity r → LeaveAll file identity jobs r s → IsSoIn file identity s
+all_leave : (file : File) (identity : Identity) (jobs : List JobData) (r s : Register) → IsSoIn file identity r → LeaveAll file identity jobs r s → IsSoIn file identity s
 all_leave file identity [] r s so same = subst (IsSoIn file identity) (sym same) so
 all_leave file identity (job ∷ jobs) r s so (next, may, left, later) = all_leave file identity jobs next s (job_leaves file identity job r next so may left) later
 
@@ -276,7 +276,7 @@ jobs_make_the_file file identity jobs r s sound so_far leave = (all_leave file i
 -- starts
 
 counted : (header : Incoming) (count : ℕ) (old : Option Incoming) (new : Incoming) → header.rows ≡ [] → header.state ≡ Open → WasStarted header count old new
-    → (count ≤ length (rows_of old)) × IsOpenWith (take count (rows_of old)) (Some new)
+    → (count ≤ length (rows_here old)) × IsOpenWith (take count (rows_here old)) (Some new)
 counted header count None new none o was =
     (omega (arith, was.1), (ap (λ (f : Incoming). f.state) was.0 ∙ o, ap (λ (f : Incoming). f.rows) was.0 ∙ none ∙ ap (λ n. take n []) (sym was.1)))
 counted header count (Some old) new none o was = (was.1, (ap (λ (f : Incoming). f.state) was.2 ∙ o, ap (λ (f : Incoming). f.rows) was.2))
@@ -285,7 +285,7 @@ pub no_count_passes : NoCountPasses
 unfolding apply
 no_count_passes r s identity format longest description count h =
     let header = new_incoming identity format longest description in
-    let rows = rows_of (in_at r identity) in
+    let rows = rows_here (in_at r identity) in
     let part = mapped_ok (λ files. record r { incoming = files }) (started_in r header count r.incoming) s h in
     let v = started_view r header count r.incoming part.0 part.1 in
     let c = counted header count (in_at r identity) v.new refl refl v.was in

@@ -20,7 +20,8 @@ use Rattle.oftp_register.specs.Offices.{CountsFault, IsFailure, LooksUp, View, n
 use Rattle.oftp_register.specs.Soundness.{AreFullRows, FitsState, IsSound, IsSoundIncoming}
 use Rattle.oftp_register.proofs.EntryLemmas.{all_at, rows_of_incoming}
 use Rattle.oftp_register.proofs.RowLemmas.{rows-append, rows-part}
-use Rattle.oftp_engine.specs.Fetched.{HasFile, IsAnswered, IsPiece, IsUnanswered}
+use Rattle.oftp_engine.specs.Fetched.{HasFile, OfficeAnswered, OfficeUnanswered}
+use Rattle.oftp_engine.specs.InsideContent.{IsPiece}
 
 -- blocks before the last one are full
 full_blocks : (size n : ℕ) (rows : List (List ℕ)) → AreBlocks size rows → n < length rows → All (λ (r : List ℕ). length r ≡ size) (take n rows)
@@ -84,10 +85,10 @@ piece_fits r e from most sound has few =
 
 -- an office that was asked once
 module _ {T : Type 0} (Tells : Register → T → Type 0) (old new : View) where
-  pub answered_once : (x : T) → LooksUp Tells old new (Ok x) → IsAnswered old new
+  pub answered_once : (x : T) → LooksUp Tells old new (Ok x) → OfficeAnswered old new
   answered_once x looked = record { told = looked.counts; stays = λ clean stood. let now = looked.stays clean stood in (now, looked.register clean stood now) }
 
-  pub unanswered_once : (e : IncomingEntry) (fault : OfficeFault) → LooksUp Tells old new (Err fault) → IsUnanswered e old new
+  pub unanswered_once : (e : IncomingEntry) (fault : OfficeFault) → LooksUp Tells old new (Err fault) → OfficeUnanswered e old new
   unanswered_once e fault looked =
       let one : new.told ≡ next_count old.told = counted fault looked.unrefused looked.counts in
       record { told = inr one; fault = λ clean stood has. one; register = looked.register; left = looked.left }
@@ -100,7 +101,7 @@ module _ {T : Type 0} (Tells : Register → T → Type 0) (old new : View) where
 -- it handed out rows that are no piece of the file: a register has no such file
 pub misfits : (old new : View) (e : IncomingEntry) (from most : ℕ) (rows : List (List ℕ)) → (old.clean → old.stands → IsSound old.register)
     → LooksUp (λ (r : Register) (rows : List (List ℕ)). rows ≡ rows_of r side.Incoming e.no from most) old new (Ok rows) → from + most ≤ e.rows
-    → (IsPiece e from most rows → ⊥) → IsUnanswered e old new
+    → (IsPiece e from most rows → ⊥) → OfficeUnanswered e old new
 misfits old new e from most rows sound looked few none = record {
   told = inl looked.counts;
   fault = λ clean stood has.

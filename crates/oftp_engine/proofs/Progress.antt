@@ -15,8 +15,9 @@ use Rattle.oftp_session.proofs.Proceeding.{turned_proceeds}
 use Rattle.oftp_engine.specs.declared.serving.RunFault.{RunFault}
 use Rattle.oftp_engine.specs.declared.serving.RunFault.TheVariants as fault
 use Rattle.oftp_engine.specs.Runs.{Course, Output, advance, run, is_stopped, octets_of, with_output, with_change, turned_in, came_in}
-use Rattle.oftp_engine.specs.Serving.{IsSaid, Leads, MayRunOut, Reaches, Scene, Took, Went, Fails, Made, StepFails}
-use Rattle.oftp_ports.proofs.Bytes.{appends_none, appends_on, count_on}
+use Rattle.oftp_engine.specs.Serving.{IsSaid, MayRunOut, Scene, Took}
+use Rattle.oftp_engine.specs.InsideServing.{Leads, Reaches, Went, Fails, Made, StepFails}
+use Rattle.oftp_io.proofs.Bytes.{appends_none, appends_on, count_on}
 use Rattle.oftp_engine.proofs.Courses.{grows_none, grows_on, grows_step, octets-append, stopped_before, run_turn, run_frame, run_bad, run_over}
 
 -- what the writer took
@@ -292,9 +293,9 @@ went_with c d s a b w = record {
   told = w.told;
 }
 
-none_left : (xs ys : List ℕ) → [] ≡ xs ++ ys → [] ≡ ys
-none_left [] ys e = e
-none_left (x ∷ xs) ys e = absurd (let no : ⊥ = cc in no)
+none_behind : (xs ys : List ℕ) → [] ≡ xs ++ ys → [] ≡ ys
+none_behind [] ys e = e
+none_behind (x ∷ xs) ys e = absurd (let no : ⊥ = cc in no)
 
 reaches_with : (c d e : Course) (s : List ℕ) → Reaches c [] d e → Reaches c s d e
 reaches_with c d e s r = record { grows = r.grows; same = λ more limit h. r.same (s ++ more) limit h }
@@ -304,7 +305,7 @@ leads_with c d s u l = record {
   grows = l.grows;
   same = λ more limit h. l.same (s ++ more) limit h ∙ ap (λ (x : List ℕ). run limit x d) (sym (append_assoc u s more));
   gone = [];
-  split = ap (λ (x : List ℕ). x ++ s) (none_left l.gone u l.split);
+  split = ap (λ (x : List ℕ). x ++ s) (none_behind l.gone u l.split);
 }
 
 pub fails_with : (c : Course) (s : List ℕ) (a b : Scene) (f : RunFault) → Fails c [] a b f → Fails c s a b f

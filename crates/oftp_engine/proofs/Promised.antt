@@ -13,22 +13,22 @@ use Rattle.oftp_engine.specs.Runs.{Course}
 use Rattle.oftp_engine.specs.World.{Station, World, Event, register_in, register_of, after_event, after_events}
 use Rattle.oftp_register.specs.ByIdentity.{out_at, in_at}
 use Rattle.oftp_engine.specs.TwoStations.{IfAny, IsContent, IsAnswered, IsWholeOf, ContentArrives, ResponsesAreIssued}
-use Rattle.oftp_engine.specs.Standing.{Fits, AllFit, IsPartOf, Stands, IsInSession, IsSoundStation, Leaves, LeftBy}
-use Rattle.oftp_engine.specs.Promise.{ContentIsKept, ResponsesAreKept, IsLawful, world_of, new_station, TwoStations, KeepsStanding}
+use Rattle.oftp_engine.proofs.Standing.{FileFits, AllFit, IsPartOf, WorldStands, IsInSession, IsSoundStation, StationLeaves, LeftBy, KeepsStanding}
+use Rattle.oftp_engine.specs.Promise.{ContentIsKept, ResponsesAreKept, IsLawful, world_of, new_station, TwoStations}
 use Rattle.oftp_engine.proofs.Fitting.{not_handed}
 
-whole_of : (f : Outgoing) (e : Incoming) → IsPartOf f e → e.state ≡ Whole → IsWholeOf f e
-whole_of f e fit w = record { whole = w; format = fit.format; longest = fit.longest; rows = fit.whole w }
+is_whole_of : (f : Outgoing) (e : Incoming) → IsPartOf f e → e.state ≡ Whole → IsWholeOf f e
+is_whole_of f e fit w = record { whole = w; format = fit.format; longest = fit.longest; rows = fit.whole w }
 
 -- content
-pub fits_content : (out : Option Outgoing) (there : Option Incoming) → Fits out there → IsContent out there
+pub fits_content : (out : Option Outgoing) (there : Option Incoming) → FileFits out there → IsContent out there
 fits_content None None fit = record { handed = tt; whole = tt }
 fits_content None (Some e) fit = absurd fit
 fits_content (Some f) None fit = record { handed = λ k. absurd (false≢true (sym fit ∙ k)); whole = tt }
-fits_content (Some f) (Some e) fit = record { handed = λ k. whole_of f e fit (fit.handed k); whole = λ w. whole_of f e fit w }
+fits_content (Some f) (Some e) fit = record { handed = λ k. is_whole_of f e fit (fit.handed k); whole = λ w. is_whole_of f e fit w }
 
 -- responses
-pub fits_answered : (out : Option Outgoing) (there : Option Incoming) → Fits out there → IsAnswered out there
+pub fits_answered : (out : Option Outgoing) (there : Option Incoming) → FileFits out there → IsAnswered out there
 fits_answered None there fit = record { delivered = tt; returned = tt }
 fits_answered (Some f) None fit = record { delivered = λ k. absurd ((not_handed f.state fit).0 k); returned = λ k. absurd ((not_handed f.state fit).1 k) }
 fits_answered (Some f) (Some e) fit = record { delivered = λ k. fit.delivered k; returned = λ k. fit.returned k }
@@ -44,12 +44,12 @@ leaves_now : (start : Register) (session : Option Course) → IfAny session (IsI
 leaves_now s None h = refl
 leaves_now s (Some c) h = h.now
 
-pub stands_promise : (w : World) → Stands w → ContentIsKept w × ResponsesAreKept w
+pub stands_promise : (w : World) → WorldStands w → ContentIsKept w × ResponsesAreKept w
 stands_promise w h =
     let r = register_of w.one in
     let s = register_of w.other in
-    let one : Leaves w.one r = leaves_now w.one.start w.one.session h.one.session in
-    let other : Leaves w.other s = leaves_now w.other.start w.other.session h.other.session in
+    let one : StationLeaves w.one r = leaves_now w.one.start w.one.session h.one.session in
+    let other : StationLeaves w.other s = leaves_now w.other.start w.other.session h.other.session in
     let to_other = h.to_other r s one other in
     let to_one = h.to_one r s one other in
     ((fit_content r s to_other, fit_content s r to_one), (fit_answered r s to_other, fit_answered s r to_one))
@@ -79,7 +79,7 @@ empty_fit : (r s : Register) (limits limits' : Limits) → r ≡ empty limits �
 empty_fit r s limits limits' e d = subst (λ x. AllFit x s) (sym e) (subst (λ y. AllFit (empty limits) y) (sym d) (λ i. tt))
 
 pub stands_first : (book book' : BookData) (partner partner' : Partner) (limits limits' : Limits) → IsLawful book limits → IsLawful book' limits'
-    → Stands (world_of book book' partner partner' limits limits')
+    → WorldStands (world_of book book' partner partner' limits limits')
 stands_first book book' partner partner' limits limits' lawful lawful' = record {
   one = new_sound book partner limits (new_station book' partner' limits') lawful;
   other = new_sound book' partner' limits' (new_station book partner limits) lawful';
@@ -89,7 +89,7 @@ stands_first book book' partner partner' limits limits' lawful lawful' = record 
 }
 
 -- after every list of events, where each event keeps it
-stands_after : KeepsStanding → (w : World) (events : List Event) → Stands w → Stands (after_events w events)
+stands_after : KeepsStanding → (w : World) (events : List Event) → WorldStands w → WorldStands (after_events w events)
 stands_after keeps w [] h = h
 stands_after keeps w (e ∷ es) h = stands_after keeps (after_event w e) es (keeps w e h)
 

@@ -9,14 +9,15 @@ use Rattle.oftp_wire.specs.Stream.{Stream}
 use Rattle.oftp_session.specs.declared.session.Ending.{Ending}
 use Rattle.oftp_session.specs.Settings.{Setting}
 use Rattle.oftp_session.specs.Calls.{Seen}
-use Rattle.oftp_ports.specs.declared.port.Port.{Port}
-use Rattle.oftp_ports.specs.Ports.{Gives, GivesNothing}
+use Rattle.oftp_io.specs.declared.port.Port.{Port}
+use Rattle.oftp_io.specs.Ports.{Gives, GivesNothing}
 use Rattle.oftp_engine.specs.Runs.{Course, started, run}
-use Rattle.oftp_engine.specs.Serving.{Leads, Scene, Comes, IsOver, IsWaiting, IsShort}
+use Rattle.oftp_engine.specs.Serving.{Scene}
+use Rattle.oftp_engine.specs.InsideServing.{Leads, Comes, IsOver, IsWaiting, IsShort}
 use Rattle.oftp_engine.proofs.Pumping.{IsPumping}
 use Rattle.oftp_engine.specs.Served.{Gave, IsNeeded}
 use Rattle.oftp_engine.proofs.Ending.{whole_waits}
-use Rattle.oftp_ports.proofs.Bytes.{consumes_on, keeps_consumes}
+use Rattle.oftp_io.proofs.Bytes.{consumes_on, keeps_consumes}
 use Rattle.oftp_engine.proofs.Progress.{went_on}
 
 -- while it reads: how far it came where the office is clean and stood
@@ -122,6 +123,7 @@ read_on remaining before now next given piece n Clean Stood setting stream fed s
     last = take n piece;
     all = refl;
     piece = short;
+    some = λ _. omega (arith, some, length-take-le n piece h.fits);
     live = λ some. subst (λ (x : Course). is_over x.phase ≡ false) (sym (whole_waits setting given stream.rest seen a z v.come v.turn v.waits)) v.over;
   };
 }

@@ -30,34 +30,34 @@ use Rattle.oftp_session.specs.Settings.{Setting}
 use Rattle.oftp_session.specs.Phases.{Phase, Offer, Receipt, Step, Transfer, answers, changes, fails, quiet, unexpected}
 use Rattle.oftp_session.specs.Phases.{AwaitingEnd, AwaitingRtr, AwaitingSsid, AwaitingStart, EndedHere, EndedThere, GivingWay, InitiatorOpening, ListenerIdle, Receiving, ResponderOpening, Sending, SpeakerIdle}
 use Rattle.oftp_session.specs.Opening.{Agreement, agreed, agreement, came_awaiting_ssid, came_initiator_opening, is_initiator, is_opposed, open_step, opened_step, partner_for, ssid_verdict}
-use Rattle.oftp_session.specs.Opening.{offer_step as calling_step}
+use Rattle.oftp_session.specs.Opening.{calling_step}
 use Rattle.oftp_session.specs.Listener.{came_listener_idle, end_response, filing, is_between, negative_end_response, response_step}
 use Rattle.oftp_session.specs.Receiving.{came_receiving, carried_by, data_step, end_step, is_window_full, keeping, offer_step, on_end_verdict, on_start_verdict, on_taken, rows_to_keep, verdict_on, with_payload, with_rows}
 use Rattle.oftp_session.specs.Speaker.{came_awaiting_rtr, nothing_next, offers, on_item, speaks}
 use Rattle.oftp_session.specs.Sending.{after_file, came_awaiting_end, came_awaiting_start, came_sending, credit_left, credited, new_mark, payloads_in, reopening, sends_next, transfer_of, turned_sending}
 use Rattle.oftp_session.specs.Steps.{came, turned}
-use Rattle.oftp_engine.specs.Standing.{HasRoom}
+use Rattle.oftp_engine.proofs.Standing.{HasRoom}
 
 -- a step leaves room
-abbrev Leaves : Step → Type 0
-Leaves step = HasRoom step.phase
+abbrev StepHasRoom : Step → Type 0
+StepHasRoom step = HasRoom step.phase
 
-either : (b : Bool) (x y : Step) → Leaves x → Leaves y → Leaves (cond b x y)
+either : (b : Bool) (x y : Step) → StepHasRoom x → StepHasRoom y → StepHasRoom (cond b x y)
 either true x y h k = h
 either false x y h k = k
 
-unexpected_room : (c : Command) → Leaves (unexpected c)
+unexpected_room : (c : Command) → StepHasRoom (unexpected c)
 unfolding unexpected
 unexpected_room (command.Esid esid) = tt
 unexpected_room _ = tt
 
 -- a session that opens
 
-calling_room : (setting : Setting) (called : Option Partner) → Leaves (calling_step setting called)
+calling_room : (setting : Setting) (called : Option Partner) → StepHasRoom (calling_step setting called)
 calling_room setting None = tt
 calling_room setting (Some partner) = tt
 
-initiate_room : (setting : Setting) (c : Command) → Leaves (came_initiator_opening setting c)
+initiate_room : (setting : Setting) (c : Command) → StepHasRoom (came_initiator_opening setting c)
 unfolding came_initiator_opening
 initiate_room setting command.Ssrm = calling_room setting setting.called
 initiate_room setting other = unexpected_room other
@@ -87,48 +87,48 @@ agreed_room setting ssid a buffer h =
         let small : min setting.book.station.buffer ssid.buffer ≡ a.link.buffer = ap (λ (x : Agreement). x.link.buffer) is in
         omega (arith, small, buffer, there)
 
-open_room : (setting : Setting) (letter : Mode) (a : Agreement) (called : Option Partner) → 128 ≤ a.link.buffer → Leaves (open_step setting letter a called)
+open_room : (setting : Setting) (letter : Mode) (a : Agreement) (called : Option Partner) → 128 ≤ a.link.buffer → StepHasRoom (open_step setting letter a called)
 open_room setting letter a None room = room
 open_room setting letter a (Some partner) room = room
 
 opened_room : (setting : Setting) (letter : Mode) (verdict : Result Agreement SessionReason) → ((a : Agreement) → verdict ≡ Ok a → 128 ≤ a.link.buffer)
-    → Leaves (opened_step setting letter verdict)
+    → StepHasRoom (opened_step setting letter verdict)
 opened_room setting letter (Ok a) room = open_room setting letter a setting.called (room a refl)
 opened_room setting letter (Err reason) room = tt
 
-await_room : (setting : Setting) (c : Command) → 128 ≤ setting.book.station.buffer → Leaves (came_awaiting_ssid setting c)
+await_room : (setting : Setting) (c : Command) → 128 ≤ setting.book.station.buffer → StepHasRoom (came_awaiting_ssid setting c)
 unfolding came_awaiting_ssid
 await_room setting (command.Ssid ssid) buffer = opened_room setting ssid.mode (ssid_verdict setting ssid) (λ a h. agreed_room setting ssid a buffer h)
 await_room setting other buffer = unexpected_room other
 
 -- a session that is open
 module _ (contact : Contact) (room : 128 ≤ contact.link.buffer) where
-  nothing_room : (done : WhenDone) → Leaves (nothing_next contact done)
+  nothing_room : (done : WhenDone) → StepHasRoom (nothing_next contact done)
   nothing_room ChangeDirection = room
   nothing_room EndSession = tt
 
-  offers_room : (done : WhenDone) (n : ℕ) (found : Option Outgoing) → Leaves (offers contact done n found)
+  offers_room : (done : WhenDone) (n : ℕ) (found : Option Outgoing) → StepHasRoom (offers contact done n found)
   offers_room done n (Some found) = room
   offers_room done n None = nothing_room done
 
-  item_room : (setting : Setting) (done : WhenDone) (r : Register) (next : Option Item) → Leaves (on_item setting contact done r next)
+  item_room : (setting : Setting) (done : WhenDone) (r : Register) (next : Option Item) → StepHasRoom (on_item setting contact done r next)
   item_room setting done r (Some (item.Response e)) = room
   item_room setting done r (Some (item.File e)) = offers_room done e.no (entry_at e.no r.outgoing)
   item_room setting done r None = nothing_room done
 
-  rtr_room : (n : ℕ) (c : Command) → Leaves (came_awaiting_rtr contact n c)
+  rtr_room : (n : ℕ) (c : Command) → StepHasRoom (came_awaiting_rtr contact n c)
   unfolding came_awaiting_rtr
   rtr_room n command.Rtr = room
   rtr_room n other = unexpected_room other
 
-  answer_room : (offer : Offer) (c : Command) → Leaves (came_awaiting_start contact offer c)
+  answer_room : (offer : Offer) (c : Command) → StepHasRoom (came_awaiting_start contact offer c)
   unfolding came_awaiting_start
   answer_room offer (command.Sfpa sfpa) =
       either (nat_le sfpa.restart offer.from) (changes (Sending contact (transfer_of offer sfpa.restart)) (reopening offer)) (fails ProtocolViolation) room tt
   answer_room offer (command.Sfna sfna) = room
   answer_room offer other = unexpected_room other
 
-  credit_room : (t : Transfer) (c : Command) → Leaves (came_sending contact t c)
+  credit_room : (t : Transfer) (c : Command) → StepHasRoom (came_sending contact t c)
   unfolding came_sending
   credit_room t command.Cdt = either (nat_lt 0 (credit_left contact t)) (fails ProtocolViolation) (credited contact t (new_mark contact t)) tt room
   credit_room t other = unexpected_room other
@@ -137,30 +137,30 @@ module _ (contact : Contact) (room : 128 ≤ contact.link.buffer) where
   after_room true = room
   after_room false = room
 
-  ended_room : (t : Transfer) (c : Command) → Leaves (came_awaiting_end contact t c)
+  ended_room : (t : Transfer) (c : Command) → StepHasRoom (came_awaiting_end contact t c)
   unfolding came_awaiting_end
   ended_room t (command.Efpa efpa) = after_room efpa.change_direction
   ended_room t (command.Efna efna) = room
   ended_room t other = unexpected_room other
 
-  sends_room : (t : Transfer) (payload : Option (List ℕ)) → Leaves (sends_next contact t payload)
+  sends_room : (t : Transfer) (payload : Option (List ℕ)) → StepHasRoom (sends_next contact t payload)
   sends_room t (Some payload) = room
   sends_room t None = room
 
-  response_room : (setting : Setting) (r : Register) (response : Received) → Leaves (response_step setting contact r response)
+  response_room : (setting : Setting) (r : Register) (response : Received) → StepHasRoom (response_step setting contact r response)
   unfolding response_step
   response_room setting r response =
       either (is_between setting contact response.identity) (answers (ListenerIdle contact) (filing r response) command.Rtr) (fails InvalidData) room tt
 
-  sfid_room : (setting : Setting) (r : Register) (sfid : Sfid) → Leaves (offer_step setting contact r sfid)
+  sfid_room : (setting : Setting) (r : Register) (sfid : Sfid) → StepHasRoom (offer_step setting contact r sfid)
   unfolding offer_step
   sfid_room setting r sfid = by (verdict_on setting contact r sfid)
     where
-      by : (verdict : StartVerdict) → Leaves (on_start_verdict contact r sfid verdict)
+      by : (verdict : StartVerdict) → StepHasRoom (on_start_verdict contact r sfid verdict)
       by (start.Accept count) = room
       by (start.Refuse reason retry) = room
 
-  listen_room : (setting : Setting) (r : Register) (c : Command) → Leaves (came_listener_idle setting contact r c)
+  listen_room : (setting : Setting) (r : Register) (c : Command) → StepHasRoom (came_listener_idle setting contact r c)
   unfolding came_listener_idle
   listen_room setting r (command.Sfid sfid) = sfid_room setting r sfid
   listen_room setting r (command.Eerp eerp) = response_room setting r (end_response eerp)
@@ -168,18 +168,18 @@ module _ (contact : Contact) (room : 128 ≤ contact.link.buffer) where
   listen_room setting r command.Cd = room
   listen_room setting r other = unexpected_room other
 
-  taken_room : (f : Receipt) (payload : List ℕ) (result : Result Taking TakeFault) → Leaves (on_taken contact f payload result)
+  taken_room : (f : Receipt) (payload : List ℕ) (result : Result Taking TakeFault) → StepHasRoom (on_taken contact f payload result)
   taken_room f payload (Ok t) =
       let g = with_payload f payload in
       let rows = rows_to_keep f t in
       either (is_window_full contact g) (answers (Receiving contact (with_rows g rows)) (keeping f.number rows) command.Cdt) (quiet (Receiving contact g)) room room
   taken_room f payload (Err fault) = tt
 
-  end_room : (r : Register) (f : Receipt) (verdict : EndVerdict) → Leaves (on_end_verdict contact r f (carried_by f) verdict)
+  end_room : (r : Register) (f : Receipt) (verdict : EndVerdict) → StepHasRoom (on_end_verdict contact r f (carried_by f) verdict)
   end_room r f «end».Accept = room
   end_room r f («end».Refuse reason) = room
 
-  receive_room : (r : Register) (f : Receipt) (c : Command) → Leaves (came_receiving contact r f c)
+  receive_room : (r : Register) (f : Receipt) (c : Command) → StepHasRoom (came_receiving contact r f c)
   unfolding came_receiving data_step end_step
   receive_room r f (command.Data payload) =
       either (nat_lt contact.link.buffer (length payload + 1)) (fails BufferSizeError) (on_taken contact f payload (taken (carried_by f) payload))

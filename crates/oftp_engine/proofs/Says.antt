@@ -44,7 +44,7 @@ use Rattle.oftp_session.specs.Steps.{IsReceived}
 use Rattle.oftp_session.proofs.Items.{a_response}
 use Rattle.oftp_register.specs.ByIdentity.{out_at, in_at, named, incoming_name, outgoing_name}
 use Rattle.oftp_engine.specs.TwoStations.{Has, IfAny, IsAnsweredBy}
-use Rattle.oftp_engine.specs.Standing.{IsOfferOf, IsIssuedBy, IsWholeAt}
+use Rattle.oftp_engine.proofs.Standing.{IsOfferOf, IsIssuedBy, IsWholeAt}
 use Rattle.oftp_register.proofs.ByIdentityLemmas.{found_named, one_changed, same_self, named_all}
 
 -- SFNA 13 is said of a whole file alone.

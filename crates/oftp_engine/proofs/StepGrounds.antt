@@ -32,7 +32,7 @@ use Rattle.oftp_wire.specs.declared.reason.SessionReason.{SessionReason}
 use Rattle.oftp_wire.specs.declared.reason.SessionReason.TheVariants.{BufferSizeError, InvalidData, ProtocolViolation}
 use Rattle.oftp_wire.specs.declared.command.Mode.{Mode}
 use Rattle.oftp_partners.specs.declared.partner.Partner.{Partner}
-use Rattle.oftp_session.specs.Opening.{offer_step as offers_session}
+use Rattle.oftp_session.specs.Opening.{calling_step}
 use Rattle.oftp_session.specs.Opening.{Agreement, came_initiator_opening, came_awaiting_ssid, opened_step, open_step, ssid_verdict}
 use Rattle.oftp_session.specs.Listener.{came_listener_idle, response_step, filing, file_of, is_between, end_response, negative_end_response}
 use Rattle.oftp_vfile.specs.Reading.{taken}
@@ -49,8 +49,8 @@ use Rattle.oftp_engine.proofs.PartRows.{keep_begins, close_whole}
 use Rattle.oftp_vfile.proofs.PartLemmas.{carried_begins}
 use Rattle.oftp_register.specs.ByIdentity.{out_at, in_at, incoming_name, outgoing_name}
 use Rattle.oftp_engine.specs.TwoStations.{Has, IfAny}
-use Rattle.oftp_engine.specs.Standing.{IsPartOf, Fits, AllFit, IsWholeAt, IsOfferOf, IsIssuedBy, ComesFrom, IsBeginning, MayTake, MayHear, MayAnswerStart, MayAnswerEnd, MayCome}
-use Rattle.oftp_engine.specs.Grounds.{OfEntry, Grounds}
+use Rattle.oftp_engine.proofs.Standing.{IsPartOf, FileFits, AllFit, IsWholeAt, IsOfferOf, IsIssuedBy, ComesFrom, IsBeginning, MayTake, MayHear, MayAnswerStart, MayAnswerEnd, MayCome}
+use Rattle.oftp_engine.proofs.Grounds.{OfEntry, Grounds}
 use Rattle.oftp_register.proofs.ByIdentityLemmas.{found_named, same_self, named_all}
 
 -- what comes first is a beginning, whatever comes behind it
@@ -78,7 +78,7 @@ has_found o x P e p = subst (λ z. Has z P) (sym e) p
 part_of : (r there : Register) (f : Receipt) (file : Outgoing) → IsSound r → IsReceived r f → AllFit there r → out_at there f.file.identity ≡ Some file → IsPartOf file f.file
 part_of r there f file sound holds fit found =
     let here : in_at r f.file.identity ≡ Some f.file = in_entry r f.number f.file sound holds.entry in
-    subst (λ o. Fits o (Some f.file)) found (subst (λ e. Fits (out_at there f.file.identity) e) here (fit f.file.identity))
+    subst (λ o. FileFits o (Some f.file)) found (subst (λ e. FileFits (out_at there f.file.identity) e) here (fit f.file.identity))
 
 sent_rows : (there : Register) (identity : Identity) (file : Outgoing) → IsSound there → out_at there identity ≡ Some file → AreRows file.format file.longest file.rows
 sent_rows there identity file sound found =
@@ -289,7 +289,7 @@ initiate_grounds : (setting : Setting) (r there : Register) (c : Command) → If
 unfolding came_initiator_opening unexpected
 initiate_grounds setting r there command.Ssrm = by setting.called
   where
-    by : (called : Option Partner) → IfAny (offers_session setting called).change (Grounds r there)
+    by : (called : Option Partner) → IfAny (calling_step setting called).change (Grounds r there)
     by None = tt
     by (Some partner) = tt
 initiate_grounds setting r there _ = tt

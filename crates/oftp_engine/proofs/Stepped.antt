@@ -8,8 +8,8 @@ use Rattle.oftp_session.specs.Steps.{Holds}
 use Rattle.oftp_engine.specs.Runs.{Course, advance}
 use Rattle.oftp_engine.specs.World.{Station, World, stopped_with, stepped, told, latest}
 use Rattle.oftp_engine.specs.TwoStations.{IfAny}
-use Rattle.oftp_engine.specs.Standing.{HasRoom, Stands, IsInSession, MayLeave, Leaves, MayCome, MayComeTo, Meet}
-use Rattle.oftp_engine.specs.Grounds.{Grounds}
+use Rattle.oftp_engine.proofs.Standing.{HasRoom, WorldStands, IsInSession, MayLeave, StationLeaves, MayCome, MayComeTo, Meet}
+use Rattle.oftp_engine.proofs.Grounds.{Grounds}
 use Rattle.oftp_engine.proofs.Kept.{BothFit}
 use Rattle.oftp_session.specs.Calls.{Makes}
 use Rattle.oftp_engine.proofs.Stops.{leaves_next, replay_next, made_after, latest_next}
@@ -24,18 +24,18 @@ with_said coming (Some command) = coming ++ command ∷ []
 pub record IsStep (w : World) (c : Course) (step : Step) (rest : List Command) (after : Register) : Type 0 where
   pub made : Makes step.change c.register after
   pub sound : IsSound after
-  pub grounds : (there : Register) → Leaves w.other there → IfAny step.change (Grounds c.register there)
+  pub grounds : (there : Register) → StationLeaves w.other there → IfAny step.change (Grounds c.register there)
   pub holds : is_over step.phase ≡ false → Holds step.phase after
   pub room : is_over step.phase ≡ false → HasRoom step.phase
-  pub next : (there : Register) → Leaves w.other there → MayCome there step.phase rest
+  pub next : (there : Register) → StationLeaves w.other there → MayCome there step.phase rest
   pub said : (d : Course) → w.other.session ≡ Some d → MayCome after d.phase (with_said w.other.coming step.output)
   pub meet : (d : Course) → w.other.session ≡ Some d → is_over step.phase ≡ false → Meet (Some (advance c step)) rest (Some d) (with_said w.other.coming step.output)
 
 -- a world from its parts
-built : (w : World) (one : Station) (x : List Command) → Stands w → ((r : Register) → Leaves one r → IsSound r) → 128 ≤ one.book.station.buffer
+built : (w : World) (one : Station) (x : List Command) → WorldStands w → ((r : Register) → StationLeaves one r → IsSound r) → 128 ≤ one.book.station.buffer
     → IfAny one.session (IsInSession one.start) → MayComeTo one.session one.coming w.other
-    → ((r there : Register) → Leaves one r → Leaves w.other there → BothFit r there) → MayComeTo w.other.session x one → Meet one.session one.coming w.other.session x → let v : World =
-    record { one = one; other = record w.other { coming = x } } in Stands v
+    → ((r there : Register) → StationLeaves one r → StationLeaves w.other there → BothFit r there) → MayComeTo w.other.session x one → Meet one.session one.coming w.other.session x → let v : World =
+    record { one = one; other = record w.other { coming = x } } in WorldStands v
 built w one x h registers room session coming fit comes meet = record {
   one = record { registers = registers; room = room; session = session; coming = coming_of one.session coming };
   other = record { registers = h.other.registers; room = h.other.room; session = h.other.session; coming = comes };
@@ -49,21 +49,21 @@ built w one x h registers room session coming fit comes meet = record {
     coming_of (Some c) k = k
 
 -- what is told to a station with a session, and to one without
-told_as : (s : Station) (output : Option Command) (P : Station → Type 0)
+told_by : (s : Station) (output : Option Command) (P : Station → Type 0)
     → ((session : Option Course) → s.session ≡ session → P (record s { coming = cond (is_some session) (with_said s.coming output) s.coming })) → P (told s output)
-told_as s None P k = by s.session refl
+told_by s None P k = by s.session refl
   where
     by : (session : Option Course) → s.session ≡ session → P s
     by None e = k None e
     by (Some d) e = k (Some d) e
-told_as s (Some command) P k = by s.session refl
+told_by s (Some command) P k = by s.session refl
   where
     by : (session : Option Course) → s.session ≡ session → P (told s (Some command))
     by None e = subst (λ o. P (cond (is_some o) (record s { coming = s.coming ++ command ∷ [] }) s)) (sym e) (k None e)
     by (Some d) e = subst (λ o. P (cond (is_some o) (record s { coming = s.coming ++ command ∷ [] }) s)) (sym e) (k (Some d) e)
 
-pub stands_stepped : (w : World) (c : Course) (step : Step) (rest : List Command) (after : Register) → w.one.session ≡ Some c → Stands w → IsStep w c step rest after
-    → Stands (stepped (record w { one = record w.one { coming = rest } }) c step)
+pub stands_stepped : (w : World) (c : Course) (step : Step) (rest : List Command) (after : Register) → w.one.session ≡ Some c → WorldStands w → IsStep w c step rest after
+    → WorldStands (stepped (record w { one = record w.one { coming = rest } }) c step)
 unfolding advance
 stands_stepped w c step rest after e h s = by_over (is_over step.phase) refl
   where
@@ -87,7 +87,7 @@ stands_stepped w c step rest after e h s = by_over (is_over step.phase) refl
     sound : (r : Register) → MayLeave w.one.start (advance c step) r → IsSound r
     sound r m = elim (which r m) [ inl is ↦ subst IsSound (sym is) s.sound | inr k ↦ h.one.registers r (at_session w.one c r e k.1) ]
 
-    fits : (r there : Register) → MayLeave w.one.start (advance c step) r → Leaves w.other there → BothFit r there
+    fits : (r there : Register) → MayLeave w.one.start (advance c step) r → StationLeaves w.other there → BothFit r there
     fits r there m d = step_fits w c step after e h s.made s.grounds r there m d
 
     now : MayLeave w.one.start (advance c step) (advance c step).register
@@ -99,7 +99,7 @@ stands_stepped w c step rest after e h s = by_over (is_over step.phase) refl
 
     comes : (d : Course) → w.other.session ≡ Some d → (r : Register) → MayLeave w.one.start (advance c step) r → MayCome r d.phase (with_said w.other.coming step.output)
     comes d is r m =
-        let old : (there : Register) → Leaves w.one there → MayCome there d.phase w.other.coming = subst (λ o. MayComeTo o w.other.coming w.one) is h.other.coming in
+        let old : (there : Register) → StationLeaves w.one there → MayCome there d.phase w.other.coming = subst (λ o. MayComeTo o w.other.coming w.one) is h.other.coming in
         elim (which r m) [
           | inl same ↦ subst (λ x. MayCome x d.phase (with_said w.other.coming step.output)) (sym same) (s.said d is)
           | inr k ↦ subst (MayCome r d.phase) (sym (same_said step.output refl k.0)) (old r (at_session w.one c r e k.1))
@@ -116,7 +116,7 @@ stands_stepped w c step rest after e h s = by_over (is_over step.phase) refl
           one = stopped_with (record w.one { coming = rest }) (advance c step).register;
           other =
               record w.other { coming = cond (is_some session) (with_said w.other.coming step.output) w.other.coming };
-        } in Stands v
+        } in WorldStands v
     over_case session is =
         built w (stopped_with (record w.one { coming = rest }) (advance c step).register) (cond (is_some session) (with_said w.other.coming step.output) w.other.coming) h
         (λ r q. subst IsSound (sym q) (sound (advance c step).register now)) h.one.room tt refl
@@ -135,7 +135,7 @@ stands_stepped w c step rest after e h s = by_over (is_over step.phase) refl
           one = record w.one { coming = rest; session = Some (advance c step) };
           other =
               record w.other { coming = cond (is_some session) (with_said w.other.coming step.output) w.other.coming };
-        } in Stands v
+        } in WorldStands v
     on_case on session is =
         built w (record w.one { coming = rest; session = Some (advance c step) }) (cond (is_some session) (with_said w.other.coming step.output) w.other.coming) h
         sound h.one.room
@@ -166,6 +166,6 @@ stands_stepped w c step rest after e h s = by_over (is_over step.phase) refl
           one = cond b (stopped_with (record w.one { coming = rest }) (advance c step).register) (record w.one { coming = rest; session = Some (advance c step) });
           other =
               told w.other step.output;
-        } in Stands v
-    by_over true q = told_as w.other step.output (λ x. let v : World = record { one = stopped_with (record w.one { coming = rest }) (advance c step).register; other = x } in Stands v) over_case
-    by_over false q = told_as w.other step.output (λ x. let v : World = record { one = record w.one { coming = rest; session = Some (advance c step) }; other = x } in Stands v) (on_case q)
+        } in WorldStands v
+    by_over true q = told_by w.other step.output (λ x. let v : World = record { one = stopped_with (record w.one { coming = rest }) (advance c step).register; other = x } in WorldStands v) over_case
+    by_over false q = told_by w.other step.output (λ x. let v : World = record { one = record w.one { coming = rest; session = Some (advance c step) }; other = x } in WorldStands v) (on_case q)

@@ -20,13 +20,14 @@ use Rattle.oftp_session.proofs.Standings.{phase_sent}
 use Rattle.oftp_session.specs.Steps.{Suits}
 use Rattle.oftp_session.specs.Settings.{Setting}
 use Rattle.oftp_session.specs.Calls.{Makes, IsMade, IsBefore, IsAfter, IsBroken, IsUndone, Does, DoesNot, Seen, Stands, said as said_of}
-use Rattle.oftp_ports.proofs.Bytes.{appends_none}
-use Rattle.oftp_ports.specs.declared.port.Port.{Port}
+use Rattle.oftp_io.proofs.Bytes.{appends_none}
+use Rattle.oftp_io.specs.declared.port.Port.{Port}
 use Rattle.oftp_engine.specs.declared.serving.RunFault.{RunFault}
 use Rattle.oftp_engine.specs.declared.serving.RunFault.TheVariants as fault
-use Rattle.oftp_ports.specs.Ports.{Sent}
+use Rattle.oftp_io.specs.Ports.{Sent}
 use Rattle.oftp_engine.specs.Runs.{Course, advance}
-use Rattle.oftp_engine.specs.Serving.{BrokeOff, IsOwn, LastWords, last_frame, run_fault, NotMade, NoMemory, Stepped, StepFails, Scene, scene, Took, IsAt, StaysBefore, StaysAfter}
+use Rattle.oftp_engine.specs.Serving.{last_frame, Scene, scene, Took}
+use Rattle.oftp_engine.specs.InsideServing.{BrokeOff, IsOwn, LastWords, run_fault, NotMade, NoMemory, Stepped, StepFails, IsAt, StaysBefore, StaysAfter}
 
 pub last_from : {W : Type 0} (contents : W → Option (List ℕ)) (a d : Port W) (said : List ℕ) (all : Bool) → said ≡ last_frame → Sent contents a d said all → LastWords contents a d
 last_from contents a d said all e s = (all, subst (λ (x : List ℕ). Sent contents a d x all) e s)

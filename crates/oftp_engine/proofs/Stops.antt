@@ -12,7 +12,7 @@ use Rattle.oftp_session.specs.Calls.{Makes}
 use Rattle.oftp_session.specs.Phases.{Step, register_after, frame_of}
 use Rattle.oftp_engine.specs.Runs.{Course, Output, advance, with_change, with_output}
 use Rattle.oftp_engine.specs.World.{latest}
-use Rattle.oftp_engine.specs.Standing.{MayLeave}
+use Rattle.oftp_engine.proofs.Standing.{MayLeave}
 use Rattle.oftp_engine.proofs.Courses.{more_changes, replay_step}
 
 -- a fold over one element more

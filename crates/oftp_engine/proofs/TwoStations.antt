@@ -10,9 +10,9 @@ use Rattle.oftp_session.specs.Phases.{register_after, Phase, ResponderOpening, I
 use Rattle.oftp_session.specs.Steps.{came, turned, Holds}
 use Rattle.oftp_engine.specs.Runs.{Course, advance}
 use Rattle.oftp_engine.specs.World.{World}
-use Rattle.oftp_engine.specs.Standing.{HasRoom, Stands, Leaves, MayCome, MayComeTo, Meet, Talk, talk_of}
+use Rattle.oftp_engine.proofs.Standing.{HasRoom, WorldStands, StationLeaves, MayCome, MayComeTo, Meet, Talk, talk_of}
 use Rattle.oftp_engine.specs.Promise.{TwoStations}
-use Rattle.oftp_engine.proofs.Left.{LinkGoesOn, in_session, now_leaves, two_stations_left}
+use Rattle.oftp_engine.proofs.Left.{LinkGoesOn, is_in_session, now_leaves, two_stations_left}
 use Rattle.oftp_engine.proofs.TurnLinks.{Linked, Links, mine, turned_links}
 use Rattle.oftp_engine.proofs.TakeLinks.{rtr_links, start_answer_links, sending_takes, end_answer_links, idle_links, respond_links}
 use Rattle.oftp_engine.proofs.ListenLinks.{initiate_links, await_links, listen_links, receive_links}
@@ -50,11 +50,11 @@ takes_link setting (EndedHere reason) r after c coming other sound holds room ma
 takes_link setting (EndedThere reason) r after c coming other sound holds room made s come =
     record { said = subst (λ x. MayCome x other.phase other.coming) (sym made) come; meet = λ o. absurd (true≢false o) }
 
-linked : (w : World) (c d : Course) → w.one.session ≡ Some c → w.other.session ≡ Some d → Stands w → Linked (talk_of c w.one.coming) (talk_of d w.other.coming)
+linked : (w : World) (c d : Course) → w.one.session ≡ Some c → w.other.session ≡ Some d → WorldStands w → Linked (talk_of c w.one.coming) (talk_of d w.other.coming)
 linked w c d e q h = subst (λ o. Meet (Some c) w.one.coming o w.other.coming) q (subst (λ o. Meet o w.one.coming w.other.session w.other.coming) e h.meet)
 
-other_hears : (w : World) (c d : Course) → w.one.session ≡ Some c → w.other.session ≡ Some d → Stands w → MayCome c.register d.phase w.other.coming
-other_hears w c d e q h = (let k : (there : Register) → Leaves w.one there → MayCome there d.phase w.other.coming = subst (λ o. MayComeTo o w.other.coming w.one) q h.other.coming in
+other_hears : (w : World) (c d : Course) → w.one.session ≡ Some c → w.other.session ≡ Some d → WorldStands w → MayCome c.register d.phase w.other.coming
+other_hears w c d e q h = (let k : (there : Register) → StationLeaves w.one there → MayCome there d.phase w.other.coming = subst (λ o. MayComeTo o w.other.coming w.one) q h.other.coming in
     k c.register (now_leaves w c e h))
 
 links_of : LinkGoesOn
@@ -62,7 +62,7 @@ unfolding advance
 links_of = record {
   turns = λ w c d e q h g. (
       let sound = h.one.registers c.register (now_leaves w c e h) in
-      let s = in_session w c e h in
+      let s = is_in_session w c e h in
       let step = turned c.setting c.phase c.register in
       let after = register_after c.register step.change in
       let k = turned_links c.setting c.phase c.register after (is_some c.setting.called) w.one.coming (talk_of d w.other.coming) sound s.holds s.room g.proceeds.allowed
@@ -70,7 +70,7 @@ links_of = record {
       record { said = k.said; meet = k.meet });
   takes = λ w c d command rest e q p h g. (
       let sound = h.one.registers c.register (now_leaves w c e h) in
-      let s = in_session w c e h in
+      let s = is_in_session w c e h in
       let after = register_after c.register (came c.setting c.phase c.register command).change in
       let meets : Linked (talk_of c (command ∷ rest)) (talk_of d w.other.coming) = subst (λ x. Linked (talk_of c x) (talk_of d w.other.coming)) p (linked w c d e q h) in
       let k = takes_link c.setting c.phase c.register after command rest (talk_of d w.other.coming) sound s.holds s.room g.proceeds.allowed meets (other_hears w c d e q h) in

@@ -3,8 +3,8 @@ use Rattle.std.proofs.Common.{◌≡◌, ◌≢◌, ℕ, List, Option}
 use Rattle.oftp_register.specs.Offices.{View}
 use Rattle.oftp_session.specs.Calls.{Seen}
 use Rattle.oftp_session.specs.Standings.{Broken}
-use Rattle.oftp_ports.specs.declared.port.Port.{Port}
-use Rattle.oftp_ports.specs.Ports.{Puts}
+use Rattle.oftp_io.specs.declared.port.Port.{Port}
+use Rattle.oftp_io.specs.Ports.{Puts}
 
 -- `Goes` is how far it has come
 pub record IsUnderway {W : Type 0} (contents : W → Option (List ℕ)) (old now : View) (front here : Port W) (seen : Seen) (Goes : Type 0) : Type 0 where

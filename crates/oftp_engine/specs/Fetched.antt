@@ -1,12 +1,11 @@
 -- What is fetched of an incoming file.
-use Rattle.std.specs.Prelude.{◌≡◌, ℕ, ◌+◌, ◌<◌, ◌≤◌, ◌⊎◌, List, length, take, Option, Some, Result, Ok, Err}
+use Rattle.std.specs.Prelude.{◌≡◌, ℕ, ◌≤◌, ◌⊎◌, List, length, take, Option, Some, Result, Ok, Err}
 use Rattle.std.specs.Option.{option_map}
 use Rattle.std.specs.Io.KnownBytes.{Appends}
 use Rattle.oftp_vfile.specs.LocalForm.{local_of}
 use Rattle.oftp_register.specs.Register.{Register}
 use Rattle.oftp_register.specs.LookUps.{entry_at, incoming_entry, rows_of}
 use Rattle.oftp_register.specs.Offices.{Only, View, next_count}
-use Rattle.oftp_register.specs.Soundness.{AreFullRows, IsFile}
 use Rattle.oftp_register.specs.declared.entries.IncomingEntry.{IncomingEntry}
 use Rattle.oftp_register.specs.declared.entries.Side.TheVariants as side
 use Rattle.oftp_engine.specs.declared.serving.RunFault.{RunFault}
@@ -21,7 +20,7 @@ abbrev pub fetched : Register → IncomingEntry → List ℕ
 fetched r e = piece_of r e 0 e.rows
 
 -- a beginning of the text is out
-pub record IsBegun (text : List ℕ) (before after : Option (List ℕ)) : Type 0 where
+pub record IsPartOut (text : List ℕ) (before after : Option (List ℕ)) : Type 0 where
   pub count : ℕ
   pub few : count ≤ length text
   pub out : Appends before after (take count text)
@@ -29,25 +28,19 @@ pub record IsBegun (text : List ℕ) (before after : Option (List ℕ)) : Type 0
 -- what is out by what was answered: the text, or a beginning of it
 abbrev pub FetchedOut : {T : Type 0} → List ℕ → Option (List ℕ) → Option (List ℕ) → Result T RunFault → Type 0
 FetchedOut text before after (Ok x) = Appends before after text
-FetchedOut text before after (Err fault) = IsBegun text before after
+FetchedOut text before after (Err fault) = IsPartOut text before after
 
 -- the register has this file: what is handed out of the one with its number is this entry
 abbrev pub HasFile : Register → IncomingEntry → Type 0
 HasFile r e = option_map (incoming_entry e.no) (entry_at e.no r.incoming) ≡ Some e
 
--- so many rows of the file from one on: all but the last of a file are full
-pub record IsPiece (e : IncomingEntry) (from most : ℕ) (rows : List (List ℕ)) : Type 0 where
-  pub count : length rows ≡ most
-  pub file : IsFile e.format e.longest rows
-  pub full : from + most < e.rows → AreFullRows e.format e.longest rows
-
 -- the office answered whatever it was asked
-pub record IsAnswered (old new : View) : Type 0 where
+pub record OfficeAnswered (old new : View) : Type 0 where
   pub told : new.told ≡ old.told
   pub stays : new.clean → old.stands → new.stands × (new.register ≡ old.register)
 
 -- it told a fault, or handed out rows that are none of the file's; and an office that has the file told a fault
-pub record IsUnanswered (e : IncomingEntry) (old new : View) : Type 0 where
+pub record OfficeUnanswered (e : IncomingEntry) (old new : View) : Type 0 where
   pub told : (new.told ≡ old.told) ⊎ (new.told ≡ next_count old.told)
   pub fault : new.clean → old.stands → HasFile old.register e → new.told ≡ next_count old.told
   pub register : new.clean → old.stands → new.stands → new.register ≡ old.register
@@ -56,10 +49,10 @@ pub record IsUnanswered (e : IncomingEntry) (old new : View) : Type 0 where
 -- what the office of a file told, by what was answered
 abbrev pub FetchesErr : IncomingEntry → View → View → RunFault → Type 0
 FetchesErr e old new fault.Read = ⊥
-FetchesErr e old new fault.Write = IsAnswered old new
-FetchesErr e old new fault.Office = IsUnanswered e old new
-FetchesErr e old new fault.Memory = IsAnswered old new
+FetchesErr e old new fault.Write = OfficeAnswered old new
+FetchesErr e old new fault.Office = OfficeUnanswered e old new
+FetchesErr e old new fault.Memory = OfficeAnswered old new
 
 abbrev pub FetchesFrom : {T : Type 0} → IncomingEntry → View → View → Result T RunFault → Type 0
-FetchesFrom e old new (Ok x) = IsAnswered old new
+FetchesFrom e old new (Ok x) = OfficeAnswered old new
 FetchesFrom e old new (Err fault) = FetchesErr e old new fault

@@ -1,5 +1,5 @@
 -- A list of jobs, one after another: sessions and operator's calls.
-use Rattle.std.specs.Prelude.{◌≡◌, ℕ, ◌+◌, ◌<◌, ◌≤◌, ◌⊎◌, ⊤, true, false, List, [], ◌∷◌, ◌++◌, length, take, drop, Option, None, Some, is_some, Result, Ok, Err}
+use Rattle.std.specs.Prelude.{◌≡◌, ℕ, ◌+◌, ◌<◌, ◌≤◌, ◌⊎◌, ⊤, true, false, List, [], ◌∷◌, ◌++◌, length, take, Option, None, Some, is_some, Result, Ok, Err}
 use Rattle.oftp_partners.specs.Book.{BookData}
 use Rattle.oftp_register.specs.declared.change.Change.{Change}
 use Rattle.oftp_register.specs.Register.{Register}
@@ -8,7 +8,7 @@ use Rattle.oftp_register.specs.Offices.{Only, View, next_count}
 use Rattle.oftp_session.specs.Calls.{Makes}
 use Rattle.oftp_session.specs.Phases.{is_over, register_after}
 use Rattle.oftp_session.specs.Settings.{Setting}
-use Rattle.oftp_ports.specs.declared.port.Port.{Port}
+use Rattle.oftp_io.specs.declared.port.Port.{Port}
 use Rattle.oftp_engine.specs.declared.operating.Told.{Told}
 use Rattle.oftp_engine.specs.declared.running.CallJob.{CallJob}
 use Rattle.oftp_engine.specs.declared.running.Job.{Job}
@@ -17,7 +17,7 @@ use Rattle.oftp_engine.specs.declared.running.SessionJob.{SessionJob}
 use Rattle.oftp_engine.specs.declared.serving.End.{End}
 use Rattle.oftp_engine.specs.declared.serving.RunFault.{RunFault}
 use Rattle.oftp_engine.specs.declared.serving.RunFault.TheVariants as fault
-use Rattle.oftp_ports.specs.Ports.{Wrote}
+use Rattle.oftp_io.specs.Ports.{Wrote}
 use Rattle.oftp_engine.specs.Runs.{Course, Output, answered, ending, octets_of, run, started, with_change}
 use Rattle.oftp_engine.specs.Serving.{last_frame}
 use Rattle.oftp_engine.specs.Served.{Gave, InputEnded, IsNeeded, IsPrefix, ReaderTold, StopsBetween, StopsWithin, setting_of, whole}
@@ -26,8 +26,8 @@ use Rattle.oftp_engine.specs.Operating.{Deed, IsDeed, NeedsMemory}
 -- A job as its ports tell. Of a session: the octets that its reader gave, and how many its writer had taken if it told a fault. Of an
 -- operator's call: what it does, and the same of its writer.
 pub data Entry : Type 0 where
-  Session : (setting : Setting) (given : List ℕ) (stop : Option ℕ) → Entry
-  Call : (deed : Deed) (stop : Option ℕ) → Entry
+  SessionEntry : (setting : Setting) (given : List ℕ) (stop : Option ℕ) → Entry
+  CallEntry : (deed : Deed) (stop : Option ℕ) → Entry
 
 -- what a job makes: its changes, its outputs, and the register after it
 pub record Share : Type 0 where
@@ -46,8 +46,8 @@ call_share r deed = record {
 }
 
 abbrev pub share_of : Register → Entry → Share
-share_of r (Session setting given stop) = session_share (run stop given (started setting r))
-share_of r (Call deed stop) = call_share r deed
+share_of r (SessionEntry setting given stop) = session_share (run stop given (started setting r))
+share_of r (CallEntry deed stop) = call_share r deed
 
 -- the register after jobs, and all changes that they make
 abbrev pub after_jobs : Register → List Entry → Register
@@ -72,7 +72,7 @@ SessionEnds setting r given stop (Err fault.Office) = ⊥
 SessionEnds setting r given stop (Err fault.Memory) = ⊥
 
 -- a session was served from this register, and its list goes on
-pub record SessionDone {R W : Type 0} (remaining : R → Option (List ℕ)) (contents : W → Option (List ℕ)) (book : BookData) (r : Register)
+pub record SessionServed {R W : Type 0} (remaining : R → Option (List ℕ)) (contents : W → Option (List ℕ)) (book : BookData) (r : Register)
     (setting : Setting) (given : List ℕ) (stop : Option ℕ) (old new : SessionJob R W) : Type 0 where
   pub is : setting ≡ setting_of book old.role
   pub role : new.role ≡ old.role
@@ -93,7 +93,7 @@ CallEnds deed stop (Err fault.Office) = ⊥
 CallEnds deed stop (Err fault.Memory) = ⊥
 
 -- a call was carried out at this register, and its list goes on
-pub record CallDone {W : Type 0} (contents : W → Option (List ℕ)) (book : BookData) (r : Register) (deed : Deed) (stop : Option ℕ) (old new : CallJob W) : Type 0 where
+pub record CallCarriedOut {W : Type 0} (contents : W → Option (List ℕ)) (book : BookData) (r : Register) (deed : Deed) (stop : Option ℕ) (old new : CallJob W) : Type 0 where
   pub is : IsDeed book r old.call deed
   pub call : new.call ≡ old.call
   pub out : IsOut contents old.writer new.writer deed.line stop
@@ -109,41 +109,36 @@ pub record Stop : Type 0 where
   pub answered : ℕ
   pub made : ℕ
 
--- the office told a fault within a session: whole outputs are out, and after them ESID 08 or as much of it as the writer took before it
--- told a fault
+-- a session was broken off by a fault: whole outputs of it are out, and no more was made than its changes
+pub record SessionCut {R W : Type 0} (remaining : R → Option (List ℕ)) (book : BookData) (r : Register) (old new : SessionJob R W) (stop : Stop) (fault : RunFault) : Type 0 where
+  pub role : new.role ≡ old.role
+  pub given : List ℕ
+  pub gave : Gave remaining old.reader new.reader given
+  pub outs : List Output
+  pub later : List Output
+  pub outputs : (whole (setting_of book old.role) given r).outputs ≡ outs ++ later
+  pub changes : stop.changes ≡ (whole (setting_of book old.role) given r).changes
+  pub least : stop.answered ≡ answered outs (length (octets_of outs))
+  pub reader : new.reader.faults ≡ old.reader.faults
+  pub result : new.result ≡ Some (Err fault)
+
+-- the office told a fault within a session: behind the whole outputs ESID 08 is out, or as much of it as the writer took before it told a
+-- fault
 pub record SessionRefused {R W : Type 0} (remaining : R → Option (List ℕ)) (contents : W → Option (List ℕ)) (book : BookData) (r : Register)
     (old new : SessionJob R W) (stop : Stop) : Type 0 where
-  pub role : new.role ≡ old.role
-  pub given : List ℕ
-  pub gave : Gave remaining old.reader new.reader given
-  pub outs : List Output
-  pub later : List Output
-  pub outputs : (whole (setting_of book old.role) given r).outputs ≡ outs ++ later
-  pub stopped : StopsWithin (setting_of book old.role) given r outs stop.made
+  pub cut : SessionCut remaining book r old new stop fault.Office
+  pub stopped : StopsWithin (setting_of book old.role) cut.given r cut.outs stop.made
   pub count : ℕ
-  pub out : Wrote contents old.writer new.writer (octets_of outs ++ take count last_frame)
+  pub out : Wrote contents old.writer new.writer (octets_of cut.outs ++ take count last_frame)
   pub said : ((count ≡ length last_frame) × (new.writer.faults ≡ old.writer.faults)) ⊎ ((count < length last_frame) × (new.writer.faults ≡ next_count old.writer.faults))
-  pub changes : stop.changes ≡ (whole (setting_of book old.role) given r).changes
-  pub least : stop.answered ≡ answered outs (length (octets_of outs))
-  pub reader : new.reader.faults ≡ old.reader.faults
-  pub result : new.result ≡ Some (Err fault.Office)
 
--- memory ran out within a session: whole outputs are out
+-- memory ran out within a session: the whole outputs are out, and no more
 pub record SessionShort {R W : Type 0} (remaining : R → Option (List ℕ)) (contents : W → Option (List ℕ)) (book : BookData) (r : Register)
     (old new : SessionJob R W) (stop : Stop) : Type 0 where
-  pub role : new.role ≡ old.role
-  pub given : List ℕ
-  pub gave : Gave remaining old.reader new.reader given
-  pub outs : List Output
-  pub later : List Output
-  pub outputs : (whole (setting_of book old.role) given r).outputs ≡ outs ++ later
-  pub stopped : StopsBetween (setting_of book old.role) given r outs stop.made
-  pub out : Wrote contents old.writer new.writer (octets_of outs)
+  pub cut : SessionCut remaining book r old new stop fault.Memory
+  pub stopped : StopsBetween (setting_of book old.role) cut.given r cut.outs stop.made
+  pub out : Wrote contents old.writer new.writer (octets_of cut.outs)
   pub unfailed : new.writer.faults ≡ old.writer.faults
-  pub changes : stop.changes ≡ (whole (setting_of book old.role) given r).changes
-  pub least : stop.answered ≡ answered outs (length (octets_of outs))
-  pub reader : new.reader.faults ≡ old.reader.faults
-  pub result : new.result ≡ Some (Err fault.Memory)
 
 -- the office told a fault within a call: nothing is out
 pub record CallRefused {W : Type 0} (contents : W → Option (List ℕ)) (book : BookData) (r : Register) (old new : CallJob W) (stop : Stop) : Type 0 where
@@ -165,19 +160,6 @@ pub record CallShort {W : Type 0} (contents : W → Option (List ℕ)) (old new 
   pub changes : stop.changes ≡ []
   pub least : stop.answered ≡ 0
   pub result : new.result ≡ Some (Err fault.Memory)
-
--- a fault of a job's ports doesn't end its list
-abbrev pub IsGoneOn : {T U : Type 0} → Result T RunFault → Result U RunFault → Type 0
-IsGoneOn (Ok x) (Ok y) = ⊤
-IsGoneOn (Ok x) (Err told) = ⊥
-IsGoneOn (Err fault.Read) (Ok y) = ⊤
-IsGoneOn (Err fault.Read) (Err told) = ⊥
-IsGoneOn (Err fault.Write) (Ok y) = ⊤
-IsGoneOn (Err fault.Write) (Err told) = ⊥
-IsGoneOn (Err fault.Office) (Ok y) = ⊥
-IsGoneOn (Err fault.Office) (Err told) = told ≡ fault.Office
-IsGoneOn (Err fault.Memory) (Ok y) = ⊥
-IsGoneOn (Err fault.Memory) (Err told) = told ≡ fault.Memory
 
 -- the office told a fault in this call, or it stands, a stop leaves its register and memory ran out
 pub record OfficeTold (old new : View) : Type 0 where
@@ -204,12 +186,12 @@ pub record LeavesSome (changes : List Change) (least made : ℕ) (old new : View
 module _ {R W : Type 0} (remaining : R → Option (List ℕ)) (contents : W → Option (List ℕ)) (book : BookData) where
   -- a job is done, as its entry says
   abbrev pub JobDone : Register → Entry → Job R W → Job R W → Type 0
-  JobDone r (Session setting given stop) (job.Session old) (job.Session new) = SessionDone remaining contents book r setting given stop old new
-  JobDone r (Session setting given stop) (job.Session old) (job.Call new) = ⊥
-  JobDone r (Session setting given stop) (job.Call old) new = ⊥
-  JobDone r (Call deed stop) (job.Session old) new = ⊥
-  JobDone r (Call deed stop) (job.Call old) (job.Session new) = ⊥
-  JobDone r (Call deed stop) (job.Call old) (job.Call new) = CallDone contents book r deed stop old new
+  JobDone r (SessionEntry setting given stop) (job.Session old) (job.Session new) = SessionServed remaining contents book r setting given stop old new
+  JobDone r (SessionEntry setting given stop) (job.Session old) (job.Call new) = ⊥
+  JobDone r (SessionEntry setting given stop) (job.Call old) new = ⊥
+  JobDone r (CallEntry deed stop) (job.Session old) new = ⊥
+  JobDone r (CallEntry deed stop) (job.Call old) (job.Session new) = ⊥
+  JobDone r (CallEntry deed stop) (job.Call old) (job.Call new) = CallCarriedOut contents book r deed stop old new
 
   -- jobs are done one after another
   abbrev pub JobsDone : Register → List Entry → List (Job R W) → List (Job R W) → Type 0
@@ -238,26 +220,6 @@ module _ {R W : Type 0} (remaining : R → Option (List ℕ)) (contents : W → 
   JobStops r (job.Session old) (job.Call new) stop fault = ⊥
   JobStops r (job.Call old) (job.Session new) stop fault = ⊥
   JobStops r (job.Call old) (job.Call new) stop fault = CallStops r old new stop fault
-
-  -- one job is done
-  pub record IsJobDone (old new : View) (before after : Job R W) : Type 0 where
-    pub entry : Entry
-    pub done : JobDone old.register entry before after
-    pub register : new.register ≡ (share_of old.register entry).register
-    pub replay : apply_all old.register (share_of old.register entry).changes ≡ Ok new.register
-    pub stands : new.stands
-    pub faults : new.told ≡ old.told
-
-  -- one job is broken off
-  pub record IsJobStopped (old new : View) (before after : Job R W) (fault : RunFault) : Type 0 where
-    pub stop : Stop
-    pub stops : JobStops old.register before after stop fault
-    pub leaves : LeavesSome stop.changes stop.answered stop.made old new
-    pub ends : EndsWith old new fault
-
-  abbrev pub DoesJob : {T : Type 0} → View → View → Job R W → Job R W → Result T RunFault → Type 0
-  DoesJob old new before after (Ok x) = IsJobDone old new before after
-  DoesJob old new before after (Err fault) = IsJobStopped old new before after fault
 
   -- all jobs are done, and the register is the one after all of them
   pub record IsRun (old new : View) (olds news : List (Job R W)) : Type 0 where
@@ -291,14 +253,3 @@ module _ {R W : Type 0} (remaining : R → Option (List ℕ)) (contents : W → 
   abbrev pub Runs : {T : Type 0} → View → View → List (Job R W) → List (Job R W) → Result T RunFault → Type 0
   Runs old new olds news (Ok x) = IsRun old new olds news
   Runs old new olds news (Err fault) = IsStopped old new olds news fault
-
-  -- the first so many jobs are done, and the others as they were
-  pub record IsRunning (old new : View) (olds news : List (Job R W)) (count : ℕ) : Type 0 where
-    pub entries : List Entry
-    pub done : JobsDone old.register entries (take count olds) (take count news)
-    pub behind : drop count news ≡ drop count olds
-    pub long : length news ≡ length olds
-    pub register : new.register ≡ after_jobs old.register entries
-    pub replay : apply_all old.register (changes_of old.register entries) ≡ Ok new.register
-    pub stands : new.stands
-    pub faults : new.told ≡ old.told

@@ -1,3 +1,4 @@
+-- What the contracts of the public calls say: all that a reader has to believe.
 pub mod Runs
 pub mod Serving
 pub mod Served
@@ -5,12 +6,15 @@ pub mod Frames
 pub mod Queues
 pub mod Operating
 pub mod Operated
-pub mod Offers
 pub mod Jobs
 pub mod Parts
 pub mod World
 pub mod TwoStations
-pub mod Standing
-pub mod Grounds
 pub mod Promise
 pub mod Fetched
+-- What the contracts of private functions say beside. No public contract cites it.
+pub mod InsideServing
+pub mod InsideSubmitting
+pub mod InsideOperating
+pub mod InsideRunning
+pub mod InsideContent

@@ -59,12 +59,6 @@ decided verb n change (Err cause) = refuses (refusal_of cause)
 abbrev pub makes : List ℕ → ℕ → Change → Register → Deed
 makes verb n change r = decided verb n change (apply r change)
 
--- how the line of a call that is done begins
-abbrev pub verb_of : Operator → List ℕ
-verb_of (operator.Submit submission) = codes "done: submit "
-verb_of (operator.Release n) = codes "done: release "
-verb_of (operator.Refuse n reason text) = codes "done: refuse "
-
 -- files that go
 
 -- the fields of a submission are in their ranges, its content aside (RFC 5024, section 5.3.3)

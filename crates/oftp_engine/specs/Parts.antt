@@ -78,17 +78,17 @@ AreParts file identity limit (m ∷ ms) c =
     (is_over d.phase || is_stopped limit d) ≡ false → IsPart file identity d.phase (command_of m) × AreParts file identity limit ms (came_in d m)
 
 -- a session: its book and whom it calls, how many octets its writer takes before it tells a fault, if it does, and what its reader gives
-pub record Session : Type 0 where
+pub record SessionData : Type 0 where
   pub setting : Setting
   pub limit : Option ℕ
   pub stream : List ℕ
 
 -- the session from a register
-abbrev pub course_of : Session → Register → Course
+abbrev pub course_of : SessionData → Register → Course
 course_of session r = run session.limit session.stream (started session.setting r)
 
 -- the session brings parts of the file, and of other files what it will
-pub record BringsParts (file : File) (identity : Identity) (session : Session) (r : Register) : Type 0 where
+pub record BringsParts (file : File) (identity : Identity) (session : SessionData) (r : Register) : Type 0 where
   pub octets : All (λ octet. octet < 256) session.stream
   pub commands : List (List ℕ)
   pub fault : Option FrameFault
@@ -103,39 +103,39 @@ pub record IsLeft (c : Course) (r s : Register) : Type 0 where
 
 -- for one session: whatever it leaves, the file is as it may be
 abbrev pub PartsMakeTheFile : Type 0
-PartsMakeTheFile = (file : File) (identity : Identity) (session : Session) (r s : Register) → IsSound r → IsSoFar file (in_at r identity)
+PartsMakeTheFile = (file : File) (identity : Identity) (session : SessionData) (r s : Register) → IsSound r → IsSoFar file (in_at r identity)
     → BringsParts file identity session r → IsLeft (course_of session r) r s → IsSoFar file (in_at s identity)
 
 -- what a station does: a session, or an operator's call
-pub data Job : Type 0 where
-  Serves : (session : Session) → Job
-  Operates : (book : BookData) (call : Operator) → Job
+pub data JobData : Type 0 where
+  OfSession : (session : SessionData) → JobData
+  OfCall : (book : BookData) (call : Operator) → JobData
 
 -- what is asked of a job, from a register
-abbrev pub MayDo : File → Identity → Job → Register → Type 0
-MayDo file identity (Serves session) r = BringsParts file identity session r
-MayDo file identity (Operates book call) r = ⊤
+abbrev pub MayDo : File → Identity → JobData → Register → Type 0
+MayDo file identity (OfSession session) r = BringsParts file identity session r
+MayDo file identity (OfCall book call) r = ⊤
 
 -- a register that a job may leave; a call may be stopped before its change is made
-abbrev pub Leaves : Job → Register → Register → Type 0
-Leaves (Serves session) r s = IsLeft (course_of session r) r s
-Leaves (Operates book call) r s = (s ≡ r) ⊎ ((deed : Deed) × IsDeed book r call deed × Makes deed.change r s)
+abbrev pub JobLeaves : JobData → Register → Register → Type 0
+JobLeaves (OfSession session) r s = IsLeft (course_of session r) r s
+JobLeaves (OfCall book call) r s = (s ≡ r) ⊎ ((deed : Deed) × IsDeed book r call deed × Makes deed.change r s)
 
 -- a register that jobs in turn may leave
-abbrev pub LeaveAll : File → Identity → List Job → Register → Register → Type 0
+abbrev pub LeaveAll : File → Identity → List JobData → Register → Register → Type 0
 LeaveAll file identity [] r s = s ≡ r
 LeaveAll file identity (job ∷ jobs) r s =
-    (next : Register) × MayDo file identity job r × Leaves job r next × LeaveAll file identity jobs next s
+    (next : Register) × MayDo file identity job r × JobLeaves job r next × LeaveAll file identity jobs next s
 
 -- for any jobs, the sessions broken anywhere: whatever they leave, the file is as it may be
 abbrev pub JobsMakeTheFile : Type 0
-JobsMakeTheFile = (file : File) (identity : Identity) (jobs : List Job) (r s : Register) → IsSound r → IsSoFar file (in_at r identity)
+JobsMakeTheFile = (file : File) (identity : Identity) (jobs : List JobData) (r s : Register) → IsSound r → IsSoFar file (in_at r identity)
     → LeaveAll file identity jobs r s → IsSoFar file (in_at s identity)
 
 -- the rows that are here
-abbrev pub rows_of : Option Incoming → List (List ℕ)
-rows_of None = []
-rows_of (Some e) = e.rows
+abbrev pub rows_here : Option Incoming → List (List ℕ)
+rows_here None = []
+rows_here (Some e) = e.rows
 
 -- the file is open, with these rows
 abbrev pub IsOpenWith : List (List ℕ) → Option Incoming → Type 0
@@ -146,4 +146,4 @@ IsOpenWith rows (Some e) = (e.state ≡ Open) × (e.rows ≡ rows)
 abbrev pub NoCountPasses : Type 0
 NoCountPasses = (r s : Register) (identity : Identity) (format : Format) (longest : ℕ) (description : List ℕ) (count : ℕ)
     → apply r (Start identity format longest description count) ≡ Ok s
-    → (count ≤ length (rows_of (in_at r identity))) × IsOpenWith (take count (rows_of (in_at r identity))) (in_at s identity)
+    → (count ≤ length (rows_here (in_at r identity))) × IsOpenWith (take count (rows_here (in_at r identity))) (in_at s identity)

@@ -5,8 +5,7 @@ use Rattle.oftp_partners.specs.declared.partner.Partner.{Partner}
 use Rattle.oftp_vfile.specs.declared.format.Limits.{Limits}
 use Rattle.oftp_register.specs.declared.fit.TheConstants.{MOST_FILES, MOST_OCTETS}
 use Rattle.oftp_register.specs.Register.{empty}
-use Rattle.oftp_engine.specs.World.{Station, World, Event, after_event, after_events, register_of}
-use Rattle.oftp_engine.specs.Standing.{Stands}
+use Rattle.oftp_engine.specs.World.{Station, World, Event, after_events, register_of}
 use Rattle.oftp_engine.specs.TwoStations.{ContentArrives, ResponsesAreIssued}
 
 -- a station before its first session
@@ -33,7 +32,3 @@ abbrev pub TwoStations : Type 0
 TwoStations = (book book' : BookData) (partner partner' : Partner) (limits limits' : Limits) (events : List Event) → IsLawful book limits → IsLawful book' limits'
     → ContentIsKept (after_events (world_of book book' partner partner' limits limits') events)
     × ResponsesAreKept (after_events (world_of book book' partner partner' limits limits') events)
-
--- each event keeps the invariant
-abbrev pub KeepsStanding : Type 0
-KeepsStanding = (w : World) (e : Event) → Stands w → Stands (after_event w e)

@@ -13,10 +13,10 @@ use Rattle.oftp_partners.specs.declared.partner.Partner.{Partner as Entry}
 use Rattle.oftp_engine.specs.declared.serving.Role.{Role}
 use Rattle.oftp_engine.specs.declared.serving.Role.TheVariants.{Responder, Initiator}
 use Rattle.oftp_engine.specs.declared.serving.End.TheVariants.{Own, Partner, Input}
-use Rattle.oftp_ports.specs.declared.port.Port.{Port}
+use Rattle.oftp_io.specs.declared.port.Port.{Port}
 use Rattle.oftp_engine.specs.declared.serving.RunFault.{RunFault}
 use Rattle.oftp_engine.specs.declared.serving.RunFault.TheVariants as fault
-use Rattle.oftp_ports.specs.Ports.{IsDone}
+use Rattle.oftp_io.specs.Ports.{IsDone}
 use Rattle.oftp_engine.specs.Runs.{Course, Output, advance, run, started, octets_of, ending, answered}
 use Rattle.oftp_engine.specs.Serving.{MayRunOut, Scene, Took, IsSaid, last_frame}
 
@@ -47,38 +47,17 @@ pub record IsPrefix {C : Type 0} (holds' : C → Register → Type 0) (changes :
   pub replay : apply_all r (take count changes) ≡ Ok register
   pub holds : holds' content register
 
-abbrev pub LeavesPrefix : Course → Register → ℕ → ℕ → View → Type 0
-LeavesPrefix c r least made now = (content : now.Content) → now.may_leave content → IsPrefix now.holds c.changes r least made content
+abbrev pub OfficeLeaves : Course → Register → ℕ → ℕ → View → Type 0
+OfficeLeaves c r least made now = (content : now.Content) → now.may_leave content → IsPrefix now.holds c.changes r least made content
 
--- the last octets that were read are ones that the session still needed: it went on before them
+-- what was read ends in a piece of 4,096 octets at most that the session still needed: it went on before it
 pub record IsNeeded (setting : Setting) (r : Register) (given : List ℕ) : Type 0 where
   pub before : List ℕ
   pub last : List ℕ
   pub all : given ≡ before ++ last
   pub piece : length last ≤ 4096
+  pub some : 0 < length given → 0 < length last
   pub live : 0 < length last → is_over (whole setting before r).phase ≡ false
-
--- all outputs are out, and the register is the run's
-pub record IsWhole (setting : Setting) (given : List ℕ) (old new : Scene) : Type 0 where
-  pub out : Took old new (octets_of (whole setting given old.office.register).outputs)
-  pub register : new.office.register ≡ (whole setting given old.office.register).register
-  pub replay : apply_all old.office.register (whole setting given old.office.register).changes ≡ Ok new.office.register
-  pub stands : new.office.stands
-  pub left : Only new.office.register new.office
-  pub faults : new.office.told ≡ old.office.told
-  pub told : new.told ≡ old.told
-
--- the writer told a fault: a beginning of the outputs is out, as long as what it took, and the session stopped there
-pub record IsBrokenOff (setting : Setting) (given : List ℕ) (old new : Scene) : Type 0 where
-  pub taken : ℕ
-  pub short : taken < length (octets_of (broken_off setting taken given old.office.register).outputs)
-  pub out : Took old new (take taken (octets_of (broken_off setting taken given old.office.register).outputs))
-  pub register : new.office.register ≡ (broken_off setting taken given old.office.register).register
-  pub replay : apply_all old.office.register (broken_off setting taken given old.office.register).changes ≡ Ok new.office.register
-  pub stands : new.office.stands
-  pub left : Only new.office.register new.office
-  pub faults : new.office.told ≡ old.office.told
-  pub told : new.told ≡ next_count old.told
 
 -- the session stopped within a step, after these outputs and so many changes, that of the step made or not: with the octets that come
 -- behind it would have gone on so
@@ -91,23 +70,6 @@ pub record StopsWithin (setting : Setting) (given : List ℕ) (r : Register) (ou
   pub changes : at.changes ≡ take (length at.changes) (whole setting given r).changes
   pub register : apply_all r at.changes ≡ Ok at.register
   pub within : (made ≡ length at.changes) ⊎ (made ≡ length (advance at step).changes)
-
--- the office told a fault: whole outputs are out, and after them ESID 08 or as much of it as the writer took before it told a fault.
--- The register is the one after some changes, at least those that were answered
-pub record IsOfficeFault (setting : Setting) (given : List ℕ) (old new : Scene) : Type 0 where
-  pub outs : List Output
-  pub later : List Output
-  pub outputs : (whole setting given old.office.register).outputs ≡ outs ++ later
-  pub count : ℕ
-  pub out : Took old new (octets_of outs ++ take count last_frame)
-  pub said : IsSaid old new count
-  pub made : ℕ
-  pub kept : answered outs (length (octets_of outs)) ≤ made
-  pub few : made ≤ length (whole setting given old.office.register).changes
-  pub stopped : StopsWithin setting given old.office.register outs made
-  pub register : new.office.stands → apply_all old.office.register (take made (whole setting given old.office.register).changes) ≡ Ok new.office.register
-  pub left : LeavesPrefix (whole setting given old.office.register) old.office.register (answered outs (length (octets_of outs))) made new.office
-  pub faults : new.office.told ≡ next_count old.office.told
 
 -- the session stopped between two of its steps, after these outputs and so many changes: with the octets that aren't answered yet it
 -- would have gone on so
@@ -122,32 +84,80 @@ pub record StopsBetween (setting : Setting) (given : List ℕ) (r : Register) (o
   pub changes : at.changes ≡ take made (whole setting given r).changes
   pub register : apply_all r at.changes ≡ Ok at.register
 
--- memory ran out: a beginning of the outputs is out, and nothing of the next step is made
-pub record IsOutOfMemory (setting : Setting) (given : List ℕ) (old new : Scene) : Type 0 where
-  pub outs : List Output
-  pub later : List Output
-  pub outputs : (whole setting given old.office.register).outputs ≡ outs ++ later
-  pub out : Took old new (octets_of outs)
-  pub made : ℕ
-  pub kept : answered outs (length (octets_of outs)) ≤ made
-  pub few : made ≤ length (whole setting given old.office.register).changes
-  pub stopped : StopsBetween setting given old.office.register outs made
-  pub register : apply_all old.office.register (take made (whole setting given old.office.register).changes) ≡ Ok new.office.register
-  pub stands : new.office.stands
-  pub left : Only new.office.register new.office
-  pub faults : new.office.told ≡ old.office.told
-  pub told : new.told ≡ old.told
+module _ (setting : Setting) (given : List ℕ) (old new : Scene) where
+  -- the session from the register that the office had
+  abbrev pub course : Course
+  course = whole setting given old.office.register
 
--- the session ended so, and nothing was read that it didn't need
-pub record IsServed (setting : Setting) (given : List ℕ) (old new : Scene) (end : End) : Type 0 where
-  pub all : IsWhole setting given old new
-  pub ends : end ≡ ending (whole setting given old.office.register).phase
-  pub needed : IsNeeded setting old.office.register given
+  -- the same, where its writer told a fault after so many octets
+  abbrev pub cut_off : ℕ → Course
+  cut_off taken = broken_off setting taken given old.office.register
 
--- the reader told a fault while the session went on
-pub record IsCutShort (setting : Setting) (given : List ℕ) (old new : Scene) : Type 0 where
-  pub all : IsWhole setting given old new
-  pub live : is_over (whole setting given old.office.register).phase ≡ false
+  -- all outputs are out, and the register is the run's
+  pub record IsWhole : Type 0 where
+    pub out : Took old new (octets_of course.outputs)
+    pub register : new.office.register ≡ course.register
+    pub replay : apply_all old.office.register course.changes ≡ Ok new.office.register
+    pub stands : new.office.stands
+    pub left : Only new.office.register new.office
+    pub faults : new.office.told ≡ old.office.told
+    pub told : new.told ≡ old.told
+
+  -- the writer told a fault: a beginning of the outputs is out, as long as what it took, and the session stopped there
+  pub record IsBrokenOff : Type 0 where
+    pub taken : ℕ
+    pub short : taken < length (octets_of (cut_off taken).outputs)
+    pub out : Took old new (take taken (octets_of (cut_off taken).outputs))
+    pub register : new.office.register ≡ (cut_off taken).register
+    pub replay : apply_all old.office.register (cut_off taken).changes ≡ Ok new.office.register
+    pub stands : new.office.stands
+    pub left : Only new.office.register new.office
+    pub faults : new.office.told ≡ old.office.told
+    pub told : new.told ≡ next_count old.told
+
+  -- the office told a fault: whole outputs are out, and after them ESID 08 or as much of it as the writer took before it told a fault.
+  -- The register is the one after some changes, at least those that were answered
+  pub record IsOfficeFault : Type 0 where
+    pub outs : List Output
+    pub later : List Output
+    pub outputs : course.outputs ≡ outs ++ later
+    pub count : ℕ
+    pub out : Took old new (octets_of outs ++ take count last_frame)
+    pub said : IsSaid old new count
+    pub made : ℕ
+    pub kept : answered outs (length (octets_of outs)) ≤ made
+    pub few : made ≤ length course.changes
+    pub stopped : StopsWithin setting given old.office.register outs made
+    pub register : new.office.stands → apply_all old.office.register (take made course.changes) ≡ Ok new.office.register
+    pub left : OfficeLeaves course old.office.register (answered outs (length (octets_of outs))) made new.office
+    pub faults : new.office.told ≡ next_count old.office.told
+
+  -- memory ran out: a beginning of the outputs is out, and nothing of the next step is made
+  pub record IsOutOfMemory : Type 0 where
+    pub outs : List Output
+    pub later : List Output
+    pub outputs : course.outputs ≡ outs ++ later
+    pub out : Took old new (octets_of outs)
+    pub made : ℕ
+    pub kept : answered outs (length (octets_of outs)) ≤ made
+    pub few : made ≤ length course.changes
+    pub stopped : StopsBetween setting given old.office.register outs made
+    pub register : apply_all old.office.register (take made course.changes) ≡ Ok new.office.register
+    pub stands : new.office.stands
+    pub left : Only new.office.register new.office
+    pub faults : new.office.told ≡ old.office.told
+    pub told : new.told ≡ old.told
+
+  -- the session ended so, and nothing was read that it didn't need
+  pub record IsServed (end : End) : Type 0 where
+    pub all : IsWhole
+    pub ends : end ≡ ending course.phase
+    pub needed : IsNeeded setting old.office.register given
+
+  -- the reader told a fault while the session went on
+  pub record IsCutShort : Type 0 where
+    pub all : IsWhole
+    pub live : is_over course.phase ≡ false
 
 abbrev pub ServesErr : Setting → List ℕ → Scene → Scene → RunFault → Type 0
 ServesErr setting given old new fault.Read = IsCutShort setting given old new

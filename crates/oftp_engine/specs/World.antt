@@ -38,8 +38,8 @@ register_of s = register_in s.start s.session
 abbrev pub stopped_with : Station → Register → Station
 stopped_with s r = record s { start = r; session = None; coming = [] }
 
-abbrev pub settled : Station → Course → Station
-settled s c = if is_over c.phase then stopped_with s c.register else record s { session = Some c }
+abbrev pub with_course : Station → Course → Station
+with_course s c = if is_over c.phase then stopped_with s c.register else record s { session = Some c }
 
 -- a command that goes to a station: it is lost where there is no session
 abbrev pub told : Station → Option Command → Station
@@ -56,7 +56,7 @@ turned_round w = record { one = w.other; other = w.one }
 
 -- a step of the one station, and its output goes to the other
 abbrev pub stepped : World → Course → Step → World
-stepped w c s = record { one = settled w.one (advance c s); other = told w.other s.output }
+stepped w c s = record { one = with_course w.one (advance c s); other = told w.other s.output }
 
 -- what a stop leaves: the register after so many of the changes of the session, of which those stay that an output answered
 abbrev pub latest : List Output → ℕ
@@ -81,21 +81,21 @@ fails_at w c out n = if may_stop c out n
 
 -- what the one station does next in a session: the due turn, or the next command
 pub data Doing : Type 0 where
-  Turns : Doing
-  Takes : Doing
+  TakesTurn : Doing
+  TakesCommand : Doing
 
 abbrev pub step_of : Course → Doing → List Command → Option Step
-step_of c Turns coming = Some (turned c.setting c.phase c.register)
-step_of c Takes [] = None
-step_of c Takes (command ∷ coming) = Some (came c.setting c.phase c.register command)
+step_of c TakesTurn coming = Some (turned c.setting c.phase c.register)
+step_of c TakesCommand [] = None
+step_of c TakesCommand (command ∷ coming) = Some (came c.setting c.phase c.register command)
 
 abbrev pub left_of : Doing → List Command → List Command
-left_of Turns coming = coming
-left_of Takes [] = []
-left_of Takes (command ∷ coming) = coming
+left_of TakesTurn coming = coming
+left_of TakesCommand [] = []
+left_of TakesCommand (command ∷ coming) = coming
 
 -- a file that an operator hands in
-pub record Handed : Type 0 where
+pub record HandedIn : Type 0 where
   pub dataset : List ℕ
   pub date : List ℕ
   pub time : List ℕ
@@ -106,18 +106,18 @@ pub record Handed : Type 0 where
   pub is_file : IsFile format longest rows
 
 -- what an operator asks of a station
-pub data Call : Type 0 where
-  Submits : Handed → Call
-  Releases : (number : ℕ) → Call
-  Refuses : (number reason : ℕ) (text : List ℕ) → Call
+pub data Order : Type 0 where
+  ToSubmit : HandedIn → Order
+  ToRelease : (number : ℕ) → Order
+  ToRefuse : (number reason : ℕ) (text : List ℕ) → Order
 
 -- a file goes from the station to the other one
-abbrev pub called_for : Station → Call → Change
-called_for s (Submits f) =
+abbrev pub called_for : Station → Order → Change
+called_for s (ToSubmit f) =
     let identity : Identity = record { dataset = f.dataset; date = f.date; time = f.time; originator = s.book.station.code; destination = s.partner.code } in
     Submit identity f.format f.longest f.description f.rows
-called_for s (Releases number) = Issue number EndResponse 0 []
-called_for s (Refuses number reason text) = Issue number NegativeEndResponse reason text
+called_for s (ToRelease number) = Issue number EndResponse 0 []
+called_for s (ToRefuse number reason text) = Issue number NegativeEndResponse reason text
 
 -- what happens at the one station: it does a step, loses the connection, stops between steps or within one, ends the session at a fault
 -- of its office within a step, does what an operator asks, or calls the other. A stop, or a fault of the office, leaves so many of the
@@ -126,9 +126,9 @@ pub data Happening : Type 0 where
   Does : Doing → Happening
   Breaks : Happening
   Stops : (changes : ℕ) → Happening
-  StopsWithin : Doing → (changes : ℕ) → Happening
-  FailsWithin : Doing → (changes : ℕ) → Happening
-  Operates : Call → Happening
+  StopsInStep : Doing → (changes : ℕ) → Happening
+  FailsInStep : Doing → (changes : ℕ) → Happening
+  Orders : Order → Happening
   Calls : Happening
 
 -- a happening where the station has a session
@@ -148,9 +148,9 @@ unfoldable pub in_session : World → Course → Happening → World
 in_session w c (Does doing) = does w c (left_of doing w.one.coming) (step_of c doing w.one.coming)
 in_session w c Breaks = record w { one = stopped_with w.one c.register }
 in_session w c (Stops n) = stops_at w c c.outputs n
-in_session w c (StopsWithin doing n) = stops_within w c n (step_of c doing w.one.coming)
-in_session w c (FailsWithin doing n) = fails_within w c n (step_of c doing w.one.coming)
-in_session w c (Operates call) = w
+in_session w c (StopsInStep doing n) = stops_within w c n (step_of c doing w.one.coming)
+in_session w c (FailsInStep doing n) = fails_within w c n (step_of c doing w.one.coming)
+in_session w c (Orders call) = w
 in_session w c Calls = w
 
 -- both begin a session: the one calls
@@ -162,18 +162,18 @@ calls w None = record { one = begins w.one (Some w.one.partner); other = begins 
 calls w (Some c) = w
 
 -- a happening where it has none
-unfoldable pub at_rest : World → Happening → World
-at_rest w (Does doing) = w
-at_rest w Breaks = w
-at_rest w (Stops n) = w
-at_rest w (StopsWithin doing n) = w
-at_rest w (FailsWithin doing n) = w
-at_rest w (Operates call) = record w { one = record w.one { start = result_unwrap_or (apply w.one.start (called_for w.one call)) w.one.start } }
-at_rest w Calls = calls w w.other.session
+unfoldable pub without_session : World → Happening → World
+without_session w (Does doing) = w
+without_session w Breaks = w
+without_session w (Stops n) = w
+without_session w (StopsInStep doing n) = w
+without_session w (FailsInStep doing n) = w
+without_session w (Orders call) = record w { one = record w.one { start = result_unwrap_or (apply w.one.start (called_for w.one call)) w.one.start } }
+without_session w Calls = calls w w.other.session
 
 abbrev pub happens_in : World → Happening → Option Course → World
 happens_in w h (Some c) = in_session w c h
-happens_in w h None = at_rest w h
+happens_in w h None = without_session w h
 
 abbrev pub happens : World → Happening → World
 happens w h = happens_in w h w.one.session

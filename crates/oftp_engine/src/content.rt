@@ -1,13 +1,14 @@
 //! The content of a file that came, as a file of its own.
 
 ghost use Rattle.std.specs.Prelude.{◌≡◌, ◌≢◌, ◌+◌, ◌≤◌, ◌↔◌, IfErr, IfOk, IsTrue};
-ghost use Rattle.oftp_ports.specs.Ports.{Puts};
-ghost use Rattle.oftp_engine.specs.Fetched.{FetchedOut, FetchesFrom, IsPiece, fetched, piece_of};
+ghost use Rattle.oftp_io.specs.Ports.{Puts};
+ghost use Rattle.oftp_engine.specs.Fetched.{FetchedOut, FetchesFrom, fetched, piece_of};
+ghost use Rattle.oftp_engine.specs.InsideContent.{IsPiece};
 ghost use Rattle.oftp_engine.specs.Served.{WriterTold};
 ghost use Rattle.oftp_engine.specs.declared.serving.RunFault.TheVariants as RunFault;
 
 use crate::serving::RunFault;
-use oftp_ports::Port;
+use oftp_io::Port;
 use oftp_register::{IncomingEntry, Office, Side, are_full_rows, is_file};
 use oftp_vfile::{Row, VFile};
 use std::alloc::Global;

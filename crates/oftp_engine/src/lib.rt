@@ -13,7 +13,7 @@ pub use laws::{
     changes_are_made, folds_over_frames, jobs_make_the_file, no_count_passes, parts_make_the_file,
     two_stations,
 };
-pub use oftp_ports::Port;
+pub use oftp_io::Port;
 pub use operating::{Operator, Refusal, Told, operate};
 pub use running::{CallJob, Job, SessionJob, run};
 pub use serving::{End, Role, RunFault, serve, serve_in_memory};

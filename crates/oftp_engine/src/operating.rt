@@ -2,18 +2,19 @@
 
 ghost use Rattle.std.specs.Prelude.{◌≡◌, ◌≤◌, ℕ, List, length, codes, IfOk, IfErr, is_ok};
 ghost use Rattle.oftp_register.specs.Soundness.{IsFit};
-ghost use Rattle.oftp_ports.specs.Ports.{Puts, Sent};
+ghost use Rattle.oftp_io.specs.Ports.{Puts, Sent};
 ghost use Rattle.oftp_engine.specs.Served.{WriterTold};
 ghost use Rattle.oftp_engine.specs.Serving.{scene};
-ghost use Rattle.oftp_engine.specs.Operating.{IsDeed, done_line, makes, refusal_line, refusal_of, refused, released, verb_of};
-ghost use Rattle.oftp_engine.specs.Operated.{Attempts, MayFail, Operates, came_out, line_as, told_as};
+ghost use Rattle.oftp_engine.specs.Operating.{IsDeed, done_line, makes, refusal_line, refusal_of, refused, released};
+ghost use Rattle.oftp_engine.specs.InsideOperating.{verb_of, Attempts, MayFail, came_out, line_as, told_as};
+ghost use Rattle.oftp_engine.specs.Operated.{Operates};
 
 use crate::serving::RunFault;
 use crate::submitting::{Submission, submit};
 use arrayvec::ArrayVec;
 use itoa::Buffer;
+use oftp_io::Port;
 use oftp_partners::Book;
-use oftp_ports::Port;
 use oftp_register::{Cause, Change, Office, OfficeFault, ResponseKind};
 use oftp_wire::{Count, Text};
 use std::alloc::Global;
@@ -127,7 +128,7 @@ fn line_of(verb: &[u8], no: u64) -> ArrayVec<u8, 48>
 }
 
 // Writes a line.
-#[tactic(auto, using(oftp_ports::proofs::Puts::puts_none, oftp_ports::proofs::Puts::puts_on, oftp_ports::proofs::Puts::puts_sent))]
+#[tactic(auto, using(oftp_io::proofs::Puts::puts_none, oftp_io::proofs::Puts::puts_on, oftp_io::proofs::Puts::puts_sent))]
 fn say<W: Write>(writer: &mut Port<W>, line: &[u8], told: Told) -> Result<Told, RunFault>
     ensures sent { Sent W.contents writer.old writer.new line.now (is_ok result) }
     ensures told { IfOk result (λ t. t ≡ told) }
@@ -143,7 +144,7 @@ fn say<W: Write>(writer: &mut Port<W>, line: &[u8], told: Told) -> Result<Told, 
 }
 
 // Writes the line of what a call came to.
-#[tactic(auto, using(oftp_ports::proofs::Puts::puts_none, oftp_ports::proofs::Puts::puts_on, oftp_ports::proofs::Puts::puts_sent))]
+#[tactic(auto, using(oftp_io::proofs::Puts::puts_none, oftp_io::proofs::Puts::puts_on, oftp_io::proofs::Puts::puts_sent))]
 fn tell<W: Write>(writer: &mut Port<W>, verb: &[u8], outcome: Outcome) -> Result<Told, RunFault>
     requires { length verb.now ≤ 20 }
     ensures sent { Sent W.contents writer.old writer.new (line_as verb.now outcome) (is_ok result) }

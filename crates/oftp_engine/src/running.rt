@@ -1,12 +1,13 @@
 //! A list of jobs, one after another.
 
 ghost use Rattle.std.specs.Prelude.{◌≡◌, None};
-ghost use Rattle.oftp_engine.specs.Jobs.{DoesJob, IsGoneOn, Runs};
+ghost use Rattle.oftp_engine.specs.Jobs.{Runs};
+ghost use Rattle.oftp_engine.specs.InsideRunning.{DoesJob, IsGoneOn};
 
 use crate::operating::{Operator, Told, operate};
 use crate::serving::{End, Role, RunFault, serve};
+use oftp_io::Port;
 use oftp_partners::Book;
-use oftp_ports::Port;
 use oftp_register::Office;
 use std::alloc::Global;
 use std::io::{Read, Write};

@@ -7,13 +7,14 @@ ghost use Rattle.oftp_session.specs.Phases.{is_over, Phase, frame_of, esid_of};
 ghost use Rattle.oftp_session.specs.Steps.{came, has_turn, opening, turned};
 ghost use Rattle.oftp_session.specs.Calls.{IsFailure, Stands, said};
 ghost use Rattle.oftp_session.specs.Standings.{Broken, is_closed, is_due, is_sending, turns_left};
-ghost use Rattle.oftp_ports.specs.Ports.{Sent, Puts};
+ghost use Rattle.oftp_io.specs.Ports.{Sent, Puts};
 ghost use Rattle.oftp_engine.specs.Runs.{Course, ended_as, step_on};
 ghost use Rattle.oftp_engine.specs.Served.{Gave, InputEnded, ReaderTold, Serves, setting_of, WriterErr, WriterTold};
-ghost use Rattle.oftp_engine.specs.Serving.{BrokeOff, IsAt, IsOwn, LastWords, Pumped, Stepped, TurnsTaken, run_fault, scene};
+ghost use Rattle.oftp_engine.specs.Serving.{scene};
+ghost use Rattle.oftp_engine.specs.InsideServing.{BrokeOff, IsAt, IsOwn, LastWords, Pumped, Stepped, TurnsTaken, run_fault};
 
+use oftp_io::Port;
 use oftp_partners::{Book, Partner};
-use oftp_ports::Port;
 use oftp_register::{Office, PlainOffice};
 use oftp_session::{Ending, Out, Session, SessionFault};
 use oftp_wire::{Command, Count, Deframer, SessionReason, parse};
@@ -71,7 +72,7 @@ pub enum RunFault {
 }
 
 // Writes what a session said.
-#[tactic(auto, using(oftp_ports::proofs::Puts::puts_none, oftp_ports::proofs::Puts::puts_on, oftp_ports::proofs::Puts::puts_sent))]
+#[tactic(auto, using(oftp_io::proofs::Puts::puts_none, oftp_io::proofs::Puts::puts_on, oftp_io::proofs::Puts::puts_sent))]
 fn write_out<W: Write>(port: &mut Port<W>, out: Out<'_>) -> Result<(), RunFault>
     ensures sent { Sent W.contents port.old port.new (said out.entry) (is_ok result) }
     ensures err { IfErr result (λ fault. fault ≡ RunFault.Write) }
@@ -91,8 +92,8 @@ fn write_out<W: Write>(port: &mut Port<W>, out: Out<'_>) -> Result<(), RunFault>
 }
 
 // Ends the session, which goes on, by an ESID.
-#[tactic(auto, using(crate::proofs::Phases::open_goes_on, oftp_ports::proofs::Puts::puts_none, oftp_ports::proofs::Puts::puts_on, oftp_ports::proofs::Puts::puts_sent))]
-fn refuse<W: Write>(
+#[tactic(auto, using(crate::proofs::Phases::open_goes_on, oftp_io::proofs::Puts::puts_none, oftp_io::proofs::Puts::puts_on, oftp_io::proofs::Puts::puts_sent))]
+fn end_with<W: Write>(
     session: &mut Session<'_>,
     port: &mut Port<W>,
     reason: SessionReason,
@@ -113,7 +114,7 @@ fn refuse<W: Write>(
 }
 
 // After a fault of the office, the session's last words. A fault of this write isn't told.
-#[tactic(auto, using(oftp_ports::proofs::Puts::puts_none, oftp_ports::proofs::Puts::puts_on, oftp_ports::proofs::Puts::puts_sent))]
+#[tactic(auto, using(oftp_io::proofs::Puts::puts_none, oftp_io::proofs::Puts::puts_on, oftp_io::proofs::Puts::puts_sent))]
 fn last_words<W: Write>(session: &mut Session<'_>, port: &mut Port<W>)
     requires { session.old.standing ≡ Broken }
     ensures words { LastWords W.contents port.old port.new }
@@ -129,7 +130,7 @@ fn last_words<W: Write>(session: &mut Session<'_>, port: &mut Port<W>)
 }
 
 // After a session's fault: its last words, where the office told it.
-#[tactic(auto, using(oftp_ports::proofs::Puts::puts_none, oftp_ports::proofs::Puts::puts_on, oftp_ports::proofs::Puts::puts_sent))]
+#[tactic(auto, using(oftp_io::proofs::Puts::puts_none, oftp_io::proofs::Puts::puts_on, oftp_io::proofs::Puts::puts_sent))]
 fn break_off<W: Write>(
     session: &mut Session<'_>,
     port: &mut Port<W>,
@@ -153,7 +154,7 @@ fn break_off<W: Write>(
 }
 
 // Makes the own turn that is due, and writes it.
-#[tactic(auto, using(oftp_ports::proofs::Puts::puts_none, oftp_ports::proofs::Puts::puts_on, oftp_ports::proofs::Puts::puts_sent, crate::proofs::Stepping::run_fault_own))]
+#[tactic(auto, using(oftp_io::proofs::Puts::puts_none, oftp_io::proofs::Puts::puts_on, oftp_io::proofs::Puts::puts_sent, crate::proofs::Stepping::run_fault_own))]
 fn take_turn<O: Office, W: Write>(
     session: &mut Session<'_>,
     office: &mut O,
@@ -179,7 +180,7 @@ fn take_turn<O: Office, W: Write>(
 }
 
 // Takes a command that came, and writes the answer.
-#[tactic(auto, using(oftp_ports::proofs::Puts::puts_none, oftp_ports::proofs::Puts::puts_on, oftp_ports::proofs::Puts::puts_sent, crate::proofs::Stepping::run_fault_own))]
+#[tactic(auto, using(oftp_io::proofs::Puts::puts_none, oftp_io::proofs::Puts::puts_on, oftp_io::proofs::Puts::puts_sent, crate::proofs::Stepping::run_fault_own))]
 fn obey<O: Office, W: Write>(
     session: &mut Session<'_>,
     office: &mut O,
@@ -204,7 +205,7 @@ fn obey<O: Office, W: Write>(
 }
 
 // Takes the octets of a command, and writes the answer.
-#[tactic(auto, using(oftp_ports::proofs::Puts::puts_none, oftp_ports::proofs::Puts::puts_on, oftp_ports::proofs::Puts::puts_sent))]
+#[tactic(auto, using(oftp_io::proofs::Puts::puts_none, oftp_io::proofs::Puts::puts_on, oftp_io::proofs::Puts::puts_sent))]
 fn take_command<O: Office, W: Write>(
     session: &mut Session<'_>,
     office: &mut O,
@@ -226,7 +227,7 @@ fn take_command<O: Office, W: Write>(
     match parse(octets) {
         Ok(command) => obey(session, office, writer, &command),
         Err(fault) => match fault.reason() {
-            Some(reason) => refuse(session, writer, reason),
+            Some(reason) => end_with(session, writer, reason),
             None => unreachable!(),
         },
     }
@@ -284,7 +285,7 @@ fn pump<O: Office, W: Write>(
             Ok(Some(octets)) => take_command(session, office, writer, octets)?,
             Ok(None) => return Ok(None),
             Err(_) => {
-                refuse(session, writer, SessionReason::ProtocolViolation)?;
+                end_with(session, writer, SessionReason::ProtocolViolation)?;
                 return Ok(Some(Ending::Own(SessionReason::ProtocolViolation)));
             }
         }

@@ -7,8 +7,8 @@ ghost use Rattle.oftp_register.specs.Changes.{is_outgoing};
 ghost use Rattle.oftp_register.specs.Soundness.{IsFile};
 ghost use Rattle.oftp_engine.specs.declared.operating.Operator.TheVariants.{Submit};
 ghost use Rattle.oftp_engine.specs.Operating.{AreInRange, IsNoFile, Submits, is_too_big, refuses, registered};
-ghost use Rattle.oftp_engine.specs.Operated.{Attempts, MayFail};
-ghost use Rattle.oftp_engine.specs.Offers.{AreFieldsOf, IsOffer, came_big, came_numbered, named_by};
+ghost use Rattle.oftp_engine.specs.InsideOperating.{Attempts, MayFail};
+ghost use Rattle.oftp_engine.specs.InsideSubmitting.{AreFieldsOf, IsOffer, came_big, came_numbered, named_by};
 
 use crate::operating::{Outcome, Refusal, outcome_of};
 use crate::serving::RunFault;

@@ -2,8 +2,8 @@
 use Rattle.std.specs.Prelude.{◌≡◌, ℕ, List, [], ◌∷◌, ◌++◌, codes, decimal, Option, Result, Ok, Err, if◌then◌else◌}
 use Rattle.std.specs.List.{flat_map}
 use Rattle.csv.specs.Writing.{default_writer, row_text}
-use Rattle.oftp_ports.specs.declared.port.Port.{Port}
-use Rattle.oftp_ports.specs.Ports.{SentAll, SentPart}
+use Rattle.oftp_io.specs.declared.port.Port.{Port}
+use Rattle.oftp_io.specs.Ports.{SentAll, SentPart}
 use Rattle.oftp_register.specs.Register.{Register}
 use Rattle.oftp_register.specs.LookUps.{list_in, list_issued, list_out, list_received, look_out, units_of}
 use Rattle.oftp_register.specs.Offices.{next_count}

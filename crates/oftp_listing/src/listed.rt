@@ -14,8 +14,11 @@ ghost use Rattle.oftp_listing.specs.Reports.{incoming_fields, issued_fields, lin
 ghost use Rattle.oftp_listing.specs.Texts.{no_of};
 
 use crate::fault::ListFault;
-use crate::object::{incoming_object, issued_object, outgoing_object, received_object};
-use crate::reports::{incoming_line, issued_line, outgoing_line, received_line};
+use crate::names::{reason_name, refusal_name};
+use crate::object::{
+    incoming_members, issued_members, object_of, outgoing_members, received_members,
+};
+use crate::reports::{incoming_details, issued_details, line, outgoing_details, received_details};
 use oftp_register::{
     IncomingEntry, IssuedEntry, Office, OfficeFault, OutgoingEntry, ReceivedEntry, Side,
 };
@@ -82,11 +85,11 @@ impl Listed for IncomingEntry {
     }
 
     fn to_object(&self, alloc: Global, number: u64) -> Result<Value, AllocError> {
-        incoming_object(alloc, self, number)
+        object_of(alloc, &incoming_members(self, number))
     }
 
     fn to_line(&self, alloc: Global, number: u64) -> Result<Vec<u8>, ListFault> {
-        incoming_line(alloc, self, number)
+        line(alloc, &incoming_details(self, number))
     }
 }
 
@@ -108,11 +111,13 @@ impl Listed for OutgoingEntry {
     }
 
     fn to_object(&self, alloc: Global, number: u64) -> Result<Value, AllocError> {
-        outgoing_object(alloc, self, number)
+        let reason = refusal_name(alloc, self.state)?;
+        object_of(alloc, &outgoing_members(self, reason.as_str(), number))
     }
 
     fn to_line(&self, alloc: Global, number: u64) -> Result<Vec<u8>, ListFault> {
-        outgoing_line(alloc, self, number)
+        let reason = refusal_name(alloc, self.state)?;
+        line(alloc, &outgoing_details(self, reason.as_str(), number))
     }
 }
 
@@ -135,11 +140,13 @@ impl Listed for IssuedEntry {
     }
 
     fn to_object(&self, alloc: Global, _number: u64) -> Result<Value, AllocError> {
-        issued_object(alloc, self)
+        let reason = reason_name(alloc, self.response.kind, self.response.reason)?;
+        object_of(alloc, &issued_members(self, reason.as_str()))
     }
 
     fn to_line(&self, alloc: Global, _number: u64) -> Result<Vec<u8>, ListFault> {
-        issued_line(alloc, self)
+        let reason = reason_name(alloc, self.response.kind, self.response.reason)?;
+        line(alloc, &issued_details(self, reason.as_str()))
     }
 }
 
@@ -172,10 +179,12 @@ impl Listed for ReceivedEntry {
     }
 
     fn to_object(&self, alloc: Global, number: u64) -> Result<Value, AllocError> {
-        received_object(alloc, self, number)
+        let reason = reason_name(alloc, self.response.kind, self.response.reason)?;
+        object_of(alloc, &received_members(self, reason.as_str(), number))
     }
 
     fn to_line(&self, alloc: Global, number: u64) -> Result<Vec<u8>, ListFault> {
-        received_line(alloc, self, number)
+        let reason = reason_name(alloc, self.response.kind, self.response.reason)?;
+        line(alloc, &received_details(self, reason.as_str(), number))
     }
 }

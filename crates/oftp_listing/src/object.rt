@@ -16,11 +16,11 @@ use oftp_register::{IncomingEntry, IssuedEntry, OutgoingEntry, ReceivedEntry};
 use serde_json::{Map, Value, put};
 use std::alloc::{AllocError, Global};
 
-// A key of an object, and what stands there.
-type Member<'a> = (&'a str, Detail<'a>);
+/// A key of an object, and what stands there.
+pub(crate) type Member<'a> = (&'a str, Detail<'a>);
 
-// The object of these members.
-fn object_of<'a>(alloc: Global, members: &[Member<'a>]) -> Result<Value, AllocError>
+/// The object of these members.
+pub(crate) fn object_of<'a>(alloc: Global, members: &[Member<'a>]) -> Result<Value, AllocError>
     ensures { IfOk result (λ value. view value ≡ object (gathered members.now)) }
 {
     let mut map = Map::new(alloc);
@@ -31,8 +31,8 @@ fn object_of<'a>(alloc: Global, members: &[Member<'a>]) -> Result<Value, AllocEr
     Ok(Value::Object(map))
 }
 
-// The members of an incoming file.
-fn incoming_members<'a>(entry: &'a IncomingEntry, units: u64) -> [Member<'a>; 12]
+/// The members of an incoming file.
+pub(crate) fn incoming_members<'a>(entry: &'a IncomingEntry, units: u64) -> [Member<'a>; 12]
     ensures { object (gathered result) ≡ incoming_object entry.now units }
 {
     [
@@ -57,23 +57,12 @@ fn incoming_members<'a>(entry: &'a IncomingEntry, units: u64) -> [Member<'a>; 12
     ]
 }
 
-/// An incoming file, whose rows have so many octets.
-///
-/// # Errors
-///
-/// A growth was refused.
-pub(crate) fn incoming_object(
-    alloc: Global,
-    entry: &IncomingEntry,
+/// The members of an outgoing file, which was refused for this reason if it was.
+pub(crate) fn outgoing_members<'a>(
+    entry: &'a OutgoingEntry,
+    reason: &'a str,
     units: u64,
-) -> Result<Value, AllocError>
-    ensures { IfOk result (λ value. view value ≡ incoming_object entry.now units) }
-{
-    object_of(alloc, &incoming_members(entry, units))
-}
-
-// The members of an outgoing file, which was refused for this reason if it was.
-fn outgoing_members<'a>(entry: &'a OutgoingEntry, reason: &'a str, units: u64) -> [Member<'a>; 13]
+) -> [Member<'a>; 13]
     ensures { reason.now ≡ refusal_name entry.now.state → object (gathered result) ≡ outgoing_object entry.now units }
 {
     [
@@ -99,24 +88,8 @@ fn outgoing_members<'a>(entry: &'a OutgoingEntry, reason: &'a str, units: u64) -
     ]
 }
 
-/// An outgoing file, whose rows have so many octets.
-///
-/// # Errors
-///
-/// A growth was refused.
-pub(crate) fn outgoing_object(
-    alloc: Global,
-    entry: &OutgoingEntry,
-    units: u64,
-) -> Result<Value, AllocError>
-    ensures { IfOk result (λ value. view value ≡ outgoing_object entry.now units) }
-{
-    let reason = refusal_name(alloc, entry.state)?;
-    object_of(alloc, &outgoing_members(entry, reason.as_str(), units))
-}
-
-// The members of a response that was issued, with this reason.
-fn issued_members<'a>(entry: &'a IssuedEntry, reason: &'a str) -> [Member<'a>; 4]
+/// The members of a response that was issued, with this reason.
+pub(crate) fn issued_members<'a>(entry: &'a IssuedEntry, reason: &'a str) -> [Member<'a>; 4]
     ensures { reason.now ≡ reason_name entry.now.response.kind entry.now.response.reason → object (gathered result) ≡ issued_object entry.now }
 {
     [
@@ -127,20 +100,12 @@ fn issued_members<'a>(entry: &'a IssuedEntry, reason: &'a str) -> [Member<'a>; 4
     ]
 }
 
-/// A response that was issued to an incoming file.
-///
-/// # Errors
-///
-/// A growth was refused.
-pub(crate) fn issued_object(alloc: Global, entry: &IssuedEntry) -> Result<Value, AllocError>
-    ensures { IfOk result (λ value. view value ≡ issued_object entry.now) }
-{
-    let reason = reason_name(alloc, entry.response.kind, entry.response.reason)?;
-    object_of(alloc, &issued_members(entry, reason.as_str()))
-}
-
-// The members of a response that came, with this reason, to the outgoing file with this number.
-fn received_members<'a>(entry: &'a ReceivedEntry, reason: &'a str, file: u64) -> [Member<'a>; 10]
+/// The members of a response that came, with this reason, to the outgoing file with this number.
+pub(crate) fn received_members<'a>(
+    entry: &'a ReceivedEntry,
+    reason: &'a str,
+    file: u64,
+) -> [Member<'a>; 10]
     ensures { reason.now ≡ reason_name entry.now.response.kind entry.now.response.reason → object (gathered result) ≡ received_object entry.now file }
 {
     let response = &entry.response;
@@ -162,20 +127,4 @@ fn received_members<'a>(entry: &'a ReceivedEntry, reason: &'a str, file: u64) ->
         ("reason", Detail::Text(reason)),
         ("time", Detail::Text(digit_text(&response.identity.time))),
     ]
-}
-
-/// A response that came, to the outgoing file with this number, 0 where there is none.
-///
-/// # Errors
-///
-/// A growth was refused.
-pub(crate) fn received_object(
-    alloc: Global,
-    entry: &ReceivedEntry,
-    file: u64,
-) -> Result<Value, AllocError>
-    ensures { IfOk result (λ value. view value ≡ received_object entry.now file) }
-{
-    let reason = reason_name(alloc, entry.response.kind, entry.response.reason)?;
-    object_of(alloc, &received_members(entry, reason.as_str(), file))
 }

@@ -3,7 +3,7 @@
 ghost use Rattle.std.specs.Prelude.{◌≡◌, ◌++◌, IfErr, IfOk, map};
 ghost use Rattle.std.specs.List.{flat_map};
 ghost use Rattle.csv.specs.Records.{fields_of};
-ghost use Rattle.oftp_ports.specs.Ports.{Puts};
+ghost use Rattle.oftp_io.specs.Ports.{Puts};
 ghost use Rattle.oftp_listing.specs.declared.fault.ListFault.TheVariants.{Memory};
 ghost use Rattle.oftp_listing.specs.Details.{text_of};
 ghost use Rattle.oftp_listing.specs.Finding.{Finds};
@@ -19,7 +19,7 @@ use crate::names::{
     outgoing_state_name, reason_name, refusal_name, response_name,
 };
 use csv::{ByteRecord, WriterBuilder};
-use oftp_ports::Port;
+use oftp_io::Port;
 use oftp_register::{IncomingEntry, IssuedEntry, Office, OutgoingEntry, ReceivedEntry};
 use std::alloc::{AllocError, Global};
 use std::io::Write;
@@ -66,8 +66,8 @@ fn record_of(alloc: Global, details: &[Detail<'_>]) -> Result<ByteRecord, AllocE
     Ok(fields)
 }
 
-// A line of comma-separated fields. Into a vector the writer fails for want of memory alone.
-fn line(alloc: Global, details: &[Detail<'_>]) -> Result<Vec<u8>, ListFault>
+/// A line of comma-separated fields. Into a vector the writer fails for want of memory alone.
+pub(crate) fn line(alloc: Global, details: &[Detail<'_>]) -> Result<Vec<u8>, ListFault>
     ensures text { IfOk result (λ text. text.items ≡ line (map text_of details.now)) }
     ensures fault { IfErr result (λ fault. fault ≡ Memory) }
 {
@@ -82,8 +82,8 @@ fn line(alloc: Global, details: &[Detail<'_>]) -> Result<Vec<u8>, ListFault>
     }
 }
 
-// The details of an incoming file.
-fn incoming_details<'a>(entry: &'a IncomingEntry, units: u64) -> [Detail<'a>; 10]
+/// The details of an incoming file.
+pub(crate) fn incoming_details<'a>(entry: &'a IncomingEntry, units: u64) -> [Detail<'a>; 10]
     ensures { map text_of result ≡ incoming_fields entry.now units }
 {
     [
@@ -100,20 +100,12 @@ fn incoming_details<'a>(entry: &'a IncomingEntry, units: u64) -> [Detail<'a>; 10
     ]
 }
 
-/// The line of an incoming file, whose rows have so many octets.
-pub(crate) fn incoming_line(
-    alloc: Global,
-    entry: &IncomingEntry,
+/// The details of an outgoing file, which was refused for this reason if it was.
+pub(crate) fn outgoing_details<'a>(
+    entry: &'a OutgoingEntry,
+    reason: &'a str,
     units: u64,
-) -> Result<Vec<u8>, ListFault>
-    ensures text { IfOk result (λ text. text.items ≡ line (incoming_fields entry.now units)) }
-    ensures fault { IfErr result (λ fault. fault ≡ Memory) }
-{
-    line(alloc, &incoming_details(entry, units))
-}
-
-// The details of an outgoing file, which was refused for this reason if it was.
-fn outgoing_details<'a>(entry: &'a OutgoingEntry, reason: &'a str, units: u64) -> [Detail<'a>; 11]
+) -> [Detail<'a>; 11]
     ensures { reason.now ≡ refusal_name entry.now.state → map text_of result ≡ outgoing_fields entry.now units }
 {
     [
@@ -131,21 +123,8 @@ fn outgoing_details<'a>(entry: &'a OutgoingEntry, reason: &'a str, units: u64) -
     ]
 }
 
-/// The line of an outgoing file, whose rows have so many octets.
-pub(crate) fn outgoing_line(
-    alloc: Global,
-    entry: &OutgoingEntry,
-    units: u64,
-) -> Result<Vec<u8>, ListFault>
-    ensures text { IfOk result (λ text. text.items ≡ line (outgoing_fields entry.now units)) }
-    ensures fault { IfErr result (λ fault. fault ≡ Memory) }
-{
-    let reason = refusal_name(alloc, entry.state)?;
-    line(alloc, &outgoing_details(entry, reason.as_str(), units))
-}
-
-// The details of a response that was issued, with this reason.
-fn issued_details<'a>(entry: &'a IssuedEntry, reason: &'a str) -> [Detail<'a>; 4]
+/// The details of a response that was issued, with this reason.
+pub(crate) fn issued_details<'a>(entry: &'a IssuedEntry, reason: &'a str) -> [Detail<'a>; 4]
     ensures { reason.now ≡ reason_name entry.now.response.kind entry.now.response.reason → map text_of result ≡ issued_fields entry.now }
 {
     [
@@ -156,17 +135,12 @@ fn issued_details<'a>(entry: &'a IssuedEntry, reason: &'a str) -> [Detail<'a>; 4
     ]
 }
 
-/// The line of a response that was issued.
-pub(crate) fn issued_line(alloc: Global, entry: &IssuedEntry) -> Result<Vec<u8>, ListFault>
-    ensures text { IfOk result (λ text. text.items ≡ line (issued_fields entry.now)) }
-    ensures fault { IfErr result (λ fault. fault ≡ Memory) }
-{
-    let reason = reason_name(alloc, entry.response.kind, entry.response.reason)?;
-    line(alloc, &issued_details(entry, reason.as_str()))
-}
-
-// The details of a response that came, with this reason, to the outgoing file with this number.
-fn received_details<'a>(entry: &'a ReceivedEntry, reason: &'a str, file: u64) -> [Detail<'a>; 9]
+/// The details of a response that came, with this reason, to the outgoing file with this number.
+pub(crate) fn received_details<'a>(
+    entry: &'a ReceivedEntry,
+    reason: &'a str,
+    file: u64,
+) -> [Detail<'a>; 9]
     ensures { reason.now ≡ reason_name entry.now.response.kind entry.now.response.reason → map text_of result ≡ received_fields entry.now file }
 {
     let response = &entry.response;
@@ -181,19 +155,6 @@ fn received_details<'a>(entry: &'a ReceivedEntry, reason: &'a str, file: u64) ->
         Detail::Count(file),
         Detail::Text(name_text(&response.creator)),
     ]
-}
-
-/// The line of a response that came, to the outgoing file with this number, 0 where there is none.
-pub(crate) fn received_line(
-    alloc: Global,
-    entry: &ReceivedEntry,
-    file: u64,
-) -> Result<Vec<u8>, ListFault>
-    ensures text { IfOk result (λ text. text.items ≡ line (received_fields entry.now file)) }
-    ensures fault { IfErr result (λ fault. fault ≡ Memory) }
-{
-    let reason = reason_name(alloc, entry.response.kind, entry.response.reason)?;
-    line(alloc, &received_details(entry, reason.as_str(), file))
 }
 
 // The text, and behind it the lines of all entries of a kind.

@@ -12,15 +12,16 @@ use Rattle.oftp_register.specs.Soundness.{IsFit, IsSound}
 use Rattle.oftp_register.proofs.KeepLemmas.{apply_keeps}
 use Rattle.oftp_session.specs.Phases.{Phase, register_after, unexpected}
 use Rattle.oftp_session.specs.Steps.{Holds}
-use Rattle.oftp_session.specs.Calls.{IsAccepted, Proceeds}
+use Rattle.oftp_session.specs.Calls.{Proceeds}
+use Rattle.oftp_session.specs.Inside.{IsAccepted}
 
 -- a step that changes nothing goes on to a phase that holds
 pub same_proceeds : (r : Register) (phase : Phase) (output : Option Command) → IsSound r → Holds phase r → Proceeds r (record { phase = phase; change = None; output = output })
 same_proceeds r phase output sound holds = record { allowed = refl; suits = record { sound = sound; holds = holds } }
 
-allowed : (result : Result Register Cause) (r : Register) → is_ok result ≡ true → result ≡ Ok (result_unwrap_or result r)
-allowed (Ok after) r h = refl
-allowed (Err cause) r h = absurd (false≢true h)
+is_made : (result : Result Register Cause) (r : Register) → is_ok result ≡ true → result ≡ Ok (result_unwrap_or result r)
+is_made (Ok after) r h = refl
+is_made (Err cause) r h = absurd (false≢true h)
 
 pub unexpected_proceeds : (r : Register) (c : Command) → IsSound r → Proceeds r (unexpected c)
 unfolding unexpected
@@ -31,7 +32,7 @@ unexpected_proceeds r _ sound = same_proceeds r _ _ sound tt
 pub accepted_proceeds : (r : Register) (phase : Phase) (change : Change) (output : Option Command) → IsSound r → IsFit r change → IsAccepted r change
     → Holds phase (register_after r (Some change)) → Proceeds r (record { phase = phase; change = Some change; output = output })
 accepted_proceeds r phase change output sound fit accepted holds =
-    let made = allowed (apply r change) r accepted in
+    let made = is_made (apply r change) r accepted in
     record { allowed = made; suits = record { sound = apply_keeps r change _ sound fit made; holds = holds } }
 
 -- a change, if it is due, that is accepted where it is

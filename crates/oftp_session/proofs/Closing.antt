@@ -24,7 +24,8 @@ use Rattle.oftp_session.specs.Phases.{Receipt, Step, fails, frame_of}
 use Rattle.oftp_session.specs.Receiving.{asks_to_speak, carried_by, efna_of, efpa_of, end_step, on_end_verdict, rows_to_keep}
 use Rattle.oftp_session.specs.Steps.{IsReceived}
 use Rattle.oftp_session.specs.Standings.{Tracks}
-use Rattle.oftp_session.specs.Calls.{DoesNot, IsAccepted, IsMade, Takes}
+use Rattle.oftp_session.specs.Calls.{DoesNot, IsMade}
+use Rattle.oftp_session.specs.Inside.{IsAccepted, Takes}
 use Rattle.oftp_session.proofs.Saying.{answered}
 use Rattle.oftp_session.proofs.Views.{then_fails, then_made}
 use Rattle.oftp_session.proofs.Ends.{close_accepted, close_fits, counts_are, end_by, end_open, give_up_accepted, last_of, open_of}
@@ -54,9 +55,9 @@ give_up_is contact f s at = ap (λ (n : ℕ). GiveUp n) at.number
 
 -- by the verdict, the step
 
-pub open_step : (contact : Contact) (r : Register) (f : Receipt) (s : Reception) (efid : Efid) → Tracks contact f s → is_open s.taker.stage ≡ true
+pub open_fails : (contact : Contact) (r : Register) (f : Receipt) (s : Reception) (efid : Efid) → Tracks contact f s → is_open s.taker.stage ≡ true
     → end_step contact r f efid ≡ fails ProtocolViolation
-open_step contact r f s efid at was = end_open contact r f efid (sym (open_of contact f s at) ∙ was)
+open_fails contact r f s efid at was = end_open contact r f efid (sym (open_of contact f s at) ∙ was)
 
 verdict_is : (contact : Contact) (r : Register) (f : Receipt) (s : Reception) (efid : Efid) (verdict : EndVerdict) → IsReceived r f → Tracks contact f s
     → end_verdict efid (counts_of s.taker).0 (counts_of s.taker).1 ≡ verdict → end_verdict efid (counts_of (carried_by f)).0 (counts_of (carried_by f)).1 ≡ verdict

@@ -10,15 +10,21 @@ use Rattle.oftp_session.specs.declared.state.Contact.{Contact}
 use Rattle.oftp_session.specs.declared.state.State.{State}
 use Rattle.oftp_session.specs.declared.state.State.TheVariants as state
 use Rattle.oftp_session.specs.Settings.{Setting}
-use Rattle.oftp_session.specs.Phases.{Phase, Receipt, Offer, Transfer, AwaitingRtr}
+use Rattle.oftp_session.specs.Phases.{Phase, Receipt, Offer, Step, Transfer, AwaitingRtr}
 use Rattle.oftp_session.specs.Receiving.{came_receiving}
 use Rattle.oftp_session.specs.Speaker.{came_awaiting_rtr}
 use Rattle.oftp_session.specs.Sending.{came_awaiting_end, came_awaiting_start, came_sending, turned_sending}
 use Rattle.oftp_session.specs.Steps.{came, turned, Holds, IsEnded, IsOffered, IsReceived, IsResponding, IsSent}
 use Rattle.oftp_session.specs.Standings.{At, Ships, StandsIn, Tracks, offering_of, standing_of}
-use Rattle.oftp_session.specs.Calls.{Goes, Takes}
+use Rattle.oftp_session.specs.Inside.{Goes, Takes}
 use Rattle.oftp_session.proofs.Saying.{same_takes}
 use Rattle.oftp_session.proofs.Standings.{phase_at, phase_awaits, phase_offered, phase_received, phase_sent}
+
+-- a session takes the step of the phase that it is in
+in_phase : (step : Phase → Step) (p q : Phase) (old new : View) (frame : List ℕ) (result : Result State SessionFault) → q ≡ p → Holds p old.register
+    → (Holds q old.register → Takes (step q) old new frame result) → Takes (step p) old new frame result
+in_phase step p q old new frame result same holds takes =
+    subst (λ (x : Phase). Takes (step x) old new frame result) same (takes (subst (λ (x : Phase). Holds x old.register) (sym same) holds))
 
 -- a session that isn't receiving takes the step of its phase
 pub came_at : (setting : Setting) (p q : Phase) (s : State) (c : Command) (old new : View) (frame : List ℕ) (result : Result State SessionFault) → standing_of s ≡ At q
@@ -40,8 +46,7 @@ pub came_received : (setting : Setting) (p : Phase) (s : State) (contact : Conta
 unfolding came
 came_received setting p s contact reception c old new frame result is at holds takes =
     let i = phase_received p contact reception (subst (StandsIn p) (ap standing_of is) at) in
-    let its = subst (λ (x : Phase). Holds x old.register) (sym i.1) holds in
-    subst (λ (x : Phase). Takes (came setting x old.register c) old new frame result) i.1 (takes i.0 its i.2)
+    in_phase (λ (x : Phase). came setting x old.register c) p _ old new frame result i.1 holds (λ its. takes i.0 its i.2)
 
 -- one whose response was sent
 pub came_responding : (setting : Setting) (p : Phase) (s : State) (contact : Contact) (n : ℕ) (c : Command) (old new : View) (frame : List ℕ) (result : Result State SessionFault)
@@ -51,8 +56,7 @@ pub came_responding : (setting : Setting) (p : Phase) (s : State) (contact : Con
 unfolding came
 came_responding setting p s contact n c old new frame result is at holds takes =
     let same = phase_at p (AwaitingRtr contact n) (subst (StandsIn p) (ap standing_of is) at) in
-    let its = subst (λ (x : Phase). Holds x old.register) (sym same) holds in
-    subst (λ (x : Phase). Takes (came setting x old.register c) old new frame result) same (takes its)
+    in_phase (λ (x : Phase). came setting x old.register c) p _ old new frame result same holds takes
 
 -- one that offers a file
 pub came_offered : (setting : Setting) (p : Phase) (s : State) (contact : Contact) (offering : Offering) (c : Command) (old new : View) (frame : List ℕ) (result : Result State SessionFault)
@@ -62,8 +66,7 @@ pub came_offered : (setting : Setting) (p : Phase) (s : State) (contact : Contac
 unfolding came
 came_offered setting p s contact offering c old new frame result is at holds takes =
     let i = phase_offered p contact offering (subst (StandsIn p) (ap standing_of is) at) in
-    let its = subst (λ (x : Phase). Holds x old.register) (sym i.1) holds in
-    subst (λ (x : Phase). Takes (came setting x old.register c) old new frame result) i.1 (takes i.0 its i.2)
+    in_phase (λ (x : Phase). came setting x old.register c) p _ old new frame result i.1 holds (λ its. takes i.0 its i.2)
 
 -- one that sends a file
 pub came_sent : (setting : Setting) (p : Phase) (s : State) (contact : Contact) (shipment : Shipment) (c : Command) (old new : View) (frame : List ℕ) (result : Result State SessionFault)
@@ -73,8 +76,7 @@ pub came_sent : (setting : Setting) (p : Phase) (s : State) (contact : Contact) 
 unfolding came
 came_sent setting p s contact shipment c old new frame result is at holds takes =
     let i = phase_sent p contact shipment (subst (StandsIn p) (ap standing_of is) at) in
-    let its = subst (λ (x : Phase). Holds x old.register) (sym i.1) holds in
-    subst (λ (x : Phase). Takes (came setting x old.register c) old new frame result) i.1 (takes i.0 its i.2)
+    in_phase (λ (x : Phase). came setting x old.register c) p _ old new frame result i.1 holds (λ its. takes i.0 its i.2)
 
 -- one that sent the end of a file
 pub came_ended : (setting : Setting) (p : Phase) (s : State) (contact : Contact) (n : ℕ) (c : Command) (old new : View) (frame : List ℕ) (result : Result State SessionFault)
@@ -84,8 +86,7 @@ pub came_ended : (setting : Setting) (p : Phase) (s : State) (contact : Contact)
 unfolding came
 came_ended setting p s contact n c old new frame result is at holds takes =
     let i = phase_awaits p contact n (subst (StandsIn p) (ap standing_of is) at) in
-    let its = subst (λ (x : Phase). Holds x old.register) (sym i.1) holds in
-    subst (λ (x : Phase). Takes (came setting x old.register c) old new frame result) i.1 (takes i.0 its i.2)
+    in_phase (λ (x : Phase). came setting x old.register c) p _ old new frame result i.1 holds (λ its. takes i.0 its i.2)
 
 -- the own turn
 pub turned_at : (setting : Setting) (p q : Phase) (s : State) (old new : View) (frame : List ℕ) (result : Result State SessionFault) → standing_of s ≡ At q
@@ -106,5 +107,4 @@ pub turned_sent : (setting : Setting) (p : Phase) (s : State) (contact : Contact
 unfolding turned
 turned_sent setting p s contact shipment old new frame result is at holds takes =
     let i = phase_sent p contact shipment (subst (StandsIn p) (ap standing_of is) at) in
-    let its = subst (λ (x : Phase). Holds x old.register) (sym i.1) holds in
-    subst (λ (x : Phase). Takes (turned setting x old.register) old new frame result) i.1 (takes i.0 its i.2)
+    in_phase (λ (x : Phase). turned setting x old.register) p _ old new frame result i.1 holds (λ its. takes i.0 its i.2)

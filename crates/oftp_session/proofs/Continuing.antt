@@ -50,8 +50,8 @@ rtr_proceeds contact number r other sound holds = unexpected_proceeds r other so
 
 -- the answer to SFID
 
-taken_proceeds : (contact : Contact) (offer : Offer) (r : Register) (from : ℕ) → IsSound r → IsOffered r offer → Proceeds r (start_step contact offer from)
-taken_proceeds contact offer r from sound holds = by (nat_le from offer.from) refl
+from_proceeds : (contact : Contact) (offer : Offer) (r : Register) (from : ℕ) → IsSound r → IsOffered r offer → Proceeds r (start_step contact offer from)
+from_proceeds contact offer r from sound holds = by (nat_le from offer.from) refl
   where
     by : (b : Bool) → nat_le from offer.from ≡ b → Proceeds r (cond b (changes (Sending contact (transfer_of offer from)) (reopening offer)) (fails ProtocolViolation))
     by true h =
@@ -61,7 +61,7 @@ taken_proceeds contact offer r from sound holds = by (nat_le from offer.from) re
 
 pub start_answer_proceeds : (contact : Contact) (offer : Offer) (r : Register) (c : Command) → IsSound r → IsOffered r offer → Proceeds r (came_awaiting_start contact offer c)
 unfolding came_awaiting_start
-start_answer_proceeds contact offer r (command.Sfpa sfpa) sound holds = taken_proceeds contact offer r sfpa.restart sound holds
+start_answer_proceeds contact offer r (command.Sfpa sfpa) sound holds = from_proceeds contact offer r sfpa.restart sound holds
 start_answer_proceeds contact offer r (command.Sfna sfna) sound holds =
     changes_proceeds r (SpeakerIdle contact ChangeDirection) (refusal offer sfna) None sound (λ k e. refusal_goes r offer sfna k holds e) tt
 start_answer_proceeds contact offer r other sound holds = unexpected_proceeds r other sound

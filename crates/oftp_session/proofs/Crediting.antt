@@ -25,7 +25,8 @@ use Rattle.oftp_session.specs.Receiving.{window}
 use Rattle.oftp_session.specs.Sending.{credited, credited_transfer, efid_of, marking, new_mark, payload_size, payloads_in, rows_from, turned_sending}
 use Rattle.oftp_session.specs.Steps.{IsSent}
 use Rattle.oftp_session.specs.Standings.{Awaits, Ships}
-use Rattle.oftp_session.specs.Calls.{DoesNot, Files, IsAccepted, IsMade, Takes}
+use Rattle.oftp_session.specs.Calls.{DoesNot, IsMade}
+use Rattle.oftp_session.specs.Inside.{Files, IsAccepted, Takes}
 use Rattle.oftp_session.proofs.Outgoing.{closing_accepted, closing_fits, mark_accepted, mark_fits, mark_within}
 use Rattle.oftp_session.proofs.Saying.{answered}
 use Rattle.oftp_session.proofs.Shipping.{turned_next}

@@ -28,7 +28,7 @@ use Rattle.oftp_session.specs.Phases.{Receipt, fails}
 use Rattle.oftp_session.specs.Receiving.{carried_by, end_step, kept_of, on_end_verdict, rows_to_keep}
 use Rattle.oftp_session.specs.Steps.{IsReceived}
 use Rattle.oftp_session.specs.Standings.{Tracks}
-use Rattle.oftp_session.specs.Calls.{IsAccepted}
+use Rattle.oftp_session.specs.Inside.{IsAccepted}
 use Rattle.oftp_session.proofs.Receipts.{carried_limit, carried_same, kept_within}
 
 -- the steps

@@ -7,7 +7,7 @@ use Rattle.oftp_register.specs.declared.entry.ResponseKind.{ResponseKind}
 use Rattle.oftp_register.specs.Register.{Register, has_received}
 use Rattle.oftp_register.specs.Changes.{apply}
 use Rattle.oftp_register.specs.Soundness.{IsFit, IsResponse}
-use Rattle.oftp_session.specs.Calls.{IsAccepted}
+use Rattle.oftp_session.specs.Inside.{IsAccepted}
 
 accepted : (b : Bool) (after : Register) (cause : Cause) → b ≡ false → is_ok (cond b (Err cause) (Ok after)) ≡ true
 accepted true after cause h = absurd (let no : ⊥ = cc in no)

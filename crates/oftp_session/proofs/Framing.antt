@@ -14,10 +14,10 @@ framed_octets m rest head count e h =
     let whole : head ++ (m ++ rest) ≡ frame m ++ rest = headed ∙ sym (append_assoc (header_of (length m + 4)) m rest) in
     ap (take (count + 4)) whole ∙ take_at (frame m) rest (count + 4) (omega (arith, e, length-append (header_of (length m + 4)) m))
 
-pub framed : (c : Command) (body old head : List ℕ) (count : ℕ) → count ≡ length (Canon c) → body ≡ Canon c ++ drop count old
+pub frame_spelled : (c : Command) (body old head : List ℕ) (count : ℕ) → count ≡ length (Canon c) → body ≡ Canon c ++ drop count old
     → head ≡ header_of (count + 4) → take (count + 4) (head ++ body) ≡ frame_of c
 unfolding frame_of
-framed c body old head count e b h = ap (λ (x : List ℕ). take (count + 4) (head ++ x)) b ∙ framed_octets (Canon c) (drop count old) head count e h
+frame_spelled c body old head count e b h = ap (λ (x : List ℕ). take (count + 4) (head ++ x)) b ∙ framed_octets (Canon c) (drop count old) head count e h
 
 -- a payload behind a header and the letter of DATA
 pub data_framed : (head out rest : List ℕ) (count : ℕ) → head ≡ header_of (count + 5) ++ 68 ∷ [] → count ≤ length out
@@ -35,5 +35,5 @@ data_framed head out rest count h within =
     ∙ ap frame (sym (canon-data payload))
 
 -- there is room for each command that isn't DATA
-pub has_room : (c : Command) (n : ℕ) → n ≡ 1196 → n < length (Canon c) → IsFit c → is_data c ≡ false → ⊥
-has_room c n e l fit command = let h = canon_short c fit command in omega (arith, h)
+pub canon_fits : (c : Command) (n : ℕ) → n ≡ 1196 → n < length (Canon c) → IsFit c → is_data c ≡ false → ⊥
+canon_fits c n e l fit command = let h = canon_short c fit command in omega (arith, h)

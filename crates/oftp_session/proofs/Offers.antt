@@ -31,7 +31,8 @@ use Rattle.oftp_session.specs.Receiving.{carried_by, kept_of, offer_step, offere
 use Rattle.oftp_session.specs.Steps.{IsReceived}
 use Rattle.oftp_session.specs.Standings.{Tracks}
 use Rattle.oftp_session.specs.Starting.{IsFound, MayBegin, Starts, reception_of}
-use Rattle.oftp_session.specs.Calls.{DoesNot, Finds, IsAccepted, IsMade, Takes}
+use Rattle.oftp_session.specs.Calls.{DoesNot, IsMade}
+use Rattle.oftp_session.specs.Inside.{Finds, IsAccepted, Takes}
 use Rattle.oftp_session.proofs.Saying.{answered}
 use Rattle.oftp_session.proofs.Starts.{accepted_begins}
 use Rattle.oftp_session.proofs.Views.{after_fails, made_then, then_fails, then_made}
@@ -67,9 +68,9 @@ begun_finds link identity number file old mid new entry units limits first secon
     )
 
 -- the change that begins a file, made of its parts
-pub start_is : (sfid : Sfid) (count : ℕ) (identity : Identity) (format : Format) (longest : ℕ) (description : List ℕ) → identity ≡ offered_identity sfid → format ≡ format_of sfid.layout
+pub change_is : (sfid : Sfid) (count : ℕ) (identity : Identity) (format : Format) (longest : ℕ) (description : List ℕ) → identity ≡ offered_identity sfid → format ≡ format_of sfid.layout
     → longest ≡ longest_of sfid.layout → description ≡ sfid.description → Start identity format longest description count ≡ start_of sfid count
-start_is sfid count identity format longest description a b c d =
+change_is sfid count identity format longest description a b c d =
     ap (λ (x : Identity). Start x format longest description count) a
     ∙ ap (λ (x : Format). Start (offered_identity sfid) x longest description count) b
     ∙ ap (λ (x : ℕ). Start (offered_identity sfid) (format_of sfid.layout) x description count) c

@@ -24,7 +24,7 @@ use Rattle.oftp_session.specs.declared.state.Contact.{Contact}
 use Rattle.oftp_session.specs.Phases.{Offer, Transfer, register_after}
 use Rattle.oftp_session.specs.Sending.{after_file, closing_transfer, credited_transfer, marking, new_mark, payload_size, refusal, reopening, rows_from as rows_sent, transfer_of}
 use Rattle.oftp_session.specs.Steps.{Holds, IsEnded, IsOffered, IsResponding, IsSent}
-use Rattle.oftp_session.specs.Calls.{IsAccepted}
+use Rattle.oftp_session.specs.Inside.{IsAccepted}
 
 -- a change that its entry's state allows
 allowed : (b : Bool) (file : Outgoing) → b ≡ true → if_allowed b file ≡ Ok file

@@ -26,13 +26,14 @@ use Rattle.oftp_register.proofs.EntryLemmas.{give_up_fit}
 use Rattle.oftp_session.specs.declared.state.Contact.{Contact}
 use Rattle.oftp_session.specs.Settings.{Setting}
 use Rattle.oftp_session.specs.Phases.{Phase, Receipt, ResponderOpening, InitiatorOpening, AwaitingSsid, ListenerIdle, Receiving, SpeakerIdle, GivingWay, AwaitingRtr, AwaitingStart, Sending, AwaitingEnd, EndedHere, EndedThere, answers, fails, quiet, register_after}
-use Rattle.oftp_session.specs.Opening.{Agreement, came_initiator_opening, came_awaiting_ssid, offer_step, opened_step, open_step, ssid_verdict}
+use Rattle.oftp_session.specs.Opening.{Agreement, came_initiator_opening, came_awaiting_ssid, calling_step, opened_step, open_step, ssid_verdict}
 use Rattle.oftp_session.specs.Receiving.{came_receiving, carried_by, data_step, end_step, is_window_full, keeping, on_end_verdict, on_start_verdict, on_taken, receipt_of, rows_to_keep, sfpa_of, start_of, verdict_on, window_step, with_payload, with_rows}
-use Rattle.oftp_session.specs.Receiving.{offer_step as sfid_step}
+use Rattle.oftp_session.specs.Receiving.{offer_step}
 use Rattle.oftp_session.specs.Listener.{came_listener_idle, end_response, negative_end_response, response_step, filing, file_of, is_between}
 use Rattle.oftp_session.specs.Starting.{MayBegin}
 use Rattle.oftp_session.specs.Steps.{came, turned, IsReceived, Suits}
-use Rattle.oftp_session.specs.Calls.{IsAccepted, Proceeds}
+use Rattle.oftp_session.specs.Calls.{Proceeds}
+use Rattle.oftp_session.specs.Inside.{IsAccepted}
 use Rattle.oftp_session.proofs.Accepting.{accepted_proceeds, same_proceeds, unexpected_proceeds}
 use Rattle.oftp_session.proofs.Ends.{close_accepted, close_fits, give_up_accepted}
 use Rattle.oftp_session.proofs.Filing.{files_new, files_fit}
@@ -70,8 +71,8 @@ start_proceeds contact r sfid count sound may =
     accepted_proceeds r (Receiving contact (receipt_of r sfid count)) (start_of sfid count) (Some (sfpa_of count)) sound may.fit (ap is_ok may.made)
     (subst (λ (s : Register). IsReceived s (receipt_of r sfid count)) after may.received)
 
-sfid_proceeds : (setting : Setting) (contact : Contact) (r : Register) (sfid : Sfid) → IsSound r → Proceeds r (sfid_step setting contact r sfid)
-unfolding sfid_step
+sfid_proceeds : (setting : Setting) (contact : Contact) (r : Register) (sfid : Sfid) → IsSound r → Proceeds r (offer_step setting contact r sfid)
+unfolding offer_step
 sfid_proceeds setting contact r sfid sound = by (verdict_on setting contact r sfid) refl
   where
     by : (verdict : StartVerdict) → verdict_on setting contact r sfid ≡ verdict → Proceeds r (on_start_verdict contact r sfid verdict)
@@ -145,7 +146,7 @@ listener_proceeds setting contact r (command.Nerp nerp) sound = response_proceed
 listener_proceeds setting contact r command.Cd sound = same_proceeds r _ _ sound tt
 listener_proceeds setting contact r other sound = unexpected_proceeds r other sound
 
-offer_proceeds : (setting : Setting) (called : Option Partner) (r : Register) → IsSound r → Proceeds r (offer_step setting called)
+offer_proceeds : (setting : Setting) (called : Option Partner) (r : Register) → IsSound r → Proceeds r (calling_step setting called)
 offer_proceeds setting None r sound = same_proceeds r _ _ sound tt
 offer_proceeds setting (Some partner) r sound = same_proceeds r _ _ sound tt
 

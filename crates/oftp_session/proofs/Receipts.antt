@@ -23,7 +23,7 @@ use Rattle.oftp_register.proofs.NumberLemmas.{mapped_ok}
 use Rattle.oftp_session.specs.Phases.{Receipt, register_after}
 use Rattle.oftp_session.specs.Receiving.{taker_of, carried_by, kept_of, keeping, rows_to_keep, with_payload, with_rows}
 use Rattle.oftp_session.specs.Steps.{IsReceived}
-use Rattle.oftp_session.specs.Calls.{IsAccepted}
+use Rattle.oftp_session.specs.Inside.{IsAccepted}
 
 -- one payload more
 pub carried_next : (f : Receipt) (payload : List ℕ) (t : Taking) → taken (carried_by f) payload ≡ Ok t → carried_by (with_payload f payload) ≡ t

@@ -25,7 +25,8 @@ use Rattle.oftp_session.specs.Sending.{after_file, came_awaiting_end, refusal, r
 use Rattle.oftp_session.specs.Speaker.{came_awaiting_rtr}
 use Rattle.oftp_session.specs.Steps.{IsEnded, IsOffered, IsResponding}
 use Rattle.oftp_session.specs.Standings.{Standing, At, Ships, StandsIn, offering_of, standing_of}
-use Rattle.oftp_session.specs.Calls.{DoesNot, Files, IsAccepted, IsMade, Takes}
+use Rattle.oftp_session.specs.Calls.{DoesNot, IsMade}
+use Rattle.oftp_session.specs.Inside.{Files, IsAccepted, Takes}
 use Rattle.oftp_session.proofs.Outgoing.{handed_accepted, handed_fits, offered_handed, offered_reopened, refused_accepted, refused_fits, reopened_accepted, reopened_fits, send_accepted, send_fits}
 
 -- a change is made, and nothing is said

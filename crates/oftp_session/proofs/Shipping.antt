@@ -26,9 +26,10 @@ use Rattle.oftp_session.specs.Phases.{Sending, Step, Transfer, quiet}
 use Rattle.oftp_session.specs.Receiving.{window}
 use Rattle.oftp_session.specs.Sending.{credit_left, payload_size, payloads_in, sends_next, turned_sending, with_sent}
 use Rattle.oftp_session.specs.Steps.{IsSent}
-use Rattle.oftp_session.specs.Standings.{Ships, at_hand, without}
-use Rattle.oftp_session.specs.Calls.{DoesNot, IsMade, Takes}
-use Rattle.oftp_session.specs.Payloads.{FillsFrom, IsDataSaid, IsFilledFrom, IsSameShipment, MayLend, SaysNext, is_last, next_row}
+use Rattle.oftp_session.specs.Standings.{Ships, at_hand}
+use Rattle.oftp_session.specs.Calls.{DoesNot, IsMade}
+use Rattle.oftp_session.specs.Inside.{Takes}
+use Rattle.oftp_session.specs.Payloads.{FillsFrom, IsDataSaid, IsFilledFrom, IsSameShipment, MayLend, SaysNext, is_last, next_row, without}
 use Rattle.oftp_session.proofs.Lending.{are_lent, data_said, looked_up, may_lend, nothing_left}
 use Rattle.oftp_session.proofs.Views.{then_made}
 use Rattle.oftp_session.proofs.Speaking.{then_takes}

@@ -23,7 +23,8 @@ use Rattle.oftp_session.specs.Speaker.{having_tried_file, offer_of, offered_from
 use Rattle.oftp_session.specs.Sending.{credit_left, sends_next, turned_sending, payloads_in}
 use Rattle.oftp_session.specs.Steps.{turned}
 use Rattle.oftp_session.specs.Standings.{Standing, StandsIn, is_due, offering_of, standing_of}
-use Rattle.oftp_session.specs.Calls.{Goes, IsMade, Takes}
+use Rattle.oftp_session.specs.Calls.{IsMade}
+use Rattle.oftp_session.specs.Inside.{Goes, Takes}
 use Rattle.oftp_session.proofs.Items.{item_goes, units_are}
 use Rattle.oftp_session.proofs.Saying.{step_same}
 use Rattle.oftp_session.proofs.Views.{then_fails, then_made}

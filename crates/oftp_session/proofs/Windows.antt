@@ -22,8 +22,9 @@ use Rattle.oftp_session.specs.declared.state.State.TheVariants as state
 use Rattle.oftp_session.specs.Phases.{Receipt, Receiving, Step, answers, fails, frame_of, quiet}
 use Rattle.oftp_session.specs.Receiving.{data_step, carried_by, is_window_full, kept_of, keeping, reason_of, rows_to_keep, window, window_step, with_payload, with_rows}
 use Rattle.oftp_session.specs.Steps.{IsReceived}
-use Rattle.oftp_session.specs.Standings.{HasTaken, Tracks}
-use Rattle.oftp_session.specs.Calls.{DoesNot, IsAccepted, IsMade, Refuses, Takes}
+use Rattle.oftp_session.specs.Standings.{Tracks}
+use Rattle.oftp_session.specs.Calls.{DoesNot, IsMade}
+use Rattle.oftp_session.specs.Inside.{HasTaken, IsAccepted, Refuses, Takes}
 use Rattle.oftp_session.proofs.Saying.{same_takes}
 use Rattle.oftp_session.proofs.Credit.{place_full, place_open}
 use Rattle.oftp_session.proofs.Receipts.{carried_next, keep_accepted, keep_fits, kept_within, payload_holds}
@@ -156,21 +157,21 @@ full_takes contact g s next old new frame holds at last is m =
     subst (λ (x : Step). Takes x old new frame (Ok (state.Receiving contact next))) (sym (window_full contact g rows c.0)) (made, (next, refl, tracks))
 
 -- the rows that are kept are those that the taker gave
-pub credit_err : (contact : Contact) (g : Receipt) (s : Reception) (rows : List (List ℕ)) (old new : View) (told : SessionFault) → IsReceived old.register g
+pub window_err : (contact : Contact) (g : Receipt) (s : Reception) (rows : List (List ℕ)) (old new : View) (told : SessionFault) → IsReceived old.register g
     → HasTaken contact g s → s.credit ≤ 1 → rows ≡ s.taker.rows
     → (IsFit old.register (Keep s.number rows) → IsAccepted old.register (Keep s.number rows) → DoesNot (keeping s.number rows) old new told)
     → DoesNot (window_step contact g (rows_to_keep g (carried_by g))).change old new told
-credit_err contact g s rows old new told holds at last is does =
+window_err contact g s rows old new told holds at last is does =
     let fit = subst (λ (x : List (List ℕ)). IsFit old.register (Keep s.number x)) (sym is) (fit_of old.register contact g s holds at) in
     let accepted = subst (λ (x : List (List ℕ)). IsAccepted old.register (Keep s.number x)) (sym is) (accepted_of old.register contact g s holds at) in
     full_fails contact g s old new told at last (subst (λ (x : List (List ℕ)). DoesNot (keeping s.number x) old new told) is (does fit accepted))
 
-pub credit_ok : (contact : Contact) (g : Receipt) (s : Reception) (rows : List (List ℕ)) (taker : Taking) (credit : ℕ) (old new : View) (frame : List ℕ) → IsReceived old.register g
+pub window_ok : (contact : Contact) (g : Receipt) (s : Reception) (rows : List (List ℕ)) (taker : Taking) (credit : ℕ) (old new : View) (frame : List ℕ) → IsReceived old.register g
     → HasTaken contact g s → s.credit ≤ 1 → rows ≡ s.taker.rows → taker ≡ (record s.taker { rows = []; away = s.taker.away + length s.taker.rows }) → credit ≡ contact.link.credit
     → frame ≡ frame_of command.Cdt
     → (IsFit old.register (Keep s.number rows) → IsAccepted old.register (Keep s.number rows) → IsMade (keeping s.number rows) None old new [])
     → Takes (window_step contact g (rows_to_keep g (carried_by g))) old new frame (Ok (state.Receiving contact (record { number = s.number; credit = credit; taker = taker })))
-credit_ok contact g s rows taker credit old new frame holds at last is rest value said does =
+window_ok contact g s rows taker credit old new frame holds at last is rest value said does =
     let fit = subst (λ (x : List (List ℕ)). IsFit old.register (Keep s.number x)) (sym is) (fit_of old.register contact g s holds at) in
     let accepted = subst (λ (x : List (List ℕ)). IsAccepted old.register (Keep s.number x)) (sym is) (accepted_of old.register contact g s holds at) in
     let m = subst (λ (x : List (List ℕ)). IsMade (keeping s.number x) None old new []) is (does fit accepted) in

@@ -1,13 +1,13 @@
--- What the code agrees, as plain data.
+-- What the code agrees, as plain data. Private functions alone cite it.
 use Rattle.std.specs.Prelude.{Result, Ok, Err}
 use Rattle.oftp_wire.specs.declared.reason.SessionReason.{SessionReason}
 use Rattle.oftp_session.specs.declared.opening.Agreement.{Agreement as Lent}
 use Rattle.oftp_session.specs.Opening.{Agreement}
 
 -- an agreement, without where its partner lies in memory
-abbrev pub terms : Lent → Agreement
-terms a = record { partner = a.partner.now; link = a.link }
+abbrev pub agreement_of : Lent → Agreement
+agreement_of a = record { partner = a.partner.now; link = a.link }
 
 abbrev pub shown : Result Lent SessionReason → Result Agreement SessionReason
-shown (Ok a) = Ok (terms a)
+shown (Ok a) = Ok (agreement_of a)
 shown (Err reason) = Err reason

@@ -1,5 +1,5 @@
 -- What a call of a session does: one step.
-use Rattle.std.specs.Prelude.{◌≡◌, ◌≢◌, ℕ, ◌<◌, ◌⊎◌, ⊤, Bool, true, false, List, [], length, Option, None, Some, Result, Ok, Err, is_ok}
+use Rattle.std.specs.Prelude.{◌≡◌, ℕ, ◌<◌, ◌⊎◌, ⊤, Bool, true, false, List, [], length, Option, None, Some, Result, Ok, Err}
 use Rattle.oftp_wire.specs.declared.command.Command.{Command}
 use Rattle.oftp_wire.specs.declared.command.Command.TheVariants as command
 use Rattle.oftp_register.specs.declared.change.Change.{Change}
@@ -11,14 +11,10 @@ use Rattle.oftp_session.specs.declared.session.SessionFault.{SessionFault}
 use Rattle.oftp_session.specs.declared.session.SessionFault.TheVariants as fault
 use Rattle.oftp_session.specs.declared.session.Out.{Out}
 use Rattle.oftp_session.specs.declared.session.Out.TheVariants.{Nothing, Send}
-use Rattle.oftp_session.specs.declared.state.State.{State}
 use Rattle.oftp_session.specs.Settings.{Setting}
-use Rattle.oftp_vfile.specs.declared.format.TakeFault.{TakeFault}
-use Rattle.oftp_vfile.specs.declared.format.TakeFault.TheVariants as take
-use Rattle.oftp_session.specs.Receiving.{reason_of}
-use Rattle.oftp_session.specs.Phases.{fails, Phase, Step, framed, register_after}
+use Rattle.oftp_session.specs.Phases.{Phase, Step, framed, register_after}
 use Rattle.oftp_session.specs.Steps.{Suits}
-use Rattle.oftp_session.specs.Standings.{Standing, StandsIn, standing_of}
+use Rattle.oftp_session.specs.Standings.{Standing, StandsIn}
 
 -- what a caller sees of a session: its book and whom it calls, where it stands, and the frame that it said last, [] for none
 pub record Seen : Type 0 where
@@ -115,33 +111,3 @@ abbrev pub takes_memory : Command → Bool
 takes_memory (command.Data payload) = true
 takes_memory (command.Efid efid) = true
 takes_memory other = false
-
--- a change that isn't refused
-abbrev pub IsAccepted : Register → Change → Type 0
-IsAccepted r change = is_ok (apply r change) ≡ true
-
--- a helper that makes a change, if one is due, and says nothing
-abbrev pub Files : {T : Type 0} → Option Change → View → View → Result T SessionFault → Type 0
-Files change old new (Ok x) = IsMade change None old new []
-Files change old new (Err fault) = DoesNot change old new fault
-
--- a step that asks nothing of an office: what it says, and what the session holds after it
-pub record Goes (step : Step) (state : State) (frame : List ℕ) : Type 0 where
-  pub said : frame ≡ framed step.output
-  pub unchanged : step.change ≡ None
-  pub stands : StandsIn step.phase (standing_of state)
-
--- a payload at fault ends the session, and only a want of memory is a fault of the session
-abbrev pub Refuses : TakeFault → Result State SessionFault → List ℕ → Type 0
-Refuses cause (Ok state) frame = Goes (fails (reason_of cause)) state frame × (cause ≢ take.Memory)
-Refuses cause (Err told) frame = (cause ≡ take.Memory) × (told ≡ fault.Memory)
-
--- a helper that looks up what it tells of the register, and changes nothing
-abbrev pub Finds : {T : Type 0} → (Register → T) → View → View → Result T SessionFault → Type 0
-Finds look old new (Ok x) = (x ≡ look old.register) × IsMade None None old new []
-Finds look old new (Err fault) = DoesNot None old new fault
-
--- a step over an office that leaves this frame, and what the session holds after it
-abbrev pub Takes : Step → View → View → List ℕ → Result State SessionFault → Type 0
-Takes step old new frame (Ok state) = IsMade step.change step.output old new frame × StandsIn step.phase (standing_of state)
-Takes step old new frame (Err fault) = DoesNot step.change old new fault

@@ -8,6 +8,8 @@ pub mod Sending
 pub mod Steps
 pub mod Standings
 pub mod Calls
+pub mod After
+pub mod Inside
 pub mod Payloads
 pub mod Agreements
 pub mod Responses

@@ -125,13 +125,13 @@ opened_step setting letter (Ok a) = open_step setting letter a setting.called
 opened_step setting letter (Err reason) = fails reason
 
 -- an initiator offers the session to the partner that it calls
-abbrev pub offer_step : Setting → Option Partner → Step
-offer_step setting (Some partner) = says AwaitingSsid (command.Ssid (calling_ssid setting.book partner))
-offer_step setting None = fails ProtocolViolation
+abbrev pub calling_step : Setting → Option Partner → Step
+calling_step setting (Some partner) = says AwaitingSsid (command.Ssid (calling_ssid setting.book partner))
+calling_step setting None = fails ProtocolViolation
 
 -- what comes where the called partner's ready message is awaited
 unfoldable pub came_initiator_opening : Setting → Command → Step
-came_initiator_opening setting command.Ssrm = offer_step setting setting.called
+came_initiator_opening setting command.Ssrm = calling_step setting setting.called
 came_initiator_opening setting other = unexpected other
 
 -- what comes where the partner's SSID is awaited

@@ -1,5 +1,5 @@
--- What becomes of the buffer that DATA frames are written in.
-use Rattle.std.specs.Prelude.{◌≡◌, ◌==◌, ◌+◌, ◌-◌, ◌≤◌, ℕ, Bool, true, false, List, [], ◌∷◌, ◌++◌, length, take, slice_get, None, Some, Result, Ok, Err}
+-- What becomes of the buffer that DATA frames are written in. Private functions alone cite it.
+use Rattle.std.specs.Prelude.{◌≡◌, ◌==◌, ◌+◌, ◌-◌, ◌≤◌, ℕ, Bool, true, false, List, [], ◌∷◌, ◌++◌, length, take, drop, slice_get, Option, None, Some, Result, Ok, Err}
 use Rattle.oftp_wire.specs.declared.command.Command.TheVariants as command
 use Rattle.oftp_vfile.specs.declared.format.TheConstants.{MOST_ROWS}
 use Rattle.oftp_vfile.specs.declared.format.Filled.{Filled}
@@ -17,8 +17,13 @@ use Rattle.oftp_session.specs.declared.sending.Shipment.{Shipment}
 use Rattle.oftp_session.specs.declared.state.Contact.{Contact}
 use Rattle.oftp_session.specs.Phases.{Transfer, frame_of}
 use Rattle.oftp_session.specs.Sending.{payload_size, payloads_in, rows_from}
-use Rattle.oftp_session.specs.Standings.{AreAtHand, Ships, at_hand, without}
+use Rattle.oftp_session.specs.Standings.{AreAtHand, Ships, at_hand}
 use Rattle.oftp_session.specs.Calls.{DoesNot, IsMade}
+
+-- the rows at hand without the first ones
+abbrev pub without : ℕ → Option (List (List ℕ)) → Option (List (List ℕ))
+without n None = None
+without n (Some rows) = Some (drop n rows)
 
 -- the frame that is said: a command in the one buffer, or a DATA in the other
 abbrev pub spoken_in : Said → List ℕ → List ℕ → List ℕ

@@ -1,4 +1,4 @@
--- The code's responses, as plain data.
+-- The code's responses, as plain data. Private functions alone cite it.
 use Rattle.oftp_register.specs.Register.{Received}
 use Rattle.oftp_session.specs.declared.responses.Response.{Response}
 

@@ -33,13 +33,6 @@ pub record Tracks (contact : Contact) (f : Receipt) (s : Reception) : Type 0 whe
   pub credit : max 1 s.credit ≡ window contact - length f.payloads % window contact
   pub taker : s.taker ≡ shed (kept_of f) (carried_by f)
 
--- the same after a payload was taken that isn't counted yet
-pub record HasTaken (contact : Contact) (f : Receipt) (s : Reception) : Type 0 where
-  pub number : s.number ≡ f.number
-  pub credit : max 1 s.credit ≡ window contact - (length f.payloads - 1) % window contact
-  pub some : 0 < length f.payloads
-  pub taker : s.taker ≡ shed (kept_of f) (carried_by f)
-
 -- what the code holds of a file that is offered
 abbrev pub offering_of : Offer → Offering
 offering_of offer = record {
@@ -57,11 +50,6 @@ offering_of offer = record {
 abbrev pub at_hand : Option (List (List ℕ)) → List (List ℕ)
 at_hand None = []
 at_hand (Some rows) = rows
-
--- the same without the first ones
-abbrev pub without : ℕ → Option (List (List ℕ)) → Option (List (List ℕ))
-without n None = None
-without n (Some rows) = Some (drop n rows)
 
 -- they are the first of those of the file that are left, and the filler's place is in them
 pub record AreAtHand (file : List (List ℕ)) (s : Shipment) : Type 0 where

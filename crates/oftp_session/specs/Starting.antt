@@ -1,4 +1,4 @@
--- How a file that is accepted begins.
+-- How a file that is accepted begins. Private functions alone cite it.
 use Rattle.std.specs.Prelude.{◌≡◌, ℕ, [], length, None, Some, Result, Ok, Err}
 use Rattle.oftp_wire.specs.declared.command.Sfid.{Sfid}
 use Rattle.oftp_vfile.specs.VirtualFile.{units_in}

@@ -11,7 +11,7 @@ ghost use Rattle.oftp_wire.specs.declared.command.Command.TheVariants.{Efid as a
 ghost use Rattle.oftp_session.specs.Phases.{frame_of, esid_of};
 ghost use Rattle.oftp_session.specs.Opening.{answering_ssid, calling_ssid, ssid_with};
 ghost use Rattle.oftp_session.specs.Receiving.{efna_of, efpa_of, sfna_of, sfpa_of};
-ghost use Rattle.oftp_session.specs.Agreements.{terms};
+ghost use Rattle.oftp_session.specs.Agreements.{agreement_of};
 ghost use Rattle.oftp_session.specs.Speaker.{blocks, eerp_of, layout_of, nerp_of, response_of, sfid_of};
 
 use crate::opening::{Agreement, answered_mode};
@@ -25,17 +25,34 @@ use oftp_wire::{
     SessionReason, Sfid, Sfna, Sfpa, Ssid, StartReason, Text, X, encode, header,
 };
 
+/// A field that is left empty.
+pub(crate) fn no_field<const N: usize>() -> X<'static, N>
+    ensures { result ≡ [] }
+{
+    match X::new(b"") {
+        Some(field) => field,
+        None => unreachable!(),
+    }
+}
+
+/// A text that is left empty.
+pub(crate) fn no_text() -> Text<'static>
+    ensures { result ≡ [] }
+{
+    match Text::new("") {
+        Some(text) => text,
+        None => unreachable!(),
+    }
+}
+
 /// The end of the session, with no text.
 pub(crate) fn esid(reason: SessionReason) -> Command<'static>
     ensures { result ≡ esid_of reason }
 {
-    match Text::new("") {
-        Some(text) => Command::Esid(Esid {
-            reason: reason.number(),
-            text,
-        }),
-        None => unreachable!(),
-    }
+    Command::Esid(Esid {
+        reason: reason.number(),
+        text: no_text(),
+    })
 }
 
 /// A file is taken from this row on.
@@ -49,14 +66,11 @@ pub(crate) fn sfpa(restart: Count<17>) -> Command<'static>
 pub(crate) fn sfna(reason: StartReason, retry: bool) -> Command<'static>
     ensures { result ≡ sfna_of reason retry }
 {
-    match Text::new("") {
-        Some(text) => Command::Sfna(Sfna {
-            reason: reason.number(),
-            retry,
-            text,
-        }),
-        None => unreachable!(),
-    }
+    Command::Sfna(Sfna {
+        reason: reason.number(),
+        retry,
+        text: no_text(),
+    })
 }
 
 /// The station has a file, and asks to speak or not.
@@ -70,13 +84,10 @@ pub(crate) fn efpa(change_direction: bool) -> Command<'static>
 pub(crate) fn efna(reason: EndReason) -> Command<'static>
     ensures { result ≡ efna_of reason }
 {
-    match Text::new("") {
-        Some(text) => Command::Efna(Efna {
-            reason: reason.number(),
-            text,
-        }),
-        None => unreachable!(),
-    }
+    Command::Efna(Efna {
+        reason: reason.number(),
+        text: no_text(),
+    })
 }
 
 /// An SSID of the station's: what it never asks for is N.
@@ -90,21 +101,18 @@ fn ssid_with<'b>(
 ) -> Ssid<'b>
     ensures { result ≡ ssid_with book.entry.now partner.entry.now buffer credit restart mode }
 {
-    match X::new(b"") {
-        Some(user) => Ssid {
-            level: Count::new(5),
-            code: book.station().code.field(),
-            password: partner.sends.field(),
-            buffer,
-            mode,
-            compression: false,
-            restart,
-            special_logic: false,
-            credit,
-            authentication: false,
-            user,
-        },
-        None => unreachable!(),
+    Ssid {
+        level: Count::new(5),
+        code: book.station().code.field(),
+        password: partner.sends.field(),
+        buffer,
+        mode,
+        compression: false,
+        restart,
+        special_logic: false,
+        credit,
+        authentication: false,
+        user: no_field(),
     }
 }
 
@@ -114,7 +122,7 @@ pub(crate) fn answering_ssid<'b>(
     letter: Mode,
     agreement: &Agreement<'b>,
 ) -> Command<'b>
-    ensures { result ≡ an_ssid (answering_ssid book.entry.now letter (terms agreement.now)) }
+    ensures { result ≡ an_ssid (answering_ssid book.entry.now letter (agreement_of agreement.now)) }
 {
     Command::Ssid(ssid_with(
         book,
@@ -175,17 +183,14 @@ fn text(note: &Note) -> Text<'_>
 fn eerp(file: &Identity) -> Command<'_>
     ensures { result ≡ eerp_of file.now }
 {
-    match X::new(b"") {
-        Some(user) => Command::Eerp(Eerp {
-            dataset: name(&file.dataset),
-            date: digits(&file.date),
-            time: digits(&file.time),
-            user,
-            destination: name(&file.originator),
-            originator: name(&file.destination),
-        }),
-        None => unreachable!(),
-    }
+    Command::Eerp(Eerp {
+        dataset: name(&file.dataset),
+        date: digits(&file.date),
+        time: digits(&file.time),
+        user: no_field(),
+        destination: name(&file.originator),
+        originator: name(&file.destination),
+    })
 }
 
 /// A negative end response of the station's own.
@@ -247,27 +252,24 @@ pub(crate) fn sfid<'a>(entry: &'a OutgoingEntry, units: u64, from: u64) -> Comma
     ensures command { is_data result ≡ false }
 {
     let file = &entry.identity;
-    match X::new(b"") {
-        Some(user) => Command::Sfid(Sfid {
-            dataset: name(&file.dataset),
-            date: digits(&file.date),
-            time: digits(&file.time),
-            user,
-            destination: name(&file.destination),
-            originator: name(&file.originator),
-            layout: layout(entry.format, entry.longest),
-            size: size(units),
-            original_size: size(units),
-            restart: Count::new(from),
-            security: Count::new(0),
-            cipher: Count::new(0),
-            compression: Count::new(0),
-            enveloping: Count::new(0),
-            signed_response: false,
-            description: text(&entry.description),
-        }),
-        None => unreachable!(),
-    }
+    Command::Sfid(Sfid {
+        dataset: name(&file.dataset),
+        date: digits(&file.date),
+        time: digits(&file.time),
+        user: no_field(),
+        destination: name(&file.destination),
+        originator: name(&file.originator),
+        layout: layout(entry.format, entry.longest),
+        size: size(units),
+        original_size: size(units),
+        restart: Count::new(from),
+        security: Count::new(0),
+        cipher: Count::new(0),
+        compression: Count::new(0),
+        enveloping: Count::new(0),
+        signed_response: false,
+        description: text(&entry.description),
+    })
 }
 
 /// The end of a file of so many rows, which have so many octets. Rows of a stream aren't counted (RFC 5024, section 5.3.8).

@@ -4,6 +4,7 @@
 //! A change of the register is committed before the frame that answers it is lent.
 #![tactic(auto)]
 
+mod change;
 mod commands;
 mod frame;
 mod link;

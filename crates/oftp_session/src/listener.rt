@@ -1,6 +1,6 @@
 //! What the station does where it listens and no file comes (RFC 5024, sections 5.3.3 and 5.3.12 to 5.3.15).
 
-ghost use Rattle.std.specs.Prelude.{◌≡◌, ◌+◌, ◌<◌, ◌≤◌, ◌^◌, ℕ, Some, IfErr};
+ghost use Rattle.std.specs.Prelude.{◌≡◌, ◌+◌, ◌<◌, ◌≤◌, ◌^◌, ℕ, IfErr};
 ghost use Rattle.oftp_register.specs.declared.change.Change.TheVariants.{Close, GiveUp, Keep};
 ghost use Rattle.oftp_register.specs.Register.{Incoming};
 ghost use Rattle.oftp_register.specs.Soundness.{IsFit, IsSoundReceived};
@@ -11,8 +11,9 @@ ghost use Rattle.oftp_session.specs.Listener.{came_listener_idle, filing, is_bet
 ghost use Rattle.oftp_session.specs.Receiving.{asks_to_speak, keeping, offer_step, offered_identity, terms_within, verdict_on};
 ghost use Rattle.oftp_session.specs.Responses.{as_received};
 ghost use Rattle.oftp_session.specs.Starting.{IsFound, MayBegin, Starts, reception_of};
-ghost use Rattle.oftp_session.specs.Calls.{Files, Finds, IsAccepted, Takes};
+ghost use Rattle.oftp_session.specs.Inside.{Files, FilesFit, Finds, IsAccepted, Takes};
 
+use crate::change::make;
 use crate::commands::{sfna, sfpa};
 use crate::frame::Frame;
 use crate::link::{Link, WhenDone};
@@ -83,17 +84,13 @@ pub(crate) trait ListenerPart: Office {
     /// Closes a file with its last rows.
     fn close(&mut self, no: u64, rows: Rows) -> Result<(), SessionFault>
         ensures clean { (Self.view self.new).clean → (Self.view self.old).clean }
-        ensures does { (Self.view self.new).clean → (Self.view self.old).stands
-            → IsFit (Self.view self.old).register (Close no rows) → IsAccepted (Self.view self.old).register (Close no rows)
-            → Files (Some (Close no rows)) (Self.view self.old) (Self.view self.new) result }
+        ensures does { FilesFit (Close no rows) (Self.view self.old) (Self.view self.new) result }
         ensures err { IfErr result (λ fault. fault ≡ SessionFault.Office) };
 
     /// Gives up the rows of a file.
     fn give_up(&mut self, no: u64) -> Result<(), SessionFault>
         ensures clean { (Self.view self.new).clean → (Self.view self.old).clean }
-        ensures does { (Self.view self.new).clean → (Self.view self.old).stands
-            → IsFit (Self.view self.old).register (GiveUp no) → IsAccepted (Self.view self.old).register (GiveUp no)
-            → Files (Some (GiveUp no)) (Self.view self.old) (Self.view self.new) result }
+        ensures does { FilesFit (GiveUp no) (Self.view self.old) (Self.view self.new) result }
         ensures err { IfErr result (λ fault. fault ≡ SessionFault.Office) };
 }
 
@@ -259,20 +256,6 @@ fn reception(
     }
 }
 
-/// Makes a change that the register accepts.
-pub(crate) fn make<O: Office>(office: &mut O, change: Change<'_>) -> Result<(), SessionFault>
-    ensures clean { (O.view office.new).clean → (O.view office.old).clean }
-    ensures does { (O.view office.new).clean → (O.view office.old).stands
-        → IsFit (O.view office.old).register change.entry → IsAccepted (O.view office.old).register change.entry
-        → Files (Some change.entry) (O.view office.old) (O.view office.new) result }
-    ensures err { IfErr result (λ fault. fault ≡ SessionFault.Office) }
-{
-    if office.commit(change).is_err() {
-        return Err(SessionFault::Office);
-    }
-    Ok(())
-}
-
 /// Whether a response to this file goes from the partner to the station.
 fn is_between(setting: &Setting<'_>, contact: &Contact, file: &Identity) -> bool
     ensures { result ≡ is_between (setting_of setting.now) contact.now file.now }
@@ -329,10 +312,8 @@ fn take_offer<O: Office>(
         }
         StartVerdict::Accept(count) => {
             frame.say(&sfpa(count));
-            match office.begin(setting.alloc, &contact.link, sfid, count.get()) {
-                Ok(reception) => Ok(State::Receiving(contact, reception)),
-                Err(fault) => Err(fault),
-            }
+            let reception = office.begin(setting.alloc, &contact.link, sfid, count.get())?;
+            Ok(State::Receiving(contact, reception))
         }
     }
 }

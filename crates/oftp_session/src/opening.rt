@@ -2,9 +2,9 @@
 
 ghost use Rattle.std.specs.Prelude.{◌≡◌, ◌≤◌, ℕ, min, option_map};
 ghost use Rattle.oftp_session.specs.Settings.{setting_of};
-ghost use Rattle.oftp_session.specs.Opening.{agreed, answered_mode, called_as, came_awaiting_ssid, came_initiator_opening, contact_of, flows, is_opposed, offer_step, open_step, opened_step, ssid_verdict};
-ghost use Rattle.oftp_session.specs.Agreements.{shown, terms};
-ghost use Rattle.oftp_session.specs.Calls.{Goes};
+ghost use Rattle.oftp_session.specs.Opening.{agreed, answered_mode, called_as, calling_step, came_awaiting_ssid, came_initiator_opening, contact_of, flows, is_opposed, open_step, opened_step, ssid_verdict};
+ghost use Rattle.oftp_session.specs.Agreements.{agreement_of, shown};
+ghost use Rattle.oftp_session.specs.Inside.{Goes};
 
 use crate::commands::{answering_ssid, calling_ssid};
 use crate::frame::Frame;
@@ -34,7 +34,7 @@ pub(crate) struct Agreement<'b> {
 impl<'b> Agreement<'b> {
     /// An open session, in which nothing was tried yet.
     fn contact(&self) -> Contact
-        ensures { result ≡ contact_of (terms self.now) }
+        ensures { result ≡ contact_of (agreement_of self.now) }
     {
         Contact {
             code: Name::of(&self.partner.code.field()),
@@ -158,7 +158,7 @@ fn ssid_verdict<'b>(setting: Setting<'b>, ssid: &Ssid<'_>) -> Result<Agreement<'
 /// Goes on with a partner with whom this is agreed: a responder answers, an initiator speaks.
 fn agree(setting: Setting<'_>, letter: Mode, agreement: &Agreement<'_>, frame: &mut Frame) -> State
     ensures { let known = setting_of setting.entry in
-        Goes (open_step known letter (terms agreement.now) known.called) result frame.new }
+        Goes (open_step known letter (agreement_of agreement.now) known.called) result frame.new }
 {
     if agreement.link.sends {
         frame.reserve(setting.alloc, payload_size(&agreement.link));
@@ -184,7 +184,7 @@ fn open(setting: Setting<'_>, ssid: &Ssid<'_>, frame: &mut Frame) -> State
 
 /// Offers the session to the partner that is called.
 fn offer(setting: Setting<'_>, frame: &mut Frame) -> State
-    ensures { let known = setting_of setting.entry in Goes (offer_step known known.called) result frame.new }
+    ensures { let known = setting_of setting.entry in Goes (calling_step known known.called) result frame.new }
 {
     match setting.called {
         Some(partner) => {

@@ -5,8 +5,9 @@ ghost use Rattle.oftp_vfile.specs.Carries.{is_open};
 ghost use Rattle.oftp_session.specs.Phases.{Receipt};
 ghost use Rattle.oftp_session.specs.Receiving.{came_receiving, carried_by, data_step, end_step, on_end_verdict, reason_of, rows_to_keep, window_step};
 ghost use Rattle.oftp_session.specs.Steps.{IsReceived};
-ghost use Rattle.oftp_session.specs.Standings.{HasTaken, Tracks};
-ghost use Rattle.oftp_session.specs.Calls.{IsFailure, Refuses, Takes, takes_memory};
+ghost use Rattle.oftp_session.specs.Standings.{Tracks};
+ghost use Rattle.oftp_session.specs.Calls.{IsFailure, takes_memory};
+ghost use Rattle.oftp_session.specs.Inside.{HasTaken, Refuses, Takes};
 
 use crate::commands::{efna, efpa};
 use crate::frame::Frame;
@@ -75,9 +76,7 @@ fn give_credit<O: Office>(
     let link = contact.link;
     frame.say(&Command::Cdt);
     let rows = reception.taker.take_rows();
-    if let Err(fault) = office.keep(reception.number, rows) {
-        return Err(fault);
-    }
+    office.keep(reception.number, rows)?;
     reception.credit = link.credit.get();
     Ok(State::Receiving(contact, reception))
 }
@@ -147,9 +146,7 @@ fn close<O: Office>(
     let speaks = office.asks_to_speak(&contact)?;
     // The answer stands spelled before the commit, so that only the writer can fail between the two.
     frame.say(&efpa(speaks));
-    if let Err(fault) = office.close(number, rows) {
-        return Err(fault);
-    }
+    office.close(number, rows)?;
     Ok(State::ListenerIdle(contact))
 }
 
@@ -175,9 +172,7 @@ fn take_end<O: Office>(
     match end_verdict(efid, records, units) {
         EndVerdict::Refuse(reason) => {
             frame.say(&efna(reason));
-            if let Err(fault) = office.give_up(reception.number) {
-                return Err(fault);
-            }
+            office.give_up(reception.number)?;
             Ok(State::ListenerIdle(contact))
         }
         EndVerdict::Accept => close(contact, reception, office, frame),

@@ -5,7 +5,7 @@ ghost use Rattle.oftp_session.specs.Phases.{Offer, Transfer};
 ghost use Rattle.oftp_session.specs.Sending.{came_awaiting_end, came_awaiting_start, after_file, refusal, reopening, start_step, transfer_of};
 ghost use Rattle.oftp_session.specs.Steps.{IsEnded, IsOffered};
 ghost use Rattle.oftp_session.specs.Standings.{At, Ships, offering_of, standing_of};
-ghost use Rattle.oftp_session.specs.Calls.{Files, Takes};
+ghost use Rattle.oftp_session.specs.Inside.{Files, Takes};
 
 use crate::frame::Frame;
 use crate::link::{Link, WhenDone};
@@ -152,16 +152,12 @@ pub(crate) fn in_awaiting_end<O: Office>(
     match command {
         Command::Efpa(efpa) => {
             frame.hush();
-            if let Err(fault) = office.hand_over(number) {
-                return Err(fault);
-            }
+            office.hand_over(number)?;
             Ok(after_file(contact, efpa.change_direction))
         }
         Command::Efna(_) => {
             frame.hush();
-            if let Err(fault) = office.reopen(number) {
-                return Err(fault);
-            }
+            office.reopen(number)?;
             Ok(State::SpeakerIdle(contact, WhenDone::ChangeDirection))
         }
         _ => Ok(State::unexpected(command, frame)),

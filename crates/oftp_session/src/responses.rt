@@ -5,8 +5,9 @@ ghost use Rattle.oftp_register.specs.Soundness.{IsSoundReceived};
 ghost use Rattle.oftp_session.specs.Listener.{end_response, negative_end_response};
 ghost use Rattle.oftp_session.specs.Responses.{as_received};
 
+use crate::commands::{no_field, no_text};
 use oftp_register::{DigitString, Identity, Name, ResponseKind};
-use oftp_wire::{Count, Eerp, Nerp, Text, X};
+use oftp_wire::{Count, Eerp, Nerp, Text};
 
 /// A response, as it is filed.
 #[derive(Drop)]
@@ -22,9 +23,6 @@ pub(crate) struct Response<'a> {
 pub(crate) fn end_response(eerp: &Eerp<'_>) -> Response<'static>
     ensures { as_received result ≡ end_response eerp.now }
 {
-    let (Some(creator), Some(text)) = (X::new(b""), Text::new("")) else {
-        unreachable!()
-    };
     Response {
         kind: ResponseKind::EndResponse,
         identity: Identity {
@@ -35,8 +33,8 @@ pub(crate) fn end_response(eerp: &Eerp<'_>) -> Response<'static>
             destination: Name::of(&eerp.originator),
         },
         reason: Count::new(0),
-        creator: Name::of(&creator),
-        text,
+        creator: Name::of(&no_field()),
+        text: no_text(),
     }
 }
 

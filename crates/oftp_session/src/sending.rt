@@ -6,9 +6,10 @@ ghost use Rattle.oftp_register.specs.LookUps.{rows_of};
 ghost use Rattle.oftp_session.specs.Phases.{Transfer};
 ghost use Rattle.oftp_session.specs.Sending.{came_sending, credited, marking, new_mark, payload_size, payloads_in, turned_sending};
 ghost use Rattle.oftp_session.specs.Steps.{IsSent};
-ghost use Rattle.oftp_session.specs.Standings.{Ships, at_hand, standing_of, turns_left, without};
-ghost use Rattle.oftp_session.specs.Calls.{Files, Finds, IsFailure, IsMade, Takes};
-ghost use Rattle.oftp_session.specs.Payloads.{FillsFrom, IsSameShipment, MayLend, SaysNext, next_row};
+ghost use Rattle.oftp_session.specs.Standings.{Ships, at_hand, standing_of, turns_left};
+ghost use Rattle.oftp_session.specs.Calls.{IsFailure, IsMade};
+ghost use Rattle.oftp_session.specs.Inside.{Files, Finds, Takes};
+ghost use Rattle.oftp_session.specs.Payloads.{FillsFrom, IsSameShipment, MayLend, SaysNext, next_row, without};
 ghost use Rattle.oftp_session.specs.declared.sending.TheConstants.{FIRST_ROWS};
 
 use crate::commands::efid;
@@ -152,7 +153,7 @@ fn look_up<O: Office>(
         (O.view office.old) (O.view office.new) result }
     ensures stays { (O.view office.new).clean → (O.view office.old).stands
         → OnOk result (IsMade None None (O.view office.old) (O.view office.new) []) }
-    // It holds of any store.
+    // Also without the clean-disk premise.
     ensures count { IfOk result (λ rows. length rows ≡ min most (shipment.now.rows - next_row shipment.now)) }
     ensures err { IfErr result (λ fault. fault ≡ SessionFault.Office) }
 {
@@ -189,7 +190,7 @@ fn say_payload<O: Office>(
         → (contact : Contact) (t : Transfer) → IsSent (O.view office.old).register t → Ships contact t shipment.old
         → size ≡ payload_size contact
         → SaysNext contact t shipment.new (O.view office.old) (O.view office.new) frame.new result }
-    // It holds of any store.
+    // Also without the clean-disk premise.
     ensures same { IsSameShipment shipment.old shipment.new }
     ensures kept { OnErr result (shipment.new ≡ record shipment.old { page = shipment.new.page }) }
     ensures err { IfErr result IsFailure }
@@ -220,14 +221,12 @@ fn send_end<O: Office>(
         → slice_get (payloads_in contact t) t.sent ≡ None
         → Takes (turned_sending contact t) (O.view office.old) (O.view office.new) frame.new result }
     ensures err { IfErr result (λ fault. fault ≡ SessionFault.Office) }
-    // It holds over any store.
+    // Also without the clean-disk premise.
     ensures fewer { IfOk result (λ state. turns_left (standing_of state) ≡ 0) }
 {
     // The command stands spelled before the commit, so that only the writer can fail between the two.
     frame.say(&efid(shipment.filler.format(), shipment.rows, shipment.units));
-    if let Err(fault) = office.begin_closing(shipment.number) {
-        return Err(fault);
-    }
+    office.begin_closing(shipment.number)?;
     Ok(State::AwaitingEnd(contact, shipment.number))
 }
 
@@ -244,7 +243,7 @@ pub(crate) fn send_next<O: Office>(
         → (t : Transfer) → IsSent (O.view office.old).register t → Ships contact t shipment
         → Takes (turned_sending contact t) (O.view office.old) (O.view office.new) frame.new result }
     ensures err { IfErr result IsFailure }
-    // It holds over any store.
+    // Also without the clean-disk premise.
     ensures fewer { IfOk result (λ state. turns_left (standing_of state) < shipment.credit) }
 {
     let size = payload_size(&contact.link);
@@ -272,9 +271,7 @@ fn cover<O: Office>(shipment: &mut Shipment, office: &mut O) -> Result<(), Sessi
 {
     let mark = shipment.filler.mark() as u64;
     if mark != shipment.mark {
-        if let Err(fault) = office.mark(shipment.number, mark) {
-            return Err(fault);
-        }
+        office.mark(shipment.number, mark)?;
         shipment.mark = mark;
     }
     Ok(())
@@ -296,9 +293,7 @@ fn take_credit<O: Office>(
 {
     let link = contact.link;
     frame.hush();
-    if let Err(fault) = cover(&mut shipment, office) {
-        return Err(fault);
-    }
+    cover(&mut shipment, office)?;
     shipment.credit = link.credit.get().max(1);
     Ok(State::Sending(contact, shipment))
 }

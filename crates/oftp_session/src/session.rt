@@ -2,11 +2,12 @@
 
 ghost use Rattle.std.specs.Prelude.{◌≡◌, ◌≢◌, ◌<◌, ℕ, [], true, false, None, Some, Ok, Err, OnOk, OnErr, IfErr, IfOk, IsSome};
 ghost use Rattle.oftp_register.specs.Register.{Register};
-ghost use Rattle.oftp_session.specs.Settings.{Setting as Known, setting_of};
+ghost use Rattle.oftp_session.specs.Settings.{setting_of};
 ghost use Rattle.oftp_session.specs.Phases.{Phase, ending_of, esid_of, frame_of, is_over};
 ghost use Rattle.oftp_session.specs.Steps.{came, has_turn, turned, Holds};
 ghost use Rattle.oftp_session.specs.Standings.{Broken, StandsIn, ended_as, is_closed, is_due, is_receiving, is_sending, standing_of, turns_left};
-ghost use Rattle.oftp_session.specs.Calls.{Does, Goes, IsFailure, IsFull, Seen, Stands, Takes, heard, takes_memory};
+ghost use Rattle.oftp_session.specs.Calls.{Does, IsFailure, IsFull, Seen, Stands, heard, takes_memory};
+ghost use Rattle.oftp_session.specs.Inside.{Goes, Takes};
 
 use crate::frame::Frame;
 use crate::listener::in_listener_idle;
@@ -169,9 +170,7 @@ fn turned<O: Office>(
 
 impl<'b> Session<'b> {
     ghost use Rattle.std.specs.Borrow.{sem};
-    ghost use Rattle.std.specs.Io.BufRead.{Rests};
-    ghost use mir.Syntax.{named};
-    ghost use Rattle.oftp_session.specs.contracts.session.Session.{the_row};
+    ghost use Rattle.oftp_session.specs.After.{After, AfterEnd, AfterStep, AfterTurn, InPhase};
 
     /// A session with a partner who calls. It takes no memory.
     pub fn responder(alloc: Global, book: &'b Book) -> Session<'b>
@@ -244,10 +243,8 @@ impl<'b> Session<'b> {
         command: &Command<'_>,
     ) -> Result<Out<'_>, SessionFault>
         ensures clean { (O.view office.new).clean → (O.view office.old).clean }
-        ensures does { (O.view office.new).clean → (O.view office.old).stands
-            → (p : Phase) → Holds p (O.view office.old).register → is_over p ≡ false → Stands p self.old
-            → Does (came self.old.setting p (O.view office.old).register command.now)
-            (O.view office.old) (O.view office.new) (heard result) }
+        ensures does { InPhase (O.view office.old) (O.view office.new) self.old
+            (λ p r. Does (came self.old.setting p r command.now) (O.view office.old) (O.view office.new) (heard result)) }
         ensures full { IfOk result IsFull }
         ensures err { is_closed self.old.standing ≡ false → IfErr result IsFailure }
         // Memory is taken only while a file is received, for its parts and its end.
@@ -255,14 +252,8 @@ impl<'b> Session<'b> {
         ensures light { takes_memory command.now ≡ false → IfErr result (λ fault. fault ≢ SessionFault.Memory) }
         ensures closed { is_closed self.old.standing ≡ true
             → (heard result ≡ Err SessionFault.Ended) × (office.new ≡ office.old) }
-        ensures* goes { sem 𝓛 (Rests (the_row (record { mir = named 1; lft = [] })) self.entry
-            (λ new. (new.setting ≡ self.old.setting)
-            × ((O.view office.new).clean → (O.view office.old).stands
-            → (p : Phase) → Holds p (O.view office.old).register → is_over p ≡ false → Stands p self.old
-            → OnOk result (Stands (came self.old.setting p (O.view office.old).register command.now).phase new))
-            × (is_closed self.old.standing ≡ false → OnErr result (new.standing ≡ Broken))
-            × (is_closed self.old.standing ≡ true → new ≡ self.old)
-            × OnOk result (new.standing ≢ Broken))) }
+        ensures* leaves { sem 𝓛 (After self.entry
+            (AfterStep (λ p r. came self.old.setting p r command.now) (O.view office.old) (O.view office.new) result self.old)) }
     {
         let Some(state) = self.state.take() else {
             return Err(SessionFault::Ended);
@@ -284,10 +275,8 @@ impl<'b> Session<'b> {
     /// the growth of one was refused.
     pub fn turn<O: Office>(&mut self, office: &mut O) -> Result<Out<'_>, SessionFault>
         ensures clean { (O.view office.new).clean → (O.view office.old).clean }
-        ensures does { (O.view office.new).clean → (O.view office.old).stands
-            → (p : Phase) → Holds p (O.view office.old).register → is_over p ≡ false → Stands p self.old
-            → Does (turned self.old.setting p (O.view office.old).register)
-            (O.view office.old) (O.view office.new) (heard result) }
+        ensures does { InPhase (O.view office.old) (O.view office.new) self.old
+            (λ p r. Does (turned self.old.setting p r) (O.view office.old) (O.view office.new) (heard result)) }
         ensures full { IfOk result IsFull }
         ensures err { is_closed self.old.standing ≡ false → IfErr result IsFailure }
         // Memory is taken only while a file is sent.
@@ -296,18 +285,8 @@ impl<'b> Session<'b> {
             → (heard result ≡ Ok []) × (office.new ≡ office.old) }
         ensures closed { is_closed self.old.standing ≡ true
             → (heard result ≡ Err SessionFault.Ended) × (office.new ≡ office.old) }
-        ensures* goes { sem 𝓛 (Rests (the_row (record { mir = named 1; lft = [] })) self.entry
-            (λ new. (new.setting ≡ self.old.setting)
-            × ((O.view office.new).clean → (O.view office.old).stands
-            → (p : Phase) → Holds p (O.view office.old).register → is_over p ≡ false → Stands p self.old
-            → OnOk result (Stands (turned self.old.setting p (O.view office.old).register).phase new))
-            × (is_closed self.old.standing ≡ false → OnErr result (new.standing ≡ Broken))
-            × (is_due self.old.standing ≡ true
-            → OnOk result (turns_left new.standing < turns_left self.old.standing))
-            × (is_closed self.old.standing ≡ true → new ≡ self.old)
-            × (is_due self.old.standing ≡ false → is_closed self.old.standing ≡ false
-            → new ≡ record self.old { spoken = [] })
-            × OnOk result (new.standing ≢ Broken))) }
+        ensures* leaves { sem 𝓛 (After self.entry
+            (AfterTurn (turned self.old.setting) (O.view office.old) (O.view office.new) result self.old)) }
     {
         let Some(state) = self.state.take() else {
             return Err(SessionFault::Ended);
@@ -332,9 +311,7 @@ impl<'b> Session<'b> {
             → heard result ≡ Err SessionFault.Ended }
         ensures full { IfOk result IsFull }
         ensures err { IfErr result (λ fault. fault ≡ SessionFault.Ended) }
-        ensures* over { sem 𝓛 (Rests (the_row (record { mir = named 1; lft = [] })) self.entry
-            (λ new. (new.setting ≡ self.old.setting)
-            × OnOk result (Stands (Phase.EndedHere reason) new) × OnErr result (new ≡ self.old))) }
+        ensures* leaves { sem 𝓛 (After self.entry (AfterEnd reason result self.old)) }
     {
         if self.ended().is_some() {
             return Err(SessionFault::Ended);

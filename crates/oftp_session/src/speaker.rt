@@ -7,17 +7,16 @@ ghost use Rattle.oftp_register.specs.declared.fit.TheConstants.{MOST_UNITS};
 ghost use Rattle.oftp_register.specs.Changes.{is_closing};
 ghost use Rattle.oftp_register.specs.LookUps.{IsItemWithin, IsOutgoingWithin, entry_at, next_item, outgoing_entry, units_of};
 ghost use Rattle.oftp_register.specs.Register.{Outgoing};
-ghost use Rattle.oftp_register.specs.Soundness.{IsFit};
 ghost use Rattle.oftp_session.specs.Settings.{setting_of};
 ghost use Rattle.oftp_session.specs.Speaker.{came_awaiting_rtr, nothing_next, offers, responds, speaks};
 ghost use Rattle.oftp_session.specs.Steps.{IsResponding};
 ghost use Rattle.oftp_session.specs.Standings.{standing_of, turns_left};
-ghost use Rattle.oftp_session.specs.Calls.{Files, Finds, Goes, IsAccepted, Takes};
+ghost use Rattle.oftp_session.specs.Inside.{FilesFit, Finds, Goes, Takes};
 
+use crate::change::make;
 use crate::commands::{response, sfid};
 use crate::frame::Frame;
 use crate::link::{Link, WhenDone};
-use crate::listener::make;
 use crate::opening::Setting;
 use crate::sending::Offering;
 use crate::session::SessionFault;
@@ -33,7 +32,7 @@ pub(crate) trait SpeakerPart: Office {
         ensures finds { (Self.view self.new).clean → (Self.view self.old).stands
             → Finds (λ r. next_item r contact.now.code contact.now.tried contact.now.link.sends)
             (Self.view self.old) (Self.view self.new) result }
-        // It holds of any store.
+        // Also without the clean-disk premise.
         ensures within { IfOk result (λ found. IfSome found IsItemWithin) }
         ensures err { IfErr result (λ fault. fault ≡ SessionFault.Office) };
 
@@ -42,56 +41,44 @@ pub(crate) trait SpeakerPart: Office {
         ensures clean { (Self.view self.new).clean → (Self.view self.old).clean }
         ensures finds { (Self.view self.new).clean → (Self.view self.old).stands
             → Finds (λ r. units_of r Side.Outgoing no) (Self.view self.old) (Self.view self.new) result }
-        // It holds of any store.
+        // Also without the clean-disk premise.
         ensures within { IfOk result (λ units. units ≤ MOST_UNITS) }
         ensures err { IfErr result (λ fault. fault ≡ SessionFault.Office) };
 
     /// So many rows of a file are covered by credit.
     fn mark(&mut self, no: u64, rows: u64) -> Result<(), SessionFault>
         ensures clean { (Self.view self.new).clean → (Self.view self.old).clean }
-        ensures does { (Self.view self.new).clean → (Self.view self.old).stands
-            → IsFit (Self.view self.old).register (Mark no rows) → IsAccepted (Self.view self.old).register (Mark no rows)
-            → Files (Some (Mark no rows)) (Self.view self.old) (Self.view self.new) result }
+        ensures does { FilesFit (Mark no rows) (Self.view self.old) (Self.view self.new) result }
         ensures err { IfErr result (λ fault. fault ≡ SessionFault.Office) };
 
     /// The end of a file is about to be sent.
     fn begin_closing(&mut self, no: u64) -> Result<(), SessionFault>
         ensures clean { (Self.view self.new).clean → (Self.view self.old).clean }
-        ensures does { (Self.view self.new).clean → (Self.view self.old).stands
-            → IsFit (Self.view self.old).register (BeginClosing no) → IsAccepted (Self.view self.old).register (BeginClosing no)
-            → Files (Some (BeginClosing no)) (Self.view self.old) (Self.view self.new) result }
+        ensures does { FilesFit (BeginClosing no) (Self.view self.old) (Self.view self.new) result }
         ensures err { IfErr result (λ fault. fault ≡ SessionFault.Office) };
 
     /// The partner has a file.
     fn hand_over(&mut self, no: u64) -> Result<(), SessionFault>
         ensures clean { (Self.view self.new).clean → (Self.view self.old).clean }
-        ensures does { (Self.view self.new).clean → (Self.view self.old).stands
-            → IsFit (Self.view self.old).register (HandOver no) → IsAccepted (Self.view self.old).register (HandOver no)
-            → Files (Some (HandOver no)) (Self.view self.old) (Self.view self.new) result }
+        ensures does { FilesFit (HandOver no) (Self.view self.old) (Self.view self.new) result }
         ensures err { IfErr result (λ fault. fault ≡ SessionFault.Office) };
 
     /// The partner doesn't take a file, for this reason.
     fn refuse(&mut self, no: u64, reason: Count<2>) -> Result<(), SessionFault>
         ensures clean { (Self.view self.new).clean → (Self.view self.old).clean }
-        ensures does { (Self.view self.new).clean → (Self.view self.old).stands
-            → IsFit (Self.view self.old).register (Refuse no reason) → IsAccepted (Self.view self.old).register (Refuse no reason)
-            → Files (Some (Refuse no reason)) (Self.view self.old) (Self.view self.new) result }
+        ensures does { FilesFit (Refuse no reason) (Self.view self.old) (Self.view self.new) result }
         ensures err { IfErr result (λ fault. fault ≡ SessionFault.Office) };
 
     /// A file is to be sent again.
     fn reopen(&mut self, no: u64) -> Result<(), SessionFault>
         ensures clean { (Self.view self.new).clean → (Self.view self.old).clean }
-        ensures does { (Self.view self.new).clean → (Self.view self.old).stands
-            → IsFit (Self.view self.old).register (Reopen no) → IsAccepted (Self.view self.old).register (Reopen no)
-            → Files (Some (Reopen no)) (Self.view self.old) (Self.view self.new) result }
+        ensures does { FilesFit (Reopen no) (Self.view self.old) (Self.view self.new) result }
         ensures err { IfErr result (λ fault. fault ≡ SessionFault.Office) };
 
     /// The response to a file was sent.
     fn sent(&mut self, no: u64) -> Result<(), SessionFault>
         ensures clean { (Self.view self.new).clean → (Self.view self.old).clean }
-        ensures does { (Self.view self.new).clean → (Self.view self.old).stands
-            → IsFit (Self.view self.old).register (Send no) → IsAccepted (Self.view self.old).register (Send no)
-            → Files (Some (Send no)) (Self.view self.old) (Self.view self.new) result }
+        ensures does { FilesFit (Send no) (Self.view self.old) (Self.view self.new) result }
         ensures err { IfErr result (λ fault. fault ≡ SessionFault.Office) };
 }
 
@@ -229,7 +216,7 @@ fn offer<O: Office>(
         → entry_at entry.now.no (O.view office.old).register.outgoing ≡ Some file
         → Takes (offers contact done entry.now.no (Some file)) (O.view office.old) (O.view office.new) frame.new result }
     ensures err { IfErr result (λ fault. fault ≡ SessionFault.Office) }
-    // It holds over any store.
+    // Also without the clean-disk premise.
     ensures still { IfOk result (λ state. turns_left (standing_of state) ≡ 0) }
 {
     let units = office.units(entry.no)?;
@@ -253,7 +240,7 @@ pub(crate) fn speak<O: Office>(
         → Takes (speaks (setting_of setting.entry) contact done (O.view office.old).register)
         (O.view office.old) (O.view office.new) frame.new result }
     ensures err { IfErr result (λ fault. fault ≡ SessionFault.Office) }
-    // It holds over any store.
+    // Also without the clean-disk premise.
     ensures still { IfOk result (λ state. turns_left (standing_of state) ≡ 0) }
 {
     match office.next(&contact)? {
@@ -280,9 +267,7 @@ pub(crate) fn in_awaiting_rtr<O: Office>(
     match command {
         Command::Rtr => {
             frame.hush();
-            if let Err(fault) = office.sent(number) {
-                return Err(fault);
-            }
+            office.sent(number)?;
             Ok(State::SpeakerIdle(contact, WhenDone::ChangeDirection))
         }
         _ => Ok(State::unexpected(command, frame)),

@@ -3,7 +3,7 @@
 ghost use Rattle.std.specs.Prelude.{◌≡◌};
 ghost use Rattle.oftp_session.specs.Phases.{fails, leaves, unexpected};
 ghost use Rattle.oftp_session.specs.Standings.{ended_as, is_closed, is_due, standing_of};
-ghost use Rattle.oftp_session.specs.Calls.{Goes};
+ghost use Rattle.oftp_session.specs.Inside.{Goes};
 
 use crate::commands::esid;
 use crate::frame::Frame;
@@ -103,23 +103,11 @@ impl State {
     }
 
     /// Whether it ended.
+    #[tactic(auto, using(crate::proofs::Standings::closed_ended))]
     pub(crate) fn is_closed(&self) -> bool
         ensures { result ≡ is_closed (standing_of self.now) }
     {
-        match self {
-            State::EndedHere(_) | State::EndedThere(_) => true,
-            State::ResponderOpening
-            | State::InitiatorOpening
-            | State::AwaitingSsid
-            | State::ListenerIdle(_)
-            | State::Receiving(_, _)
-            | State::SpeakerIdle(_, _)
-            | State::GivingWay(_)
-            | State::AwaitingRtr(_, _)
-            | State::AwaitingStart(_, _)
-            | State::Sending(_, _)
-            | State::AwaitingEnd(_, _) => false,
-        }
+        self.ended().is_some()
     }
 
     /// Whether an own command is due.

@@ -3,10 +3,10 @@
 mod office;
 
 pub use office::{DatabaseOffice, Errand};
+use oftp_command_line::Fault;
 use oftp_durable::open_durable;
 use oftp_store::{PathFault, StoreFault, migrate_at};
 use oftp_vfile::Limits;
-use oftp_words::Fault;
 use sqlite::Unknown;
 use std::fs;
 use std::io::ErrorKind;

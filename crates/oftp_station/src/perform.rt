@@ -10,8 +10,8 @@ mod sessions;
 mod showing;
 mod traces;
 
+use oftp_command_line::{Fault, Line, LineFault, Outcome, line_of, write_line};
 use oftp_engine::Told;
-use oftp_words::{Check, Fault, Line, LineFault, Outcome, line_of, write_line};
 use std::io::{self, ErrorKind, Write};
 
 const DONE: u8 = 0;
@@ -68,12 +68,12 @@ fn carry_out(rt: &HostRuntime, line: &Line<'_>, out: &mut impl Write) -> Result<
             registers::write_report(rt, what, out)?;
             Ok(DONE)
         }
-        Line::Init(init) => tell(registers::initiate(rt, init)?, out),
-        Line::Migrate(migrate) => tell(registers::migrate(rt, migrate)?, out),
-        Line::Check(what) => tell(check(rt, what)?, out),
+        Line::Init { database } => tell(registers::initiate(rt, database)?, out),
+        Line::Migrate { database } => tell(registers::migrate(rt, database)?, out),
+        Line::Check { book } => tell(check(rt, book)?, out),
         Line::Fetch(fetch) => tell(fetching::fetch(rt, fetch)?, out),
         Line::Feed(feed) => tell(sessions::feed(rt, feed)?, out),
-        Line::Show(what) => Ok(if showing::show(rt, what, out)? {
+        Line::Show { input } => Ok(if showing::show(rt, input, out)? {
             DONE
         } else {
             FAILED
@@ -91,8 +91,8 @@ fn carry_out(rt: &HostRuntime, line: &Line<'_>, out: &mut impl Write) -> Result<
 }
 
 /// Reads the book, and counts its partners.
-fn check(rt: &HostRuntime, what: &Check<'_>) -> Result<Outcome, Fault> {
-    let book = files::read_book(rt, what.book)?;
+fn check(rt: &HostRuntime, book: &str) -> Result<Outcome, Fault> {
+    let book = files::read_book(rt, book)?;
     Ok(Outcome::Checked(book.count()))
 }
 

@@ -2,8 +2,8 @@
 
 use crate::transcript::Transcript;
 use jiff::Timestamp;
+use oftp_command_line::{Fault, Outcome};
 use oftp_engine::End;
-use oftp_words::{Fault, Outcome};
 use std::fmt;
 use std::fs::{File, OpenOptions};
 use std::io::{self, Read, Write};

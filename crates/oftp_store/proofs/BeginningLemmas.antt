@@ -19,26 +19,26 @@ use Rattle.oftp_register.specs.Changes.{apply, begun, gone_on, mapped, new_incom
 use Rattle.oftp_register.specs.LookUps.{entry_at}
 use Rattle.oftp_register.proofs.NameLemmas.{same_identity-true}
 use Rattle.oftp_register.proofs.StartLemmas.{IsNew, StandsAt, where_is}
-use Rattle.oftp_store.specs.Numbers.{no_of}
+use Rattle.oftp_store.specs.Numbers.{file_number}
 use Rattle.oftp_store.specs.Reads.{IsPlaced}
-use Rattle.oftp_store.specs.Slots.{IsArrivalOf, goes_on, goes_on_in}
+use Rattle.oftp_store.specs.Allocations.{IsIncomingAllocationOf, goes_on, goes_on_in}
 use Rattle.oftp_store.specs.declared.changes.edit.Edit.{Edit}
 use Rattle.oftp_store.specs.declared.changes.edit.Deed.TheVariants.{AddIncoming, CutRows, SetHeader}
-use Rattle.oftp_store.specs.declared.looks.place.Place.{Place}
-use Rattle.oftp_store.specs.declared.looks.slot.Arrival.TheVariants as arrival
+use Rattle.oftp_store.specs.declared.queries.progress.IncomingProgress.{IncomingProgress}
+use Rattle.oftp_store.specs.declared.queries.allocation.IncomingAllocation.TheVariants as incoming_allocation
 use Rattle.oftp_store.proofs.CommitLemmas.{IsMadeBy}
 use Rattle.oftp_store.proofs.NumberLemmas.{entry_placed}
-use Rattle.oftp_store.proofs.SlotLemmas.{free_is, full_is}
+use Rattle.oftp_store.proofs.AllocationLemmas.{new_is, full_is}
 
 -- ---- the file of an identity
 
-is_new : (r : Register) (it : Identity) → no_of r side.Incoming it ≡ None → IsNew r it 1 r.incoming
+is_new : (r : Register) (it : Identity) → file_number r side.Incoming it ≡ None → IsNew r it 1 r.incoming
 is_new r it none = elim (where_is r it 1 r.incoming) [
   | inl k ↦ absurd (let no_such = sym none ∙ ap (option_map (λ (e : IncomingEntry). e.no)) k.look in cc)
   | inr k ↦ k
 ]
 
-is_there : (r : Register) (it : Identity) (n : ℕ) → no_of r side.Incoming it ≡ Some n → (k : StandsAt r it 1 r.incoming) × (n ≡ 1 + k.place)
+is_there : (r : Register) (it : Identity) (n : ℕ) → file_number r side.Incoming it ≡ Some n → (k : StandsAt r it 1 r.incoming) × (n ≡ 1 + k.place)
 is_there r it n some = elim (where_is r it 1 r.incoming) [
   | inl k ↦ (let both : Some n ≡ Some (1 + k.place) = sym some ∙ ap (option_map (λ (e : IncomingEntry). e.no)) k.look in let same : n ≡ 1 + k.place = cc in (k, same))
   | inr k ↦ absurd (let no_such = sym some ∙ ap (option_map (λ (e : IncomingEntry). e.no)) k.look in cc)
@@ -50,7 +50,7 @@ with_files r files = record r { incoming = files }
 
 -- ---- a file that is new
 
-module _ (r : Register) (header : Incoming) (count : ℕ) (none : no_of r side.Incoming header.identity ≡ None) where
+module _ (r : Register) (header : Incoming) (count : ℕ) (none : file_number r side.Incoming header.identity ≡ None) where
   starts_new : started r header count ≡ mapped (with_files r) (mapped (λ y. r.incoming ++ y ∷ []) (begun r header count))
   starts_new = ap (mapped (with_files r)) ((is_new r header.identity none).starts header count refl)
 
@@ -71,30 +71,30 @@ above_first count h = grind (arith, nat_tests, h)
 at_first : (count : ℕ) → count ≤ 0 → nat_lt 0 count ≡ false
 at_first count h = grind (arith, nat_tests, h)
 
-pub late_start : (r : Register) (it : Identity) (format : Format) (longest : ℕ) (description : List ℕ) (count n : ℕ) → IsArrivalOf r it (arrival.New n) → 0 < count
+pub late_start : (r : Register) (it : Identity) (format : Format) (longest : ℕ) (description : List ℕ) (count n : ℕ) → IsIncomingAllocationOf r it (incoming_allocation.New n) → 0 < count
     → apply r (change.Start it format longest description count) ≡ Err Unfit
 unfolding apply
 late_start r it format longest description count n free above =
-    later r (new_incoming it format longest description) count (free_is r.limits (length r.incoming) n (no_of r side.Incoming it) free).0 (above_first count above)
+    later r (new_incoming it format longest description) count (new_is r.limits (length r.incoming) n (file_number r side.Incoming it) free).0 (above_first count above)
 
-pub late_start_full : (r : Register) (it : Identity) (format : Format) (longest : ℕ) (description : List ℕ) (count : ℕ) → IsArrivalOf r it arrival.Full → 0 < count
+pub late_start_full : (r : Register) (it : Identity) (format : Format) (longest : ℕ) (description : List ℕ) (count : ℕ) → IsIncomingAllocationOf r it incoming_allocation.Full → 0 < count
     → apply r (change.Start it format longest description count) ≡ Err Unfit
 unfolding apply
 late_start_full r it format longest description count full above =
-    later r (new_incoming it format longest description) count (full_is r.limits (length r.incoming) (no_of r side.Incoming it) full).0 (above_first count above)
+    later r (new_incoming it format longest description) count (full_is r.limits (length r.incoming) (file_number r side.Incoming it) full).0 (above_first count above)
 
-pub full_start : (r : Register) (it : Identity) (format : Format) (longest : ℕ) (description : List ℕ) (count : ℕ) → IsArrivalOf r it arrival.Full → count ≤ 0
+pub full_start : (r : Register) (it : Identity) (format : Format) (longest : ℕ) (description : List ℕ) (count : ℕ) → IsIncomingAllocationOf r it incoming_allocation.Full → count ≤ 0
     → apply r (change.Start it format longest description count) ≡ Err Full
 unfolding apply
 full_start r it format longest description count full first =
-    let is = full_is r.limits (length r.incoming) (no_of r side.Incoming it) full in
+    let is = full_is r.limits (length r.incoming) (file_number r side.Incoming it) full in
     no_room r (new_incoming it format longest description) count is.0 (at_first count first) is.1
 
-pub made_by_begin : (r : Register) (it : Bor Identity) (format : Format) (longest : ℕ) (description : Bor Words) (count n : ℕ) → IsArrivalOf r it.now (arrival.New n) → count ≤ 0
+pub made_by_begin : (r : Register) (it : Bor Identity) (format : Format) (longest : ℕ) (description : Bor Words) (count n : ℕ) → IsIncomingAllocationOf r it.now (incoming_allocation.New n) → count ≤ 0
     → (let edit : Edit = record { no = n; deed = AddIncoming it format longest description } in IsMadeBy (edit ∷ []) r (change.Start it.now format longest description.now count))
 unfolding apply
 made_by_begin r it format longest description count n free first =
-    let is = free_is r.limits (length r.incoming) n (no_of r side.Incoming it.now) free in
+    let is = new_is r.limits (length r.incoming) n (file_number r side.Incoming it.now) free in
     let f : Incoming = new_incoming it.now format longest description.now in
     let s : Register = record r { incoming = r.incoming ++ f ∷ [] } in
     record {
@@ -111,7 +111,7 @@ record Here (r : Register) (header : Incoming) (count n : ℕ) (before : List In
   same : f.identity ≡ header.identity
   starts : started r header count ≡ mapped (with_files r) (mapped (λ y. before ++ y ∷ after) (gone_on header count f f.state))
 
-here : (r : Register) (header : Incoming) (count n : ℕ) (before : List Incoming) (f : Incoming) (after : List Incoming) → no_of r side.Incoming header.identity ≡ Some n
+here : (r : Register) (header : Incoming) (count n : ℕ) (before : List Incoming) (f : Incoming) (after : List Incoming) → file_number r side.Incoming header.identity ≡ Some n
     → IsPlaced r.incoming n before f after
     → Here r header count n before f after
 here r header count n before f after some placed =
@@ -152,24 +152,24 @@ moves_on : (header : Incoming) (count : ℕ) (f : Incoming) (state : IncomingSta
 moves_on header count f Open h = (refl, cond-false (nat_lt (length f.rows) count) _ _ (not_more (length f.rows) count h))
 moves_on header count f Whole h = absurd (let no_such = h in cc)
 
-pub unfit_start : (r : Register) (it : Identity) (format : Format) (longest : ℕ) (description : List ℕ) (count n : ℕ) (place : Place)
-    → IsArrivalOf r it (arrival.Known n place) → goes_on place count ≡ false
+pub unfit_start : (r : Register) (it : Identity) (format : Format) (longest : ℕ) (description : List ℕ) (count n : ℕ) (progress : IncomingProgress)
+    → IsIncomingAllocationOf r it (incoming_allocation.Known n progress) → goes_on progress count ≡ false
     → apply r (change.Start it format longest description count) ≡ Err Unfit
 unfolding apply
-unfit_start r it format longest description count n place (some, (before, f, after, placed, is)) off =
+unfit_start r it format longest description count n progress (some, (before, f, after, placed, is)) off =
     let header = new_incoming it format longest description in
     (here r header count n before f after some placed).starts
-    ∙ ap (λ (x : Result Incoming Cause). mapped (with_files r) (mapped (λ y. before ++ y ∷ after) x)) (stays_off header count f f.state (sym (ap (λ (p : Place). goes_on p count) is) ∙ off))
+    ∙ ap (λ (x : Result Incoming Cause). mapped (with_files r) (mapped (λ y. before ++ y ∷ after) x)) (stays_off header count f f.state (sym (ap (λ (p : IncomingProgress). goes_on p count) is) ∙ off))
 
-pub made_by_go_on : (r : Register) (it : Bor Identity) (format : Format) (longest : ℕ) (description : Bor Words) (count n : ℕ) (place : Place)
-    → IsArrivalOf r it.now (arrival.Known n place) → goes_on place count ≡ true
+pub made_by_go_on : (r : Register) (it : Bor Identity) (format : Format) (longest : ℕ) (description : Bor Words) (count n : ℕ) (progress : IncomingProgress)
+    → IsIncomingAllocationOf r it.now (incoming_allocation.Known n progress) → goes_on progress count ≡ true
     → (let header : Edit = record { no = n; deed = SetHeader format longest description } in let rest : Edit = record { no = n; deed = CutRows count } in
     IsMadeBy (header ∷ rest ∷ []) r (change.Start it.now format longest description.now count))
 unfolding apply
-made_by_go_on r it format longest description count n place (some, (before, f, after, placed, is)) on =
+made_by_go_on r it format longest description count n progress (some, (before, f, after, placed, is)) on =
     let header = new_incoming it.now format longest description.now in
     let h = here r header count n before f after some placed in
-    let goes = moves_on header count f f.state (sym (ap (λ (p : Place). goes_on p count) is) ∙ on) in
+    let goes = moves_on header count f f.state (sym (ap (λ (p : IncomingProgress). goes_on p count) is) ∙ on) in
     let g : Incoming = record f { format = format; longest = longest; description = description.now } in
     let mid : Register = record r { incoming = before ++ g ∷ after } in
     let last : Incoming = record g { rows = take count f.rows } in

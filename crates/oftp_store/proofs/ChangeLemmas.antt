@@ -1,35 +1,36 @@
 -- What the changes of one file by its number make of a register.
-use Rattle.std.proofs.Common.{◌≡◌, ◌≤◌, ◌+◌, ℕ, zero, suc, true, false, cond, List, [], ◌∷◌, ◌++◌, length, Option, Some, None, Result, Ok, Err, refl, sym, ap, subst, ◌∙◌, arith}
+use Rattle.std.proofs.Common.{◌≡◌, ◌≤◌, ◌+◌, ◌&&◌, ◌||◌, ℕ, zero, suc, nat_le, Bool, true, false, cond, List, [], ◌∷◌, ◌++◌, length, Option, Some, None, Result, Ok, Err, refl, sym, ap, subst, ◌∙◌, arith}
+use Rattle.std.proofs.lemmas.Bool.Decides.{nat_tests}
 use Rattle.oftp_register.specs.declared.change.Cause.{Cause}
 use Rattle.oftp_register.specs.declared.change.Cause.TheVariants.{Unknown, State as Unfit}
 use Rattle.oftp_register.specs.Register.{Register, Incoming, Issued, Outgoing}
-use Rattle.oftp_register.specs.Changes.{apply, at_number, if_open, if_unanswered, issued, issued_on, mapped, on_incoming, sent, sent_as, sent_of}
+use Rattle.oftp_register.specs.Changes.{apply, at_number, closed, closing, given_up, handed, if_open, if_unanswered, is_closing, is_waiting, issued, issued_on, kept, mapped, marked, on_incoming, on_outgoing, refused, reopened, sent, sent_as, sent_of}
+use Rattle.oftp_register.specs.declared.change.Change.{Change}
 use Rattle.oftp_register.specs.declared.change.Change.TheVariants as change
+use Rattle.oftp_register.specs.declared.entries.Side.TheVariants as side
 use Rattle.oftp_register.specs.declared.entry.IncomingState.{IncomingState}
 use Rattle.oftp_register.specs.declared.entry.IncomingState.TheVariants.{Open, Whole}
+use Rattle.oftp_register.specs.declared.entry.OutgoingState.{OutgoingState}
+use Rattle.oftp_register.specs.declared.entry.OutgoingState.TheVariants.{Closing, Handed, Refused, Waiting}
 use Rattle.std.proofs.Common.{Bor}
 use Rattle.std.specs.Option.{option_map}
 use Rattle.oftp_wire.specs.declared.field.Text.{Text as Words}
 use Rattle.oftp_register.specs.declared.entry.Dispatch.{Dispatch}
 use Rattle.oftp_register.specs.declared.entry.Dispatch.TheVariants.{Due, Sent}
 use Rattle.oftp_register.specs.declared.entry.ResponseKind.{ResponseKind}
-use Rattle.oftp_store.specs.declared.looks.place.Answered.{Answered}
-use Rattle.oftp_store.specs.declared.looks.place.Place.{Place}
+use Rattle.oftp_store.specs.declared.queries.progress.ResponseProgress.{ResponseProgress}
+use Rattle.oftp_store.specs.declared.queries.progress.IncomingProgress.{IncomingProgress}
 use Rattle.oftp_register.specs.LookUps.{entry_at}
 use Rattle.oftp_tables.proofs.SpotLemmas.{Spot, changed_past, changed_there, past, spot, there, zeroth}
-use Rattle.oftp_store.specs.Advances.{change_of, edits_of, more_rows}
-use Rattle.oftp_store.specs.Edits.{AreEdited, IsEdited}
+use Rattle.oftp_store.specs.Commits.{NeedsFile, incoming_files, outgoing_files}
+use Rattle.oftp_store.specs.Edits.{AreEdited, IsDone}
 use Rattle.oftp_store.specs.Reads.{IsPlaced, IsToldOf}
-use Rattle.oftp_store.specs.Places.{answered_of, dispatch_of, is_answerable, is_due_response, is_sendable, place_of, stage_of}
-use Rattle.oftp_store.specs.Steps.{change_by, is_allowed, mark_after, state_after, stepped}
+use Rattle.oftp_store.specs.FileProgress.{response_progress_of, dispatch_of, is_answerable, is_answerable_in, is_due_response, is_open, is_sendable, is_unanswered, incoming_progress_of, outgoing_progress_of}
 use Rattle.oftp_store.specs.declared.changes.edit.Edit.{Edit}
-use Rattle.oftp_store.specs.declared.changes.arrival.Advance.{Advance}
-use Rattle.oftp_store.specs.declared.changes.arrival.Advance.TheVariants.{Keep, Close, GiveUp}
-use Rattle.oftp_store.specs.declared.changes.edit.Deed.TheVariants.{AddIssued, CutRows, SetOutgoing, SetSent, SetWhole}
-use Rattle.oftp_store.specs.declared.changes.step.Step.{Step}
-use Rattle.oftp_store.specs.declared.changes.step.Step.TheVariants.{Mark, BeginClosing, HandOver, Refuse, Reopen}
-use Rattle.oftp_store.specs.declared.looks.place.Stage.{Stage}
-use Rattle.oftp_store.proofs.CommitLemmas.{IsMadeBy}
+use Rattle.oftp_store.specs.declared.changes.edit.Deed.{Deed}
+use Rattle.oftp_store.specs.declared.changes.edit.Deed.TheVariants.{AddIssued, AddRows, CutRows, SetOutgoing, SetSent, SetWhole}
+use Rattle.oftp_store.specs.declared.queries.progress.OutgoingProgress.{OutgoingProgress}
+use Rattle.oftp_store.proofs.CommitLemmas.{IsMadeIf}
 use Rattle.oftp_store.proofs.NumberLemmas.{entry_placed}
 
 -- ---- the entry with a number
@@ -51,65 +52,13 @@ at_known g k xs before x after placed =
     let number : k ≡ suc (length before) = omega (arith, placed.number) in
     ap (λ m. at_number g m xs) number ∙ ap (at_number g (suc (length before))) placed.here ∙ changed_there g before x after
 
--- one edit
-pub edited_once : (edit : Edit) (r s : Register) → IsEdited edit r s → AreEdited (edit ∷ []) r s
-edited_once edit r s done = (s, done, refl)
-
--- ---- steps of an outgoing file
-
-step_is : (step : Step) (f : Outgoing) → stepped step f ≡ cond (is_allowed step f.state (length f.rows)) (Ok (record f { mark = mark_after step f.mark; state = state_after step f.state })) (Err Unfit)
-step_is (Mark covered) f = refl
-step_is BeginClosing f = refl
-step_is HandOver f = refl
-step_is (Refuse reason) f = refl
-step_is Reopen f = refl
-
-step_applies : (step : Step) (n : ℕ) (r : Register) → apply r (change_by n step) ≡ mapped (λ files. let s : Register = record r { outgoing = files } in s) (at_number (stepped step) n r.outgoing)
-unfolding apply
-step_applies (Mark covered) n r = refl
-step_applies BeginClosing n r = refl
-step_applies HandOver n r = refl
-step_applies (Refuse reason) n r = refl
-step_applies Reopen n r = refl
-
-pub unknown_step : (step : Step) (n : ℕ) (r : Register) → IsToldOf stage_of r.outgoing n None → apply r (change_by n step) ≡ Err Unknown
-unknown_step step n r none = step_applies step n r ∙ ap (mapped (λ files. let s : Register = record r { outgoing = files } in s)) (at_unknown (stepped step) n r.outgoing none)
-
-allowed_of : (step : Step) (f : Outgoing) (stage : Stage) → stage ≡ stage_of f → is_allowed step f.state (length f.rows) ≡ is_allowed step stage.state stage.rows
-allowed_of step f stage is = sym (ap (λ (s : Stage). is_allowed step s.state s.rows) is)
-
-pub unfit_step : (step : Step) (n : ℕ) (r : Register) (stage : Stage) → IsToldOf stage_of r.outgoing n (Some stage) → is_allowed step stage.state stage.rows ≡ false
-    → apply r (change_by n step) ≡ Err Unfit
-unfit_step step n r stage (before, f, after, placed, is) refused =
-    step_applies step n r
-    ∙ ap (mapped (λ files. let s : Register = record r { outgoing = files } in s))
-    (at_known (stepped step) n r.outgoing before f after placed
-    ∙ ap (mapped (λ y. before ++ y ∷ after))
-    (step_is step f ∙ ap (λ b. let g : Outgoing = record f { mark = mark_after step f.mark; state = state_after step f.state } in cond b (Ok g) (Err Unfit))
-    (allowed_of step f stage is ∙ refused)))
-
-pub made_by_step : (step : Step) (n : ℕ) (r : Register) (stage : Stage) → IsToldOf stage_of r.outgoing n (Some stage) → is_allowed step stage.state stage.rows ≡ true
-    → (let edit : Edit = record { no = n; deed = SetOutgoing (mark_after step stage.mark) (state_after step stage.state) } in IsMadeBy (edit ∷ []) r (change_by n step))
-made_by_step step n r stage (before, f, after, placed, is) allowed =
-    let g : Outgoing = record f { mark = mark_after step f.mark; state = state_after step f.state } in
-    let h : Outgoing = record f { mark = mark_after step stage.mark; state = state_after step stage.state } in
-    let same : g ≡ h = sym (ap (λ (s : Stage). let x : Outgoing = record f { mark = mark_after step s.mark; state = state_after step s.state } in x) is) in
-    let s : Register = record r { outgoing = before ++ h ∷ after } in
-    record {
-      now = s;
-      is =
-          step_applies step n r
-          ∙ ap (mapped (λ files. let s : Register = record r { outgoing = files } in s))
-          (at_known (stepped step) n r.outgoing before f after placed
-          ∙ ap (mapped (λ y. before ++ y ∷ after)) (step_is step f ∙ ap (λ b. cond b (Ok g) (Err Unfit)) (allowed_of step f stage is ∙ allowed) ∙ ap Ok same));
-      limits = refl;
-      edited = (s, record { before = before; file = f; after = after; here = placed.here; number = placed.number; was = tt; now = refl }, refl);
-    }
-
 -- ---- the changes of an incoming file
 
-pub unknown_in : (g : Incoming → Result Incoming Cause) (n : ℕ) (r : Register) → entry_at n r.incoming ≡ None → on_incoming g n r ≡ Err Unknown
-unknown_in g n r none = ap (mapped (λ files. let s : Register = record r { incoming = files } in s)) (at_unknown g n r.incoming none)
+-- without the file, such a change is unknown
+pub needs_incoming : (g : Incoming → Result Incoming Cause) (n : ℕ) (k : Change) → ((r : Register) → apply r k ≡ on_incoming g n r) → NeedsFile incoming_files n k
+needs_incoming g n k is = record {
+  unknown = λ r none. is r ∙ ap (mapped (λ files. let s : Register = record r { incoming = files } in s)) (at_unknown g n r.incoming none);
+}
 
 in_placed : (g : Incoming → Result Incoming Cause) (n : ℕ) (r : Register) (before : List Incoming) (f : Incoming) (after : List Incoming) (out : Result Incoming Cause)
     → IsPlaced r.incoming n before f after → g f ≡ out
@@ -117,172 +66,271 @@ in_placed : (g : Incoming → Result Incoming Cause) (n : ℕ) (r : Register) (b
 in_placed g n r before f after out placed is =
     ap (mapped (λ files. let s : Register = record r { incoming = files } in s)) (at_known g n r.incoming before f after placed ∙ ap (mapped (λ y. before ++ y ∷ after)) is)
 
-pub whole_in : (file_rows : Incoming → List (List ℕ)) (to : IncomingState) (n : ℕ) (r : Register) (rows : ℕ)
-    → (let place : Place = record { state = Whole; rows = rows } in IsToldOf place_of r.incoming n (Some place))
-    → on_incoming (λ f. if_open f (file_rows f) to f.state) n r ≡ Err Unfit
-whole_in file_rows to n r rows (before, f, after, placed, is) =
-    in_placed (λ f. if_open f (file_rows f) to f.state) n r before f after (Err Unfit) placed (ap (if_open f (file_rows f) to) (sym (ap (λ (p : Place). p.state) is)))
+-- edits make a change that the state of the file allows or not
+module _ (g : Incoming → Result Incoming Cause) (n : ℕ) (r : Register) (k : Change) (edits : List Edit) (before : List Incoming) (f : Incoming) (after : List Incoming) (h : Incoming)
+    (placed : IsPlaced r.incoming n before f after) (applies : apply r k ≡ on_incoming g n r) where
+  abbrev changed : Register
+  changed = record r { incoming = before ++ h ∷ after }
 
-open_in : (file_rows : Incoming → List (List ℕ)) (to : IncomingState) (n : ℕ) (r : Register) (before : List Incoming) (f : Incoming) (after : List Incoming)
-    → IsPlaced r.incoming n before f after → f.state ≡ Open
-    → on_incoming (λ f. if_open f (file_rows f) to f.state) n r ≡ Ok (record r { incoming = before ++ (record f { rows = file_rows f; state = to }) ∷ after })
-open_in file_rows to n r before f after placed is_open =
-    in_placed (λ f. if_open f (file_rows f) to f.state) n r before f after (Ok (record f { rows = file_rows f; state = to })) placed (ap (if_open f (file_rows f) to) is_open)
+  made_in : (allowed : Bool) → g f ≡ cond allowed (Ok h) (Err Unfit) → (allowed ≡ true → AreEdited edits r changed) → IsMadeIf allowed edits r k
+  made_in true is edited = record { now = changed; is = applies ∙ in_placed g n r before f after (Ok h) placed is; limits = refl; edited = edited }
+  made_in false is edited = record { now = changed; is = applies ∙ in_placed g n r before f after (Err Unfit) placed is; limits = refl; edited = edited }
 
--- what an advance makes of the rows of a file that is open, and its state then
+-- more of an open file is awaited
 
-abbrev rows_after : Advance → Incoming → List (List ℕ)
-rows_after (Keep rows) f = f.rows ++ rows.now
-rows_after (Close rows) f = f.rows ++ rows.now
-rows_after GiveUp f = []
+open_or_not : (f : Incoming) (rows : List (List ℕ)) (to state : IncomingState) → if_open f rows to state ≡ cond (is_open state) (Ok (record f { rows = rows; state = to })) (Err Unfit)
+open_or_not f rows to Open = refl
+open_or_not f rows to Whole = refl
 
-abbrev moved_to : Advance → IncomingState
-moved_to (Keep rows) = Open
-moved_to (Close rows) = Whole
-moved_to GiveUp = Open
+open_is : (state : IncomingState) → is_open state ≡ true → state ≡ Open
+open_is Open h = refl
+open_is Whole h = absurd (let no_such = h in cc)
 
-advance_applies : (advance : Advance) (n : ℕ) (r : Register) → apply r (change_of n advance) ≡ on_incoming (λ f. if_open f (rows_after advance f) (moved_to advance) f.state) n r
+-- rows of a file in its progress are others, and its state stays
+rows_edited : (r : Register) (n : ℕ) (deed : Deed) (rows : List (List ℕ)) (before : List Incoming) (f : Incoming) (after : List Incoming) → f.state ≡ Open
+    → IsDone n deed r (record r { incoming = before ++ (record f { rows = rows }) ∷ after })
+    → (let edit : Edit = record { no = n; deed = deed } in AreEdited (edit ∷ []) r (record r { incoming = before ++ (record f { rows = rows; state = Open }) ∷ after }))
+rows_edited r n deed rows before f after is_open done =
+    (_, done, ap (λ st. let q : Register = record r { incoming = before ++ (record f { rows = rows; state = st }) ∷ after } in q) is_open)
+
+-- more rows of a file that has so many
+abbrev pub more : ℕ → ℕ → Bor (List (List ℕ)) → Edit
+more n from rows = record { no = n; deed = AddRows side.Incoming from rows }
+
+pub needs_keep : (n : ℕ) (rows : List (List ℕ)) → NeedsFile incoming_files n (change.Keep n rows)
 unfolding apply
-advance_applies (Keep rows) n r = refl
-advance_applies (Close rows) n r = refl
-advance_applies GiveUp n r = refl
+needs_keep n rows = needs_incoming (kept rows) n (change.Keep n rows) (λ r. refl)
 
-pub unknown_advance : (advance : Advance) (n : ℕ) (r : Register) → IsToldOf place_of r.incoming n None → apply r (change_of n advance) ≡ Err Unknown
-unknown_advance advance n r none = advance_applies advance n r ∙ unknown_in (λ f. if_open f (rows_after advance f) (moved_to advance) f.state) n r none
+pub made_by_keep : (n : ℕ) (r : Register) (rows : Bor (List (List ℕ))) (progress : IncomingProgress) → IsToldOf incoming_progress_of r.incoming n (Some progress)
+    → IsMadeIf (is_open progress.state) (more n progress.rows rows ∷ []) r (change.Keep n rows.now)
+unfolding apply
+made_by_keep n r rows progress (before, f, after, placed, is) =
+    let all : List (List ℕ) = f.rows ++ rows.now in
+    subst (λ (p : IncomingProgress). IsMadeIf (is_open p.state) (more n p.rows rows ∷ []) r (change.Keep n rows.now)) (sym is)
+    (made_in (kept rows.now) n r (change.Keep n rows.now) (more n (length f.rows) rows ∷ []) before f after (record f { rows = all; state = Open }) placed refl (is_open f.state)
+    (open_or_not f all Open f.state)
+    (λ h. rows_edited r n (AddRows side.Incoming (length f.rows) rows) all before f after (open_is f.state h)
+    (record { before = before; file = f; after = after; here = placed.here; number = placed.number; was = refl; now = refl })))
 
-pub whole_advance : (advance : Advance) (n : ℕ) (r : Register) (rows : ℕ) → (let place : Place = record { state = Whole; rows = rows } in IsToldOf place_of r.incoming n (Some place))
-    → apply r (change_of n advance) ≡ Err Unfit
-whole_advance advance n r rows told = advance_applies advance n r ∙ whole_in (rows_after advance) (moved_to advance) n r rows told
+pub needs_close : (n : ℕ) (rows : List (List ℕ)) → NeedsFile incoming_files n (change.Close n rows)
+unfolding apply
+needs_close n rows = needs_incoming (closed rows) n (change.Close n rows) (λ r. refl)
 
--- the edits of an advance of a file that is open
-edited_by : (advance : Advance) (n : ℕ) (r : Register) (before : List Incoming) (f : Incoming) (after : List Incoming) → IsPlaced r.incoming n before f after → f.state ≡ Open
-    → AreEdited (edits_of n (length f.rows) advance) r (record r { incoming = before ++ (record f { rows = rows_after advance f; state = moved_to advance }) ∷ after })
-edited_by (Keep rows) n r before f after placed is_open =
-    edited_once (more_rows n (length f.rows) rows) r _ (record {
-      before = before;
-      file = f;
-      after = after;
-      here = placed.here;
-      number = placed.number;
-      was = refl;
-      now = ap (λ st. let q : Register = record r { incoming = before ++ (record f { rows = f.rows ++ rows.now; state = st }) ∷ after } in q) (sym is_open);
-    })
-edited_by (Close rows) n r before f after placed is_open =
+pub made_by_close : (n : ℕ) (r : Register) (rows : Bor (List (List ℕ))) (progress : IncomingProgress) → IsToldOf incoming_progress_of r.incoming n (Some progress)
+    → (let whole : Edit = record { no = n; deed = SetWhole } in IsMadeIf (is_open progress.state) (more n progress.rows rows ∷ whole ∷ []) r (change.Close n rows.now))
+unfolding apply
+made_by_close n r rows progress (before, f, after, placed, is) =
+    let whole : Edit = record { no = n; deed = SetWhole } in
     let g : Incoming = record f { rows = f.rows ++ rows.now } in
-    let mid : Register = record r { incoming = before ++ g ∷ after } in (
+    let mid : Register = record r { incoming = before ++ g ∷ after } in
+    subst (λ (p : IncomingProgress). IsMadeIf (is_open p.state) (more n p.rows rows ∷ whole ∷ []) r (change.Close n rows.now)) (sym is)
+    (made_in (closed rows.now) n r (change.Close n rows.now) (more n (length f.rows) rows ∷ whole ∷ []) before f after (record g { state = Whole }) placed refl (is_open f.state)
+    (open_or_not f (f.rows ++ rows.now) Whole f.state)
+    (λ h. (
       mid,
       record { before = before; file = f; after = after; here = placed.here; number = placed.number; was = refl; now = refl },
-      edited_once (record { no = n; deed = SetWhole }) mid _ (record { before = before; file = g; after = after; here = refl; number = placed.number; was = tt; now = refl }),
-    )
-edited_by GiveUp n r before f after placed is_open =
-    edited_once (record { no = n; deed = CutRows 0 }) r _ (record {
-      before = before;
-      file = f;
-      after = after;
-      here = placed.here;
-      number = placed.number;
-      was = tt;
-      now = ap (λ st. let q : Register = record r { incoming = before ++ (record f { rows = []; state = st }) ∷ after } in q) (sym is_open);
-    })
+      (
+        record r { incoming = before ++ (record g { state = Whole }) ∷ after },
+        record { before = before; file = g; after = after; here = refl; number = placed.number; was = tt; now = refl },
+        refl,
+      ),
+    )))
 
-pub made_by_advance : (advance : Advance) (n : ℕ) (r : Register) (count : ℕ) → (let place : Place = record { state = Open; rows = count } in IsToldOf place_of r.incoming n (Some place))
-    → IsMadeBy (edits_of n count advance) r (change_of n advance)
-made_by_advance advance n r count (before, f, after, placed, is) =
-    let is_open : f.state ≡ Open = sym (ap (λ (p : Place). p.state) is) in
-    let s : Register = record r { incoming = before ++ (record f { rows = rows_after advance f; state = moved_to advance }) ∷ after } in
+pub needs_give_up : (n : ℕ) → NeedsFile incoming_files n (change.GiveUp n)
+unfolding apply
+needs_give_up n = needs_incoming given_up n (change.GiveUp n) (λ r. refl)
+
+pub made_by_give_up : (n : ℕ) (r : Register) (progress : IncomingProgress) → IsToldOf incoming_progress_of r.incoming n (Some progress)
+    → (let none : Edit = record { no = n; deed = CutRows 0 } in IsMadeIf (is_open progress.state) (none ∷ []) r (change.GiveUp n))
+unfolding apply
+made_by_give_up n r progress (before, f, after, placed, is) =
+    let none : Edit = record { no = n; deed = CutRows 0 } in
+    subst (λ (p : IncomingProgress). IsMadeIf (is_open p.state) (none ∷ []) r (change.GiveUp n)) (sym is)
+    (made_in given_up n r (change.GiveUp n) (none ∷ []) before f after (record f { rows = []; state = Open }) placed refl (is_open f.state) (open_or_not f [] Open f.state)
+    (λ h. rows_edited r n (CutRows 0) [] before f after (open_is f.state h)
+    (record { before = before; file = f; after = after; here = placed.here; number = placed.number; was = tt; now = refl })))
+
+-- ---- the changes of an outgoing file
+
+-- without the file, such a change is unknown
+needs_outgoing : (g : Outgoing → Result Outgoing Cause) (n : ℕ) (k : Change) → ((r : Register) → apply r k ≡ on_outgoing g n r) → NeedsFile outgoing_files n k
+needs_outgoing g n k is = record {
+  unknown = λ r none. is r ∙ ap (mapped (λ files. let s : Register = record r { outgoing = files } in s)) (at_unknown g n r.outgoing none);
+}
+
+out_placed : (g : Outgoing → Result Outgoing Cause) (n : ℕ) (r : Register) (before : List Outgoing) (f : Outgoing) (after : List Outgoing) (out : Result Outgoing Cause)
+    → IsPlaced r.outgoing n before f after → g f ≡ out
+    → on_outgoing g n r ≡ mapped (λ files. let s : Register = record r { outgoing = files } in s) (mapped (λ y. before ++ y ∷ after) out)
+out_placed g n r before f after out placed is =
+    ap (mapped (λ files. let s : Register = record r { outgoing = files } in s)) (at_known g n r.outgoing before f after placed ∙ ap (mapped (λ y. before ++ y ∷ after)) is)
+
+-- mark and state of a file
+abbrev pub set : ℕ → ℕ → OutgoingState → Edit
+set n mark to = record { no = n; deed = SetOutgoing mark to }
+
+-- a change of the mark and the state of a file by what is told of it
+module _ (g : Outgoing → Result Outgoing Cause) (allowed : OutgoingProgress → Bool) (mark : OutgoingProgress → ℕ) (to : OutgoingProgress → OutgoingState)
+    (is : (f : Outgoing) → g f ≡ cond (allowed (outgoing_progress_of f)) (Ok (record f { mark = mark (outgoing_progress_of f); state = to (outgoing_progress_of f) })) (Err Unfit)) where
+  set_if : (n : ℕ) (r : Register) (k : Change) (before : List Outgoing) (f : Outgoing) (after : List Outgoing) → IsPlaced r.outgoing n before f after → apply r k ≡ on_outgoing g n r
+      → (may : Bool) → (let h : Outgoing = record f { mark = mark (outgoing_progress_of f); state = to (outgoing_progress_of f) } in g f ≡ cond may (Ok h) (Err Unfit))
+      → IsMadeIf may (set n (mark (outgoing_progress_of f)) (to (outgoing_progress_of f)) ∷ []) r k
+  set_if n r k before f after placed applies true same =
+      let h : Outgoing = record f { mark = mark (outgoing_progress_of f); state = to (outgoing_progress_of f) } in
+      let s : Register = record r { outgoing = before ++ h ∷ after } in
+      record {
+        now = s;
+        is = applies ∙ out_placed g n r before f after (Ok h) placed same;
+        limits = refl;
+        edited = λ yes. (s, record { before = before; file = f; after = after; here = placed.here; number = placed.number; was = tt; now = refl }, refl);
+      }
+  set_if n r k before f after placed applies false same =
+      record { now = r; is = applies ∙ out_placed g n r before f after (Err Unfit) placed same; limits = refl; edited = λ yes. absurd (let no_such = yes in cc) }
+
+  made_out : (n : ℕ) (r : Register) (k : Change) (progress : OutgoingProgress) → IsToldOf outgoing_progress_of r.outgoing n (Some progress) → apply r k ≡ on_outgoing g n r
+      → IsMadeIf (allowed progress) (set n (mark progress) (to progress) ∷ []) r k
+  made_out n r k progress (before, f, after, placed, told) applies =
+      subst (λ (s : OutgoingProgress). IsMadeIf (allowed s) (set n (mark s) (to s) ∷ []) r k) (sym told)
+      (set_if n r k before f after placed applies (allowed (outgoing_progress_of f)) (is f))
+
+pub needs_mark : (n rows : ℕ) → NeedsFile outgoing_files n (change.Mark n rows)
+unfolding apply
+needs_mark n rows = needs_outgoing (marked rows) n (change.Mark n rows) (λ r. refl)
+
+-- as many rows are covered as the change says, where the file has so many
+pub made_by_mark : (n rows covered : ℕ) (r : Register) (progress : OutgoingProgress) → (rows ≤ progress.rows → covered ≡ rows) → IsToldOf outgoing_progress_of r.outgoing n (Some progress)
+    → IsMadeIf (is_waiting progress.state && nat_le rows progress.rows) (set n covered progress.state ∷ []) r (change.Mark n rows)
+unfolding apply
+made_by_mark n rows covered r progress same told =
+    let made = made_out (marked rows) (λ s. is_waiting s.state && nat_le rows s.rows) (λ s. rows) (λ s. s.state) (λ f. refl) n r (change.Mark n rows) progress told refl in
     record {
-      now = s;
-      is = advance_applies advance n r ∙ open_in (rows_after advance) (moved_to advance) n r before f after placed is_open;
-      limits = refl;
-      edited = subst (λ k. AreEdited (edits_of n k advance) r s) (sym (ap (λ (p : Place). p.rows) is)) (edited_by advance n r before f after placed is_open);
+      now = made.now;
+      is = made.is;
+      limits = made.limits;
+      edited = λ h. subst (λ m. AreEdited (set n m progress.state ∷ []) r made.now) (sym (same (few (is_waiting progress.state) h))) (made.edited h);
     }
+  where
+    few : (b : Bool) → (b && nat_le rows progress.rows) ≡ true → rows ≤ progress.rows
+    few true h = let le : nat_le rows progress.rows ≡ true = h in grind (arith, nat_tests, le)
+    few false h = absurd (let no_such = h in cc)
+
+pub needs_begin_closing : (n : ℕ) → NeedsFile outgoing_files n (change.BeginClosing n)
+unfolding apply
+needs_begin_closing n = needs_outgoing closing n (change.BeginClosing n) (λ r. refl)
+
+pub made_by_begin_closing : (n : ℕ) (r : Register) (progress : OutgoingProgress) → IsToldOf outgoing_progress_of r.outgoing n (Some progress)
+    → IsMadeIf (is_waiting progress.state) (set n progress.mark Closing ∷ []) r (change.BeginClosing n)
+unfolding apply
+made_by_begin_closing n r progress told =
+    made_out closing (λ s. is_waiting s.state) (λ s. s.mark) (λ s. Closing) (λ f. refl) n r (change.BeginClosing n) progress told refl
+
+pub needs_hand_over : (n : ℕ) → NeedsFile outgoing_files n (change.HandOver n)
+unfolding apply
+needs_hand_over n = needs_outgoing handed n (change.HandOver n) (λ r. refl)
+
+pub made_by_hand_over : (n : ℕ) (r : Register) (progress : OutgoingProgress) → IsToldOf outgoing_progress_of r.outgoing n (Some progress)
+    → IsMadeIf (is_closing progress.state) (set n progress.mark Handed ∷ []) r (change.HandOver n)
+unfolding apply
+made_by_hand_over n r progress told =
+    made_out handed (λ s. is_closing s.state) (λ s. s.mark) (λ s. Handed) (λ f. refl) n r (change.HandOver n) progress told refl
+
+pub needs_refuse : (n reason : ℕ) → NeedsFile outgoing_files n (change.Refuse n reason)
+unfolding apply
+needs_refuse n reason = needs_outgoing (refused reason) n (change.Refuse n reason) (λ r. refl)
+
+pub made_by_refuse : (n reason : ℕ) (r : Register) (progress : OutgoingProgress) → IsToldOf outgoing_progress_of r.outgoing n (Some progress)
+    → IsMadeIf (is_waiting progress.state || is_closing progress.state) (set n progress.mark (Refused reason) ∷ []) r (change.Refuse n reason)
+unfolding apply
+made_by_refuse n reason r progress told =
+    made_out (refused reason) (λ s. is_waiting s.state || is_closing s.state) (λ s. s.mark) (λ s. Refused reason) (λ f. refl) n r (change.Refuse n reason) progress told refl
+
+pub needs_reopen : (n : ℕ) → NeedsFile outgoing_files n (change.Reopen n)
+unfolding apply
+needs_reopen n = needs_outgoing reopened n (change.Reopen n) (λ r. refl)
+
+pub made_by_reopen : (n : ℕ) (r : Register) (progress : OutgoingProgress) → IsToldOf outgoing_progress_of r.outgoing n (Some progress)
+    → IsMadeIf (is_closing progress.state) (set n 0 Waiting ∷ []) r (change.Reopen n)
+unfolding apply
+made_by_reopen n r progress told =
+    made_out reopened (λ s. is_closing s.state) (λ s. 0) (λ s. Waiting) (λ f. refl) n r (change.Reopen n) progress told refl
 
 -- ---- the response to an incoming file
 
--- what a response makes of a file in a state, with a response or without
-abbrev answers_so : Issued → Incoming → IncomingState → Option Issued → Result Incoming Cause
-answers_so x f Open o = Err Unfit
-answers_so x f Whole o = if_unanswered x f o
-
-so_is : (x : Issued) (f : Incoming) (state : IncomingState) → issued_on x f state ≡ answers_so x f state f.response
-so_is x f Open = refl
-so_is x f Whole = refl
-
-pub unknown_issue : (n : ℕ) (r : Register) (kind : ResponseKind) (reason : ℕ) (text : List ℕ) → IsToldOf answered_of r.incoming n None → apply r (change.Issue n kind reason text) ≡ Err Unknown
+pub needs_issue : (n : ℕ) (kind : ResponseKind) (reason : ℕ) (text : List ℕ) → NeedsFile incoming_files n (change.Issue n kind reason text)
 unfolding apply
-unknown_issue n r kind reason text none = unknown_in (issued (record { kind = kind; reason = reason; text = text; dispatch = Due })) n r none
+needs_issue n kind reason text =
+    needs_incoming (issued (record { kind = kind; reason = reason; text = text; dispatch = Due })) n (change.Issue n kind reason text) (λ r. refl)
 
-pub unfit_issue : (n : ℕ) (r : Register) (kind : ResponseKind) (reason : ℕ) (text : List ℕ) (answered : Answered) → IsToldOf answered_of r.incoming n (Some answered)
-    → is_answerable answered ≡ false → apply r (change.Issue n kind reason text) ≡ Err Unfit
+pub made_by_issue : (n : ℕ) (r : Register) (kind : ResponseKind) (reason : ℕ) (text : Bor Words) (progress : ResponseProgress) → IsToldOf response_progress_of r.incoming n (Some progress)
+    → (let edit : Edit = record { no = n; deed = AddIssued kind reason text } in IsMadeIf (is_answerable progress) (edit ∷ []) r (change.Issue n kind reason text.now))
 unfolding apply
-unfit_issue n r kind reason text answered (before, f, after, placed, is) refused =
-    in_placed (issued x) n r before f after (Err Unfit) placed (so_is x f f.state ∙ go f.state f.response (sym (ap is_answerable is) ∙ refused))
+made_by_issue n r kind reason text progress (before, f, after, placed, is) =
+    subst (λ (a : ResponseProgress). IsMadeIf (is_answerable a) (edit ∷ []) r (change.Issue n kind reason text.now)) (sym is)
+    (made_in (issued x) n r (change.Issue n kind reason text.now) (edit ∷ []) before f after (record f { response = Some x }) placed refl (is_answerable (response_progress_of f))
+    (answers f.state)
+    (λ h. (_, record { before = before; file = f; after = after; here = placed.here; number = placed.number; was = unanswered f.state f.response h; now = refl }, refl)))
   where
     x : Issued
-    x = record { kind = kind; reason = reason; text = text; dispatch = Due }
+    x = record { kind = kind; reason = reason; text = text.now; dispatch = Due }
 
-    go : (state : IncomingState) (o : Option Issued) → (let a : Answered = record { state = state; response = option_map dispatch_of o } in is_answerable a ≡ false)
-        → answers_so x f state o ≡ Err Unfit
-    go Open o h = refl
-    go Whole None h = absurd (let no_such = h in cc)
-    go Whole (Some other) h = refl
+    edit : Edit
+    edit = record { no = n; deed = AddIssued kind reason text }
 
-pub made_by_issue : (n : ℕ) (r : Register) (kind : ResponseKind) (reason : ℕ) (text : Bor Words) (answered : Answered) → IsToldOf answered_of r.incoming n (Some answered)
-    → is_answerable answered ≡ true
-    → (let edit : Edit = record { no = n; deed = AddIssued kind reason text } in IsMadeBy (edit ∷ []) r (change.Issue n kind reason text.now))
+    whole : (o : Option Issued) → if_unanswered x f o ≡ cond (is_unanswered (option_map dispatch_of o)) (Ok (record f { response = Some x })) (Err Unfit)
+    whole None = refl
+    whole (Some other) = refl
+
+    answers : (state : IncomingState) → issued_on x f state ≡ cond (is_answerable_in state (option_map dispatch_of f.response)) (Ok (record f { response = Some x })) (Err Unfit)
+    answers Open = refl
+    answers Whole = whole f.response
+
+    unanswered : (state : IncomingState) (o : Option Issued) → is_answerable_in state (option_map dispatch_of o) ≡ true → o ≡ None
+    unanswered Open o h = absurd (let no_such = h in cc)
+    unanswered Whole None h = refl
+    unanswered Whole (Some other) h = absurd (let no_such = h in cc)
+
+pub needs_send : (n : ℕ) → NeedsFile incoming_files n (change.Send n)
 unfolding apply
-made_by_issue n r kind reason text answered (before, f, after, placed, is) allowed =
-    let x : Issued = record { kind = kind; reason = reason; text = text.now; dispatch = Due } in
-    let parts = go f.state f.response (sym (ap is_answerable is) ∙ allowed) in
-    let s : Register = record r { incoming = before ++ (record f { response = Some x }) ∷ after } in
-    record {
-      now = s;
-      is = in_placed (issued x) n r before f after (Ok (record f { response = Some x })) placed (ap (issued_on x f) parts.0 ∙ ap (if_unanswered x f) parts.1);
-      limits = refl;
-      edited = (s, record { before = before; file = f; after = after; here = placed.here; number = placed.number; was = parts.1; now = refl }, refl);
-    }
+needs_send n = needs_incoming sent n (change.Send n) (λ r. refl)
+
+pub made_by_send : (n : ℕ) (r : Register) (progress : ResponseProgress) → IsToldOf response_progress_of r.incoming n (Some progress)
+    → (let edit : Edit = record { no = n; deed = SetSent } in IsMadeIf (is_sendable progress) (edit ∷ []) r (change.Send n))
+unfolding apply
+made_by_send n r progress (before, f, after, placed, is) =
+    subst (λ (a : ResponseProgress). IsMadeIf (is_sendable a) (edit ∷ []) r (change.Send n)) (sym is)
+    (made_in sent n r (change.Send n) (edit ∷ []) before f after (record f { response = option_map sent_now f.response }) placed refl (is_sendable (response_progress_of f))
+    (sends f.response)
+    (λ h. let x = issued_is f.response h in (
+      _,
+      (
+        x.0,
+        record {
+          before = before;
+          file = f;
+          after = after;
+          here = placed.here;
+          number = placed.number;
+          was = x.1;
+          now = ap (λ o. let q : Register = record r { incoming = before ++ (record f { response = option_map sent_now o }) ∷ after } in q) x.1;
+        },
+      ),
+      refl,
+    )))
   where
-    go : (state : IncomingState) (o : Option Issued) → (let a : Answered = record { state = state; response = option_map dispatch_of o } in is_answerable a ≡ true) → (state ≡ Whole) × (o ≡ None)
-    go Open o h = absurd (let no_such = h in cc)
-    go Whole None h = (refl, refl)
-    go Whole (Some other) h = absurd (let no_such = h in cc)
+    edit : Edit
+    edit = record { no = n; deed = SetSent }
 
-pub unknown_send : (n : ℕ) (r : Register) → IsToldOf answered_of r.incoming n None → apply r (change.Send n) ≡ Err Unknown
-unfolding apply
-unknown_send n r none = unknown_in sent n r none
+    sent_now : Issued → Issued
+    sent_now x = record x { dispatch = Sent }
 
-pub unfit_send : (n : ℕ) (r : Register) (answered : Answered) → IsToldOf answered_of r.incoming n (Some answered) → is_sendable answered ≡ false → apply r (change.Send n) ≡ Err Unfit
-unfolding apply
-unfit_send n r answered (before, f, after, placed, is) refused = in_placed sent n r before f after (Err Unfit) placed (go f.response (sym (ap is_sendable is) ∙ refused))
-  where
-    due : (x : Issued) (d : Dispatch) → is_due_response (Some d) ≡ false → mapped (λ answer. let g : Incoming = record f { response = Some answer } in g) (sent_as x d) ≡ Err Unfit
-    due x Due h = absurd (let no_such = h in cc)
-    due x Sent h = refl
+    dispatched : (x : Issued) (d : Dispatch)
+        → mapped (λ answer. let g : Incoming = record f { response = Some answer } in g) (sent_as x d) ≡ cond (is_due_response (Some d)) (Ok (record f { response = Some (sent_now x) })) (Err Unfit)
+    dispatched x Due = refl
+    dispatched x Sent = refl
 
-    go : (o : Option Issued) → (let a : Answered = record { state = f.state; response = option_map dispatch_of o } in is_sendable a ≡ false) → sent_of f o ≡ Err Unfit
-    go None h = refl
-    go (Some x) h = due x x.dispatch h
+    sends : (o : Option Issued) → sent_of f o ≡ cond (is_due_response (option_map dispatch_of o)) (Ok (record f { response = option_map sent_now o })) (Err Unfit)
+    sends None = refl
+    sends (Some x) = dispatched x x.dispatch
 
-pub made_by_send : (n : ℕ) (r : Register) (answered : Answered) → IsToldOf answered_of r.incoming n (Some answered) → is_sendable answered ≡ true
-    → (let edit : Edit = record { no = n; deed = SetSent } in IsMadeBy (edit ∷ []) r (change.Send n))
-unfolding apply
-made_by_send n r answered (before, f, after, placed, is) allowed =
-    let part = go f.response (sym (ap is_sendable is) ∙ allowed) in
-    let x = part.0 in
-    let y : Issued = record x { dispatch = Sent } in
-    let s : Register = record r { incoming = before ++ (record f { response = Some y }) ∷ after } in
-    record {
-      now = s;
-      is = in_placed sent n r before f after (Ok (record f { response = Some y })) placed
-          (ap (sent_of f) part.1 ∙ ap (λ d. mapped (λ answer. let g : Incoming = record f { response = Some answer } in g) (sent_as x d)) part.2);
-      limits = refl;
-      edited = (s, (x, record { before = before; file = f; after = after; here = placed.here; number = placed.number; was = part.1; now = refl }), refl);
-    }
-  where
-    due : (x : Issued) (d : Dispatch) → is_due_response (Some d) ≡ true → d ≡ Due
-    due x Due h = refl
-    due x Sent h = absurd (let no_such = h in cc)
-
-    go : (o : Option Issued) → (let a : Answered = record { state = f.state; response = option_map dispatch_of o } in is_sendable a ≡ true) → (x : Issued) × (o ≡ Some x) × (x.dispatch ≡ Due)
-    go None h = absurd (let no_such = h in cc)
-    go (Some x) h = (x, refl, due x x.dispatch h)
+    issued_is : (o : Option Issued) → is_due_response (option_map dispatch_of o) ≡ true → (x : Issued) × (o ≡ Some x)
+    issued_is None h = absurd (let no_such = h in cc)
+    issued_is (Some x) h = (x, refl)

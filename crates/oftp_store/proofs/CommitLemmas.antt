@@ -1,5 +1,5 @@
 -- How look-ups and a transaction make a commit.
-use Rattle.std.proofs.Common.{List, All, ◌≡◌, ◌≤◌, ◌⊎◌, false, Result, Ok, Err, IsTrue, OnOk, OnErr, inl, inr, sym, ap, subst, ◌∙◌, arith}
+use Rattle.std.proofs.Common.{ℕ, List, length, All, ◌≡◌, ◌≤◌, ◌<◌, ◌^◌, ◌⊎◌, Bool, true, false, cond, Option, None, Result, Ok, Err, IsTrue, OnOk, OnErr, inl, inr, refl, sym, ap, subst, ◌∙◌, arith}
 use Rattle.sqlite.specs.Tree.{Trees}
 use Rattle.sqlite.specs.Effect.{Database}
 use Rattle.sqlite.specs.View.{doubt}
@@ -11,22 +11,25 @@ use Rattle.sqlite.proofs.Callers.{unchanged_then}
 use Rattle.oftp_vfile.specs.declared.format.Limits.{Limits}
 use Rattle.oftp_register.specs.declared.change.Change.{Change}
 use Rattle.oftp_register.specs.declared.change.Cause.{Cause}
+use Rattle.oftp_register.specs.declared.change.Cause.TheVariants.{Unknown, State as Unfit}
 use Rattle.oftp_register.specs.declared.office.OfficeFault.{OfficeFault}
 use Rattle.oftp_register.specs.declared.office.OfficeFault.TheVariants.{Store, Memory, Refused}
 use Rattle.oftp_register.specs.Register.{Register}
 use Rattle.oftp_register.specs.Changes.{apply}
+use Rattle.oftp_register.specs.LookUps.{entry_at}
 use Rattle.oftp_register.specs.Soundness.{IsFit, IsSound}
 use Rattle.oftp_register.specs.Offices.{IsFailure, IsRefused}
-use Rattle.oftp_schema.specs.Schema.{office_schema}
-use Rattle.oftp_schema.specs.Calls.{IsSpared, IsUndone, MayLeave}
+use Rattle.oftp_tables.specs.Schema.{office_schema}
+use Rattle.oftp_tables.specs.Transactions.{IsSpared, IsUndone, MayLeave}
 use Rattle.oftp_tables.specs.Tables.{Tables, register_in}
-use Rattle.oftp_open.specs.Stands.{Holds, IsContentOf, Stands}
-use Rattle.oftp_tables.specs.Calls.{IsOffice, Looks, Moves}
-use Rattle.oftp_store.specs.Commits.{AreCarriedOut, CommitsOn, MakesEdits}
+use Rattle.oftp_tables.specs.Stands.{Holds, IsContentOf, Stands}
+use Rattle.oftp_tables.specs.Statements.{IsOffice, Looks, Moves}
+use Rattle.oftp_store.specs.Commits.{AreCarriedOut, CommitsOn, EndsCommit, MakesEdits, MakesIf, NeedsFile}
 use Rattle.oftp_store.specs.Edits.{AreEdited, IsStorable, MakesAll}
 use Rattle.oftp_store.specs.declared.changes.edit.Edit.{Edit}
 use Rattle.oftp_register.proofs.KeepLemmas.{apply_keeps}
 use Rattle.oftp_tables.proofs.BackLemmas.{register_of}
+use Rattle.oftp_store.proofs.NumberLemmas.{entry_beyond}
 
 -- ---- look-ups
 
@@ -97,6 +100,13 @@ pub record IsMadeBy (edits : List Edit) (r : Register) (k : Change) : Type 0 whe
   pub limits : now.limits ≡ r.limits
   pub edited : AreEdited edits r now
 
+-- the change is made by these edits where the state of the file allows it, and refused else
+pub record IsMadeIf (allowed : Bool) (edits : List Edit) (r : Register) (k : Change) : Type 0 where
+  pub now : Register
+  pub is : apply r k ≡ cond allowed (Ok now) (Err Unfit)
+  pub limits : now.limits ≡ r.limits
+  pub edited : allowed ≡ true → AreEdited edits r now
+
 pub is_made : (edits : List Edit) (r : Register) (k : Change) (old new : Trees) → IsSound r → IsFit r k → Tables r old → IsMadeBy edits r k → MakesAll edits old new → IsMade r k new
 is_made edits r k old new sound fit kept by made = record {
   now = by.now;
@@ -133,6 +143,27 @@ commits_refused limits change old new x cause looks refuses = record {
   refused = λ k stands. (refuses k stands, stands_same limits old new stands (looks.same k stands.holds.schema));
   same = λ k stands h. ap (register_at limits) (looks.same k stands.holds.schema).0.now_is;
   left = λ k stands fit db h. inl (looks.left k stands.holds.schema db h);
+}
+
+-- ---- a commit that ends at the look-up of its file
+
+pub ends_failed : {X A : Type 0} (files : Register → List X) (n : ℕ) (old new : State) (fault : OfficeFault) → Looks {T = A} old new (Err fault) → EndsCommit files n old new fault
+ends_failed files n old new fault looks limits change needs = commits_failed limits change old new fault looks
+
+pub ends_unknown : {X A : Type 0} (files : Register → List X) (n : ℕ) (old new : State) (x : A) → Looks old new (Ok x)
+    → (HasCleanDisk new → (limits : Limits) → Stands limits old → entry_at n (files (register_in limits old.now.trees)) ≡ None) → EndsCommit files n old new (Refused Unknown)
+ends_unknown files n old new x looks none limits change needs = commits_refused limits change old new x Unknown looks (λ k stands. needs.unknown _ (none k limits stands))
+
+-- no file has a number from 2^63 on, and such a change is refused with no look at the database
+pub ends_beyond : {X : Type 0} (files : Register → List X) (n : ℕ) (s : State) → 2 ^ 63 ≤ n
+    → ((limits : Limits) → Stands limits s → length (files (register_in limits s.now.trees)) < 2 ^ 63) → EndsCommit files n s s (Refused Unknown)
+ends_beyond files n s far few limits change needs = record {
+  clean = omega arith;
+  mode = λ m. m;
+  done = λ clean stands fit. tt;
+  refused = λ clean stands. (needs.unknown _ (entry_beyond n (files (register_in limits s.now.trees)) (omega (arith, far, few limits stands))), stands);
+  same = λ clean stands was_open. refl;
+  left = λ clean stands fit db there. inl there;
 }
 
 -- the database can't hold what is to be made
@@ -245,3 +276,14 @@ pub commits_by : {S A : Type 0} (g : Ghosts S) (edits : List Edit) (limits : Lim
     → Looks (state g old) (state g mid) (Ok x) → (HasCleanDisk (state g mid) → Stands limits (state g old) → IsMadeBy edits (register_in limits (state g old).now.trees) change)
     → MakesEdits edits g mid new result → CommitsOn limits change (state g old) (state g new) result
 commits_by g edits limits change old mid new x result looks by makes = commits_with g edits limits change old mid new x result looks by makes.made
+
+-- a commit that ends with edits that the state of its file allows or not
+pub commits_if : {S A : Type 0} (g : Ghosts S) (edits : List Edit) (allowed : Bool) (limits : Limits) (change : Change) (old mid new : Held S) (x : A) (result : Result (Unit {0}) OfficeFault)
+    → Looks (state g old) (state g mid) (Ok x) → (HasCleanDisk (state g mid) → Stands limits (state g old) → IsMadeIf allowed edits (register_in limits (state g old).now.trees) change)
+    → MakesIf allowed edits g mid new result → CommitsOn limits change (state g old) (state g new) result
+commits_if g edits true limits change old mid new x result looks by makes =
+    commits_by g edits limits change old mid new x result looks
+    (λ k stands. let m = by k stands in record { now = m.now; is = m.is; limits = m.limits; edited = m.edited refl }) (makes.made refl)
+commits_if g edits false limits change old mid new x result looks by makes =
+    let refused = makes.refused refl in
+    rw (refused.0, refused.1) (commits_refused limits change (state g old) (state g mid) x Unfit looks (λ k stands. (by k stands).is))

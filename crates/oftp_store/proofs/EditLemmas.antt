@@ -9,8 +9,8 @@ use Rattle.sqlite.specs.Tree.{Trees, with_tree}
 use Rattle.sqlite.specs.Table.{Table}
 use Rattle.sqlite.specs.State.{State, ExecutesInside}
 use Rattle.oftp_vfile.specs.declared.format.Format.{Format}
-use Rattle.oftp_schema.specs.Schema.{office_schema, in_file, in_file_tree, in_row_tree, issued, issued_tree, out_file, out_file_tree, out_row_tree}
-use Rattle.oftp_schema.proofs.TermLemmas.{cast_null, cast_int}
+use Rattle.oftp_tables.specs.Schema.{office_schema, in_file, in_file_tree, in_row_tree, issued, issued_tree, out_file, out_file_tree, out_row_tree}
+use Rattle.oftp_tables.proofs.TermLemmas.{cast_null, cast_int}
 use Rattle.oftp_wire.specs.declared.field.Text.{Text as Words}
 use Rattle.oftp_register.specs.declared.entry.Dispatch.TheVariants.{Due, Sent}
 use Rattle.oftp_register.specs.declared.entry.Identity.{Identity}
@@ -19,12 +19,12 @@ use Rattle.oftp_register.specs.declared.entry.OutgoingState.{OutgoingState}
 use Rattle.oftp_register.specs.declared.entry.OutgoingState.TheVariants.{Waiting}
 use Rattle.oftp_register.specs.declared.entry.ResponseKind.{ResponseKind}
 use Rattle.oftp_register.specs.Register.{Register, Incoming, Issued, Outgoing}
-use Rattle.oftp_tables.specs.Calls.{Moves}
+use Rattle.oftp_tables.specs.Statements.{Moves}
 use Rattle.oftp_tables.specs.Tables.{HasReason, HasRefusal, Tables, bodies_from, body_rows, format_text, identity_values, in_file_row, issued_from, issued_if_any, issued_row, kind_text, less_rowids, number_value, out_file_row, out_state_text, reason_text, refusal_text, rows_from, rows_in, rows_out}
 use Rattle.oftp_tables.proofs.SplitLemmas.{HaveNumber, IsAmong, IsSplit, among, pieces_below, pieces_from, rows_pieces}
 use Rattle.oftp_tables.proofs.StatementLemmas.{Others, PutsIn, Rewrites, updates_row, inserts_row}
 use Rattle.oftp_tables.proofs.LandLemmas.{lands}
-use Rattle.oftp_tables.proofs.TxLemmas.{moves_as}
+use Rattle.oftp_tables.proofs.PerformLemmas.{moves_as}
 use Rattle.oftp_tables.proofs.BackLemmas.{at_place}
 use Rattle.std.proofs.Common.{Bor}
 use Rattle.oftp_store.specs.Edits.{Makes, header_params}

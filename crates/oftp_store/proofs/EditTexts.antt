@@ -7,7 +7,7 @@ use Rattle.sqlite.specs.Command.TheVariants.{Insert, Update}
 use Rattle.sqlite.specs.Source.TheVariants.{Values}
 use Rattle.sqlite.specs.Listing.{understood}
 use Rattle.sqlite.proofs.Callers.{IsPlain, command_of}
-use Rattle.oftp_schema.specs.Schema.{office_schema, in_file_tree, issued_tree, out_file_tree}
+use Rattle.oftp_tables.specs.Schema.{office_schema, in_file_tree, issued_tree, out_file_tree}
 use Rattle.oftp_tables.proofs.StatementLemmas.{by_number_program}
 use Rattle.oftp_store.specs.Texts.{add_incoming_text, add_issued_text, add_note_text, add_outgoing_text, add_received_text, set_header_text, set_outgoing_text, set_sent_text, set_whole_text}
 

@@ -18,19 +18,19 @@ use Rattle.oftp_register.specs.LookUps.{look_out, outgoing_entry}
 use Rattle.oftp_register.specs.Soundness.{AreNamedOnce, IsSound}
 use Rattle.oftp_register.proofs.ByIdentityLemmas.{same_self}
 use Rattle.oftp_register.proofs.NameLemmas.{same_identity-true}
-use Rattle.oftp_store.specs.Numbers.{no_of}
-use Rattle.oftp_store.specs.Places.{stage_of}
+use Rattle.oftp_store.specs.Numbers.{file_number}
+use Rattle.oftp_store.specs.FileProgress.{outgoing_progress_of}
 use Rattle.oftp_store.specs.Reads.{IsPlaced, IsToldOf}
-use Rattle.oftp_store.specs.Filings.{IsFilingOf, Settles, is_awaiting}
+use Rattle.oftp_store.specs.ResponseMatches.{IsResponseMatchOf, Settles, is_awaiting}
 use Rattle.oftp_store.specs.declared.changes.edit.Edit.{Edit}
 use Rattle.oftp_store.specs.declared.changes.edit.Deed.TheVariants.{AddReceived, SetOutgoing}
-use Rattle.oftp_store.specs.declared.looks.filing.Filing.TheVariants as filing
-use Rattle.oftp_store.specs.declared.looks.filing.Settling.{Settling}
-use Rattle.oftp_store.specs.declared.looks.place.Stage.{Stage}
+use Rattle.oftp_store.specs.declared.queries.response_match.ResponseMatch.TheVariants as response_match
+use Rattle.oftp_store.specs.declared.queries.response_match.SettledFile.{SettledFile}
+use Rattle.oftp_store.specs.declared.queries.progress.OutgoingProgress.{OutgoingProgress}
 use Rattle.oftp_store.proofs.CommitLemmas.{IsMadeBy}
 use Rattle.oftp_store.proofs.FirstLemmas.{same_by_number}
 use Rattle.oftp_store.proofs.NumberLemmas.{entry_known}
-use Rattle.oftp_store.proofs.SlotLemmas.{known_out}
+use Rattle.oftp_store.proofs.AllocationLemmas.{known_out}
 
 -- ---- the file that a response settles
 
@@ -77,11 +77,11 @@ settled_there kind it (b ∷ before) f after once is =
 -- ---- what the look-up of that file tells
 
 -- no file has the identity
-pub settles_none : (r : Register) (it : Identity) → no_of r side.Outgoing it ≡ None → Settles r it None
+pub settles_none : (r : Register) (it : Identity) → file_number r side.Outgoing it ≡ None → Settles r it None
 settles_none r it none kind = unsettled kind it r.outgoing (sym (known_out r it) ∙ ap is_some none)
 
 -- the file with the number of an identity has this identity
-named_so : (r : Register) (it : Identity) (n : ℕ) (before : List Outgoing) (f : Outgoing) (after : List Outgoing) → no_of r side.Outgoing it ≡ Some n
+named_so : (r : Register) (it : Identity) (n : ℕ) (before : List Outgoing) (f : Outgoing) (after : List Outgoing) → file_number r side.Outgoing it ≡ Some n
     → IsPlaced r.outgoing n before f after → f.identity ≡ it
 named_so r it n before f after some placed =
     let found : look_out r it ≡ Some (outgoing_entry n f) =
@@ -119,38 +119,40 @@ placed_once : (r : Register) (n : ℕ) (before : List Outgoing) (f : Outgoing) (
 placed_once r n before f after sound placed = subst (λ files. AreNamedOnce (map name_of files)) placed.here sound.outgoing_once
 
 -- its file is one that a response leaves as it is
-pub settles_nothing : (r : Register) (it : Identity) (n : ℕ) (stage : Stage) → IsSound r → no_of r side.Outgoing it ≡ Some n → IsToldOf stage_of r.outgoing n (Some stage)
-    → is_awaiting stage.state ≡ false → Settles r it None
-settles_nothing r it n stage sound some (before, f, after, placed, is) off kind =
+pub settles_nothing : (r : Register) (it : Identity) (n : ℕ) (progress : OutgoingProgress) → IsSound r → file_number r side.Outgoing it ≡ Some n
+    → IsToldOf outgoing_progress_of r.outgoing n (Some progress)
+    → is_awaiting progress.state ≡ false → Settles r it None
+settles_nothing r it n progress sound some (before, f, after, placed, is) off kind =
     ap (map (settled kind it)) placed.here
     ∙ settled_there kind it before f after (placed_once r n before f after sound placed) (named_so r it n before f after some placed)
-    ∙ ap (λ st. before ++ (record f { state = st }) ∷ after) (left_alone kind f.state (sym (ap (λ (s : Stage). is_awaiting s.state) is) ∙ off))
+    ∙ ap (λ st. before ++ (record f { state = st }) ∷ after) (left_alone kind f.state (sym (ap (λ (s : OutgoingProgress). is_awaiting s.state) is) ∙ off))
     ∙ sym placed.here
 
 -- its file is one that a response settles
-pub settles_it : (r : Register) (it : Identity) (n : ℕ) (stage : Stage) → IsSound r → no_of r side.Outgoing it ≡ Some n → IsToldOf stage_of r.outgoing n (Some stage) → is_awaiting stage.state ≡ true
-    → (let found : Settling = record { no = n; mark = stage.mark } in Settles r it (Some found))
-settles_it r it n stage sound some (before, f, after, placed, is) on = (
+pub settles_it : (r : Register) (it : Identity) (n : ℕ) (progress : OutgoingProgress) → IsSound r → file_number r side.Outgoing it ≡ Some n
+    → IsToldOf outgoing_progress_of r.outgoing n (Some progress) → is_awaiting progress.state ≡ true
+    → (let found : SettledFile = record { no = n; mark = progress.mark } in Settles r it (Some found))
+settles_it r it n progress sound some (before, f, after, placed, is) on = (
   before,
   f,
   after,
   placed,
-  ap (λ (s : Stage). s.mark) is,
+  ap (λ (s : OutgoingProgress). s.mark) is,
   λ kind.
       ap (map (settled kind it)) placed.here
       ∙ settled_there kind it before f after (placed_once r n before f after sound placed) (named_so r it n before f after some placed)
-      ∙ ap (λ st. before ++ (record f { state = st }) ∷ after) (answers_it kind f.state (sym (ap (λ (s : Stage). is_awaiting s.state) is) ∙ on)),
+      ∙ ap (λ st. before ++ (record f { state = st }) ∷ after) (answers_it kind f.state (sym (ap (λ (s : OutgoingProgress). is_awaiting s.state) is) ∙ on)),
 )
 
 -- ---- the change
 
-pub duplicate_file : (r : Register) (kind : ResponseKind) (it : Identity) (reason : ℕ) (creator text : List ℕ) → IsFilingOf r kind it filing.Known
+pub duplicate_file : (r : Register) (kind : ResponseKind) (it : Identity) (reason : ℕ) (creator text : List ℕ) → IsResponseMatchOf r kind it response_match.Duplicate
     → apply r (change.File kind it reason creator text) ≡ Err Duplicate
 unfolding apply
 duplicate_file r kind it reason creator text filed = cond-true (has_received r kind it) _ _ filed
 
 pub made_by_file : (r : Register) (kind : ResponseKind) (it : Bor Identity) (reason : ℕ) (creator : Bor (Name 25)) (text : Bor Words) (n : ℕ)
-    → IsFilingOf r kind it.now (filing.Alone n)
+    → IsResponseMatchOf r kind it.now (response_match.Unmatched n)
     → (let response : Edit = record { no = n; deed = AddReceived kind it reason creator text } in IsMadeBy (response ∷ []) r (change.File kind it.now reason creator.now text.now))
 unfolding apply
 made_by_file r kind it reason creator text n alone =
@@ -163,8 +165,8 @@ made_by_file r kind it reason creator text n alone =
       edited = (s, (record { number = alone.1 }, refl), refl);
     }
 
-pub made_by_settling : (r : Register) (kind : ResponseKind) (it : Bor Identity) (reason : ℕ) (creator : Bor (Name 25)) (text : Bor Words) (n : ℕ) (found : Settling)
-    → IsFilingOf r kind it.now (filing.With n found)
+pub made_by_settling : (r : Register) (kind : ResponseKind) (it : Bor Identity) (reason : ℕ) (creator : Bor (Name 25)) (text : Bor Words) (n : ℕ) (found : SettledFile)
+    → IsResponseMatchOf r kind it.now (response_match.Matched n found)
     → (let file : Edit = record { no = found.no; deed = SetOutgoing found.mark (answered_as kind) } in let response : Edit = record { no = n; deed = AddReceived kind it reason creator text } in
     IsMadeBy (file ∷ response ∷ []) r (change.File kind it.now reason creator.now text.now))
 unfolding apply

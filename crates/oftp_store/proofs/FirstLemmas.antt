@@ -14,7 +14,7 @@ use Rattle.sqlite.specs.Query.{Query, IsAnswer, Output, output, output_cmp}
 use Rattle.sqlite.specs.Program.{overlay}
 use Rattle.std.specs.List.Sorted.{IsPermutation}
 use Rattle.std.proofs.lemmas.List.Sorted.{IsPermutation-refl}
-use Rattle.oftp_schema.proofs.TermLemmas.{number_cmp}
+use Rattle.oftp_tables.proofs.TermLemmas.{number_cmp}
 use Rattle.oftp_register.specs.LookUps.{numbered}
 use Rattle.oftp_tables.specs.Tables.{number_value, rows_from}
 use Rattle.oftp_tables.proofs.SortedLemmas.{ordered_query, found, answers_in_order}

@@ -12,8 +12,8 @@ use Rattle.sqlite.specs.Command.TheVariants.{Select}
 use Rattle.sqlite.specs.Listing.{understood}
 use Rattle.sqlite.specs.State.{State, Shown}
 use Rattle.sqlite.proofs.Callers.{one_permutation}
-use Rattle.oftp_schema.specs.Schema.{in_file_tree, issued_tree, office_schema, out_file_tree}
-use Rattle.oftp_schema.proofs.QueryLemmas.{answers, chosen, plain_query}
+use Rattle.oftp_tables.specs.Schema.{in_file_tree, issued_tree, office_schema, out_file_tree}
+use Rattle.oftp_tables.proofs.QueryLemmas.{answers, chosen, plain_query}
 use Rattle.oftp_register.specs.Register.{Register, Incoming, Issued, Outgoing}
 use Rattle.oftp_register.specs.Soundness.{IsSound, IsSoundAnswer, IsSoundIncoming}
 use Rattle.oftp_register.specs.LookUps.{issued_response}
@@ -22,8 +22,8 @@ use Rattle.oftp_tables.proofs.BackLemmas.{all_at_place, at_place, format_back, i
 use Rattle.oftp_tables.proofs.SplitLemmas.{among, by_number, chosen_none, chosen_one}
 use Rattle.oftp_store.specs.Reads.{IsResponseTo, IsToldOf, first_told, incoming_header_in, incoming_header_of, outgoing_header_in, outgoing_header_of, response_in}
 use Rattle.oftp_store.specs.Texts.{in_header_text, out_header_text, response_text}
-use Rattle.oftp_store.specs.declared.looks.header.IncomingHeader.{IncomingHeader}
-use Rattle.oftp_store.specs.declared.looks.header.OutgoingHeader.{OutgoingHeader}
+use Rattle.oftp_store.specs.declared.queries.header.IncomingHeader.{IncomingHeader}
+use Rattle.oftp_store.specs.declared.queries.header.OutgoingHeader.{OutgoingHeader}
 use Rattle.oftp_store.proofs.EditLemmas.{issued_number, issued_piece, issued_pieces}
 use Rattle.oftp_store.proofs.NumberLemmas.{no_rows}
 use Rattle.oftp_store.proofs.ReadLemmas.{IsRead, finds_told, read_so}

@@ -12,8 +12,8 @@ use Rattle.sqlite.specs.Command.{Command}
 use Rattle.sqlite.specs.Command.TheVariants.{Select}
 use Rattle.sqlite.specs.Listing.{understood}
 use Rattle.sqlite.specs.State.{State, Shown}
-use Rattle.oftp_schema.specs.Schema.{in_file_tree, office_schema, out_file_tree, received_tree}
-use Rattle.oftp_schema.proofs.TermLemmas.{equal, equal_texts, and_true}
+use Rattle.oftp_tables.specs.Schema.{in_file_tree, office_schema, out_file_tree, received_tree}
+use Rattle.oftp_tables.proofs.TermLemmas.{equal, equal_texts, and_true}
 use Rattle.oftp_register.specs.declared.entry.Identity.{Identity}
 use Rattle.oftp_register.specs.declared.entry.ResponseKind.{ResponseKind}
 use Rattle.oftp_register.specs.declared.entry.ResponseKind.TheVariants.{EndResponse, NegativeEndResponse}
@@ -24,7 +24,7 @@ use Rattle.oftp_register.specs.declared.entries.OutgoingEntry.{OutgoingEntry}
 use Rattle.oftp_register.specs.Register.{Register, Incoming, Outgoing, Received, has_received, is_response_to, same_identity}
 use Rattle.oftp_register.specs.LookUps.{incoming_entry, outgoing_entry}
 use Rattle.oftp_tables.specs.Tables.{Tables, identity_values, in_file_row, kind_text, out_file_row, received_row}
-use Rattle.oftp_store.specs.Numbers.{TellsNo, has_filed_text, no_of, no_of_text}
+use Rattle.oftp_store.specs.Numbers.{TellsNo, has_filed_text, file_number, file_number_text}
 use Rattle.oftp_store.proofs.FirstLemmas.{answers_first, any_told, any_wanted, first_query, first_wanted, number_told}
 use Rattle.oftp_store.proofs.ReadLemmas.{IsRead, read_so}
 
@@ -37,13 +37,13 @@ abbrev pub tree_of : Side → ℕ
 tree_of side.Incoming = in_file_tree
 tree_of side.Outgoing = out_file_tree
 
-abbrev pub no_of_select : Side → Command
-no_of_select which = Select (record { lets = []; body = first_query (tree_of which) by_identity }) (codes "no" ∷ [])
+abbrev pub file_number_select : Side → Command
+file_number_select which = Select (record { lets = []; body = first_query (tree_of which) by_identity }) (codes "no" ∷ [])
 
-pub no_of_read : (which : Side) → IsRead (no_of_text which) (no_of_select which)
+pub file_number_read : (which : Side) → IsRead (file_number_text which) (file_number_select which)
 unfolding understood everything
-no_of_read side.Incoming = record { is = refl; unlisted = refl; plain = (refl, refl) }
-no_of_read side.Outgoing = record { is = refl; unlisted = refl; plain = (refl, refl) }
+file_number_read side.Incoming = record { is = refl; unlisted = refl; plain = (refl, refl) }
+file_number_read side.Outgoing = record { is = refl; unlisted = refl; plain = (refl, refl) }
 
 incoming_passes : (it : Identity) (n : ℕ) (f : Incoming) → list_all (holds (identity_values it ∷ in_file_row n f ∷ [])) by_identity ≡ same_identity f.identity it
 incoming_passes it n f = simp (equal_texts, and_true)
@@ -52,7 +52,7 @@ outgoing_passes : (it : Identity) (n : ℕ) (f : Outgoing) → list_all (holds (
 outgoing_passes it n f = simp (equal_texts, and_true)
 
 no_there : (which : Side) (it : Identity) (rows : List Row) (told : Option ℕ) (r : Register) (db : Trees) → TellsNo rows told → Tables r db
-    → IsAnswer (first_query (tree_of which) by_identity) (overlay db []) (identity_values it) rows → told ≡ no_of r which it
+    → IsAnswer (first_query (tree_of which) by_identity) (overlay db []) (identity_values it) rows → told ≡ file_number r which it
 no_there side.Incoming it rows told r db tells kept answer =
     number_told _ rows told (answers_first in_file_row (λ n x. refl) by_identity (identity_values it) (λ n (f : Incoming). same_identity f.identity it)
     (incoming_passes it) db in_file_tree rows r.incoming kept.incoming.headers answer) tells
@@ -65,10 +65,10 @@ no_there side.Outgoing it rows told r db tells kept answer =
     (λ n x. refl) 1 r.outgoing
 
 pub finds_no : (which : Side) (old new : State) (it : Identity) (rows : List Row) (told : Option ℕ) → old.now.schema ≡ office_schema
-    → Shown (no_of_text which) (identity_values it) old new rows → TellsNo rows told
-    → (r : Register) → Tables r old.now.trees → told ≡ no_of r which it
+    → Shown (file_number_text which) (identity_values it) old new rows → TellsNo rows told
+    → (r : Register) → Tables r old.now.trees → told ≡ file_number r which it
 finds_no which old new it rows told has h tells r kept =
-    let read = read_so (no_of_text which) (identity_values it) old new _ rows (no_of_read which) has h in
+    let read = read_so (file_number_text which) (identity_values it) old new _ rows (file_number_read which) has h in
     no_there which it rows told r old.now.trees tells kept (read.answer Null)
 
 -- ---- responses that came

@@ -15,7 +15,7 @@ use Rattle.oftp_register.specs.LookUps.{entry_at, is_next_file, is_next_response
 use Rattle.oftp_tables.proofs.SpotLemmas.{Spot, past, spot, there, zeroth}
 use Rattle.oftp_store.specs.Reads.{IsPlaced, IsResponseTo, IsToldOf, incoming_header_of}
 use Rattle.oftp_store.specs.Tells.{issued_by_no, listed}
-use Rattle.oftp_store.specs.declared.looks.header.IncomingHeader.{IncomingHeader}
+use Rattle.oftp_store.specs.declared.queries.header.IncomingHeader.{IncomingHeader}
 use Rattle.oftp_store.proofs.NumberLemmas.{entry_beyond, entry_known, entry_placed, entry_unknown}
 
 -- the first entries, and one more

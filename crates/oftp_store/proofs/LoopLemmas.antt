@@ -1,10 +1,10 @@
 -- A list that look-ups in turn make, entry by entry.
 use Rattle.std.proofs.Common.{◌≡◌, ℕ, Ok}
 use Rattle.sqlite.specs.State.{State, HasCleanDisk}
-use Rattle.oftp_schema.specs.Schema.{office_schema}
+use Rattle.oftp_tables.specs.Schema.{office_schema}
 use Rattle.oftp_register.specs.Register.{Register}
 use Rattle.oftp_register.specs.Soundness.{IsSound}
-use Rattle.oftp_tables.specs.Calls.{Looks}
+use Rattle.oftp_tables.specs.Statements.{Looks}
 use Rattle.oftp_tables.specs.Tables.{Tables}
 use Rattle.oftp_store.specs.Tells.{Tells}
 use Rattle.oftp_store.proofs.CommitLemmas.{looks_both}

@@ -7,7 +7,7 @@ use Rattle.sqlite.specs.declared.types.Value.TheVariants.{Int}
 use Rattle.sqlite.specs.Order.{Row, column}
 use Rattle.sqlite.specs.Term.{Term, eval_all}
 use Rattle.sqlite.proofs.Callers.{one_permutation}
-use Rattle.oftp_schema.proofs.QueryLemmas.{chosen}
+use Rattle.oftp_tables.proofs.QueryLemmas.{chosen}
 use Rattle.oftp_register.specs.LookUps.{entry_at, numbered}
 use Rattle.oftp_tables.specs.Tables.{number_value, rows_from}
 use Rattle.oftp_tables.proofs.SplitLemmas.{HaveNumber, IsSplit, by_number, chosen_none, chosen_one, pieces_above, pieces_below, pieces_from, rows_pieces}

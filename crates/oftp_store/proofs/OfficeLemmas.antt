@@ -21,16 +21,16 @@ use Rattle.oftp_register.proofs.FileRowLemmas.{few_rows}
 use Rattle.oftp_vfile.specs.VirtualFile.{units_in}
 use Rattle.oftp_register.specs.LookUps.{file_rows, in_by_no, out_by_no, rows_of, units_of}
 use Rattle.oftp_register.specs.Offices.{Commits, Counts, LooksUp, View}
-use Rattle.oftp_schema.specs.Calls.{IsSpared}
-use Rattle.oftp_tables.specs.Calls.{Looks}
+use Rattle.oftp_tables.specs.Transactions.{IsSpared}
+use Rattle.oftp_tables.specs.Statements.{Looks}
 use Rattle.oftp_tables.specs.Tables.{Tables, register_in, rows_in, rows_out}
-use Rattle.oftp_open.specs.Stands.{IsContentOf, Stands}
+use Rattle.oftp_tables.specs.Stands.{IsContentOf, Stands}
 use Rattle.oftp_store.specs.Commits.{CommitsOn}
 use Rattle.oftp_store.specs.Tells.{Tells}
 use Rattle.oftp_store.specs.Views.{content_alone, view_of}
 use Rattle.oftp_store.proofs.CommitLemmas.{spared_same, stands_same}
 use Rattle.oftp_store.proofs.NumberLemmas.{entry_beyond}
-use Rattle.oftp_store.proofs.PlaceLemmas.{no_incoming, no_outgoing}
+use Rattle.oftp_store.proofs.ProgressLemmas.{no_incoming, no_outgoing}
 
 -- what a stop leaves of an office that stands
 abbrev pub IsAlone : Limits → State → Type 0

@@ -8,10 +8,10 @@ use Rattle.sqlite.specs.State as connection
 use Rattle.sqlite_catalog.specs.Listing.{IsSound}
 use Rattle.oftp_vfile.specs.declared.format.Limits.{Limits}
 use Rattle.oftp_register.specs.Register.{Register}
-use Rattle.oftp_schema.specs.declared.fault.StoreFault.{StoreFault}
-use Rattle.oftp_schema.specs.Schema.{first_schema, no_schema, office_schema}
-use Rattle.oftp_schema.specs.Making.{about_told}
-use Rattle.oftp_schema.proofs.SchemaLemmas.{same_first, same_none, same_schema}
+use Rattle.oftp_tables.specs.declared.fault.StoreFault.{StoreFault}
+use Rattle.oftp_tables.specs.Schema.{first_schema, no_schema, office_schema}
+use Rattle.oftp_tables.specs.Making.{about_told}
+use Rattle.oftp_tables.proofs.SchemaLemmas.{same_first, same_none, same_schema}
 use Rattle.oftp_store.specs.declared.file.PathFault.{PathFault}
 use Rattle.oftp_store.specs.declared.file.PathFault.TheVariants.{Store, Unkept}
 use Rattle.oftp_store.specs.Opens.{Has, HoldsTaken, IsMigratable, IsOpenable, Opens}

@@ -14,8 +14,8 @@ use Rattle.sqlite.specs.Listing.{understood, reads_listing}
 use Rattle.sqlite.specs.State.{State, Shown}
 use Rattle.sqlite.proofs.Callers.{IsPlain, command_of, reads_as}
 use Rattle.oftp_register.specs.declared.office.OfficeFault.{OfficeFault}
-use Rattle.oftp_schema.specs.Schema.{office_schema}
-use Rattle.oftp_schema.proofs.QueryLemmas.{answers, chosen, plain_query}
+use Rattle.oftp_tables.specs.Schema.{office_schema}
+use Rattle.oftp_tables.proofs.QueryLemmas.{answers, chosen, plain_query}
 use Rattle.oftp_tables.specs.Tables.{number_value, rows_from}
 use Rattle.oftp_tables.proofs.BindLemmas.{number_bound}
 use Rattle.oftp_tables.proofs.SplitLemmas.{by_number}

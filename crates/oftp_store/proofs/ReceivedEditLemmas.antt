@@ -5,19 +5,19 @@ use Rattle.sqlite.specs.Order.{Row}
 use Rattle.sqlite.specs.Tree.{Trees}
 use Rattle.sqlite.specs.Table.{Table}
 use Rattle.sqlite.specs.State.{State, ExecutesInside}
-use Rattle.oftp_schema.specs.Schema.{about_tree, in_file_tree, in_row_tree, issued_tree, note_tree, office_schema, out_file_tree, out_row_tree, received, received_note, received_tree}
-use Rattle.oftp_schema.proofs.TermLemmas.{cast_null, cast_int}
+use Rattle.oftp_tables.specs.Schema.{about_tree, in_file_tree, in_row_tree, issued_tree, note_tree, office_schema, out_file_tree, out_row_tree, received, received_note, received_tree}
+use Rattle.oftp_tables.proofs.TermLemmas.{cast_null, cast_int}
 use Rattle.std.proofs.Common.{Bor}
 use Rattle.oftp_wire.specs.declared.field.Text.{Text as Words}
 use Rattle.oftp_register.specs.declared.entry.Identity.{Identity}
 use Rattle.oftp_register.specs.declared.entry.ResponseKind.{ResponseKind}
 use Rattle.oftp_register.specs.declared.entry.ResponseKind.TheVariants.{EndResponse, NegativeEndResponse}
 use Rattle.oftp_register.specs.Register.{Register, Received}
-use Rattle.oftp_tables.specs.Calls.{Moves}
+use Rattle.oftp_tables.specs.Statements.{Moves}
 use Rattle.oftp_tables.specs.Tables.{HoldIncoming, HoldOutgoing, Tables, about_row, identity_values, kind_text, note_if_negative, notes_from, number_value, reason_text, received_row}
 use Rattle.oftp_tables.proofs.SplitLemmas.{HaveNumber, IsSplit, among, pieces_below, pieces_from}
 use Rattle.oftp_tables.proofs.StatementLemmas.{Others, PutsIn, inserts_row}
-use Rattle.oftp_tables.proofs.TxLemmas.{moves_as}
+use Rattle.oftp_tables.proofs.PerformLemmas.{moves_as}
 use Rattle.oftp_register.specs.declared.name.Name.{Name}
 use Rattle.oftp_store.specs.Edits.{HoldNoteless, Makes, MakesNote, MakesNoteless}
 use Rattle.oftp_store.specs.declared.changes.edit.Deed.TheVariants.{AddReceived}

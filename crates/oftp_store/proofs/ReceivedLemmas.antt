@@ -12,8 +12,8 @@ use Rattle.sqlite.specs.Listing.{understood}
 use Rattle.sqlite.specs.State.{State, Shown}
 use Rattle.sqlite.proofs.Callers.{one_permutation}
 use Rattle.oftp_wire.specs.Octets.{number}
-use Rattle.oftp_schema.specs.Schema.{note_tree, office_schema, received_tree}
-use Rattle.oftp_schema.proofs.QueryLemmas.{answers, chosen, plain_query}
+use Rattle.oftp_tables.specs.Schema.{note_tree, office_schema, received_tree}
+use Rattle.oftp_tables.proofs.QueryLemmas.{answers, chosen, plain_query}
 use Rattle.oftp_register.specs.declared.entry.Dispatch.TheVariants.{Due}
 use Rattle.oftp_register.specs.declared.entry.ResponseKind.{ResponseKind}
 use Rattle.oftp_register.specs.declared.entry.ResponseKind.TheVariants.{EndResponse, NegativeEndResponse}
@@ -24,11 +24,11 @@ use Rattle.oftp_register.specs.LookUps.{received_entry}
 use Rattle.oftp_tables.specs.Tables.{Tables, note_if_negative, notes_from, number_value, reason_text, received_row}
 use Rattle.oftp_tables.proofs.BackLemmas.{all_at_place, at_place, issued_back, kind_back}
 use Rattle.oftp_tables.proofs.SplitLemmas.{among, by_number, chosen_one, pieces_from}
-use Rattle.oftp_store.specs.Reads.{IsPlaced, IsToldOf, first_told, received_entry_of, received_header_in, received_header_of, remark_in, remark_of}
+use Rattle.oftp_store.specs.Reads.{IsPlaced, IsToldOf, first_told, received_entry_of, received_header_in, received_header_of, received_note_in, received_note_of}
 use Rattle.oftp_store.specs.Tells.{received_by_no}
-use Rattle.oftp_store.specs.Texts.{received_text, remark_text}
-use Rattle.oftp_store.specs.declared.looks.received.ReceivedHeader.{ReceivedHeader}
-use Rattle.oftp_store.specs.declared.looks.received.Remark.{Remark}
+use Rattle.oftp_store.specs.Texts.{received_text, received_note_text}
+use Rattle.oftp_store.specs.declared.queries.received.ReceivedHeader.{ReceivedHeader}
+use Rattle.oftp_store.specs.declared.queries.received.ReceivedNote.{ReceivedNote}
 use Rattle.oftp_store.proofs.NumberLemmas.{entry_known, entry_unknown}
 use Rattle.oftp_store.proofs.ReadLemmas.{IsRead, finds_told, read_so}
 use Rattle.oftp_store.proofs.ReceivedEditLemmas.{note_number, note_piece, notes_pieces}
@@ -73,28 +73,30 @@ finds_received old new k rows has h r kept sound =
 
 -- ---- the texts
 
-abbrev pub remark_project : List Term
-remark_project = col 1 2 ∷ col 1 3 ∷ []
+abbrev pub received_note_project : List Term
+received_note_project = col 1 2 ∷ col 1 3 ∷ []
 
-abbrev pub remark_select : Command
-remark_select = Select (record { lets = []; body = plain_query note_tree by_number remark_project }) (codes "creator" ∷ codes "note" ∷ [])
+abbrev pub received_note_select : Command
+received_note_select = Select (record { lets = []; body = plain_query note_tree by_number received_note_project }) (codes "creator" ∷ codes "note" ∷ [])
 
-pub remark_read : IsRead remark_text remark_select
+pub received_note_read : IsRead received_note_text received_note_select
 unfolding understood everything
-remark_read = record { is = refl; unlisted = refl; plain = (refl, refl) }
+received_note_read = record { is = refl; unlisted = refl; plain = (refl, refl) }
 
-pub finds_remark : (old new : State) (k : ℕ) (rows : List Row) → old.now.schema ≡ office_schema → Shown remark_text (number_value k ∷ []) old new rows → (r : Register) → Tables r old.now.trees
-    → (before : List Received) (x : Received) (after : List Received) → IsPlaced r.received k before x after → x.kind ≡ NegativeEndResponse → first_told remark_in rows ≡ Some (remark_of x)
-finds_remark old new k rows has h r kept before x after placed negative =
+pub finds_received_note : (old new : State) (k : ℕ) (rows : List Row) → old.now.schema ≡ office_schema → Shown received_note_text (number_value k ∷ []) old new rows → (r : Register)
+    → Tables r old.now.trees
+    → (before : List Received) (x : Received) (after : List Received) → IsPlaced r.received k before x after → x.kind ≡ NegativeEndResponse
+    → first_told received_note_in rows ≡ Some (received_note_of x)
+finds_received_note old new k rows has h r kept before x after placed negative =
     let params = number_value k ∷ [] in
-    let read = read_so remark_text params old new _ rows remark_read has h in
-    let perm = answers old.now.trees note_tree by_number remark_project params rows (read.answer Null) in
+    let read = read_so received_note_text params old new _ rows received_note_read has h in
+    let perm = answers old.now.trees note_tree by_number received_note_project params rows (read.answer Null) in
     let place = among note_piece note_number k before x after placed.number in
     let table : old.now.trees note_tree ≡ lo ++ (note_if_negative k x NegativeEndResponse ++ hi) =
     kept.received.notes_are ∙ ap (notes_from 1) placed.here ∙ notes_pieces 1 (before ++ x ∷ after) ∙ place.rows ∙ ap (λ kind. lo ++ (note_if_negative k x kind ++ hi)) negative in
-    ap (first_told remark_in) (one_permutation _ rows
-    (subst (λ all. IsPermutation all rows) (chosen_one remark_project k [] note lo hi refl place.split)
-    (subst (λ table. IsPermutation (chosen by_number remark_project params table) rows) table perm)))
+    ap (first_told received_note_in) (one_permutation _ rows
+    (subst (λ all. IsPermutation all rows) (chosen_one received_note_project k [] note lo hi refl place.split)
+    (subst (λ table. IsPermutation (chosen by_number received_note_project params table) rows) table perm)))
   where
     lo : List Row
     lo = pieces_from note_piece 1 before
@@ -110,18 +112,18 @@ finds_remark old new k rows has h r kept before x after placed negative =
 pub no_received : (r : Register) (k : ℕ) → IsToldOf received_header_of r.received k None → received_by_no r k ≡ None
 no_received r k none = entry_unknown received_entry (λ (e : ReceivedEntry). e.no) (λ n x. refl) k r.received none
 
-pub received_told : (r : Register) (k : ℕ) (h : ReceivedHeader) (remark : Remark) → IsToldOf received_header_of r.received k (Some h)
-    → ((before : List Received) (x : Received) (after : List Received) → IsPlaced r.received k before x after → h.kind ≡ x.kind → remark ≡ remark_of x)
-    → Some (received_entry_of k h remark) ≡ received_by_no r k
-received_told r k h remark (before, x, after, placed, header) texts =
+pub received_told : (r : Register) (k : ℕ) (h : ReceivedHeader) (note : ReceivedNote) → IsToldOf received_header_of r.received k (Some h)
+    → ((before : List Received) (x : Received) (after : List Received) → IsPlaced r.received k before x after → h.kind ≡ x.kind → note ≡ received_note_of x)
+    → Some (received_entry_of k h note) ≡ received_by_no r k
+received_told r k h note (before, x, after, placed, header) texts =
     let kind : h.kind ≡ x.kind = ap (λ (h : ReceivedHeader). h.kind) header in
-    ap (λ h. Some (received_entry_of k h remark)) header ∙ ap (λ remark. Some (received_entry_of k (received_header_of x) remark)) (texts before x after placed kind)
+    ap (λ h. Some (received_entry_of k h note)) header ∙ ap (λ note. Some (received_entry_of k (received_header_of x) note)) (texts before x after placed kind)
     ∙ sym (entry_known received_entry (λ (e : ReceivedEntry). e.no) (λ n x. refl) k r.received before x after placed)
 
 -- an end response has no texts
-pub textless_remark : (r : Register) (k : ℕ) → IsSound r → (before : List Received) (x : Received) (after : List Received) → IsPlaced r.received k before x after → x.kind ≡ EndResponse
-    → (let none : Remark = record { creator = []; text = [] } in none ≡ remark_of x)
-textless_remark r k sound before x after placed end =
+pub textless_note : (r : Register) (k : ℕ) → IsSound r → (before : List Received) (x : Received) (after : List Received) → IsPlaced r.received k before x after → x.kind ≡ EndResponse
+    → (let none : ReceivedNote = record { creator = []; text = [] } in none ≡ received_note_of x)
+textless_note r k sound before x after placed end =
     let right = all_at_place IsSoundReceived before x after (subst (All IsSoundReceived) placed.here sound.received) in
     let texts : IsResponse EndResponse x.reason x.creator x.text = subst (λ kind. IsResponse kind x.reason x.creator x.text) end right in
-    ap (λ c. let m : Remark = record { creator = c; text = [] } in m) (sym texts.1) ∙ ap (λ t. let m : Remark = record { creator = x.creator; text = t } in m) (sym texts.2)
+    ap (λ c. let m : ReceivedNote = record { creator = c; text = [] } in m) (sym texts.1) ∙ ap (λ t. let m : ReceivedNote = record { creator = x.creator; text = t } in m) (sym texts.2)

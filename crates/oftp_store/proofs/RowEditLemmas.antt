@@ -22,14 +22,14 @@ use Rattle.sqlite.specs.Does.{Does}
 use Rattle.sqlite.specs.Table.{Table}
 use Rattle.sqlite.specs.State.{State, ExecutesInside, mode_of}
 use Rattle.sqlite.proofs.Callers.{IsPlain, command_of, statement_of, runs_as}
-use Rattle.oftp_schema.specs.Schema.{in_row, in_row_tree, office_schema, out_row, out_row_tree}
-use Rattle.oftp_schema.proofs.TermLemmas.{cast_int, cast_null, no_works}
-use Rattle.oftp_schema.proofs.QueryLemmas.{answers, chosen, plain_query}
-use Rattle.oftp_schema.proofs.WriteLemmas.{Deleted, Inserted, deletes, inserts, simple}
+use Rattle.oftp_tables.specs.Schema.{in_row, in_row_tree, office_schema, out_row, out_row_tree}
+use Rattle.oftp_tables.proofs.TermLemmas.{cast_int, cast_null, no_works}
+use Rattle.oftp_tables.proofs.QueryLemmas.{answers, chosen, plain_query}
+use Rattle.oftp_tables.proofs.WriteLemmas.{Deleted, Inserted, deletes, inserts, simple}
 use Rattle.oftp_register.specs.declared.entries.Side.{Side}
 use Rattle.oftp_register.specs.declared.entries.Side.TheVariants as side
 use Rattle.oftp_register.specs.Register.{Register, Incoming, Outgoing}
-use Rattle.oftp_tables.specs.Calls.{Moves}
+use Rattle.oftp_tables.specs.Statements.{Moves}
 use Rattle.oftp_tables.specs.Tables.{AreNumbered, HasReason, HasRefusal, Tables, body_row, bodies_from, has_number, in_file_row, issued_from, issued_if_any, less_rowids, number_value, out_file_row, rows_from, rows_in, rows_out}
 use Rattle.oftp_tables.proofs.BodyLemmas.{bodies_cut, bodies_more}
 use Rattle.oftp_tables.proofs.CutLemmas.{deleted, id_of}

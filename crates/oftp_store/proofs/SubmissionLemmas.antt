@@ -9,33 +9,34 @@ use Rattle.oftp_register.specs.declared.entry.Identity.{Identity}
 use Rattle.oftp_register.specs.declared.entries.Side.TheVariants as side
 use Rattle.oftp_register.specs.Register.{Register, Outgoing}
 use Rattle.oftp_register.specs.Changes.{apply, is_outgoing, new_outgoing}
-use Rattle.oftp_store.specs.Numbers.{no_of}
-use Rattle.oftp_store.specs.Slots.{IsSlotOf}
+use Rattle.oftp_store.specs.Numbers.{file_number}
+use Rattle.oftp_store.specs.Allocations.{IsAllocationOf}
 use Rattle.oftp_store.specs.declared.changes.edit.Edit.{Edit}
 use Rattle.oftp_store.specs.declared.changes.edit.Deed.TheVariants.{AddOutgoing, AddRows}
-use Rattle.oftp_store.specs.declared.looks.slot.Slot.TheVariants as slot
+use Rattle.oftp_store.specs.declared.queries.allocation.Allocation.TheVariants as allocation
 use Rattle.oftp_store.proofs.CommitLemmas.{IsMadeBy}
-use Rattle.oftp_store.proofs.SlotLemmas.{free_is, full_is, known_out, taken_is}
+use Rattle.oftp_store.proofs.AllocationLemmas.{new_is, full_is, known_out, existing_is}
 
-pub duplicate_submit : (r : Register) (it : Identity) (format : Format) (longest : ℕ) (description : List ℕ) (rows : List (List ℕ)) (n : ℕ) → IsSlotOf r side.Outgoing it (slot.Taken n)
+pub duplicate_submit : (r : Register) (it : Identity) (format : Format) (longest : ℕ) (description : List ℕ) (rows : List (List ℕ)) (n : ℕ) → IsAllocationOf r side.Outgoing it (allocation.Existing n)
     → apply r (change.Submit it format longest description rows) ≡ Err Duplicate
 unfolding apply
 duplicate_submit r it format longest description rows n taken =
-    cond-true (is_outgoing r it) _ _ (sym (known_out r it) ∙ ap is_some (taken_is r.limits (length r.outgoing) n (no_of r side.Outgoing it) taken))
+    cond-true (is_outgoing r it) _ _ (sym (known_out r it) ∙ ap is_some (existing_is r.limits (length r.outgoing) n (file_number r side.Outgoing it) taken))
 
-pub full_submit : (r : Register) (it : Identity) (format : Format) (longest : ℕ) (description : List ℕ) (rows : List (List ℕ)) → IsSlotOf r side.Outgoing it slot.Full
+pub full_submit : (r : Register) (it : Identity) (format : Format) (longest : ℕ) (description : List ℕ) (rows : List (List ℕ)) → IsAllocationOf r side.Outgoing it allocation.Full
     → apply r (change.Submit it format longest description rows) ≡ Err Full
 unfolding apply
 full_submit r it format longest description rows full =
-    let is = full_is r.limits (length r.outgoing) (no_of r side.Outgoing it) full in
+    let is = full_is r.limits (length r.outgoing) (file_number r side.Outgoing it) full in
     cond-false (is_outgoing r it) _ _ (sym (known_out r it) ∙ ap is_some is.0) ∙ cond-true _ _ _ is.1
 
-pub made_by_submit : (r : Register) (it : Bor Identity) (format : Format) (longest : ℕ) (description : Bor Words) (rows : Bor (List (List ℕ))) (n : ℕ) → IsSlotOf r side.Outgoing it.now (slot.Free n)
+pub made_by_submit : (r : Register) (it : Bor Identity) (format : Format) (longest : ℕ) (description : Bor Words) (rows : Bor (List (List ℕ))) (n : ℕ)
+    → IsAllocationOf r side.Outgoing it.now (allocation.New n)
     → (let header : Edit = record { no = n; deed = AddOutgoing it format longest description } in let all : Edit = record { no = n; deed = AddRows side.Outgoing 0 rows } in
     IsMadeBy (header ∷ all ∷ []) r (change.Submit it.now format longest description.now rows.now))
 unfolding apply
 made_by_submit r it format longest description rows n free =
-    let is = free_is r.limits (length r.outgoing) n (no_of r side.Outgoing it.now) free in
+    let is = new_is r.limits (length r.outgoing) n (file_number r side.Outgoing it.now) free in
     let f : Outgoing = new_outgoing it.now format longest description.now [] in
     let mid : Register = record r { outgoing = r.outgoing ++ f ∷ [] } in
     let s : Register = record r { outgoing = r.outgoing ++ (record f { rows = rows.now }) ∷ [] } in

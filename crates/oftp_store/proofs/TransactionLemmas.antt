@@ -8,12 +8,12 @@ use Rattle.sqlite.specs.State.{HasCleanDisk}
 use Rattle.sqlite.specs.declared.error.Error.{Error}
 use Rattle.sqlite.specs.declared.error.Error.TheVariants.{SqliteFailure}
 use Rattle.sqlite.specs.declared.error.ErrorCode.TheVariants.{NoRowid, OutOfMemory}
-use Rattle.oftp_schema.specs.Calls.{IsTransactionError, Transacts}
+use Rattle.oftp_tables.specs.Transactions.{IsTransactionError, Transacts}
 use Rattle.oftp_register.specs.declared.office.OfficeFault.{OfficeFault}
 use Rattle.oftp_register.specs.declared.office.OfficeFault.TheVariants.{Memory}
 use Rattle.oftp_register.specs.Offices.{IsFailure}
 use Rattle.oftp_register.specs.Register.{Register}
-use Rattle.oftp_tables.specs.Calls.{IsOffice, Moves}
+use Rattle.oftp_tables.specs.Statements.{IsOffice, Moves}
 use Rattle.oftp_tables.specs.Tables.{Tables}
 use Rattle.oftp_store.specs.Commits.{AreCarriedOut}
 use Rattle.oftp_store.specs.Edits.{AreEdited, IsEdited, Makes, MakesAll}

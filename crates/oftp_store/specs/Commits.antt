@@ -1,5 +1,5 @@
 -- What a change does to a connection.
-use Rattle.std.specs.Prelude.{◌≡◌, ◌≤◌, ◌⊎◌, List, All, Result, Ok, Err, OnOk, OnErr, IfErr, IsTrue, Bool, false, true}
+use Rattle.std.specs.Prelude.{◌≡◌, ◌≤◌, ◌⊎◌, ℕ, List, All, Some, None, Result, Ok, Err, OnOk, OnErr, IfErr, IsTrue, Bool, false, true}
 use Rattle.sqlite.specs.Tree.{Trees}
 use Rattle.sqlite.specs.View.{doubt}
 use Rattle.sqlite.specs.Held.{Held, state}
@@ -7,18 +7,20 @@ use Rattle.sqlite.specs.State.{State, HasCleanDisk}
 use Rattle.sqlite_trees.specs.declared.store.Store.{Ghosts}
 use Rattle.oftp_vfile.specs.declared.format.Limits.{Limits}
 use Rattle.oftp_register.specs.declared.change.Change.{Change}
-use Rattle.oftp_register.specs.declared.change.Change.TheVariants as change
+use Rattle.oftp_register.specs.declared.change.Cause.TheVariants.{Unknown, State as Unfit}
 use Rattle.oftp_register.specs.declared.office.OfficeFault.{OfficeFault}
-use Rattle.oftp_register.specs.declared.office.OfficeFault.TheVariants.{Store}
-use Rattle.oftp_register.specs.Register.{Register}
+use Rattle.oftp_register.specs.declared.office.OfficeFault.TheVariants.{Store, Refused}
+use Rattle.oftp_register.specs.Register.{Register, Incoming, Outgoing}
+use Rattle.oftp_register.specs.LookUps.{entry_at}
 use Rattle.oftp_register.specs.Changes.{apply}
 use Rattle.oftp_register.specs.Soundness.{IsFit}
 use Rattle.oftp_register.specs.Offices.{IsFailure, IsRefused}
-use Rattle.oftp_schema.specs.Calls.{IsTransactionError, Transacts}
-use Rattle.oftp_tables.specs.Calls.{IsFaultOf, IsOffice, Moves}
+use Rattle.oftp_tables.specs.Transactions.{IsTransactionError, Transacts}
+use Rattle.oftp_tables.specs.Statements.{IsFaultOf, IsOffice, Looks, Moves}
 use Rattle.oftp_tables.specs.Tables.{register_in}
-use Rattle.oftp_open.specs.Stands.{IsContentOf, Stands}
+use Rattle.oftp_tables.specs.Stands.{IsContentOf, Stands}
 use Rattle.oftp_store.specs.Edits.{IsStorable, MakesAll}
+use Rattle.oftp_store.specs.Reads.{IsToldOf}
 use Rattle.oftp_store.specs.declared.changes.edit.Edit.{Edit}
 
 -- Within these limits the change is made, or it is refused for its cause, or the store failed and the register stays where the
@@ -33,12 +35,6 @@ pub record CommitsOn {T : Type 0} (limits : Limits) (change : Change) (old new :
   pub left : HasCleanDisk new → Stands limits old → IsFit (register_in limits old.now.trees) change → (db : Trees) → new.may_leave db
       → old.may_leave db ⊎ ((r : Register) × (apply (register_in limits old.now.trees) change ≡ Ok r) × IsContentOf db r)
 
--- whether a file begins with a change
-abbrev pub begins_file : Change → Bool
-begins_file (change.Submit identity format longest description rows) = true
-begins_file (change.Start identity format longest description count) = true
-begins_file change = false
-
 -- Edits are made in one transaction: all of them are, and are committed, or none is. A fault is SQLite's.
 pub record AreCarriedOut {S : Type 0} (edits : List Edit) (g : Ghosts S) (old new : Held S) (result : Result (Unit {0}) OfficeFault) : Type 0 where
   pub transacts : Transacts IsOffice (Moves (MakesAll edits)) (state g old) (state g new) result
@@ -48,3 +44,29 @@ pub record AreCarriedOut {S : Type 0} (edits : List Edit) (g : Ghosts S) (old ne
 -- Edits do this to a connection. Where the database can't hold one of them, that is a failure, and nothing is done.
 pub record MakesEdits {S : Type 0} (edits : List Edit) (g : Ghosts S) (old new : Held S) (result : Result (Unit {0}) OfficeFault) : Type 0 where
   pub made : AreCarriedOut edits g old new result ⊎ ((¬ All IsStorable edits) × (result ≡ Err Store) × (new ≡ old))
+
+-- Edits that the state of a file allows do this to a connection. Where it doesn't allow them, nothing is done.
+pub record MakesIf {S : Type 0} (allowed : Bool) (edits : List Edit) (g : Ghosts S) (old new : Held S) (result : Result (Unit {0}) OfficeFault) : Type 0 where
+  pub made : allowed ≡ true → MakesEdits edits g old new result
+  pub refused : allowed ≡ false → (result ≡ Err (Refused Unfit)) × (new ≡ old)
+
+-- ---- what is here of the file that a change names
+
+abbrev pub incoming_files : Register → List Incoming
+incoming_files r = r.incoming
+
+abbrev pub outgoing_files : Register → List Outgoing
+outgoing_files r = r.outgoing
+
+-- a look-up finds the file with a number, and tells this of it
+pub record Finds {X A : Type 0} (files : Register → List X) (tells : X → A) (n : ℕ) (old new : State) (told : A) : Type 0 where
+  pub looks : Looks old new (Ok (Some told))
+  pub answer : HasCleanDisk new → (limits : Limits) → Stands limits old → IsToldOf tells (files (register_in limits old.now.trees)) n (Some told)
+
+-- a change that no register has a file for is unknown
+pub record NeedsFile {X : Type 0} (files : Register → List X) (n : ℕ) (change : Change) : Type 0 where
+  pub unknown : (r : Register) → entry_at n (files r) ≡ None → apply r change ≡ Err Unknown
+
+-- a look-up ends the commit of whichever change of the file with a number by this fault
+abbrev pub EndsCommit : {X : Type 0} → (Register → List X) → ℕ → State → State → OfficeFault → Type 0
+EndsCommit files n old new fault = (limits : Limits) (change : Change) → NeedsFile files n change → CommitsOn {T = Unit {0}} limits change old new (Err fault)

@@ -1,5 +1,5 @@
 -- What the edits of a transaction make of a register.
-use Rattle.std.specs.Prelude.{◌≡◌, ◌+◌, ◌^◌, ◌<◌, ℕ, List, [], ◌∷◌, ◌++◌, length, take, Some, None, Bool, true, false, ⊤}
+use Rattle.std.specs.Prelude.{◌≡◌, ◌+◌, ◌^◌, ◌<◌, ℕ, List, [], ◌∷◌, ◌++◌, length, take, Some, None, ⊤}
 use Rattle.sqlite.specs.declared.types.Value.TheVariants.{Text}
 use Rattle.sqlite.specs.Order.{Row}
 use Rattle.sqlite.specs.Tree.{Trees}
@@ -14,7 +14,7 @@ use Rattle.std.specs.List.{AllByRecursion}
 use Rattle.oftp_register.specs.declared.entry.Identity.{Identity}
 use Rattle.oftp_register.specs.declared.entry.ResponseKind.{ResponseKind}
 use Rattle.oftp_register.specs.declared.entry.ResponseKind.TheVariants.{NegativeEndResponse}
-use Rattle.oftp_schema.specs.Schema.{about_tree, in_file_tree, in_row_tree, issued_tree, note_tree, out_file_tree, out_row_tree, received_tree}
+use Rattle.oftp_tables.specs.Schema.{about_tree, in_file_tree, in_row_tree, issued_tree, note_tree, out_file_tree, out_row_tree, received_tree}
 use Rattle.oftp_tables.specs.Tables.{HoldIncoming, HoldOutgoing, Tables, about_row, format_text, notes_from, number_value, received_row, rows_from}
 use Rattle.oftp_store.specs.declared.changes.edit.Edit.{Edit}
 use Rattle.oftp_store.specs.declared.changes.edit.Deed.{Deed}
@@ -48,13 +48,6 @@ pub record IsNext {X : Type 0} (n : ℕ) (entries : List X) : Type 0 where
 abbrev pub AddsRowsTo : Side → ℕ → ℕ → List (List ℕ) → Register → Register → Type 0
 AddsRowsTo side.Incoming n from rows = ChangesIncoming n (λ f. length f.rows ≡ from) (λ f. record f { rows = f.rows ++ rows })
 AddsRowsTo side.Outgoing n from rows = ChangesOutgoing n (λ f. length f.rows ≡ from) (λ f. record f { rows = f.rows ++ rows })
-
--- whether a deed adds an entry
-abbrev pub adds_entry : Deed → Bool
-adds_entry (AddIncoming identity format longest description) = true
-adds_entry (AddOutgoing identity format longest description) = true
-adds_entry (AddReceived kind identity reason creator text) = true
-adds_entry deed = false
 
 -- the rows of a deed have positions that a column holds
 abbrev pub HasRoom : Deed → Type 0

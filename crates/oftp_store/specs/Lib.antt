@@ -3,12 +3,10 @@ pub mod Edits
 pub mod Numbers
 pub mod Reads
 pub mod Commits
-pub mod Steps
-pub mod Advances
-pub mod Places
+pub mod FileProgress
 pub mod Tells
 pub mod Views
 pub mod Opens
-pub mod Slots
-pub mod Filings
+pub mod Allocations
+pub mod ResponseMatches
 pub mod Shown

@@ -3,8 +3,6 @@ use Rattle.std.specs.Prelude.{◌≡◌, ℕ, List, [], ◌∷◌, length, codes
 use Rattle.std.specs.Option.{option_map}
 use Rattle.sqlite.specs.declared.types.Value.TheVariants.{Int}
 use Rattle.sqlite.specs.Order.{Row, column}
-use Rattle.oftp_register.specs.declared.change.Change.{Change}
-use Rattle.oftp_register.specs.declared.change.Change.TheVariants as change
 use Rattle.oftp_register.specs.declared.entry.Identity.{Identity}
 use Rattle.oftp_register.specs.declared.entry.ResponseKind.{ResponseKind}
 use Rattle.oftp_register.specs.declared.entry.ResponseKind.TheVariants.{EndResponse, NegativeEndResponse}
@@ -15,8 +13,8 @@ use Rattle.oftp_register.specs.declared.entries.OutgoingEntry.{OutgoingEntry}
 use Rattle.oftp_register.specs.declared.entries.IssuedEntry.{IssuedEntry}
 use Rattle.oftp_register.specs.Register.{Register}
 use Rattle.oftp_register.specs.LookUps.{look_in, look_out, next_file, next_response}
-use Rattle.oftp_store.specs.declared.looks.last.Table.{Table}
-use Rattle.oftp_store.specs.declared.looks.last.Table.TheVariants as table
+use Rattle.oftp_store.specs.declared.queries.last_number.Table.{Table}
+use Rattle.oftp_store.specs.declared.queries.last_number.Table.TheVariants as table
 
 -- an answer tells the number in its first row, or that there is none
 abbrev pub TellsNo : List Row → Option ℕ → Type 0
@@ -50,9 +48,9 @@ files_in r side.Outgoing = length r.outgoing
 
 -- ---- the number of an identity
 
-abbrev pub no_of_text : Side → List ℕ
-no_of_text side.Incoming = codes "SELECT no FROM in_file WHERE dataset = ?1 AND date = ?2 AND time = ?3 AND originator = ?4 AND destination = ?5 ORDER BY no LIMIT 1"
-no_of_text side.Outgoing = codes "SELECT no FROM out_file WHERE dataset = ?1 AND date = ?2 AND time = ?3 AND originator = ?4 AND destination = ?5 ORDER BY no LIMIT 1"
+abbrev pub file_number_text : Side → List ℕ
+file_number_text side.Incoming = codes "SELECT no FROM in_file WHERE dataset = ?1 AND date = ?2 AND time = ?3 AND originator = ?4 AND destination = ?5 ORDER BY no LIMIT 1"
+file_number_text side.Outgoing = codes "SELECT no FROM out_file WHERE dataset = ?1 AND date = ?2 AND time = ?3 AND originator = ?4 AND destination = ?5 ORDER BY no LIMIT 1"
 
 abbrev pub has_filed_text : ResponseKind → List ℕ
 has_filed_text EndResponse =
@@ -61,9 +59,9 @@ has_filed_text NegativeEndResponse =
     codes "SELECT no FROM received WHERE kind = 'NERP' AND dataset = ?1 AND date = ?2 AND time = ?3 AND originator = ?4 AND destination = ?5 ORDER BY no LIMIT 1"
 
 -- the number of the file of an identity, if there is one
-abbrev pub no_of : Register → Side → Identity → Option ℕ
-no_of r side.Incoming identity = option_map (λ (e : IncomingEntry). e.no) (look_in r identity)
-no_of r side.Outgoing identity = option_map (λ (e : OutgoingEntry). e.no) (look_out r identity)
+abbrev pub file_number : Register → Side → Identity → Option ℕ
+file_number r side.Incoming identity = option_map (λ (e : IncomingEntry). e.no) (look_in r identity)
+file_number r side.Outgoing identity = option_map (λ (e : OutgoingEntry). e.no) (look_out r identity)
 
 -- ---- what is sent next
 
@@ -74,27 +72,9 @@ abbrev pub next_response_text : List ℕ
 next_response_text = codes "SELECT issued.no FROM issued JOIN in_file ON in_file.no = issued.no WHERE issued.no > ?1 AND sent = 0 AND originator = ?2 ORDER BY issued.no LIMIT 1"
 
 -- the number of the first file to a partner that is on its way and wasn't tried, if there is one
-abbrev pub next_file_no : Register → List ℕ → ℕ → Option ℕ
-next_file_no r partner tried = option_map (λ (e : OutgoingEntry). e.no) (next_file r partner tried)
+abbrev pub next_file_number : Register → List ℕ → ℕ → Option ℕ
+next_file_number r partner tried = option_map (λ (e : OutgoingEntry). e.no) (next_file r partner tried)
 
 -- the number of the file with the first response that is due to a partner and wasn't tried, if there is one
-abbrev pub next_response_no : Register → List ℕ → ℕ → Option ℕ
-next_response_no r partner tried = option_map (λ (e : IssuedEntry). e.no) (next_response r partner tried)
-
--- ---- the number that a change names
-
--- the number of the file of a change, 0 where it names none
-abbrev pub number_named : Change → ℕ
-number_named (change.Submit identity format longest description rows) = 0
-number_named (change.Start identity format longest description count) = 0
-number_named (change.Keep n rows) = n
-number_named (change.Close n rows) = n
-number_named (change.GiveUp n) = n
-number_named (change.File kind identity reason creator text) = 0
-number_named (change.Issue n kind reason text) = n
-number_named (change.Mark n rows) = n
-number_named (change.BeginClosing n) = n
-number_named (change.HandOver n) = n
-number_named (change.Refuse n reason) = n
-number_named (change.Reopen n) = n
-number_named (change.Send n) = n
+abbrev pub next_response_number : Register → List ℕ → ℕ → Option ℕ
+next_response_number r partner tried = option_map (λ (e : IssuedEntry). e.no) (next_response r partner tried)

@@ -12,10 +12,10 @@ use Rattle.oftp_register.specs.declared.entries.ReceivedEntry.{ReceivedEntry}
 use Rattle.oftp_register.specs.Register.{Register, Incoming, Outgoing, Received}
 use Rattle.oftp_register.specs.LookUps.{entry_at, issued_response}
 use Rattle.oftp_tables.specs.Tables.{dispatch_in, format_in, format_text, identity_in, identity_values, in_state_in, in_state_text, kind_in, kind_text, number_in, number_value, out_state_in, out_state_text, reason_text, refusal_text, sent_number}
-use Rattle.oftp_store.specs.declared.looks.header.IncomingHeader.{IncomingHeader}
-use Rattle.oftp_store.specs.declared.looks.header.OutgoingHeader.{OutgoingHeader}
-use Rattle.oftp_store.specs.declared.looks.received.ReceivedHeader.{ReceivedHeader}
-use Rattle.oftp_store.specs.declared.looks.received.Remark.{Remark}
+use Rattle.oftp_store.specs.declared.queries.header.IncomingHeader.{IncomingHeader}
+use Rattle.oftp_store.specs.declared.queries.header.OutgoingHeader.{OutgoingHeader}
+use Rattle.oftp_store.specs.declared.queries.received.ReceivedHeader.{ReceivedHeader}
+use Rattle.oftp_store.specs.declared.queries.received.ReceivedNote.{ReceivedNote}
 
 -- ---- headers
 
@@ -43,11 +43,11 @@ outgoing_header_in row = record {
 abbrev pub incoming_values : IncomingHeader → Row
 incoming_values h = identity_values h.identity ++ Text (format_text h.format) ∷ number_value h.longest ∷ Text h.description ∷ Text (in_state_text h.state) ∷ []
 
-abbrev pub stage_values : ℕ → OutgoingState → Row
-stage_values mark state = number_value mark ∷ Text (out_state_text state) ∷ Text (refusal_text state) ∷ []
+abbrev pub mark_and_state_values : ℕ → OutgoingState → Row
+mark_and_state_values mark state = number_value mark ∷ Text (out_state_text state) ∷ Text (refusal_text state) ∷ []
 
 abbrev pub outgoing_values : OutgoingHeader → Row
-outgoing_values h = identity_values h.identity ++ Text (format_text h.format) ∷ number_value h.longest ∷ Text h.description ∷ stage_values h.mark h.state
+outgoing_values h = identity_values h.identity ++ Text (format_text h.format) ∷ number_value h.longest ∷ Text h.description ∷ mark_and_state_values h.mark h.state
 
 -- what an answer tells, if it has a row
 abbrev pub first_told : {A : Type 0} → (Row → A) → List Row → Option A
@@ -95,37 +95,37 @@ received_values h = Text (kind_text h.kind) ∷ identity_values h.identity ++ Te
 abbrev pub received_header_of : Received → ReceivedHeader
 received_header_of x = record { kind = x.kind; identity = x.identity; reason = x.reason }
 
-abbrev pub remark_in : Row → Remark
-remark_in row = record { creator = bytes (column row 0); text = bytes (column row 1) }
+abbrev pub received_note_in : Row → ReceivedNote
+received_note_in row = record { creator = bytes (column row 0); text = bytes (column row 1) }
 
 -- its columns
-abbrev pub remark_values : Remark → Row
-remark_values m = Text m.creator ∷ Text m.text ∷ []
+abbrev pub received_note_values : ReceivedNote → Row
+received_note_values m = Text m.creator ∷ Text m.text ∷ []
 
-abbrev pub remark_of : Received → Remark
-remark_of x = record { creator = x.creator; text = x.text }
+abbrev pub received_note_of : Received → ReceivedNote
+received_note_of x = record { creator = x.creator; text = x.text }
 
 -- the texts of the response with a number, where it is a negative one
-abbrev pub IsRemarkOf : Register → ℕ → Remark → Type 0
-IsRemarkOf r k remark = (before : List Received) (x : Received) (after : List Received) → IsPlaced r.received k before x after → x.kind ≡ NegativeEndResponse → remark ≡ remark_of x
+abbrev pub IsReceivedNoteOf : Register → ℕ → ReceivedNote → Type 0
+IsReceivedNoteOf r k note = (before : List Received) (x : Received) (after : List Received) → IsPlaced r.received k before x after → x.kind ≡ NegativeEndResponse → note ≡ received_note_of x
 
 -- a response that came as it is handed out
-abbrev pub received_entry_of : ℕ → ReceivedHeader → Remark → ReceivedEntry
-received_entry_of n header remark =
-    record { no = n; response = record { kind = header.kind; identity = header.identity; reason = header.reason; creator = remark.creator; text = remark.text } }
+abbrev pub received_entry_of : ℕ → ReceivedHeader → ReceivedNote → ReceivedEntry
+received_entry_of n header note =
+    record { no = n; response = record { kind = header.kind; identity = header.identity; reason = header.reason; creator = note.creator; text = note.text } }
 
 -- ---- the number of rows
 
--- the place that a value tells, if it tells one
-abbrev pub place_told : Value → Option ℕ
-place_told (Int (pos n)) = if nat_lt n (2 ^ 32) then Some n else None
-place_told (Int (negsuc n)) = None
-place_told (Text t) = None
-place_told Null = None
-place_told (Real x) = None
-place_told (Blob b) = None
+-- the position that a value tells, if it tells one
+abbrev pub position_told : Value → Option ℕ
+position_told (Int (pos n)) = if nat_lt n (2 ^ 32) then Some n else None
+position_told (Int (negsuc n)) = None
+position_told (Text t) = None
+position_told Null = None
+position_told (Real x) = None
+position_told (Blob b) = None
 
--- the rows of an answer tell the last place of a file, or that there is no row
+-- the rows of an answer tell the last position of a file, or that there is no row
 abbrev pub TellsCount : List Row → ℕ → Type 0
 TellsCount [] count = count ≡ 0
-TellsCount (row ∷ rows) count = (at : ℕ) × (place_told (column row 0) ≡ Some at) × (count ≡ at + 1)
+TellsCount (row ∷ rows) count = (at : ℕ) × (position_told (column row 0) ≡ Some at) × (count ≡ at + 1)

@@ -1,7 +1,7 @@
 -- What look-ups tell of the register that the tables stand for, and the responses by number.
 use Rattle.std.specs.Prelude.{◌≡◌, ◌==◌, ℕ, List, [], ◌∷◌, Option, Some, None, Result, IfOk, find}
 use Rattle.sqlite.specs.State.{State, HasCleanDisk}
-use Rattle.oftp_schema.specs.Schema.{office_schema}
+use Rattle.oftp_tables.specs.Schema.{office_schema}
 use Rattle.oftp_register.specs.declared.office.OfficeFault.{OfficeFault}
 use Rattle.oftp_register.specs.declared.entries.IssuedEntry.{IssuedEntry}
 use Rattle.oftp_register.specs.declared.entries.ReceivedEntry.{ReceivedEntry}

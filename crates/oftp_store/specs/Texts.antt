@@ -62,5 +62,5 @@ some_rows_text side.Outgoing = codes "SELECT body FROM out_row WHERE no = ?1 AND
 abbrev pub received_text : List ℕ
 received_text = codes "SELECT kind, dataset, date, time, originator, destination, reason FROM received WHERE no = ?1"
 
-abbrev pub remark_text : List ℕ
-remark_text = codes "SELECT creator, note FROM received_note WHERE no = ?1"
+abbrev pub received_note_text : List ℕ
+received_note_text = codes "SELECT creator, note FROM received_note WHERE no = ?1"

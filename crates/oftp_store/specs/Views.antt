@@ -8,7 +8,7 @@ use Rattle.sqlite_catalog.specs.Listing.{IsSound as IsSoundStore}
 use Rattle.oftp_vfile.specs.declared.format.Limits.{Limits}
 use Rattle.oftp_register.specs.Offices.{View}
 use Rattle.oftp_tables.specs.Tables.{register_in}
-use Rattle.oftp_open.specs.Stands.{IsContentOf, Stands}
+use Rattle.oftp_tables.specs.Stands.{IsContentOf, Stands}
 
 -- an office with these limits that told so many faults, over a connection
 abbrev pub view_of : Limits → ℕ → State → View

@@ -10,12 +10,12 @@ ghost use Rattle.sqlite.specs.WalFiles.{image_at};
 ghost use Rattle.oftp_register.specs.Register.{Register};
 ghost use Rattle.oftp_register.specs.Soundness.{IsSound};
 ghost use Rattle.oftp_register.specs.declared.fit.TheConstants.{MOST_FILES, MOST_OCTETS};
-ghost use Rattle.oftp_open.specs.Opening.{IsFirstOf, IsStoreOf};
-ghost use Rattle.oftp_open.specs.Stands.{IsContentOf};
+ghost use Rattle.oftp_tables.specs.Opening.{IsFirstOf, IsStoreOf};
+ghost use Rattle.oftp_tables.specs.Stands.{IsContentOf};
 ghost use Rattle.oftp_store.specs.Opens.{Has, HoldsTaken, IsKept, IsMigratable, IsOpenable};
 
 use crate::office::SqlOffice;
-use oftp_schema::{StoreFault, fault_of};
+use oftp_tables::{StoreFault, store_fault_of};
 use oftp_vfile::Limits;
 use sqlite::{Connection, Error, ErrorCode, FileFrom, FileStore, Start};
 
@@ -39,7 +39,7 @@ fn path_fault_of(error: Error) -> PathFault
 {
     match error {
         Error::SqliteFailure(ErrorCode::DatabaseBusy) => PathFault::Held,
-        other => PathFault::Store(fault_of(other)),
+        other => PathFault::Store(store_fault_of(other)),
     }
 }
 

@@ -3,11 +3,11 @@
 
 mod changes;
 mod file;
-mod looks;
 mod office;
 mod open;
+mod queries;
 
 pub use file::{PathFault, migrate_at, open_at};
 pub use office::SqlOffice;
-pub use oftp_schema::StoreFault;
+pub use oftp_tables::StoreFault;
 pub use open::OpenRefused;

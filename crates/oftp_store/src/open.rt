@@ -4,15 +4,14 @@ ghost use Rattle.std.specs.Prelude.{◌≡◌, ◌≢◌, ◌≤◌, false, IfOk
 ghost use Rattle.sqlite.specs.Held.{state};
 ghost use Rattle.sqlite.specs.State.{HasCleanDisk};
 ghost use Rattle.oftp_register.specs.Register.{Register};
-ghost use Rattle.oftp_schema.specs.Schema.{first_schema, office_schema};
-ghost use Rattle.oftp_schema.specs.Making.{HasFirst, HasOffice, IsEmpty};
+ghost use Rattle.oftp_tables.specs.Schema.{first_schema, office_schema};
+ghost use Rattle.oftp_tables.specs.Making.{HasFirst, HasOffice, IsEmpty};
 ghost use Rattle.oftp_register.specs.declared.fit.TheConstants.{MOST_FILES, MOST_OCTETS};
-ghost use Rattle.oftp_open.specs.Opening.{IsAt, IsAtFirst};
+ghost use Rattle.oftp_tables.specs.Opening.{IsAt, IsAtFirst};
 ghost use Rattle.oftp_store.specs.Opens.{Has, IsMigratable, IsOpenable, Opens, Refuses};
 
 use crate::office::SqlOffice;
-use oftp_open::{migrate_tables, open_tables};
-use oftp_schema::StoreFault;
+use oftp_tables::{StoreFault, migrate_tables, open_tables};
 use oftp_vfile::Limits;
 use sqlite::{Alter, Connection};
 use std::alloc::Global;

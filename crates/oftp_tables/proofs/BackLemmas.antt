@@ -21,7 +21,7 @@ use Rattle.oftp_register.specs.declared.entry.Dispatch.{Dispatch}
 use Rattle.oftp_register.specs.declared.entry.Dispatch.TheVariants.{Due, Sent}
 use Rattle.oftp_register.specs.Register.{Register, Incoming, Outgoing, Issued, Received}
 use Rattle.oftp_register.specs.Soundness.{IsSound, IsSoundAnswer, IsSoundIncoming, IsSoundReceived, IsResponse}
-use Rattle.oftp_schema.specs.Schema.{in_row_tree, out_file_tree, out_row_tree, issued_tree, received_tree, note_tree}
+use Rattle.oftp_tables.specs.Schema.{in_row_tree, out_file_tree, out_row_tree, issued_tree, received_tree, note_tree}
 use Rattle.oftp_tables.specs.Tables.{format_text, kind_text, reason_text, in_state_text, out_state_text, refusal_text, sent_number, in_file_row, out_file_row, issued_row, received_row, rows_from, issued_if_any, issued_from, note_if_negative, notes_from, bodies_from, less_rowids, rows_in, rows_out, HasReason, HasRefusal, Tables, format_in, kind_in, in_state_in, out_state_in, dispatch_in, has_number, bodies_in, issued_in, incoming_in, outgoing_in, text_at, received_in, register_in}
 use Rattle.oftp_tables.proofs.BodyLemmas.{bodies_back}
 

@@ -6,7 +6,7 @@ use Rattle.sqlite.specs.Order.{Row}
 use Rattle.sqlite.specs.Tree.{Trees, with_tree}
 use Rattle.oftp_register.specs.Register.{Register}
 use Rattle.oftp_tables.specs.Tables.{HoldIncoming, HoldOutgoing, HoldReceived, Tables}
-use Rattle.oftp_tables.proofs.StatementLemmas.{Others}
+use Rattle.oftp_tables.specs.Statements.{Others}
 
 differ : (k tree : ℕ) → (k == tree) ≡ false → k ≢ tree
 differ k tree h e = absurd (let no_such : (k == tree) ≡ true = grind (arith, nat_tests, e) in let t = sym h ∙ no_such in cc)

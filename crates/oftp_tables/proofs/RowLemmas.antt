@@ -19,7 +19,7 @@ use Rattle.sqlite.specs.Edit.{id_in, is_taken}
 use Rattle.sqlite_sql.specs.declared.ops.BinaryOp.TheVariants as by
 use Rattle.sqlite_sql.specs.declared.ops.CompareOp.TheVariants as compare
 use Rattle.sqlite.specs.Collation.TheVariants.{Binary}
-use Rattle.oftp_schema.proofs.TermLemmas.{and_true, at_least, at_least_numbers, equal, equal_numbers}
+use Rattle.oftp_tables.proofs.TermLemmas.{and_true, at_least, at_least_numbers, equal, equal_numbers}
 use Rattle.oftp_tables.specs.Tables.{AreNumbered, body_row, has_number, number_value}
 use Rattle.oftp_tables.proofs.PlaceLemmas.{place}
 

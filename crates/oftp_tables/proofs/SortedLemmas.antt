@@ -13,7 +13,7 @@ use Rattle.sqlite.specs.Tree.{Trees}
 use Rattle.sqlite.specs.Term.{Term, Env, holds}
 use Rattle.sqlite.specs.Query.{Query, IsAnswer, Output, output, output_cmp, page}
 use Rattle.sqlite.specs.Program.{overlay}
-use Rattle.oftp_schema.proofs.QueryLemmas.{plain_query, no_overlay}
+use Rattle.oftp_tables.proofs.QueryLemmas.{plain_query, no_overlay}
 
 abbrev pub ordered_query : ℕ → List Term → List Term → List (Term × Key) → Term → Query
 ordered_query tree filter project order limit = record (plain_query tree filter project) { order = order; limit = limit }

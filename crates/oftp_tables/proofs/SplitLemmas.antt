@@ -9,8 +9,8 @@ use Rattle.sqlite.specs.declared.types.Value.TheVariants.{Int}
 use Rattle.sqlite.specs.Order.{Row, column, value_cmp}
 use Rattle.sqlite.specs.Tree.{put_row, without_rowid}
 use Rattle.sqlite.specs.Term.{Term, col, eval_all}
-use Rattle.oftp_schema.proofs.TermLemmas.{equal, equal_numbers}
-use Rattle.oftp_schema.proofs.QueryLemmas.{chosen}
+use Rattle.oftp_tables.proofs.TermLemmas.{equal, equal_numbers}
+use Rattle.oftp_tables.proofs.QueryLemmas.{chosen}
 use Rattle.oftp_tables.specs.Tables.{number_value, rows_from}
 use Rattle.oftp_tables.proofs.OrderedLemmas.{less}
 

@@ -1,6 +1,5 @@
 -- What a statement on the row of a number makes of a table.
-use Rattle.std.proofs.Common.{◌≡◌, ◌≢◌, ◌/◌, ℕ, pos, List, [], ◌∷◌, ◌++◌, length, slice_get, Some, None, Ok, refl, ap, subst, ◌∙◌}
-use Rattle.std.specs.List.{AllByRecursion}
+use Rattle.std.proofs.Common.{◌≡◌, ◌/◌, ℕ, pos, List, [], ◌∷◌, ◌++◌, length, slice_get, Some, None, Ok, refl, ap, subst, ◌∙◌}
 use Rattle.std.specs.List.Sorted.{IsPermutation}
 use Rattle.sqlite_schema.specs.declared.program.Program.{Program}
 use Rattle.sqlite.specs.declared.types.Value.TheVariants.{Null, Int}
@@ -20,17 +19,14 @@ use Rattle.sqlite.specs.State.{State, ExecutesInside, mode_of}
 use Rattle.sqlite.proofs.Callers.{IsPlain, command_of, statement_of, runs_as, one_permutation}
 use Rattle.sqlite_rules.specs.Calls.{ids_of}
 use Rattle.sqlite.specs.Schema.{Schema}
-use Rattle.oftp_schema.specs.Schema.{office_schema}
-use Rattle.oftp_schema.proofs.TermLemmas.{no_works}
-use Rattle.oftp_schema.proofs.QueryLemmas.{plain_query, chosen, answers}
-use Rattle.oftp_schema.proofs.WriteLemmas.{Inserted, Updated, inserts, simple, updates}
-use Rattle.oftp_tables.specs.Calls.{Moves}
+use Rattle.oftp_tables.specs.Schema.{office_schema}
+use Rattle.oftp_tables.proofs.TermLemmas.{no_works}
+use Rattle.oftp_tables.proofs.QueryLemmas.{plain_query, chosen, answers}
+use Rattle.oftp_tables.proofs.WriteLemmas.{Inserted, Updated, inserts, simple, updates}
+use Rattle.oftp_tables.specs.Statements.{Moves}
+pub use Rattle.oftp_tables.specs.Statements.{Others}
 use Rattle.oftp_tables.specs.Tables.{number_value}
 use Rattle.oftp_tables.proofs.SplitLemmas.{IsSplit, by_number, chosen_one, put_between, without_between}
-
--- the other tables stay
-abbrev pub Others : ℕ → Trees → Trees → Type 0
-Others tree old new = AllByRecursion (λ (t : Table). t.tree ≢ tree → new t.tree ≡ old t.tree) office_schema.tables
 
 -- the table has one row more, with a number that none had
 pub record PutsIn (k : ℕ) (t : Table) (source : Row) (old new : Trees) : Type 0 where

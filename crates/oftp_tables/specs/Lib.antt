@@ -1,2 +1,10 @@
+pub mod Schema
+pub mod Shape
+pub mod Transactions
+pub mod Making
 pub mod Tables
-pub mod Calls
+pub mod Statements
+pub mod Stands
+pub mod Opening
+pub mod Migration
+pub mod MigrationSteps

@@ -24,7 +24,7 @@ use Rattle.oftp_register.specs.declared.entry.OutgoingState.TheVariants.{Waiting
 use Rattle.oftp_register.specs.declared.entry.Dispatch.{Dispatch}
 use Rattle.oftp_register.specs.declared.entry.Dispatch.TheVariants.{Due, Sent}
 use Rattle.oftp_register.specs.Register.{Register, Incoming, Outgoing, Issued, Received}
-use Rattle.oftp_schema.specs.Schema.{about_tree, in_file_tree, in_row_tree, issued_tree, note_tree, out_file_tree, out_row_tree, received_tree}
+use Rattle.oftp_tables.specs.Schema.{about_tree, in_file_tree, in_row_tree, issued_tree, note_tree, out_file_tree, out_row_tree, received_tree}
 
 -- what the columns hold
 

@@ -1,13 +1,27 @@
-//! What the tables of an office hold for a register, and how their rows are asked for and read.
+//! The tables that an office keeps in a SQLite database: how they are made and known again, what they hold for a register, and how
+//! their rows are asked for and read.
 //!
-//! The definitions are in `specs/`: [`Tables`](../specs/Tables.antt) says which rows stand for a register, and
-//! [`Calls`](../specs/Calls.antt) what look-ups and transactions do to a connection.
+//! The definitions are in `specs/`, in this order: [`Schema`](../specs/Schema.antt) has the tables as data and
+//! [`Shape`](../specs/Shape.antt) their parts, [`Transactions`](../specs/Transactions.antt) says what calls leave of a connection,
+//! [`Making`](../specs/Making.antt) how the tables are made, [`Tables`](../specs/Tables.antt) which rows stand for a register,
+//! [`Statements`](../specs/Statements.antt) what statements do over these tables, [`Stands`](../specs/Stands.antt) and
+//! [`Opening`](../specs/Opening.antt) what a store stands for when it is opened, and [`Migration`](../specs/Migration.antt) and
+//! [`MigrationSteps`](../specs/MigrationSteps.antt) what becomes of schema 1.
 #![tactic(auto)]
 
+mod about;
+mod fault;
+mod make;
+mod migrate;
+mod open;
 mod query;
+mod shape;
 mod values;
 
-pub use query::{ask, fault_of, number};
+pub use fault::{StoreFault, store_fault_of};
+pub use migrate::migrate_tables;
+pub use open::open_tables;
+pub use query::{ask, number, office_fault_of};
 pub use values::{
     body_at, digits_at, dispatch_at, format_at, identity_at, incoming_state_at, kind_at, name_at,
     no_at, number_at, outgoing_state_at, reason_at, text_at,

@@ -7,8 +7,8 @@ ghost use Rattle.sqlite.specs.Listing.{understood};
 ghost use Rattle.sqlite.specs.Values.{bound};
 ghost use Rattle.sqlite.specs.State.{FailsToQuery, HasCleanDisk, Shown};
 ghost use Rattle.oftp_register.specs.Offices.{IsFailure};
-ghost use Rattle.oftp_schema.specs.Schema.{office_schema};
-ghost use Rattle.oftp_tables.specs.Calls.{IsFaultOf, Looks};
+ghost use Rattle.oftp_tables.specs.Schema.{office_schema};
+ghost use Rattle.oftp_tables.specs.Statements.{IsFaultOf, Looks};
 
 use oftp_register::OfficeFault;
 use sqlite::types::ValueRef;
@@ -23,7 +23,7 @@ pub fn number(no: u64) -> i64
 }
 
 /// An error of the store as the office tells it: want of memory, and where no number is left, is [`OfficeFault::Memory`].
-pub fn fault_of(error: Error) -> OfficeFault
+pub fn office_fault_of(error: Error) -> OfficeFault
     ensures fails { IsFailure result }
     ensures memory { (result ≡ OfficeFault.Memory) ↔ ((error ≡ Error.SqliteFailure ErrorCode.OutOfMemory) ⊎ (error ≡ Error.SqliteFailure ErrorCode.NoRowid)) }
 {
@@ -39,7 +39,7 @@ pub fn fault_of(error: Error) -> OfficeFault
 ///
 /// # Errors
 ///
-/// That of the query as [`fault_of`] tells it.
+/// That of the query as [`office_fault_of`] tells it.
 pub fn ask<S: Alter>(
     conn: &mut Connection<S>,
     sql: &str,
@@ -51,6 +51,6 @@ pub fn ask<S: Alter>(
 {
     match conn.query_all(sql, params) {
         Ok(rows) => Ok(rows),
-        Err(error) => Err(fault_of(error)),
+        Err(error) => Err(office_fault_of(error)),
     }
 }

@@ -2,9 +2,9 @@
 
 use crate::database::{self, Errand, PATIENCE};
 use crate::perform::replacing::{Place, draft_of, place_of, settle};
+use oftp_command_line::{Fault, Fetch, Outcome};
 use oftp_engine::{Port, RunFault, write_content};
 use oftp_register::{IncomingEntry, IncomingState, Office};
-use oftp_words::{Fault, Fetch, Outcome};
 use std::alloc::Global;
 use std::io::Write;
 use std::rt::Files;

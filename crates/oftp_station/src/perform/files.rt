@@ -1,7 +1,7 @@
 //! The files that a line names.
 
+use oftp_command_line::Fault;
 use oftp_partners::{self as partners, Book, BookFault};
-use oftp_words::Fault;
 use std::fs::{self, Metadata, OpenFile};
 use std::io::{self, ErrorKind, Read};
 use std::os::unix::fs::MetadataExt;

@@ -2,14 +2,21 @@
 
 use crate::database::{self, DatabaseOffice, LIMITS, PATIENCE};
 use crate::perform::files::{read_beginning, read_book};
+use oftp_command_line::{Fault, Files, Refuse, Release, Submit};
 use oftp_engine::{Operator, Port, Submission, Told};
 use oftp_partners::Book;
 use oftp_vfile::{Format, MOST_ROWS};
-use oftp_words::{Fault, Refuse, Release, Submit};
 use std::io::Write;
 
 /// How many octets the local form of a file that is kept has at most: the file's, and five digits for each of its records.
 const MOST_CONTENT: u64 = LIMITS.octets + 5 * MOST_ROWS as u64;
+
+/// The book, and the office over the database.
+fn opened(rt: &HostRuntime, files: &Files<'_>) -> Result<(Book, DatabaseOffice), Fault> {
+    let book = read_book(rt, files.book)?;
+    let office = database::open(rt, files.database, PATIENCE)?;
+    Ok((book, office))
+}
 
 /// Does what an operator wants of an office, which is given up then, and writes the line that tells it.
 fn call(
@@ -23,6 +30,17 @@ fn call(
     office
         .operate(rt.alloc(), book, operator, &mut port)
         .map_err(Fault::Run)
+}
+
+/// Does what an operator wants of the office over the database that a line names.
+fn operate(
+    rt: &HostRuntime,
+    files: &Files<'_>,
+    operator: &Operator<'_>,
+    out: &mut impl Write,
+) -> Result<Told, Fault> {
+    let (book, office) = opened(rt, files)?;
+    call(rt, office, &book, operator, out)
 }
 
 /// The format and the longest record of content. Content that is longer than any that is kept was read as far as that shows, and no
@@ -41,8 +59,7 @@ pub(super) fn submit(
     submit: &Submit<'_>,
     out: &mut impl Write,
 ) -> Result<Told, Fault> {
-    let book = read_book(rt, submit.book)?;
-    let office = database::open(rt, submit.database, PATIENCE)?;
+    let (book, office) = opened(rt, &submit.files)?;
     let content = read_beginning(rt, submit.file, MOST_CONTENT + 1)?;
     let (format, longest) = layout_of(submit, content.as_slice());
     let operator = Operator::Submit(Submission {
@@ -64,10 +81,8 @@ pub(super) fn release(
     release: &Release<'_>,
     out: &mut impl Write,
 ) -> Result<Told, Fault> {
-    let book = read_book(rt, release.book)?;
-    let office = database::open(rt, release.database, PATIENCE)?;
     let operator = Operator::Release { no: release.no };
-    call(rt, office, &book, &operator, out)
+    operate(rt, &release.files, &operator, out)
 }
 
 /// Issues the negative end response of an incoming file.
@@ -76,12 +91,10 @@ pub(super) fn refuse(
     refuse: &Refuse<'_>,
     out: &mut impl Write,
 ) -> Result<Told, Fault> {
-    let book = read_book(rt, refuse.book)?;
-    let office = database::open(rt, refuse.database, PATIENCE)?;
     let operator = Operator::Refuse {
         no: refuse.no,
         reason: refuse.reason,
         text: refuse.text,
     };
-    call(rt, office, &book, &operator, out)
+    operate(rt, &refuse.files, &operator, out)
 }

@@ -1,19 +1,19 @@
 //! The commands `init`, `migrate` and `report`, which look at a database alone.
 
 use crate::database::{self, PATIENCE};
+use oftp_command_line::{Fault, Outcome, Report};
 use oftp_engine::Port;
-use oftp_words::{Fault, Init, Migrate, Outcome, Report};
 use std::io::Write;
 
 /// Opens a database, making its tables.
-pub(super) fn initiate(rt: &HostRuntime, init: &Init<'_>) -> Result<Outcome, Fault> {
-    database::make(rt, init.database)?;
+pub(super) fn initiate(rt: &HostRuntime, database: &str) -> Result<Outcome, Fault> {
+    database::make(rt, database)?;
     Ok(Outcome::Initiated)
 }
 
 /// Brings a database of schema 1 to schema 2.
-pub(super) fn migrate(rt: &HostRuntime, migrate: &Migrate<'_>) -> Result<Outcome, Fault> {
-    database::migrate(rt, migrate.database, PATIENCE)?;
+pub(super) fn migrate(rt: &HostRuntime, database: &str) -> Result<Outcome, Fault> {
+    database::migrate(rt, database, PATIENCE)?;
     Ok(Outcome::Migrated)
 }
 

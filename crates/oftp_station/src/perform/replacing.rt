@@ -1,7 +1,7 @@
 //! A file that is made: no half of it ever bears its name, and what bore the name before is there until it is whole.
 
 use crate::perform::files::{file_fault, is_of_database};
-use oftp_words::Fault;
+use oftp_command_line::Fault;
 use std::fs::{self, OpenFile, OpenOptions, Permissions};
 use std::io::ErrorKind;
 use std::os::unix::fs::PermissionsExt;

@@ -4,7 +4,7 @@ use crate::database;
 use crate::perform::files::read_book;
 use crate::perform::traces::open_trace;
 use crate::sockets::{Station, bound, connected, dial, http_on, listen_on};
-use oftp_words::{Call, Fault, Http, Listen, Outcome};
+use oftp_command_line::{Call, Fault, Http, Listen, Outcome};
 use std::io::Write;
 use std::time::Duration;
 
@@ -22,13 +22,18 @@ pub(super) fn listen(
     line: &Listen<'_>,
     out: &mut impl Write,
 ) -> Result<(), Fault> {
-    let book = read_book(rt, line.book)?;
-    database::make(rt, line.database)?;
-    let trace = open_trace(rt, line.trace, &[line.book], Some(line.database))?;
+    let book = read_book(rt, line.files.book)?;
+    database::make(rt, line.files.database)?;
+    let trace = open_trace(
+        rt,
+        line.trace,
+        &[line.files.book],
+        Some(line.files.database),
+    )?;
     let listener = bound(rt, line.address, line.port)?;
     let station = Station {
         book: &book,
-        database: line.database,
+        database: line.files.database,
         patience: patience_of(line.patience),
         trace: trace.as_ref(),
     };
@@ -37,17 +42,22 @@ pub(super) fn listen(
 
 /// Calls a partner for one session.
 pub(super) fn call(rt: &HostRuntime, line: &Call<'_>) -> Result<Outcome, Fault> {
-    let book = read_book(rt, line.book)?;
+    let book = read_book(rt, line.files.book)?;
     let Some(partner) = book.partner(line.partner.as_bytes()) else {
         return Ok(Outcome::Unknown);
     };
-    database::make(rt, line.database)?;
-    let trace = open_trace(rt, line.trace, &[line.book], Some(line.database))?;
+    database::make(rt, line.files.database)?;
+    let trace = open_trace(
+        rt,
+        line.trace,
+        &[line.files.book],
+        Some(line.files.database),
+    )?;
     let patience = patience_of(line.patience);
     let stream = connected(rt, partner.address.as_str(), patience)?;
     let station = Station {
         book: &book,
-        database: line.database,
+        database: line.files.database,
         patience,
         trace: trace.as_ref(),
     };

@@ -7,10 +7,10 @@ use crate::perform::files::{
 use crate::perform::traces::open_trace;
 use crate::ports::ports_of;
 use crate::tracing::{Trace, Traced};
+use oftp_command_line::{Fault, Feed, Outcome, Side};
 use oftp_engine::{End, Port, Role, RunFault, serve_in_memory};
 use oftp_partners::{Book, Partner};
 use oftp_register::PlainOffice;
-use oftp_words::{Fault, Feed, Outcome, Side};
 use std::fs::{self, File, Metadata, OpenFile};
 use std::io::ErrorKind;
 use std::rt::Files;

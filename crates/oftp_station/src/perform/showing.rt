@@ -2,8 +2,8 @@
 
 use crate::perform::files::{file_fault, open_input};
 use crate::transcript::Transcript;
+use oftp_command_line::Fault;
 use oftp_engine::RunFault;
-use oftp_words::{Fault, Show};
 use std::alloc::AllocError;
 use std::io::{Read, Write};
 
@@ -11,8 +11,8 @@ use std::io::{Read, Write};
 const PIECE: usize = 4_096;
 
 /// Writes a line for each command of a file of octets, up to the first fault, and answers whether there is none.
-pub(super) fn show(rt: &HostRuntime, line: &Show<'_>, out: &mut impl Write) -> Result<bool, Fault> {
-    let mut input = open_input(rt, line.input)?;
+pub(super) fn show(rt: &HostRuntime, input: &str, out: &mut impl Write) -> Result<bool, Fault> {
+    let mut input = open_input(rt, input)?;
     let mut transcript = Transcript::new(rt.alloc());
     let mut piece = [0; PIECE];
     for _ in 0..u64::MAX {

@@ -1,6 +1,6 @@
 //! Sockets by their addresses.
 
-use oftp_words::Fault;
+use oftp_command_line::Fault;
 use std::net::{TcpListener, TcpStream, ToSocketAddrs};
 use std::time::Duration;
 

@@ -1,8 +1,8 @@
 //! What goes wrong with one caller, and what ends the service.
 
+use oftp_command_line::{Fault, write_line};
 use oftp_engine::RunFault;
 use oftp_store::{PathFault, StoreFault};
-use oftp_words::{Fault, write_line};
 use std::io::Write;
 
 /// Why a caller wasn't served to the end.

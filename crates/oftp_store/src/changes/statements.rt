@@ -3,7 +3,7 @@
 ghost use Rattle.std.specs.Prelude.{◌≡◌, ◌+◌, ◌<◌, ◌^◌, [], ◌∷◌, ℕ, length};
 ghost use Rattle.sqlite.specs.Values.{bound};
 ghost use Rattle.oftp_wire.specs.Octets.{decimal};
-ghost use Rattle.oftp_tables.specs.Calls.{Performs, uncounted};
+ghost use Rattle.oftp_tables.specs.Statements.{Performs, uncounted};
 ghost use Rattle.oftp_tables.specs.Tables.{HasRefusal, format_text, kind_text, out_state_text, reason_text, refusal_text};
 ghost use Rattle.oftp_register.specs.declared.entry.OutgoingState.{OutgoingState};
 ghost use Rattle.oftp_register.specs.declared.entry.ResponseKind.TheVariants.{NegativeEndResponse};
@@ -105,12 +105,12 @@ fn set_outgoing_texts<'x, S: Alter>(
     tx: &mut Transaction<'_, S>,
     no: u64,
     mark: u32,
-    stage: &'x [u8],
+    progress: &'x [u8],
     reason: &'x [u8],
 ) -> Result<(), Error>
     requires { no < 2 ^ 63 }
     ensures same_reference { tx.new.conn.ghost_name ≡ tx.old.conn.ghost_name }
-    ensures performs { (to : OutgoingState) → stage.now ≡ out_state_text to → reason.now ≡ refusal_text to → HasRefusal to
+    ensures performs { (to : OutgoingState) → progress.now ≡ out_state_text to → reason.now ≡ refusal_text to → HasRefusal to
         → Performs (Makes no (SetOutgoing mark to)) S.Store tx.old.conn.now tx.new.conn.now result }
 {
     done(tx.execute(
@@ -118,7 +118,7 @@ fn set_outgoing_texts<'x, S: Alter>(
         &[
             ValueRef::Int(number(no)),
             ValueRef::Int(i64::from(mark)),
-            ValueRef::Text(stage),
+            ValueRef::Text(progress),
             ValueRef::Text(reason),
         ],
     ))
@@ -129,14 +129,14 @@ pub(crate) fn set_outgoing<S: Alter>(
     tx: &mut Transaction<'_, S>,
     no: u64,
     mark: u32,
-    stage: OutgoingState,
+    progress: OutgoingState,
 ) -> Result<(), Error>
     requires { no < 2 ^ 63 }
     ensures same_reference { tx.new.conn.ghost_name ≡ tx.old.conn.ghost_name }
-    ensures performs { Performs (Makes no (SetOutgoing mark stage)) S.Store tx.old.conn.now tx.new.conn.now result }
+    ensures performs { Performs (Makes no (SetOutgoing mark progress)) S.Store tx.old.conn.now tx.new.conn.now result }
 {
-    let text = state_text(&stage);
-    let reason = refusal_text(stage);
+    let text = state_text(&progress);
+    let reason = refusal_text(progress);
     set_outgoing_texts(tx, no, mark, text.as_bytes(), reason.as_slice())
 }
 

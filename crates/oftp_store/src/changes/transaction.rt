@@ -1,26 +1,26 @@
 //! The transaction of a change.
 
-ghost use Rattle.std.specs.Prelude.{◌≡◌, ◌↔◌, ◌<◌, ◌^◌, All, IfErr, IsTrue, false, true};
+ghost use Rattle.std.specs.Prelude.{◌≡◌, ◌↔◌, ◌<◌, ◌^◌, All, IfErr, IsTrue, false};
 ghost use Rattle.sqlite.specs.Held.{state};
 ghost use Rattle.sqlite.specs.State.{HasCleanDisk};
-ghost use Rattle.oftp_schema.specs.Calls.{IsTransactionError, Transacts};
-ghost use Rattle.oftp_tables.specs.Calls.{IsOffice, Moves, Performs};
-ghost use Rattle.oftp_store.specs.Commits.{MakesEdits};
-ghost use Rattle.oftp_store.specs.Edits.{HasRoom, IsStorable, Makes, MakesAll, adds_entry};
+ghost use Rattle.oftp_tables.specs.Transactions.{IsTransactionError, Transacts};
+ghost use Rattle.oftp_tables.specs.Statements.{IsOffice, Moves, Performs};
+ghost use Rattle.oftp_store.specs.Commits.{MakesEdits, MakesIf};
+ghost use Rattle.oftp_store.specs.Edits.{HasRoom, IsStorable, Makes, MakesAll};
 
 use super::edit::{Deed, Edit};
 use super::statements::{
     add_incoming, add_issued, add_outgoing, add_received, add_rows, cut_rows, set_header,
     set_outgoing, set_sent, set_whole,
 };
-use oftp_register::OfficeFault;
-use oftp_tables::fault_of;
+use oftp_register::{Cause, OfficeFault};
+use oftp_tables::office_fault_of;
 use sqlite::{Alter, Connection, Error, Transaction};
 
-// Makes an edit that adds an entry, with a number that the database can hold.
-fn add_entry<S: Alter>(tx: &mut Transaction<'_, S>, no: u64, deed: &Deed<'_>) -> Result<(), Error>
-    requires small { no < 2 ^ 63 }
-    requires adds { adds_entry deed.now ≡ true }
+// Makes an edit of the entry with a number, which the database can hold.
+fn perform<S: Alter>(tx: &mut Transaction<'_, S>, no: u64, deed: &Deed<'_>) -> Result<(), Error>
+    requires number { no < 2 ^ 63 }
+    requires room { HasRoom deed.now }
     ensures same_reference { tx.new.conn.ghost_name ≡ tx.old.conn.ghost_name }
     ensures performs { Performs (Makes no deed.now) S.Store tx.old.conn.now tx.new.conn.now result }
 {
@@ -37,28 +37,6 @@ fn add_entry<S: Alter>(tx: &mut Transaction<'_, S>, no: u64, deed: &Deed<'_>) ->
             longest,
             description,
         } => add_outgoing(tx, no, identity, *format, *longest, description),
-        Deed::AddReceived {
-            kind,
-            identity,
-            reason,
-            creator,
-            text,
-        } => add_received(tx, no, *kind, identity, *reason, creator, text),
-        _ => unreachable!(),
-    }
-}
-
-// Makes an edit of the entry with a number, which the database can hold.
-fn perform<S: Alter>(tx: &mut Transaction<'_, S>, no: u64, deed: &Deed<'_>) -> Result<(), Error>
-    requires number { no < 2 ^ 63 }
-    requires room { HasRoom deed.now }
-    ensures same_reference { tx.new.conn.ghost_name ≡ tx.old.conn.ghost_name }
-    ensures performs { Performs (Makes no deed.now) S.Store tx.old.conn.now tx.new.conn.now result }
-{
-    match deed {
-        Deed::AddIncoming { .. } | Deed::AddOutgoing { .. } | Deed::AddReceived { .. } => add_entry(
-            tx, no, deed,
-        ),
         Deed::SetHeader {
             format,
             longest,
@@ -70,6 +48,13 @@ fn perform<S: Alter>(tx: &mut Transaction<'_, S>, no: u64, deed: &Deed<'_>) -> R
         Deed::CutRows { count } => cut_rows(tx, no, *count),
         Deed::AddIssued { kind, reason, text } => add_issued(tx, no, *kind, *reason, text),
         Deed::SetSent => set_sent(tx, no),
+        Deed::AddReceived {
+            kind,
+            identity,
+            reason,
+            creator,
+            text,
+        } => add_received(tx, no, *kind, identity, *reason, creator, text),
     }
 }
 
@@ -86,7 +71,7 @@ fn perform_all<S: Alter>(tx: &mut Transaction<'_, S>, edits: &[Edit<'_>]) -> Res
 }
 
 // Makes edits in turn, which the database can hold, in one transaction.
-#[tactic(auto, using(oftp_schema::proofs::TxLemmas::tells_at_end))]
+#[tactic(auto, using(oftp_tables::proofs::RunLemmas::tells_at_end))]
 fn carry_out<S: Alter>(conn: &mut Connection<S>, edits: &[Edit<'_>]) -> Result<(), Error>
     requires autocommit { conn.old.in_transaction ≡ false }
     requires storable { All IsStorable edits.now }
@@ -122,6 +107,21 @@ pub(crate) fn make_edits<S: Alter>(
     }
     match carry_out(conn, edits) {
         Ok(()) => Ok(()),
-        Err(error) => Err(fault_of(error)),
+        Err(error) => Err(office_fault_of(error)),
     }
+}
+
+/// Makes edits that the state of a file allows or not.
+pub(crate) fn make_if<S: Alter>(
+    is_allowed: bool,
+    conn: &mut Connection<S>,
+    edits: &[Edit<'_>],
+) -> Result<(), OfficeFault>
+    requires { conn.old.in_transaction ≡ false }
+    ensures { MakesIf is_allowed edits.now S.Store conn.old conn.new result }
+{
+    if !is_allowed {
+        return Err(OfficeFault::Refused(Cause::State));
+    }
+    make_edits(conn, edits)
 }

@@ -8,7 +8,9 @@ ghost use Rattle.oftp_store.specs.Views.{content_alone, view_of};
 
 use super::SqlOffice;
 use crate::changes::commit::commit_change;
-use crate::looks::{entry, find, identity, item, last, lists, rows, units};
+use crate::queries::{
+    file_by_identity, file_by_number, identity, last_number, lists, next_item, rows, units,
+};
 use oftp_register::{
     Change, Cursor, Identity, IncomingEntry, IssuedEntry, Item, Name, Office, OfficeFault,
     OutgoingEntry, ReceivedEntry, ResponseKind, Side,
@@ -53,12 +55,12 @@ impl<S: Alter> Office for SqlOffice<S> {
     }
 
     fn look_in(&mut self, identity: &Identity) -> Result<Option<IncomingEntry>, OfficeFault> {
-        let found = find::look_in(self.alloc, &mut self.conn, identity);
+        let found = file_by_identity::look_in(self.alloc, &mut self.conn, identity);
         counted(&mut self.faults, found)
     }
 
     fn look_out(&mut self, identity: &Identity) -> Result<Option<OutgoingEntry>, OfficeFault> {
-        let found = find::look_out(self.alloc, &mut self.conn, identity);
+        let found = file_by_identity::look_out(self.alloc, &mut self.conn, identity);
         counted(&mut self.faults, found)
     }
 
@@ -66,7 +68,7 @@ impl<S: Alter> Office for SqlOffice<S> {
         if no >= FIRST_FAR {
             return Ok(None);
         }
-        let found = entry::find_incoming(self.alloc, &mut self.conn, no);
+        let found = file_by_number::find_incoming_file(self.alloc, &mut self.conn, no);
         counted(&mut self.faults, found)
     }
 
@@ -74,12 +76,12 @@ impl<S: Alter> Office for SqlOffice<S> {
         if no >= FIRST_FAR {
             return Ok(None);
         }
-        let found = entry::find_outgoing(self.alloc, &mut self.conn, no);
+        let found = file_by_number::find_outgoing_file(self.alloc, &mut self.conn, no);
         counted(&mut self.faults, found)
     }
 
     fn files_full(&mut self, side: Side) -> Result<bool, OfficeFault> {
-        let full = last::is_full(&mut self.conn, side, self.limits.files);
+        let full = last_number::is_full(&mut self.conn, side, self.limits.files);
         counted(&mut self.faults, full)
     }
 
@@ -98,7 +100,7 @@ impl<S: Alter> Office for SqlOffice<S> {
         cursor: Cursor,
         files: bool,
     ) -> Result<Option<Item>, OfficeFault> {
-        let found = item::next_item(self.alloc, &mut self.conn, partner, cursor, files);
+        let found = next_item::next_item(self.alloc, &mut self.conn, partner, cursor, files);
         counted(&mut self.faults, found)
     }
 

@@ -1,6 +1,6 @@
 use Rattle.std.proofs.Common.{subst}
 use Rattle.oftp_register.specs.Register.{Register}
-use Rattle.oftp_open.specs.Stands.{IsContentOf}
+use Rattle.oftp_tables.specs.Stands.{IsContentOf}
 use Rattle.oftp_store.specs.Shown.{database_of, limits_of}
 use Rattle.oftp_store.specs.Views.{content_alone}
 use Rattle.oftp_durable.proofs.opening.leaves_alone.Goals as goal

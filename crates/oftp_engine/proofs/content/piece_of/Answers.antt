@@ -1,6 +1,6 @@
 use Rattle.std.proofs.Common.{sym, subst}
 use Rattle.std.proofs.lemmas.Bool.{false≢true}
-use Rattle.oftp_engine.specs.Fetched.{IsPiece}
+use Rattle.oftp_engine.specs.InsideContent.{IsPiece}
 use Rattle.oftp_engine.proofs.Pieces.{misfits}
 use Rattle.oftp_engine.proofs.content.piece_of.Goals as goal
 

@@ -1,6 +1,6 @@
 use Rattle.std.proofs.Common.{◌∙◌, sym, subst, arith}
-use Rattle.oftp_ports.specs.Ports.{Sent}
-use Rattle.oftp_ports.proofs.Puts.{puts_on, puts_sent}
+use Rattle.oftp_io.specs.Ports.{Sent}
+use Rattle.oftp_io.proofs.Puts.{puts_on, puts_sent}
 use Rattle.oftp_engine.specs.Fetched.{FetchedOut, fetched}
 use Rattle.oftp_engine.proofs.Fetching.{fetched_in_part, fetched_on, fetched_so_far}
 use Rattle.oftp_engine.proofs.Telling.{handed_on}

@@ -2,7 +2,7 @@ use Rattle.std.proofs.Common.{◌≡◌, sym, subst, Result}
 use Rattle.oftp_engine.specs.declared.operating.Outcome.{Outcome}
 use Rattle.oftp_engine.specs.declared.serving.RunFault.{RunFault}
 use Rattle.oftp_engine.specs.Operating.{Deed, makes}
-use Rattle.oftp_engine.specs.Operated.{Attempts}
+use Rattle.oftp_engine.specs.InsideOperating.{Attempts}
 use Rattle.oftp_engine.proofs.Deciding.{decides}
 use Rattle.oftp_engine.proofs.operating.decide.Goals as goal
 

@@ -1,6 +1,6 @@
 use Rattle.std.proofs.Common.{List, ℕ, is_ok, subst}
-use Rattle.oftp_engine.specs.Operated.{line_as}
-use Rattle.oftp_ports.specs.Ports.{Sent}
+use Rattle.oftp_engine.specs.InsideOperating.{line_as}
+use Rattle.oftp_io.specs.Ports.{Sent}
 use Rattle.oftp_engine.proofs.Deciding.{operated, undecided}
 use Rattle.oftp_engine.proofs.Telling.{handed_on}
 use Rattle.oftp_engine.proofs.operating.operate.Goals as goal

@@ -1,4 +1,4 @@
-use Rattle.oftp_engine.specs.Jobs.{IsRunning}
+use Rattle.oftp_engine.proofs.JobsSoFar.{IsRunning}
 use Rattle.oftp_engine.proofs.running.run.Given as goal
 
 abbrev pub invariant-loop-i : goal.invariant-loop-i

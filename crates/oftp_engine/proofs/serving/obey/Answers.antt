@@ -6,7 +6,8 @@ use Rattle.oftp_session.specs.Steps.{came, Holds}
 use Rattle.oftp_session.proofs.Proceeding.{came_proceeds}
 use Rattle.oftp_session.specs.Calls.{Stands}
 use Rattle.oftp_engine.specs.declared.serving.RunFault.{RunFault}
-use Rattle.oftp_engine.specs.Serving.{StepFails, scene}
+use Rattle.oftp_engine.specs.Serving.{scene}
+use Rattle.oftp_engine.specs.InsideServing.{StepFails}
 use Rattle.oftp_engine.proofs.Stepping.{called_ok, called_err}
 use Rattle.oftp_engine.proofs.serving.obey.Goals as goal
 
@@ -16,9 +17,9 @@ returns-in-Ok-clause-steps g c = λ clean stood k live at.
     let held = subst (Holds k.phase) (sym at.register) at.suits.holds in
     let done = c.on_command.follows.holds-at-none in
     let stands = subst (λ (x : Result Out SessionFault). OnOk x (Stands (came c.args.session.now.setting k.phase r c.args.command.now).phase c.on_command.follows.lender-at-none)) c.in-Ok.is
-    (done.1 clean stood k.phase held live at.stands) in
+    (done.phase clean stood k.phase held live at.stands) in
     called_ok g.W.Write.contents c.args.writer.now c.write_out.new.port _ _ k c.args.session.now (λ setting r. came setting k.phase r c.args.command.now) at _ c.in-Ok.out c.write_out.result
-    done.0 (c.in-Ok.ensures.does clean stood k.phase held live at.stands) (came_proceeds k.setting k.phase k.register c.args.command.now at.suits).suits
+    done.setting (c.in-Ok.ensures.does clean stood k.phase held live at.stands) (came_proceeds k.setting k.phase k.register c.args.command.now at.suits).suits
     stands c.write_out.ensures.sent c.write_out.ensures.err
 
 pub returns-in-Err-clause-steps : goal.returns-in-Err-clause-steps

@@ -3,7 +3,7 @@ use Rattle.oftp_engine.specs.Serving.{scene}
 use Rattle.oftp_engine.proofs.Progress.{went_none}
 use Rattle.oftp_engine.proofs.Pumping.{has_ended, obey_fails, obeyed, refuse_fails, refused_bad, shorter, turn_fails, waits}
 use Rattle.oftp_engine.proofs.Telling.{handed_on, told_err}
-use Rattle.oftp_ports.proofs.Puts.{puts_none, puts_on}
+use Rattle.oftp_io.proofs.Puts.{puts_none, puts_on}
 use Rattle.oftp_engine.proofs.Stepping.{stepped_refuse}
 use Rattle.oftp_engine.proofs.serving.pump.Goals as goal
 
@@ -66,16 +66,16 @@ returns-in-Err-clause-steps g c = λ clean stood k lim told at.
     refused_bad _ _ _ _ _ _ (c.frames.invariant.goes (c.take_turns.ensures.clean clean) stood k lim told at) stood
     _ _ (c.in_ok-take_turns.ensures.steps clean) _ c.ended.ensures.phase c.in_default.is _ c.next.follows.holds-at-none
     _ c.in-Err.ensures.value _ _ _
-    (stepped_refuse _ _ _ _ _ _ _ _ c.refuse.ensures.setting c.refuse.ensures.over c.refuse.ensures.sent c.refuse.ensures.err)
-    _ c.in_ok-refuse-in-Err.was
+    (stepped_refuse _ _ _ _ _ _ _ _ c.end_with.ensures.setting c.end_with.ensures.over c.end_with.ensures.sent c.end_with.ensures.err)
+    _ c.in_ok-end_with-in-Err.was
 
-pub returns-in_err-refuse-in-Err-clause-steps : goal.returns-in_err-refuse-in-Err-clause-steps
-returns-in_err-refuse-in-Err-clause-steps g c = λ clean stood k lim told at.
+pub returns-in_err-end_with-in-Err-clause-steps : goal.returns-in_err-end_with-in-Err-clause-steps
+returns-in_err-end_with-in-Err-clause-steps g c = λ clean stood k lim told at.
     refuse_fails _ _ _ _ _ _ (c.frames.invariant.goes (c.take_turns.ensures.clean clean) stood k lim told at) stood
     _ _ (c.in_ok-take_turns.ensures.steps clean) _ c.ended.ensures.phase c.in_default.is _ c.next.follows.holds-at-none
     _ c.in-Err.ensures.value _ _ _
-    (stepped_refuse _ _ _ _ _ _ _ _ c.refuse.ensures.setting c.refuse.ensures.over c.refuse.ensures.sent c.refuse.ensures.err)
-    _ _ c.in_err-refuse-in-Err.was (handed_on _ _ c.from_residual-in_err-refuse-in-Err.ensures.1)
+    (stepped_refuse _ _ _ _ _ _ _ _ c.end_with.ensures.setting c.end_with.ensures.over c.end_with.ensures.sent c.end_with.ensures.err)
+    _ _ c.in_err-end_with-in-Err.was (handed_on _ _ c.from_residual-in_err-end_with-in-Err.ensures.1)
 
 -- what the writer took before the frame's answer
 pub returns-in_err-take_turns-clause-out : goal.returns-in_err-take_turns-clause-out
@@ -90,11 +90,11 @@ returns-in-Ok-None-clause-out g c = puts_on _ _ _ _ c.frames.invariant.out c.tak
 pub returns-in_err-take_command-in-Ok-Some-clause-out : goal.returns-in_err-take_command-in-Ok-Some-clause-out
 returns-in_err-take_command-in-Ok-Some-clause-out g c = puts_on _ _ _ _ (puts_on _ _ _ _ c.frames.invariant.out c.take_turns.ensures.out) c.take_command.ensures.out
 
-pub returns-in_err-refuse-in-Err-clause-out : goal.returns-in_err-refuse-in-Err-clause-out
-returns-in_err-refuse-in-Err-clause-out g c = puts_on _ _ _ _ (puts_on _ _ _ _ c.frames.invariant.out c.take_turns.ensures.out) c.refuse.ensures.out
+pub returns-in_err-end_with-in-Err-clause-out : goal.returns-in_err-end_with-in-Err-clause-out
+returns-in_err-end_with-in-Err-clause-out g c = puts_on _ _ _ _ (puts_on _ _ _ _ c.frames.invariant.out c.take_turns.ensures.out) c.end_with.ensures.out
 
 pub returns-in-Err-clause-out : goal.returns-in-Err-clause-out
-returns-in-Err-clause-out g c = puts_on _ _ _ _ (puts_on _ _ _ _ c.frames.invariant.out c.take_turns.ensures.out) c.refuse.ensures.out
+returns-in-Err-clause-out g c = puts_on _ _ _ _ (puts_on _ _ _ _ c.frames.invariant.out c.take_turns.ensures.out) c.end_with.ensures.out
 
 pub returns-in_err-take_turns-clause-told : goal.returns-in_err-take_turns-clause-told
 returns-in_err-take_turns-clause-told g c =
@@ -112,10 +112,10 @@ returns-in_err-take_command-in-Ok-Some-clause-told g c =
     told_err c.args.writer.now c.take_turns.new.writer c.take_command.new.writer _ _ (handed_on _ _ c.from_residual-in_err-take_command-in-Ok-Some.ensures.1)
     (c.in_ok-take_turns.ensures.told ∙ c.frames.invariant.told) c.in_err-take_command-in-Ok-Some.ensures.told
 
-pub returns-in_err-refuse-in-Err-clause-told : goal.returns-in_err-refuse-in-Err-clause-told
-returns-in_err-refuse-in-Err-clause-told g c =
-    told_err c.args.writer.now c.take_turns.new.writer c.refuse.new.port _ _ (handed_on _ _ c.from_residual-in_err-refuse-in-Err.ensures.1)
-    (c.in_ok-take_turns.ensures.told ∙ c.frames.invariant.told) c.in_err-refuse-in-Err.ensures.told
+pub returns-in_err-end_with-in-Err-clause-told : goal.returns-in_err-end_with-in-Err-clause-told
+returns-in_err-end_with-in-Err-clause-told g c =
+    told_err c.args.writer.now c.take_turns.new.writer c.end_with.new.port _ _ (handed_on _ _ c.from_residual-in_err-end_with-in-Err.ensures.1)
+    (c.in_ok-take_turns.ensures.told ∙ c.frames.invariant.told) c.in_err-end_with-in-Err.ensures.told
 
 pub returns-in-Err-clause-told : goal.returns-in-Err-clause-told
-returns-in-Err-clause-told g c = c.in_ok-refuse-in-Err.ensures.told ∙ c.in_ok-take_turns.ensures.told ∙ c.frames.invariant.told
+returns-in-Err-clause-told g c = c.in_ok-end_with-in-Err.ensures.told ∙ c.in_ok-take_turns.ensures.told ∙ c.frames.invariant.told

@@ -3,15 +3,15 @@ use Rattle.oftp_wire.specs.Stream.{Stream}
 use Rattle.oftp_session.proofs.Phases.{opening_suits}
 use Rattle.oftp_engine.specs.Runs.{started}
 use Rattle.oftp_engine.specs.Served.{setting_of, Serves}
-use Rattle.oftp_engine.specs.Serving.{IsAt, scene}
-use Rattle.oftp_ports.proofs.Bytes.{consumes_none}
-use Rattle.oftp_engine.proofs.Ending.{lawful}
+use Rattle.oftp_engine.specs.Serving.{scene}
+use Rattle.oftp_engine.specs.InsideServing.{IsAt}
+use Rattle.oftp_io.proofs.Bytes.{consumes_none}
 use Rattle.oftp_engine.proofs.Progress.{went_none}
 use Rattle.oftp_engine.proofs.Pumping.{IsPumping}
 use Rattle.oftp_engine.proofs.Telling.{handed_on, told_err}
-use Rattle.oftp_ports.proofs.Puts.{puts_none, puts_on}
+use Rattle.oftp_io.proofs.Puts.{puts_none, puts_on}
 use Rattle.oftp_engine.proofs.Reading.{gave_on, gave_zero, gave_kept, read_on, fed_from}
-use Rattle.oftp_engine.proofs.Served.{cut_short, fails_over, out_of_room, served_input, served_over, waits_on}
+use Rattle.oftp_engine.proofs.Served.{cut_short, fails_over, has_pumped, out_of_room, served_input, served_over, waits_on}
 use Rattle.oftp_engine.proofs.serving.serve.Goals as goal
 
 pub pieces-init : goal.pieces-init
@@ -39,7 +39,7 @@ pieces-init g c =
             } in
             subst (λ (x : Stream). IsPumping k [] x c.opened-session.result first first) (sym c.new-stream.ensures)
             (record { come = record { at = k; went = went_none k [] first; now = now }; limit = refl; told = refl });
-        needed = λ clean stood. record { before = []; last = []; all = refl; piece = omega arith; live = λ some. absurd (omega (arith, some)) };
+        needed = λ clean stood. record { before = []; last = []; all = refl; piece = omega arith; some = λ more. more; live = λ some. absurd (omega (arith, some)) };
       };
     }
 
@@ -47,68 +47,50 @@ pub returns-in_err-ending-clause-serves : goal.returns-in_err-ending-clause-serv
 returns-in_err-ending-clause-serves g c =
     let first = scene g.W.Write.contents (g.O.Office.view c.args.office.now) c.args.writer.now in
     let new = scene g.W.Write.contents (g.O.Office.view c.pump.new.office) c.pump.new.writer in
-    let h = c.pieces.invariant.goes in (
+    let h = c.pieces.invariant.goes in
+    let pumped = has_pumped g.O.Office.view g.met.O.Office.sound g.met.O.Office.alone g.W.Write.contents c.args.office.now c.pieces.office c.pump.new.office
+    c.args.writer.now c.pieces.writer c.pump.new.writer {stream = c.pump.new.stream} {seen = c.pump.new.session} h c.pieces.invariant.clean c.pump.ensures.clean c.in_err-ending.ensures.steps in (
       h.given,
       h.gave,
-      λ clean stood.
-          let before = c.pump.ensures.clean clean in
-          let law = lawful g.O.Office.view g.met.O.Office.sound g.met.O.Office.alone c.args.office.now c.pump.new.office (c.pieces.invariant.clean before) clean stood in
-          let p = h.pumping before stood in
-          subst (Serves (setting_of c.args.book.now c.args.role) h.given first new) (sym (handed_on _ _ c.from_residual.ensures.1))
-          (fails_over _ _ _ c.pump.new.stream _ c.pump.new.session _ _ _ p law _
-          (c.in_err-ending.ensures.steps clean (p.come.went.stands stood) p.come.at p.limit p.told p.come.now)),
+      λ clean stood. subst (Serves (setting_of c.args.book.now c.args.role) h.given first new) (sym (handed_on _ _ c.from_residual.ensures.1)) (fails_over (pumped clean stood)),
     )
 
 pub returns-in-Some-clause-serves : goal.returns-in-Some-clause-serves
 returns-in-Some-clause-serves g c =
-    let h = c.pieces.invariant.goes in (
-      h.given,
-      h.gave,
-      λ clean stood.
-          let before = c.pump.ensures.clean clean in
-          let law = lawful g.O.Office.view g.met.O.Office.sound g.met.O.Office.alone c.args.office.now c.pump.new.office (c.pieces.invariant.clean before) clean stood in
-          let p = h.pumping before stood in
-          served_over _ _ _ _ _ _ _ _ _ p law _ _ _ (h.needed before stood)
-          (c.in_ok-ending.ensures.steps clean (p.come.went.stands stood) p.come.at p.limit p.told p.come.now) c.in-Some.is c.from.ensures,
-    )
+    let h = c.pieces.invariant.goes in
+    let pumped = has_pumped g.O.Office.view g.met.O.Office.sound g.met.O.Office.alone g.W.Write.contents c.args.office.now c.pieces.office c.pump.new.office
+    c.args.writer.now c.pieces.writer c.pump.new.writer h c.pieces.invariant.clean c.pump.ensures.clean c.in_ok-ending.ensures.steps in
+    (h.given, h.gave, λ clean stood. served_over (pumped clean stood) c.in-Some.is c.from.ensures)
 
 pub returns-in-None-clause-serves : goal.returns-in-None-clause-serves
 returns-in-None-clause-serves g c =
-    let h = c.pieces.invariant.goes in (
+    let h = c.pieces.invariant.goes in
+    let pumped = has_pumped g.O.Office.view g.met.O.Office.sound g.met.O.Office.alone g.W.Write.contents c.args.office.now c.pieces.office c.pump.new.office
+    c.args.writer.now c.pieces.writer c.pump.new.writer h c.pieces.invariant.clean c.pump.ensures.clean c.in_ok-ending.ensures.steps in (
       h.given,
       gave_kept g.R.Read.remaining c.args.reader.now c.pieces.reader c.read.new.self h.given h.gave c.in-None.ensures,
-      λ clean stood.
-          let before = c.pump.ensures.clean clean in
-          let law = lawful g.O.Office.view g.met.O.Office.sound g.met.O.Office.alone c.args.office.now c.pump.new.office (c.pieces.invariant.clean before) clean stood in
-          let p = h.pumping before stood in
-          let w = waits_on _ _ _ _ _ _ _ _ _ p _ (c.in_ok-ending.ensures.steps clean (p.come.went.stands stood) p.come.at p.limit p.told p.come.now) c.in_default.is in
-          cut_short _ _ _ _ _ _ w law,
+      λ clean stood. cut_short (waits_on (pumped clean stood) c.in_default.is) (pumped clean stood).law,
     )
 
 pub returns-in-Some-eq0-clause-serves : goal.returns-in-Some-eq0-clause-serves
 returns-in-Some-eq0-clause-serves g c =
-    let h = c.pieces.invariant.goes in (
+    let h = c.pieces.invariant.goes in
+    let pumped = has_pumped g.O.Office.view g.met.O.Office.sound g.met.O.Office.alone g.W.Write.contents c.args.office.now c.pieces.office c.pump.new.office
+    c.args.writer.now c.pieces.writer c.pump.new.writer h c.pieces.invariant.clean c.pump.ensures.clean c.in_ok-ending.ensures.steps in (
       h.given,
       gave_zero g.R.Read.remaining c.args.reader.now c.pieces.reader c.read.new.self h.given c.read.new.piece c.in-Some-eq0.field-0 h.gave c.in-Some-eq0.ensures (search rules),
-      λ clean stood.
-          let before = c.pump.ensures.clean clean in
-          let law = lawful g.O.Office.view g.met.O.Office.sound g.met.O.Office.alone c.args.office.now c.pump.new.office (c.pieces.invariant.clean before) clean stood in
-          let p = h.pumping before stood in
-          let w = waits_on _ _ _ _ _ _ _ _ _ p _ (c.in_ok-ending.ensures.steps clean (p.come.went.stands stood) p.come.at p.limit p.told p.come.now) c.in_default.is in
-          served_input _ _ _ _ _ _ w law (h.needed before stood),
+      λ clean stood. served_input (waits_on (pumped clean stood) c.in_default.is) (pumped clean stood).law (pumped clean stood).needed,
     )
 
 pub returns-then-is_err-clause-serves : goal.returns-then-is_err-clause-serves
 returns-then-is_err-clause-serves g c =
-    let h = c.pieces.invariant.goes in (
+    let h = c.pieces.invariant.goes in
+    let pumped = has_pumped g.O.Office.view g.met.O.Office.sound g.met.O.Office.alone g.W.Write.contents c.args.office.now c.pieces.office c.pump.new.office
+    c.args.writer.now c.pieces.writer c.pump.new.writer h c.pieces.invariant.clean c.pump.ensures.clean c.in_ok-ending.ensures.steps in (
       h.given ++ take c.in-Some-read.n c.read.new.piece,
       gave_on g.R.Read.remaining c.args.reader.now c.pieces.reader c.read.new.self h.given c.read.new.piece c.in-Some-read.n h.gave c.in-Some-read.ensures,
       λ clean stood.
-          let before = c.pump.ensures.clean clean in
-          let law = lawful g.O.Office.view g.met.O.Office.sound g.met.O.Office.alone c.args.office.now c.pump.new.office (c.pieces.invariant.clean before) clean stood in
-          let p = h.pumping before stood in
-          let w = waits_on _ _ _ _ _ _ _ _ _ p _ (c.in_ok-ending.ensures.steps clean (p.come.went.stands stood) p.come.at p.limit p.told p.come.now) c.in_default.is in
-          out_of_room _ _ _ _ _ _ w law (take c.in-Some-read.n c.read.new.piece) (search rules),
+          out_of_room (waits_on (pumped clean stood) c.in_default.is) (pumped clean stood).law (take c.in-Some-read.n c.read.new.piece) (search rules),
     )
 
 pub pieces-preserved : goal.pieces-preserved
@@ -117,6 +99,8 @@ pieces-preserved g c =
     let first = scene g.W.Write.contents (g.O.Office.view c.args.office.now) c.args.writer.now in
     let new = scene g.W.Write.contents (g.O.Office.view c.pump.new.office) c.pump.new.writer in
     let h = c.pieces.invariant.goes in
+    let pumped = has_pumped g.O.Office.view g.met.O.Office.sound g.met.O.Office.alone g.W.Write.contents c.args.office.now c.pieces.office c.pump.new.office
+    c.args.writer.now c.pieces.writer c.pump.new.writer h c.pieces.invariant.clean c.pump.ensures.clean c.in_ok-ending.ensures.steps in
     record {
       out = puts_on _ _ _ _ c.pieces.invariant.out c.pump.ensures.out;
       told = c.in_ok-ending.ensures.told ∙ c.pieces.invariant.told;
@@ -125,9 +109,7 @@ pieces-preserved g c =
       goes = read_on g.R.Read.remaining c.args.reader.now c.pieces.reader c.read.new.self h.given c.read.new.piece c.in-Some-read.n
           ((g.O.Office.view c.pump.new.office).clean) ((g.O.Office.view c.args.office.now).stands) setting c.pump.new.stream c.feed.new.self c.pump.new.session first new
           h.gave h.faults h.on c.in-Some-read.ensures (search rules)
-          (λ clean stood.
-          let p = h.pumping (c.pump.ensures.clean clean) stood in
-          waits_on _ _ _ _ _ _ _ _ _ p _ (c.in_ok-ending.ensures.steps clean (p.come.went.stands stood) p.come.at p.limit p.told p.come.now) c.in_default.is)
+          (λ clean stood. waits_on (pumped clean stood) c.in_default.is)
           (fed_from c.feed.result _ c.if-is_err.ensures.negation c.feed.ensures.ok) (search rules);
     }
 

@@ -7,7 +7,8 @@ use Rattle.oftp_session.proofs.Phases.{turn_live}
 use Rattle.oftp_session.proofs.Proceeding.{turned_proceeds}
 use Rattle.oftp_session.specs.Calls.{Stands}
 use Rattle.oftp_engine.specs.declared.serving.RunFault.{RunFault}
-use Rattle.oftp_engine.specs.Serving.{StepFails, scene}
+use Rattle.oftp_engine.specs.Serving.{scene}
+use Rattle.oftp_engine.specs.InsideServing.{StepFails}
 use Rattle.oftp_engine.proofs.Stepping.{called_ok, called_err}
 use Rattle.oftp_engine.proofs.serving.take_turn.Goals as goal
 
@@ -16,11 +17,11 @@ returns-in-Ok-clause-steps g c = λ clean stood k turn at.
     let r = (g.O.Office.view c.args.office.now).register in
     let held = subst (Holds k.phase) (sym at.register) at.suits.holds in
     let live = turn_live k.phase turn in
-    let done = c.turn.follows.holds-at-none in
+    let done = c.turn.follows.holds-at-none.made in
     let stands = subst (λ (x : Result Out SessionFault). OnOk x (Stands (turned c.args.session.now.setting k.phase r).phase c.turn.follows.lender-at-none)) c.in-Ok.is
-    (done.1 clean stood k.phase held live at.stands) in
+    (done.phase clean stood k.phase held live at.stands) in
     called_ok g.W.Write.contents c.args.writer.now c.write_out.new.port _ _ k c.args.session.now (λ setting r. turned setting k.phase r) at _ c.in-Ok.out c.write_out.result
-    done.0 (c.in-Ok.ensures.does clean stood k.phase held live at.stands) (turned_proceeds k.setting k.phase k.register at.suits).suits stands c.write_out.ensures.sent c.write_out.ensures.err
+    done.setting (c.in-Ok.ensures.does clean stood k.phase held live at.stands) (turned_proceeds k.setting k.phase k.register at.suits).suits stands c.write_out.ensures.sent c.write_out.ensures.err
 
 pub returns-in-Err-clause-steps : goal.returns-in-Err-clause-steps
 returns-in-Err-clause-steps g c = λ clean stood k turn at.

@@ -1,9 +1,10 @@
 use Rattle.std.proofs.Common.{[], inr, refl, sym, ◌∙◌, subst}
 use Rattle.oftp_engine.proofs.Telling.{handed_on, told_err}
-use Rattle.oftp_ports.proofs.Puts.{puts_none, puts_on}
+use Rattle.oftp_io.proofs.Puts.{puts_none, puts_on}
 use Rattle.oftp_session.specs.Steps.{turned}
 use Rattle.oftp_engine.specs.Runs.{turned_in}
-use Rattle.oftp_engine.specs.Serving.{scene, TurnsTaken}
+use Rattle.oftp_engine.specs.Serving.{scene}
+use Rattle.oftp_engine.specs.InsideServing.{TurnsTaken}
 use Rattle.oftp_session.proofs.Proceeding.{turned_proceeds}
 use Rattle.oftp_engine.proofs.Progress.{went_none, went_on, went_step, fails_step, fails_later, leads_turn, reaches_turn}
 use Rattle.oftp_engine.proofs.Stepping.{sends_at}

@@ -4,7 +4,7 @@ use Rattle.oftp_engine.specs.declared.operating.Outcome.{Outcome}
 use Rattle.oftp_engine.specs.declared.operating.Refusal.TheVariants as refusal
 use Rattle.oftp_engine.specs.declared.serving.RunFault.{RunFault}
 use Rattle.oftp_engine.specs.Operating.{Deed, refuses}
-use Rattle.oftp_engine.specs.Operated.{Attempts}
+use Rattle.oftp_engine.specs.InsideOperating.{Attempts}
 use Rattle.oftp_engine.proofs.Offers.{decides_big}
 use Rattle.oftp_engine.proofs.submitting.refuse_big.Goals as goal
 

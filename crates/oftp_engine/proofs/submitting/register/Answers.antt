@@ -2,7 +2,7 @@ use Rattle.std.proofs.Common.{◌≡◌, codes, sym, subst, Result}
 use Rattle.oftp_engine.specs.declared.operating.Outcome.{Outcome}
 use Rattle.oftp_engine.specs.declared.serving.RunFault.{RunFault}
 use Rattle.oftp_engine.specs.Operating.{Deed, registered}
-use Rattle.oftp_engine.specs.Operated.{Attempts}
+use Rattle.oftp_engine.specs.InsideOperating.{Attempts}
 use Rattle.oftp_engine.proofs.Offers.{is_registered, not_registered}
 use Rattle.oftp_engine.proofs.submitting.register.Goals as goal
 

@@ -1,11 +1,9 @@
-use Rattle.std.proofs.Common.{◌∙◌, ap, sym, refl, inr, codes, cond, is_some}
+use Rattle.std.proofs.Common.{◌∙◌, ap, sym, refl, inr, codes}
 use Rattle.oftp_vfile.specs.declared.format.Limits.{Limits}
-use Rattle.oftp_register.specs.declared.entry.Identity.{Identity}
-use Rattle.oftp_register.specs.Changes.{is_outgoing}
 use Rattle.oftp_engine.specs.declared.operating.Refusal.TheVariants as refusal
-use Rattle.oftp_engine.specs.Operating.{Deed, Submits, is_too_big, refuses, registered}
-use Rattle.oftp_engine.specs.Offers.{IsOffer}
-use Rattle.oftp_engine.proofs.Offers.{attempts_as, is_addressed, is_big, is_file, is_sent, is_unknown, missing_at, none_at, offered_file, refuses_now, some_at}
+use Rattle.oftp_engine.specs.Operating.{Submits, is_too_big}
+use Rattle.oftp_engine.specs.InsideSubmitting.{IsOffer}
+use Rattle.oftp_engine.proofs.Offers.{arrived, attempts_big, attempts_sent, is_file, is_unknown, missing_at, none_at, offered_file, refuses_now, some_at}
 use Rattle.oftp_engine.proofs.submitting.submit.Goals as goal
 
 pub returns-in_default-clause-does : goal.returns-in_default-clause-does
@@ -25,32 +23,20 @@ returns-in_default-partner-clause-does g c = λ clean stood.
 
 pub returns-then-are_too_many-clause-does : goal.returns-then-are_too_many-clause-does
 returns-then-are_too_many-clause-does g c = λ clean stood.
-    let old = g.O.Office.view c.args.office.now in
-    let new = g.O.Office.view c.refuse_big.new.office in
-    let s = c.args.submission.now in
-    let book = c.args.book.now in
-    let rows = c.in-Some.offer.rows in
-    let offer = some_at (IsOffer s) _ c.in-Some.offer c.in-Some.is c.in_ok-offer.ensures.some in
-    let to = is_addressed book s c.in-Some-partner.partner.now c.in-Some.offer.fields _ offer.fields c.in-Some-partner.ensures.value c.as_bytes.ensures.value in
-    let many = ap (λ (limits : Limits). is_too_big limits rows) (sym c.limits.ensures.answer) ∙ sym c.are_too_many.ensures ∙ c.if-are_too_many.true in
-    attempts_as (codes "done: submit ") _ (Submits book old.register s) old new c.refuse_big.result
-    (λ (deed : Deed) is.
-    is_big book old.register s rows (offered_file s c.in-Some.offer offer) (ap is_some to.found) many deed
-    (is ∙ ap (λ (i : Identity). cond (is_outgoing old.register i) (refuses refusal.Duplicate) (refuses refusal.Limit)) (c.name_of-identity.ensures ∙ to.named)))
+    let it = arrived c.args.book.now c.args.submission.now _ c.in-Some.offer c.in-Some-partner.partner.now _ _ c.in-Some.is c.in_ok-offer.ensures.some
+    c.in-Some-partner.ensures.value c.as_bytes.ensures.value c.name_of-identity.ensures in
+    attempts_big c.args.book.now c.args.submission.now c.in-Some.offer c.name_of-identity.result it (g.O.Office.view c.args.office.now)
+    (g.O.Office.view c.refuse_big.new.office) c.refuse_big.result
+    (ap (λ (limits : Limits). is_too_big limits c.in-Some.offer.rows) (sym c.limits.ensures.answer) ∙ sym c.are_too_many.ensures ∙ c.if-are_too_many.true)
     (c.refuse_big.ensures.does clean stood)
 
 pub returns-clause-does : goal.returns-clause-does
 returns-clause-does g c = λ clean stood.
     let old = g.O.Office.view c.args.office.now in
-    let new = g.O.Office.view c.register.new.office in
     let s = c.args.submission.now in
-    let book = c.args.book.now in
-    let rows = c.in-Some.offer.rows in
-    let offer = some_at (IsOffer s) _ c.in-Some.offer c.in-Some.is c.in_ok-offer.ensures.some in
-    let to = is_addressed book s c.in-Some-partner.partner.now c.in-Some.offer.fields _ offer.fields c.in-Some-partner.ensures.value c.as_bytes.ensures.value in
-    let few = ap (λ (limits : Limits). is_too_big limits rows) (sym c.limits.ensures.answer) ∙ sym c.are_too_many.ensures ∙ c.if-are_too_many.false in
-    attempts_as (codes "done: submit ") _ (Submits book old.register s) old new c.register.result
-    (λ (deed : Deed) is.
-    is_sent book old.register s rows (offered_file s c.in-Some.offer offer) (ap is_some to.found) few deed
-    (is ∙ ap (λ (i : Identity). registered i s rows old.register) (c.name_of-identity.ensures ∙ to.named)))
-    (c.register.ensures.does clean stood offer.fields.description (is_file s rows old.register.limits (offered_file s c.in-Some.offer offer) few))
+    let offer = c.in-Some.offer in
+    let it = arrived c.args.book.now s _ offer c.in-Some-partner.partner.now _ _ c.in-Some.is c.in_ok-offer.ensures.some
+    c.in-Some-partner.ensures.value c.as_bytes.ensures.value c.name_of-identity.ensures in
+    let few = ap (λ (limits : Limits). is_too_big limits offer.rows) (sym c.limits.ensures.answer) ∙ sym c.are_too_many.ensures ∙ c.if-are_too_many.false in
+    attempts_sent c.args.book.now s offer c.name_of-identity.result it old (g.O.Office.view c.register.new.office) c.register.result few
+    (c.register.ensures.does clean stood it.offered.fields.description (is_file s offer.rows old.register.limits (offered_file s offer it.offered) few))

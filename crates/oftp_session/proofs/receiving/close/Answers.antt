@@ -1,14 +1,18 @@
 use Rattle.std.proofs.Common.{ap, ◌∙◌}
+use Rattle.oftp_register.specs.declared.verdicts.EndVerdict.TheVariants as «end»
 use Rattle.oftp_session.specs.Phases.{frame_of}
+use Rattle.oftp_session.specs.Receiving.{carried_by, on_end_verdict}
 use Rattle.oftp_session.proofs.Closing.{close_err, close_ok}
+use Rattle.oftp_session.proofs.Saying.{passed_on}
 use Rattle.oftp_session.proofs.receiving.close.Goals as goal
 
-pub returns-in-Err-clause-takes : goal.returns-in-Err-clause-takes
-returns-in-Err-clause-takes g c = λ clean stands f holds at shut.
+pub returns-in_err-close-clause-takes : goal.returns-in_err-close-clause-takes
+returns-in_err-close-clause-takes g c = λ clean stands f holds at shut.
     let before = c.close-2.ensures.clean clean in
     let found = c.in_ok-speaks.ensures.finds before stands in
     let sound = g.met.O.Office.sound c.asks_to_speak.new.self before found.1.stands in
-    close_err c.args.contact f c.args.reception c.in-Ok.rows _ _ _ c.in-Err.fault sound holds at shut c.in-Ok.ensures.rows found.1 (c.in-Err.ensures.does clean found.1.stands)
+    passed_on (on_end_verdict c.args.contact (g.O.Office.view c.args.office.now).register f (carried_by f) «end».Accept) _ _ _ c.in_err-close.field-0.0 _ c.from_residual-in_err-close.ensures.1
+    (close_err c.args.contact f c.args.reception c.in-Ok.rows _ _ _ _ sound holds at shut c.in-Ok.ensures.rows found.1 (c.in_err-close.ensures.does clean found.1.stands))
 
 pub returns-clause-takes : goal.returns-clause-takes
 returns-clause-takes g c = λ clean stands f holds at shut.
@@ -17,4 +21,4 @@ returns-clause-takes g c = λ clean stands f holds at shut.
     let sound = g.met.O.Office.sound c.asks_to_speak.new.self before found.1.stands in
     let said = c.say.ensures ∙ ap frame_of c.efpa.ensures in
     close_ok c.args.contact f c.args.reception c.in-Ok.rows c.in_ok-speaks.speaks _ _ _ _ sound holds at shut c.in-Ok.ensures.rows found.1 found.0 said
-    (c.in_default-close.ensures.does clean found.1.stands)
+    (c.in_ok-close.ensures.does clean found.1.stands)

@@ -1,11 +1,13 @@
-use Rattle.oftp_session.proofs.Windows.{credit_err, credit_ok}
+use Rattle.oftp_session.proofs.Saying.{passed_on}
+use Rattle.oftp_session.proofs.Windows.{window_err, window_ok}
 use Rattle.oftp_session.proofs.receiving.give_credit.Goals as goal
 
-pub returns-in-Err-clause-takes : goal.returns-in-Err-clause-takes
-returns-in-Err-clause-takes g c = λ clean stands f holds at last.
-    credit_err c.args.contact f c.args.reception _ _ _ c.in-Err.fault holds at last c.take_rows-rows.ensures.rows (c.in-Err.ensures.does clean stands)
+pub returns-in_err-keep-clause-takes : goal.returns-in_err-keep-clause-takes
+returns-in_err-keep-clause-takes g c = λ clean stands f holds at last.
+    passed_on _ _ _ _ c.in_err-keep.field-0.0 _ c.from_residual.ensures.1
+    (window_err c.args.contact f c.args.reception _ _ _ _ holds at last c.take_rows-rows.ensures.rows (c.in_err-keep.ensures.does clean stands))
 
 pub returns-clause-takes : goal.returns-clause-takes
 returns-clause-takes g c = λ clean stands f holds at last.
-    credit_ok c.args.contact f c.args.reception _ _ _ _ _ _ holds at last c.take_rows-rows.ensures.rows c.take_rows-rows.ensures.rest
-    c.get.ensures.value c.say.ensures (c.in_default.ensures.does clean stands)
+    window_ok c.args.contact f c.args.reception _ _ _ _ _ _ holds at last c.take_rows-rows.ensures.rows c.take_rows-rows.ensures.rest
+    c.get.ensures.value c.say.ensures (c.in_ok-keep.ensures.does clean stands)

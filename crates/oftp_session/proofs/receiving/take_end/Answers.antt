@@ -1,38 +1,40 @@
-use Rattle.std.proofs.Common.{Result, Ok, Err, sym, ap, ◌∙◌}
+use Rattle.std.proofs.Common.{Result, Ok, sym, ap, ◌∙◌}
+use Rattle.oftp_register.specs.declared.verdicts.EndVerdict.TheVariants as «end»
 use Rattle.oftp_session.specs.declared.session.SessionFault.{SessionFault}
 use Rattle.oftp_session.specs.declared.state.State.{State}
 use Rattle.oftp_session.specs.declared.state.State.TheVariants as state
 use Rattle.oftp_session.specs.Phases.{frame_of}
-use Rattle.oftp_session.proofs.Saying.{step_same}
-use Rattle.oftp_session.proofs.Closing.{by_verdict, give_up_err, give_up_ok, open_step, told_verdict}
+use Rattle.oftp_session.specs.Receiving.{carried_by, on_end_verdict}
+use Rattle.oftp_session.proofs.Saying.{passed_on, step_same}
+use Rattle.oftp_session.proofs.Closing.{by_verdict, give_up_err, give_up_ok, open_fails, told_verdict}
 use Rattle.oftp_session.proofs.Ends.{open_of}
 use Rattle.oftp_session.proofs.receiving.take_end.Goals as goal
 
 pub returns-then-is_open-clause-takes : goal.returns-then-is_open-clause-takes
 returns-then-is_open-clause-takes g c = λ clean stands f holds at.
     let old = g.O.Office.view c.args.office.now in
-    let is = open_step c.args.contact old.register f c.args.reception c.args.efid.now at (sym c.is_open.ensures ∙ c.if-is_open.true) in
+    let is = open_fails c.args.contact old.register f c.args.reception c.args.efid.now at (sym c.is_open.ensures ∙ c.if-is_open.true) in
     step_same _ _ old c.ended_here.result c.ended_here.new.frame stands is c.ended_here.ensures
 
-pub returns-in-Err-clause-takes : goal.returns-in-Err-clause-takes
-returns-in-Err-clause-takes g c = λ clean stands f holds at.
+pub returns-in_err-give_up-in-Refuse-clause-takes : goal.returns-in_err-give_up-in-Refuse-clause-takes
+returns-in_err-give_up-in-Refuse-clause-takes g c = λ clean stands f holds at.
     let old = g.O.Office.view c.args.office.now in
     let new = g.O.Office.view c.give_up.new.self in
-    let to : Result State SessionFault = Err c.in-Err.fault in
     let s = c.args.reception in
     let v = told_verdict c.args.efid.now s.taker c.counts-records.result _ c.counts-records.ensures (sym c.end_verdict.ensures ∙ c.in-Refuse.is) in
-    by_verdict c.args.contact old.register f s c.args.efid.now _ old new c.say.new.self to holds at (sym c.is_open.ensures ∙ c.if-is_open.false) v
-    (give_up_err c.args.contact f s c.in-Refuse.reason old new c.in-Err.fault holds at (c.in-Err.ensures.does clean stands))
+    by_verdict c.args.contact old.register f s c.args.efid.now _ old new c.say.new.self c.from_residual.result holds at (sym c.is_open.ensures ∙ c.if-is_open.false) v
+    (passed_on (on_end_verdict c.args.contact old.register f (carried_by f) («end».Refuse c.in-Refuse.reason)) old new _ c.in_err-give_up-in-Refuse.field-0.0 _ c.from_residual.ensures.1
+    (give_up_err c.args.contact f s c.in-Refuse.reason old new _ holds at (c.in_err-give_up-in-Refuse.ensures.does clean stands)))
 
-pub returns-in_default-clause-takes : goal.returns-in_default-clause-takes
-returns-in_default-clause-takes g c = λ clean stands f holds at.
+pub returns-in_ok-give_up-in-Refuse-clause-takes : goal.returns-in_ok-give_up-in-Refuse-clause-takes
+returns-in_ok-give_up-in-Refuse-clause-takes g c = λ clean stands f holds at.
     let old = g.O.Office.view c.args.office.now in
     let new = g.O.Office.view c.give_up.new.self in
     let to : Result State SessionFault = Ok (state.ListenerIdle c.args.contact) in
     let s = c.args.reception in
     let v = told_verdict c.args.efid.now s.taker c.counts-records.result _ c.counts-records.ensures (sym c.end_verdict.ensures ∙ c.in-Refuse.is) in
     by_verdict c.args.contact old.register f s c.args.efid.now _ old new c.say.new.self to holds at (sym c.is_open.ensures ∙ c.if-is_open.false) v
-    (give_up_ok c.args.contact f s c.in-Refuse.reason old new c.say.new.self holds at (c.say.ensures ∙ ap frame_of c.efna.ensures) (c.in_default.ensures.does clean stands))
+    (give_up_ok c.args.contact f s c.in-Refuse.reason old new c.say.new.self holds at (c.say.ensures ∙ ap frame_of c.efna.ensures) (c.in_ok-give_up-in-Refuse.ensures.does clean stands))
 
 pub returns-in-Accept-clause-takes : goal.returns-in-Accept-clause-takes
 returns-in-Accept-clause-takes g c = λ clean stands f holds at.

@@ -4,10 +4,10 @@ use Rattle.sqlite.specs.Effect.{Database, IsDatabase}
 use Rattle.sqlite.specs.State.{HasCleanDisk}
 use Rattle.sqlite.specs.Files.{file_state}
 use Rattle.oftp_register.specs.Register.{Register}
-use Rattle.oftp_schema.specs.Making.{HasOffice, about_told}
-use Rattle.oftp_schema.proofs.SchemaLemmas.{same_schema}
-use Rattle.oftp_open.specs.Opening.{IsFirstOf}
-use Rattle.oftp_open.specs.Stands.{IsContentOf}
+use Rattle.oftp_tables.specs.Making.{HasOffice, about_told}
+use Rattle.oftp_tables.proofs.SchemaLemmas.{same_schema}
+use Rattle.oftp_tables.specs.Opening.{IsFirstOf}
+use Rattle.oftp_tables.specs.Stands.{IsContentOf}
 use Rattle.oftp_store.proofs.OpenLemmas.{after_files, has_after, holds_taken, is_read, opened_is_kept, same_migratable, told_is_kept}
 use Rattle.oftp_store.proofs.file.migrate_at.Goals as goal
 

@@ -1,5 +1,5 @@
 use Rattle.std.proofs.Common.{refl, sym, subst}
-use Rattle.oftp_open.specs.Opening.{IsStoreOf}
+use Rattle.oftp_tables.specs.Opening.{IsStoreOf}
 use Rattle.oftp_store.proofs.OpenLemmas.{after_files, has_after, holds_taken, is_read, opened_is_kept, same_openable, told_is_kept}
 use Rattle.oftp_store.proofs.file.open_at.Goals as goal
 

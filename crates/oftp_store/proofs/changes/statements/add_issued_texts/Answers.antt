@@ -2,7 +2,7 @@ use Rattle.std.proofs.Common.{[], ◌∷◌}
 use Rattle.sqlite.specs.declared.types.Value.TheVariants.{Text}
 use Rattle.oftp_tables.specs.Tables.{kind_text, number_value, reason_text}
 use Rattle.oftp_tables.proofs.BindLemmas.{number_bound}
-use Rattle.oftp_tables.proofs.TxLemmas.{performs}
+use Rattle.oftp_tables.proofs.PerformLemmas.{performs}
 use Rattle.oftp_store.specs.Edits.{Makes}
 use Rattle.oftp_store.specs.Texts.{add_issued_text}
 use Rattle.oftp_store.specs.declared.changes.edit.Deed.TheVariants.{AddIssued}

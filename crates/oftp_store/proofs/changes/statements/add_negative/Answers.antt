@@ -1,4 +1,4 @@
-use Rattle.oftp_tables.proofs.TxLemmas.{performs_then}
+use Rattle.oftp_tables.proofs.PerformLemmas.{performs_then}
 use Rattle.oftp_store.proofs.ReceivedEditLemmas.{makes_negative}
 use Rattle.oftp_store.proofs.changes.statements.add_negative.Goals as goal
 

@@ -1,4 +1,4 @@
-use Rattle.oftp_tables.proofs.TxLemmas.{performs}
+use Rattle.oftp_tables.proofs.PerformLemmas.{performs}
 use Rattle.oftp_store.specs.Edits.{Makes, header_params}
 use Rattle.oftp_store.specs.Texts.{add_outgoing_text}
 use Rattle.oftp_store.specs.declared.changes.edit.Deed.TheVariants.{AddOutgoing}

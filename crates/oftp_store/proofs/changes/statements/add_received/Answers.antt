@@ -1,4 +1,4 @@
-use Rattle.oftp_tables.proofs.TxLemmas.{performs_as}
+use Rattle.oftp_tables.proofs.PerformLemmas.{performs_as}
 use Rattle.oftp_store.proofs.ReceivedEditLemmas.{makes_end}
 use Rattle.oftp_store.proofs.changes.statements.add_received.Goals as goal
 

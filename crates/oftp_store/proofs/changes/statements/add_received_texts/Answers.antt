@@ -1,5 +1,5 @@
 use Rattle.oftp_tables.proofs.BindLemmas.{number_bound}
-use Rattle.oftp_tables.proofs.TxLemmas.{performs}
+use Rattle.oftp_tables.proofs.PerformLemmas.{performs}
 use Rattle.oftp_store.specs.Edits.{MakesNoteless}
 use Rattle.oftp_store.specs.Texts.{add_received_text}
 use Rattle.oftp_store.proofs.ReceivedEditLemmas.{received_added, received_params}

@@ -1,7 +1,7 @@
 use Rattle.std.proofs.Common.{[], ◌∷◌}
 use Rattle.oftp_tables.specs.Tables.{body_row}
 use Rattle.oftp_tables.proofs.BindLemmas.{number_bound}
-use Rattle.oftp_tables.proofs.TxLemmas.{performs}
+use Rattle.oftp_tables.proofs.PerformLemmas.{performs}
 use Rattle.oftp_store.specs.Edits.{MakesRows}
 use Rattle.oftp_store.specs.Texts.{add_row_text}
 use Rattle.oftp_store.proofs.RowEditLemmas.{row_added}

@@ -1,6 +1,6 @@
 use Rattle.std.proofs.Common.{◌≡◌, ◌+◌, take, Result, Ok}
 use Rattle.sqlite.specs.declared.error.Error.{Error}
-use Rattle.oftp_tables.specs.Calls.{Performs}
+use Rattle.oftp_tables.specs.Statements.{Performs}
 use Rattle.oftp_store.specs.Edits.{MakesRows}
 use Rattle.oftp_store.proofs.changes.statements.add_rows.Given as goal
 
@@ -10,5 +10,5 @@ invariant-rows g l =
     record {
       same_reference : l.tx.conn.ghost_name ≡ l.fn.tx.conn.ghost_name;
       performs : Performs (MakesRows l.side l.no l.from (take l.row-index l.rows)) g.S.Store l.fn.tx.conn.now l.tx.conn.now none;
-      place : l.at ≡ l.from + l.row-index;
+      progress : l.at ≡ l.from + l.row-index;
     }

@@ -1,5 +1,5 @@
 use Rattle.oftp_tables.proofs.BindLemmas.{number_bound}
-use Rattle.oftp_tables.proofs.TxLemmas.{performs}
+use Rattle.oftp_tables.proofs.PerformLemmas.{performs}
 use Rattle.oftp_store.specs.Edits.{Makes}
 use Rattle.oftp_store.specs.Texts.{cut_rows_text}
 use Rattle.oftp_store.specs.declared.changes.edit.Deed.TheVariants.{CutRows}

@@ -2,7 +2,7 @@ use Rattle.std.proofs.Common.{[], ◌∷◌}
 use Rattle.sqlite.specs.declared.types.Value.TheVariants.{Text}
 use Rattle.oftp_tables.specs.Tables.{number_value, out_state_text, refusal_text}
 use Rattle.oftp_tables.proofs.BindLemmas.{count_bound, number_bound}
-use Rattle.oftp_tables.proofs.TxLemmas.{performs}
+use Rattle.oftp_tables.proofs.PerformLemmas.{performs}
 use Rattle.oftp_store.specs.Edits.{Makes}
 use Rattle.oftp_store.specs.Texts.{set_outgoing_text}
 use Rattle.oftp_store.specs.declared.changes.edit.Deed.TheVariants.{SetOutgoing}

@@ -1,7 +1,7 @@
 use Rattle.std.proofs.Common.{[], ◌∷◌}
 use Rattle.oftp_tables.specs.Tables.{number_value}
 use Rattle.oftp_tables.proofs.BindLemmas.{number_bound}
-use Rattle.oftp_tables.proofs.TxLemmas.{performs}
+use Rattle.oftp_tables.proofs.PerformLemmas.{performs}
 use Rattle.oftp_store.specs.Edits.{Makes}
 use Rattle.oftp_store.specs.Texts.{set_whole_text}
 use Rattle.oftp_store.specs.declared.changes.edit.Deed.TheVariants.{SetWhole}

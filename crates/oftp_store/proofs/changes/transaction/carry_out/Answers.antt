@@ -1,8 +1,8 @@
 use Rattle.std.proofs.Common.{◌≡◌, Err, IfErr, rules, subst}
 use Rattle.sqlite.specs.Held.{state}
 use Rattle.sqlite.specs.State.{HasCleanDisk}
-use Rattle.oftp_schema.specs.Calls.{IsTransactionError}
-use Rattle.oftp_schema.proofs.TxLemmas.{tells_after}
+use Rattle.oftp_tables.specs.Transactions.{IsTransactionError}
+use Rattle.oftp_tables.proofs.RunLemmas.{tells_after}
 use Rattle.oftp_store.proofs.changes.transaction.carry_out.Goals as goal
 
 pub returns-in_err-perform_all-clause-told : goal.returns-in_err-perform_all-clause-told

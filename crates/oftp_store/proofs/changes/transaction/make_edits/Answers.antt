@@ -10,5 +10,6 @@ returns-in-Ok g c = record { made = inl (are_carried_out c.args.edits.now g.S.St
 
 pub returns-in-Err : goal.returns-in-Err
 returns-in-Err g c = record {
-  made = inl (are_given_up c.args.edits.now g.S.Store _ _ c.in-Err.error c.fault_of.result c.in-Err.ensures.transacts c.in-Err.ensures.told c.fault_of.ensures.fails c.fault_of.ensures.memory);
+  made = inl (are_given_up c.args.edits.now g.S.Store _ _ c.in-Err.error c.office_fault_of.result c.in-Err.ensures.transacts c.in-Err.ensures.told
+      c.office_fault_of.ensures.fails c.office_fault_of.ensures.memory);
 }

@@ -1,5 +1,5 @@
 use Rattle.std.proofs.Common.{◌∙◌, refl}
-use Rattle.oftp_tables.proofs.TxLemmas.{performs_nothing, performs_then, performs_whatever}
+use Rattle.oftp_tables.proofs.PerformLemmas.{performs_nothing, performs_then, performs_whatever}
 use Rattle.oftp_store.proofs.TransactionLemmas.{edits_more, no_edits}
 use Rattle.oftp_store.proofs.changes.transaction.perform_all.Goals as goal
 

@@ -1,6 +1,6 @@
 use Rattle.std.proofs.Common.{◌≡◌, take, Result, Ok}
 use Rattle.sqlite.specs.declared.error.Error.{Error}
-use Rattle.oftp_tables.specs.Calls.{Performs}
+use Rattle.oftp_tables.specs.Statements.{Performs}
 use Rattle.oftp_store.specs.Edits.{MakesAll}
 use Rattle.oftp_store.proofs.changes.transaction.perform_all.Given as goal
 

@@ -12,5 +12,5 @@ returns-then-no-ge-FIRST_FAR-clause-looks g c = looks_nowhere (λ r found. found
 
 pub returns-clause-looks : goal.returns-clause-looks
 returns-clause-looks g c =
-    rw c.counted.ensures.same (looks_up (λ r found. found ≡ in_by_no r c.args.no) _ _ _ _ _ c.find_incoming-found.result
-    (settled_alone g.S.Store g.met.S.Store.settled _ c.args.self.now.conn) c.find_incoming-found.ensures.looks c.find_incoming-found.ensures.answer c.counted.ensures.counts)
+    rw c.counted.ensures.same (looks_up (λ r found. found ≡ in_by_no r c.args.no) _ _ _ _ _ c.find_incoming_file-found.result
+    (settled_alone g.S.Store g.met.S.Store.settled _ c.args.self.now.conn) c.find_incoming_file-found.ensures.looks c.find_incoming_file-found.ensures.answer c.counted.ensures.counts)

@@ -13,6 +13,6 @@ returns-then-no-ge-FIRST_FAR-clause-looks g c = looks_nowhere (λ r found. found
 
 pub returns-clause-looks : goal.returns-clause-looks
 returns-clause-looks g c =
-    rw c.counted.ensures.same (looks_up (λ r found. found ≡ out_by_no r c.args.no) _ _ _ _ _ c.find_outgoing-found.result
-    (settled_alone g.S.Store g.met.S.Store.settled _ c.args.self.now.conn) c.find_outgoing-found.ensures.looks
-    (λ k has. IfOk-weaker c.find_outgoing-found.result _ _ (λ x told r kept sound. told r kept) (c.find_outgoing-found.ensures.answer k has)) c.counted.ensures.counts)
+    rw c.counted.ensures.same (looks_up (λ r found. found ≡ out_by_no r c.args.no) _ _ _ _ _ c.find_outgoing_file-found.result
+    (settled_alone g.S.Store g.met.S.Store.settled _ c.args.self.now.conn) c.find_outgoing_file-found.ensures.looks
+    (λ k has. IfOk-weaker c.find_outgoing_file-found.result _ _ (λ x told r kept sound. told r kept) (c.find_outgoing_file-found.ensures.answer k has)) c.counted.ensures.counts)

@@ -1,0 +1,308 @@
+-- Command lines that are written out, in a table for each command: a line, and what it asks for.
+use Rattle.std.proofs.Common.{◌≡◌, ◌==◌, ◌++◌, ℕ, List, Option, refl, [], ◌∷◌, Some, None, codes, if◌then◌else◌, map}
+use Rattle.clap.proofs.OnLiterals.{clap_on_literals}
+use Rattle.oftp_listing.specs.declared.reports.ReportKind.{ReportKind}
+use Rattle.oftp_listing.specs.declared.reports.ReportKind.TheVariants.{Incoming, Issued, Outgoing, Received}
+use Rattle.oftp_vfile.specs.declared.format.Format.{Format}
+use Rattle.oftp_vfile.specs.declared.format.Format.TheVariants as format
+use Rattle.oftp_command_line.specs.Arguments.{taken}
+use Rattle.oftp_command_line.specs.FeedLine.{feed_app}
+use Rattle.oftp_command_line.specs.Files.{FilesSaid}
+use Rattle.oftp_command_line.specs.Line.{Said, line_named, line_of_words, said_call, said_check, said_feed, said_fetch, said_http, said_init, said_listen, said_migrate, said_refuse, said_release, said_report, said_show, said_submit}
+use Rattle.oftp_command_line.specs.OperatorLines.{refuse_app, release_app, submit_app}
+use Rattle.oftp_command_line.specs.RegisterLines.{fetch_app, report_app}
+use Rattle.oftp_command_line.specs.ServiceLines.{call_app, http_app, listen_app}
+use Rattle.oftp_command_line.specs.declared.line.commands.feed.Side.TheVariants.{Initiator, Responder}
+
+-- the words with this octet before the first of them
+abbrev begun : ℕ → List (List ℕ) → List (List ℕ)
+begun octet [] = (octet ∷ []) ∷ []
+begun octet (word ∷ words) = (octet ∷ word) ∷ words
+
+-- the words of a line, which single spaces part
+abbrev words_of : List ℕ → List (List ℕ)
+words_of [] = [] ∷ []
+words_of (octet ∷ octets) = if octet == 32 then [] ∷ words_of octets else begun octet (words_of octets)
+
+-- a line with what it asks for
+abbrev Example : Type 0
+Example = List (List ℕ) × Option Said
+
+-- each line asks for this
+abbrev AreRead : List Example → Type 0
+AreRead examples = map (λ (e : Example). line_of_words e.0) examples ≡ map (λ (e : Example). e.1) examples
+
+-- the database d and the book b
+abbrev d_and_b : FilesSaid
+d_and_b = record { database = codes "d"; book = codes "b" }
+
+-- lines of `init`
+init_lines : AreRead (
+    -- `init` takes the database
+    (words_of (codes "init --db d"), Some (said_init (codes "d")))
+    -- it does without none
+    ∷ (words_of (codes "init"), None)
+    -- and takes no word
+    ∷ (words_of (codes "init --db=d w"), None)
+    ∷ [])
+unfolding clap_on_literals line_named taken
+init_lines = refl
+
+-- lines of `migrate`
+migrate_lines : AreRead (
+    -- `migrate` takes the database
+    (words_of (codes "migrate --db=d"), Some (said_migrate (codes "d")))
+    -- an option comes once
+    ∷ (words_of (codes "migrate --db=d --db=d"), None)
+    ∷ [])
+unfolding clap_on_literals line_named taken
+migrate_lines = refl
+
+-- lines of `check`
+check_lines : AreRead (
+    -- `check` takes the book
+    (words_of (codes "check --book b"), Some (said_check (codes "b")))
+    -- it does without no book
+    ∷ (words_of (codes "check"), None)
+    -- and takes no word
+    ∷ (words_of (codes "check --book=b w"), None)
+    ∷ [])
+unfolding clap_on_literals line_named taken
+check_lines = refl
+
+-- the line of a file that is submitted, with no more than the needed words before these
+abbrev submit_words : List ℕ → List (List ℕ)
+submit_words more = words_of (codes "submit --db=d --book=b --dataset=n --date=20240131 --time=1015300001 --to=p" ++ more)
+
+-- what it asks for, in this format and of records of such a length
+abbrev submit_asked : Format → ℕ → Said
+submit_asked f longest = said_submit (record {
+  files = d_and_b;
+  dataset = codes "n";
+  date = codes "20240131";
+  time = codes "1015300001";
+  to = codes "p";
+  format = f;
+  longest = longest;
+  description = [];
+  file = codes "f";
+})
+
+-- lines of `submit`
+submit_lines : AreRead (
+    -- `submit` is of records of no length and without a description, where no more is said
+    (submit_words (codes " --format=U f"), Some (submit_asked format.Unstructured 0))
+    -- options and words come in any order
+    ∷ (
+      words_of (codes "submit f --description=x --longest=99999 --format=V --to=p --time=t --date=e --dataset=n --book=b --db=d"),
+      Some (said_submit (record {
+        files = d_and_b;
+        dataset = codes "n";
+        date = codes "e";
+        time = codes "t";
+        to = codes "p";
+        format = format.Variable;
+        longest = 99999;
+        description = codes "x";
+        file = codes "f";
+      })),
+    )
+    -- a length may have zeros and a plus before it
+    ∷ (submit_words (codes " --format=F f --longest=+007"), Some (submit_asked format.Fixed 7))
+    -- T is a format
+    ∷ (submit_words (codes " --format=T f"), Some (submit_asked format.Text 0))
+    -- no format has this letter
+    ∷ (submit_words (codes " --format=u f"), None)
+    -- a length has a bound
+    ∷ (submit_words (codes " --format=U f --longest=100000"), None)
+    -- and none is below zero
+    ∷ (submit_words (codes " --format=U f --longest=-1"), None)
+    -- the date has no default
+    ∷ (words_of (codes "submit --db=d --book=b --dataset=n --time=1015300001 --to=p --format=U f"), None)
+    ∷ [])
+unfolding clap_on_literals submit_app line_named taken
+submit_lines = refl
+
+-- lines of `release`
+release_lines : AreRead (
+    -- `release` takes a number
+    (words_of (codes "release --db=d --book=b 7"), Some (said_release (record { files = d_and_b; no = 7 })))
+    -- the first number is 1
+    ∷ (words_of (codes "release --db=d --book=b 1"), Some (said_release (record { files = d_and_b; no = 1 })))
+    -- the last is 9999999
+    ∷ (words_of (codes "release --db=d --book=b 9999999"), Some (said_release (record { files = d_and_b; no = 9999999 })))
+    -- there is none before the first
+    ∷ (words_of (codes "release --db=d --book=b 0"), None)
+    -- nor after the last
+    ∷ (words_of (codes "release --db=d --book=b 10000000"), None)
+    -- and a number is digits
+    ∷ (words_of (codes "release --db=d --book=b 7a"), None)
+    -- it does without no number
+    ∷ (words_of (codes "release --db=d --book=b"), None)
+    -- and without no book
+    ∷ (words_of (codes "release --db=d 7"), None)
+    ∷ [])
+unfolding clap_on_literals release_app line_named taken
+release_lines = refl
+
+-- lines of `refuse`
+refuse_lines : AreRead (
+    -- `refuse` takes a number, a reason and a text
+    (words_of (codes "refuse --db=d --book=b 7 99 x"), Some (said_refuse (record { files = d_and_b; no = 7; reason = 99; text = codes "x" })))
+    -- the first reason is 0, and the text may be empty
+    ∷ (words_of (codes "refuse --db=d --book=b 7 0") ++ [] ∷ [], Some (said_refuse (record { files = d_and_b; no = 7; reason = 0; text = [] })))
+    -- a reason has two digits
+    ∷ (words_of (codes "refuse --db=d --book=b 7 100 x"), None)
+    -- no file has the number 0
+    ∷ (words_of (codes "refuse --db=d --book=b 0 99 x"), None)
+    -- the text is missing
+    ∷ (words_of (codes "refuse --db=d --book=b 7 99"), None)
+    ∷ [])
+unfolding clap_on_literals refuse_app line_named taken
+refuse_lines = refl
+
+-- lines of `fetch`
+fetch_lines : AreRead (
+    -- `fetch` takes a number and a file
+    (words_of (codes "fetch --db=d 7 f"), Some (said_fetch (record { database = codes "d"; no = 7; file = codes "f" })))
+    -- in this order
+    ∷ (words_of (codes "fetch --db=d f 7"), None)
+    -- and no book
+    ∷ (words_of (codes "fetch --db=d --book=b 7 f"), None)
+    ∷ [])
+unfolding clap_on_literals fetch_app line_named taken
+fetch_lines = refl
+
+-- lines of `report`
+report_lines : AreRead (
+    -- `report` takes a kind
+    (words_of (codes "report --db=d in"), Some (said_report (record { database = codes "d"; kind = Incoming })))
+    -- so does this one
+    ∷ (words_of (codes "report --db=d out"), Some (said_report (record { database = codes "d"; kind = Outgoing })))
+    -- so does this one
+    ∷ (words_of (codes "report --db=d issued"), Some (said_report (record { database = codes "d"; kind = Issued })))
+    -- so does this one
+    ∷ (words_of (codes "report --db=d received"), Some (said_report (record { database = codes "d"; kind = Received })))
+    -- no report has this name
+    ∷ (words_of (codes "report --db=d In"), None)
+    -- it does without no kind
+    ∷ (words_of (codes "report --db=d"), None)
+    ∷ [])
+unfolding clap_on_literals report_app line_named taken
+report_lines = refl
+
+-- lines of `show`
+show_lines : AreRead (
+    -- `show` takes the file
+    (words_of (codes "show i"), Some (said_show (codes "i")))
+    ∷ [])
+unfolding clap_on_literals line_named taken
+show_lines = refl
+
+-- lines of `feed`
+feed_lines : AreRead (
+    -- `feed` is a responder's with any partner and a register in memory, where no more is said
+    (
+      words_of (codes "feed --book=b i o"),
+      Some (said_feed (record { database = None; book = codes "b"; role = Responder; partner = None; trace = None; input = codes "i"; output = codes "o" })),
+    )
+    -- options and words come in any order
+    ∷ (
+      words_of (codes "feed i --role initiator --db=d o --partner=p --trace=t --book b"),
+      Some (said_feed (record { database = Some (codes "d"); book = codes "b"; role = Initiator; partner = Some (codes "p"); trace = Some (codes "t"); input = codes "i"; output = codes "o" })),
+    )
+    -- after `--` a word may begin with a minus
+    ∷ (
+      words_of (codes "feed --book=b -- -i --role"),
+      Some (said_feed (record { database = None; book = codes "b"; role = Responder; partner = None; trace = None; input = codes "-i"; output = codes "--role" })),
+    )
+    -- no side has this name
+    ∷ (words_of (codes "feed --book=b --role=listener i o"), None)
+    -- an option comes once
+    ∷ (words_of (codes "feed --book=b --book=c i o"), None)
+    -- a word is missing
+    ∷ (words_of (codes "feed --book=b i"), None)
+    -- there is a word too many
+    ∷ (words_of (codes "feed --book=b i o x"), None)
+    -- help is no command line
+    ∷ (words_of (codes "feed --help"), None)
+    ∷ [])
+unfolding clap_on_literals feed_app line_named taken
+feed_lines = refl
+
+-- lines of `listen`
+listen_lines : AreRead (
+    -- `listen` serves one session on port 3305 of the loopback address, where no more is said
+    (
+      words_of (codes "listen --db=d --book=b"),
+      Some (said_listen (record { files = d_and_b; port = 3305; address = codes "127.0.0.1"; sessions = 1; patience = 300; trace = None })),
+    )
+    -- options come in any order
+    ∷ (
+      words_of (codes "listen --patience 0 --sessions=1000000 --trace=t --book=b --address ::1 --db=d --port=65535"),
+      Some (said_listen (record { files = d_and_b; port = 65535; address = codes "::1"; sessions = 1000000; patience = 0; trace = Some (codes "t") })),
+    )
+    -- no port is 0
+    ∷ (words_of (codes "listen --db=d --book=b --port=0"), None)
+    -- nor after the last
+    ∷ (words_of (codes "listen --db=d --book=b --port=65536"), None)
+    -- some session is served
+    ∷ (words_of (codes "listen --db=d --book=b --sessions=0"), None)
+    -- and no more than a million
+    ∷ (words_of (codes "listen --db=d --book=b --sessions=1000001"), None)
+    -- patience ends with a day
+    ∷ (words_of (codes "listen --db=d --book=b --patience=86401"), None)
+    -- it takes no word
+    ∷ (words_of (codes "listen --db=d --book=b w"), None)
+    -- and calls no partner
+    ∷ (words_of (codes "listen --db=d --book=b --partner=p"), None)
+    ∷ [])
+unfolding clap_on_literals listen_app line_named taken
+listen_lines = refl
+
+-- lines of `call`
+call_lines : AreRead (
+    -- `call` takes a partner
+    (
+      words_of (codes "call --db=d --book=b --partner=p"),
+      Some (said_call (record { files = d_and_b; partner = codes "p"; patience = 300; trace = None })),
+    )
+    -- and a patience and a trace
+    ∷ (
+      words_of (codes "call --db=d --book=b --patience 86400 --trace t --partner p"),
+      Some (said_call (record { files = d_and_b; partner = codes "p"; patience = 86400; trace = Some (codes "t") })),
+    )
+    -- it does without no partner
+    ∷ (words_of (codes "call --db=d --book=b"), None)
+    -- and its port is the book's
+    ∷ (words_of (codes "call --db=d --book=b --partner=p --port=3305"), None)
+    ∷ [])
+unfolding clap_on_literals call_app line_named taken
+call_lines = refl
+
+-- lines of `http`
+http_lines : AreRead (
+    -- `http` answers one request on port 8080 of the loopback address, where no more is said
+    (words_of (codes "http --db=d"), Some (said_http (record { database = codes "d"; port = 8080; address = codes "127.0.0.1"; requests = 1 })))
+    -- options come in any order
+    ∷ (
+      words_of (codes "http --requests=1000000 --address=a --db=d --port 1"),
+      Some (said_http (record { database = codes "d"; port = 1; address = codes "a"; requests = 1000000 })),
+    )
+    -- some request is answered
+    ∷ (words_of (codes "http --db=d --requests=0"), None)
+    -- it needs no book
+    ∷ (words_of (codes "http --db=d --book=b"), None)
+    ∷ [])
+unfolding clap_on_literals http_app line_named taken
+http_lines = refl
+
+-- lines of no command
+no_lines : AreRead (
+    -- no command has this name
+    (words_of (codes "feeds --book=b i o"), None)
+    -- and no word names none
+    ∷ ([], None)
+    ∷ [])
+unfolding clap_on_literals line_named taken
+no_lines = refl

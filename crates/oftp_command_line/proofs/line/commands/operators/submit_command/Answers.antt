@@ -1,0 +1,22 @@
+use Rattle.std.proofs.Common.{ap, ap₂, codes, ◌∙◌}
+use Rattle.std.proofs.lemmas.Result.{IfOk-weaker}
+use Rattle.clap.specs.Words.{new_app, with_rule}
+use Rattle.oftp_command_line.specs.Arguments.{numbered}
+use Rattle.oftp_command_line.specs.OperatorLines.{submit_app}
+use Rattle.oftp_command_line.specs.declared.line.commands.operators.TheConstants.{MOST_LONGEST}
+use Rattle.oftp_command_line.proofs.line.commands.operators.submit_command.Goals as goal
+
+pub returns : goal.returns
+unfolding submit_app
+returns c =
+    let database = ap (with_rule (new_app (codes "submit"))) c.own_database.ensures in
+    let book = ap₂ with_rule database c.own_book.ensures in
+    let dataset = ap₂ with_rule book c.needed.ensures in
+    let date = ap₂ with_rule dataset c.needed-2.ensures in
+    let time = ap₂ with_rule date c.needed-3.ensures in
+    let to = ap₂ with_rule time c.needed-4.ensures in
+    let format = ap₂ with_rule to c.needed-5.ensures in
+    let longest = ap₂ with_rule format (c.numbered.ensures ∙ ap (numbered 0 MOST_LONGEST) c.defaulted.ensures) in
+    let description = ap₂ with_rule longest c.defaulted-2.ensures in
+    let file = ap₂ with_rule description c.word.ensures in
+    IfOk-weaker c.taking.result _ _ (λ d h. h ∙ file) c.taking.ensures

@@ -1,0 +1,54 @@
+-- The command line of `feed`.
+use Rattle.std.specs.Prelude.{List, [], ◌∷◌, Option, codes, option_map}
+use Rattle.clap.specs.Words.{App, Row, Text, first_of}
+use Rattle.oftp_command_line.specs.Arguments.{app_with, defaulted, given, named, optional, own_book, own_trace, word}
+use Rattle.oftp_command_line.specs.declared.line.commands.feed.Feed.{Feed}
+use Rattle.oftp_command_line.specs.declared.line.commands.feed.Side.{Side}
+use Rattle.oftp_command_line.specs.declared.line.commands.feed.Side.TheVariants.{Initiator, Responder}
+
+-- what `feed` is asked for
+pub record FeedSaid : Type 0 where
+  pub database : Option Text
+  pub book : Text
+  pub role : Side
+  pub partner : Option Text
+  pub trace : Option Text
+  pub input : Text
+  pub output : Text
+
+-- the same, of the command that was read
+abbrev pub feed_said : Feed → FeedSaid
+feed_said f = record {
+  database = option_map (λ s. s.now) f.database;
+  book = f.book.now;
+  role = f.role;
+  partner = option_map (λ s. s.now) f.partner;
+  trace = option_map (λ s. s.now) f.trace;
+  input = f.input.now;
+  output = f.output.now;
+}
+
+-- `feed`, as the parser is told of it
+unfoldable pub feed_app : App
+feed_app = app_with (codes "feed") (optional (codes "db") ∷ own_book ∷ defaulted (codes "role") (codes "responder")
+    ∷ optional (codes "partner") ∷ own_trace ∷ word (codes "in") ∷ word (codes "out") ∷ [])
+
+-- the side that a text names
+abbrev pub side_of : Text → Option Side
+side_of = named ((codes "responder", Responder) ∷ (codes "initiator", Initiator) ∷ [])
+
+-- what `feed` is asked for by these values, in a role
+abbrev pub feed_with : Side → List Row → FeedSaid
+feed_with role rows = record {
+  database = first_of (codes "db") rows;
+  book = given (codes "book") rows;
+  role = role;
+  partner = first_of (codes "partner") rows;
+  trace = first_of (codes "trace") rows;
+  input = given (codes "in") rows;
+  output = given (codes "out") rows;
+}
+
+-- the same, in the role that they name: none where they name no side
+abbrev pub feed_in : List Row → Option FeedSaid
+feed_in rows = option_map (λ role. feed_with role rows) (side_of (given (codes "role") rows))

@@ -1,0 +1,18 @@
+-- The two files that most commands name.
+use Rattle.std.specs.Prelude.{List, codes}
+use Rattle.clap.specs.Words.{Row, Text}
+use Rattle.oftp_command_line.specs.Arguments.{given}
+use Rattle.oftp_command_line.specs.declared.line.commands.files.Files.{Files}
+
+-- the database and the book
+pub record FilesSaid : Type 0 where
+  pub database : Text
+  pub book : Text
+
+-- the same, of the files that were read
+abbrev pub files_said : Files → FilesSaid
+files_said f = record { database = f.database.now; book = f.book.now }
+
+-- the files that these values name
+abbrev pub files_with : List Row → FilesSaid
+files_with rows = record { database = given (codes "db") rows; book = given (codes "book") rows }

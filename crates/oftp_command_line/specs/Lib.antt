@@ -1,0 +1,11 @@
+pub mod Arguments
+pub mod Fault
+pub mod FeedLine
+pub mod FileLines
+pub mod Files
+pub mod Line
+pub mod OperatorLines
+pub mod Printed
+pub mod RegisterLines
+pub mod ServiceLines
+pub mod Told

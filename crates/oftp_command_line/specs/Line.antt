@@ -1,0 +1,98 @@
+-- The command line that words are.
+use Rattle.std.specs.Prelude.{List, [], ◌∷◌, None, Option, Some, codes, option_and_then, option_map}
+use Rattle.clap.specs.Words.{App, Row, Text}
+use Rattle.oftp_command_line.specs.Arguments.{given, named, taken}
+use Rattle.oftp_command_line.specs.FeedLine.{FeedSaid, feed_app, feed_in, feed_said}
+use Rattle.oftp_command_line.specs.FileLines.{check_app, init_app, migrate_app, show_app}
+use Rattle.oftp_command_line.specs.OperatorLines.{RefuseSaid, ReleaseSaid, SubmitSaid, refuse_app, refuse_said, refuse_with, release_app, release_said, release_with, submit_app, submit_in, submit_said}
+use Rattle.oftp_command_line.specs.RegisterLines.{FetchSaid, ReportSaid, fetch_app, fetch_said, fetch_with, report_app, report_in, report_said}
+use Rattle.oftp_command_line.specs.ServiceLines.{CallSaid, HttpSaid, ListenSaid, call_app, call_said, call_with, http_app, http_said, http_with, listen_app, listen_said, listen_with}
+use Rattle.oftp_command_line.specs.declared.line.Line.{Line}
+use Rattle.oftp_command_line.specs.declared.line.Line.TheVariants as line
+use Rattle.oftp_command_line.specs.declared.line.commands.Name.{Name}
+use Rattle.oftp_command_line.specs.declared.line.commands.Name.TheVariants as name
+
+-- a command with what it is asked for, as plain values
+pub data Said : Type 0 where
+  said_init : Text → Said
+  said_migrate : Text → Said
+  said_check : Text → Said
+  said_submit : SubmitSaid → Said
+  said_release : ReleaseSaid → Said
+  said_refuse : RefuseSaid → Said
+  said_fetch : FetchSaid → Said
+  said_report : ReportSaid → Said
+  said_show : Text → Said
+  said_feed : FeedSaid → Said
+  said_listen : ListenSaid → Said
+  said_call : CallSaid → Said
+  said_http : HttpSaid → Said
+
+-- the same, of the command that was read
+abbrev pub said : Line → Said
+said (line.Init database) = said_init database.now
+said (line.Migrate database) = said_migrate database.now
+said (line.Check book) = said_check book.now
+said (line.Submit s) = said_submit (submit_said s)
+said (line.Release r) = said_release (release_said r)
+said (line.Refuse r) = said_refuse (refuse_said r)
+said (line.Fetch f) = said_fetch (fetch_said f)
+said (line.Report r) = said_report (report_said r)
+said (line.Show input) = said_show input.now
+said (line.Feed f) = said_feed (feed_said f)
+said (line.Listen l) = said_listen (listen_said l)
+said (line.Call c) = said_call (call_said c)
+said (line.Http h) = said_http (http_said h)
+
+-- the command's name that a text is
+abbrev pub name_of : Text → Option Name
+name_of = named ((codes "init", name.Init) ∷ (codes "migrate", name.Migrate)
+    ∷ (codes "check", name.Check) ∷ (codes "submit", name.Submit)
+    ∷ (codes "release", name.Release) ∷ (codes "refuse", name.Refuse)
+    ∷ (codes "fetch", name.Fetch) ∷ (codes "report", name.Report)
+    ∷ (codes "show", name.Show)
+    ∷ (codes "feed", name.Feed) ∷ (codes "listen", name.Listen)
+    ∷ (codes "call", name.Call) ∷ (codes "http", name.Http) ∷ [])
+
+-- the command of this name, as the parser is told of it
+abbrev pub app_named : Name → App
+app_named name.Init = init_app
+app_named name.Migrate = migrate_app
+app_named name.Check = check_app
+app_named name.Submit = submit_app
+app_named name.Release = release_app
+app_named name.Refuse = refuse_app
+app_named name.Fetch = fetch_app
+app_named name.Report = report_app
+app_named name.Show = show_app
+app_named name.Feed = feed_app
+app_named name.Listen = listen_app
+app_named name.Call = call_app
+app_named name.Http = http_app
+
+-- what the command of this name is asked for by these values: none where one of them is not among
+-- those that its argument has names for
+abbrev pub said_by : Name → List Row → Option Said
+said_by name.Init rows = Some (said_init (given (codes "db") rows))
+said_by name.Migrate rows = Some (said_migrate (given (codes "db") rows))
+said_by name.Check rows = Some (said_check (given (codes "book") rows))
+said_by name.Submit rows = option_map said_submit (submit_in rows)
+said_by name.Release rows = Some (said_release (release_with rows))
+said_by name.Refuse rows = Some (said_refuse (refuse_with rows))
+said_by name.Fetch rows = Some (said_fetch (fetch_with rows))
+said_by name.Report rows = option_map said_report (report_in rows)
+said_by name.Show rows = Some (said_show (given (codes "in") rows))
+said_by name.Feed rows = option_map said_feed (feed_in rows)
+said_by name.Listen rows = Some (said_listen (listen_with rows))
+said_by name.Call rows = Some (said_call (call_with rows))
+said_by name.Http rows = Some (said_http (http_with rows))
+
+-- the command of this name, with what the words ask of it; the parser skips their first
+unfoldable pub line_named : Name → List Text → Option Said
+line_named name words = option_and_then (said_by name) (taken (app_named name) words)
+
+-- the command that the first word names, with what the words ask of it: none where there is no
+-- word, no command has this name, or the command does not take the words after it
+abbrev pub line_of_words : List Text → Option Said
+line_of_words [] = None
+line_of_words (first ∷ rest) = option_and_then (λ name. line_named name (first ∷ rest)) (name_of first)

@@ -1,0 +1,60 @@
+-- The lines that the program prints.
+use Rattle.std.specs.Prelude.{ℕ, Bool, true, false, List, ◌++◌, codes}
+use Rattle.std.specs.Fmt.{decimal}
+use Rattle.oftp_wire.specs.Reasons.{session_number, two_digits}
+use Rattle.oftp_partners.specs.Faults.{number_of}
+use Rattle.oftp_tables.specs.declared.fault.StoreFault.TheVariants as store
+use Rattle.oftp_engine.specs.declared.serving.End.TheVariants.{Own, Partner, Input}
+use Rattle.oftp_engine.specs.declared.serving.RunFault.TheVariants.{Read, Write, Office, Memory}
+use Rattle.oftp_listing.specs.declared.fault.ListFault.{ListFault}
+use Rattle.oftp_listing.specs.declared.fault.ListFault.TheVariants as list
+use Rattle.oftp_command_line.specs.declared.outcome.Fault.{Fault}
+use Rattle.oftp_command_line.specs.declared.outcome.Fault.TheVariants.{Run, Book, Store, File, Socket}
+use Rattle.oftp_command_line.specs.declared.outcome.Outcome.{Outcome}
+use Rattle.oftp_command_line.specs.declared.outcome.Outcome.TheVariants.{Initiated, Migrated, Checked, Ended, Fetched, Unknown, WrongState}
+
+-- the line on standard error
+abbrev pub fault_line : Fault → List ℕ
+fault_line (Run Read) = codes "fault: 1 read"
+fault_line (Run Write) = codes "fault: 2 write"
+fault_line (Run Office) = codes "fault: 3 office"
+fault_line (Run Memory) = codes "fault: 4 memory"
+fault_line (Book fault) = codes "fault: 5 book " ++ decimal (number_of fault)
+fault_line (Store store.Store) = codes "fault: 6 store 1"
+fault_line (Store store.Memory) = codes "fault: 6 store 2"
+fault_line (Store store.WrongSchema) = codes "fault: 6 store 3"
+fault_line File = codes "fault: 7 file"
+fault_line Socket = codes "fault: 8 socket"
+
+-- the output failed
+abbrev pub write_fault : Fault
+write_fault = Run Write
+
+-- a report's fault as that of its command; that a request isn't whole is none of a report
+abbrev pub fault_of_report : ListFault → Fault
+fault_of_report list.Incomplete = Run Memory
+fault_of_report list.Memory = Run Memory
+fault_of_report list.Office = Run Office
+fault_of_report list.Write = write_fault
+
+-- the line on standard output
+abbrev pub outcome_line : Outcome → List ℕ
+outcome_line Initiated = codes "done: init"
+outcome_line Migrated = codes "done: migrate"
+outcome_line (Checked count) = codes "ok: " ++ (decimal count ++ codes " partners")
+outcome_line (Ended (Own reason)) = codes "end: own " ++ two_digits (session_number reason)
+outcome_line (Ended (Partner number)) = codes "end: partner " ++ two_digits number
+outcome_line (Ended Input) = codes "end: input"
+outcome_line (Fetched number) = codes "done: fetch " ++ decimal number
+outcome_line Unknown = codes "refused: 2 unknown"
+outcome_line WrongState = codes "refused: 3 state"
+
+-- the command was refused
+abbrev pub is_refusal : Outcome → Bool
+is_refusal Initiated = false
+is_refusal Migrated = false
+is_refusal (Checked count) = false
+is_refusal (Ended how) = false
+is_refusal (Fetched number) = false
+is_refusal Unknown = true
+is_refusal WrongState = true

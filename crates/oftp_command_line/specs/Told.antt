@@ -1,0 +1,56 @@
+-- What the parser is told of a command: for private clauses alone.
+use Rattle.std.specs.Prelude.{ℕ, Bool, List, Option, None, Some, codes, false, fold, true}
+use Rattle.clap.specs.Words.{App, Rule, Text, new_app, with_rule}
+use Rattle.oftp_command_line.specs.Arguments as spec
+use Rattle.oftp_command_line.specs.declared.line.arguments.Argument.{Argument}
+use Rattle.oftp_command_line.specs.declared.line.arguments.Kind.{Kind}
+use Rattle.oftp_command_line.specs.declared.line.arguments.Kind.TheVariants.{Word, Needed, Optional, Defaulted}
+use Rattle.oftp_command_line.specs.declared.line.commands.Name.{Name}
+use Rattle.oftp_command_line.specs.declared.line.commands.Name.TheVariants as name
+
+-- whether an argument of a kind may not be missing
+abbrev pub is_required : Kind → Bool
+is_required Word = true
+is_required Needed = true
+is_required Optional = false
+is_required (Defaulted value) = false
+
+-- an argument of a kind, whatever numbers it takes
+abbrev pub rule_of_kind : Kind → Text → Rule
+rule_of_kind Word id = spec.word id
+rule_of_kind Needed id = spec.needed id
+rule_of_kind Optional id = spec.optional id
+rule_of_kind (Defaulted value) id = spec.defaulted id value.now
+
+-- the argument, where it takes the numbers from the one to the other
+abbrev pub within : Option (ℕ × ℕ) → Rule → Rule
+within None rule = rule
+within (Some ends) rule = spec.numbered ends.0 ends.1 rule
+
+-- an argument of a command
+abbrev pub told : Argument → Rule
+told argument = within argument.numbers (rule_of_kind argument.kind argument.id.now)
+
+-- the command that has one more
+abbrev pub with_one : App → Argument → App
+with_one app argument = with_rule app (told argument)
+
+-- the command of a name that has these arguments
+abbrev pub app_told : Text → List Argument → App
+app_told name arguments = fold with_one (new_app name) arguments
+
+-- the word that is the name of a command
+abbrev pub word_of : Name → Text
+word_of name.Init = codes "init"
+word_of name.Migrate = codes "migrate"
+word_of name.Check = codes "check"
+word_of name.Submit = codes "submit"
+word_of name.Release = codes "release"
+word_of name.Refuse = codes "refuse"
+word_of name.Fetch = codes "fetch"
+word_of name.Report = codes "report"
+word_of name.Show = codes "show"
+word_of name.Feed = codes "feed"
+word_of name.Listen = codes "listen"
+word_of name.Call = codes "call"
+word_of name.Http = codes "http"

@@ -1,0 +1,11 @@
+//! The words of the station's program: what those that it is given ask for, and how a command comes out in those that it prints.
+#![tactic(auto)]
+
+mod line;
+mod outcome;
+
+pub use line::{
+    Call, Feed, Fetch, Files, Http, Line, LineFault, Listen, Refuse, Release, Report, Side, Submit,
+    line_of,
+};
+pub use outcome::{Fault, Outcome, write_line};

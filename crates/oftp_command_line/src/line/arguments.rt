@@ -1,0 +1,332 @@
+//! The arguments of a command, and what the parser makes of the words.
+ghost use Rattle.std.specs.Prelude.{◌≡◌, ◌∷◌, ℕ, [], IfErr, IfOk, IsSome, None, Some, false, map, option_map, true};
+ghost use Rattle.std.specs.String.{string_bytes};
+ghost use Rattle.clap.specs.Words.{app_of, first_of, is_simple_and_free, items_of, kind_of};
+ghost use Rattle.clap.specs.Words.{new_app, rule_of};
+ghost use Rattle.clap.specs.declared.builder.command.Command.TheViews.{out-Command as fields_of};
+ghost use Rattle.oftp_command_line.specs.Arguments as spec;
+ghost use Rattle.oftp_command_line.specs.Arguments.{HasValues, IsNumber, taken, values_in};
+ghost use Rattle.oftp_command_line.specs.Fault.{is_bad};
+ghost use Rattle.oftp_command_line.specs.Told.{app_told, is_required, rule_of_kind, told};
+ghost use Rattle.oftp_command_line.specs.declared.line.arguments.TheConstants.{MOST_PORT};
+
+use super::LineFault;
+use clap::builder::ValueParser;
+use clap::error::ErrorKind;
+use clap::{Arg, ArgAction, ArgMatches, Command, Error};
+use std::alloc::{AllocError, Global};
+
+/// The greatest number of an incoming file that can be asked for.
+const MOST_NO: u64 = 9_999_999;
+
+/// The greatest port.
+const MOST_PORT: u64 = 65_535;
+
+/// How many callers can be asked for, at most.
+const MOST_CALLERS: u64 = 1_000_000;
+
+/// The greatest patience with a partner that can be asked for, in seconds: a day.
+const MOST_PATIENCE: u64 = 86_400;
+
+/// An argument of a command, which takes one value.
+#[derive(Clone, Copy)]
+pub(super) struct Argument<'a> {
+    id: &'a str,
+    // What stands for it in texts.
+    shown: &'a str,
+    help: &'a str,
+    kind: Kind<'a>,
+    // The least and the greatest number that it takes, where it takes numbers.
+    numbers: Option<(u64, u64)>,
+}
+
+/// How an argument is given.
+#[derive(Clone, Copy)]
+enum Kind<'a> {
+    /// As a word, which may not be missing.
+    Word,
+    /// As an option, which may not be missing.
+    Needed,
+    /// As an option.
+    Optional,
+    /// As an option, which has this value where it is missing.
+    Defaulted(&'a str),
+}
+
+impl Kind<'_> {
+    /// Whether it may not be missing.
+    fn is_required(self) -> bool
+        ensures { result ≡ is_required self.entry }
+    {
+        match self {
+            Kind::Word | Kind::Needed => true,
+            Kind::Optional | Kind::Defaulted(_) => false,
+        }
+    }
+}
+
+impl<'a> Argument<'a> {
+    /// The argument, as the parser is told of it.
+    fn told(self, alloc: Global) -> Arg<'a>
+        ensures rule { rule_of result ≡ told self.entry }
+        ensures local { result.global ≡ false }
+        ensures texts { (items_of result.val_names ≡ self.entry.shown ∷ []) × (result.help ≡ Some self.entry.help) }
+    {
+        let argument = self.named(alloc);
+        match self.numbers {
+            None => argument,
+            Some((low, high)) => argument.value_parser(ValueParser::unsigned(low, high)),
+        }
+    }
+
+    /// The same, whatever numbers it takes.
+    fn named(self, alloc: Global) -> Arg<'a>
+        ensures rule { rule_of result ≡ rule_of_kind self.entry.kind self.entry.id.now }
+        ensures local { result.global ≡ false }
+        ensures texts { (items_of result.val_names ≡ self.entry.shown ∷ []) × (result.help ≡ Some self.entry.help) }
+    {
+        let argument = Arg::new(alloc, self.id)
+            .action(ArgAction::Set)
+            .required(self.kind.is_required())
+            .value_name(self.shown)
+            .help(self.help);
+        match self.kind {
+            Kind::Word => argument,
+            Kind::Needed | Kind::Optional => argument.long(self.id),
+            Kind::Defaulted(value) => argument.long(self.id).default_value(value),
+        }
+    }
+}
+
+/// A command with no arguments yet. `usage` is how it is called, and `about` what it does.
+fn bare_command<'a>(alloc: Global, name: &'a str, usage: &'a str, about: &'a str) -> Command<'a>
+    ensures app { app_of result ≡ new_app name.entry.now }
+    ensures texts { ((fields_of result).usage_str ≡ Some usage.entry)
+        × ((fields_of result).about ≡ Some about.entry) }
+{
+    Command::new(alloc, name).override_usage(usage).about(about)
+}
+
+/// A command with these arguments, as the parser is told of it.
+pub(super) fn command<'a>(
+    alloc: Global,
+    name: &'a str,
+    usage: &'a str,
+    about: &'a str,
+    arguments: &[Argument<'a>],
+) -> Result<Command<'a>, AllocError>
+    ensures { IfOk result (λ command. app_of command ≡ app_told name.entry.now arguments.now) }
+{
+    let mut command = bare_command(alloc, name, usage, about);
+    for argument in arguments {
+        command = command.arg(argument.told(alloc))?;
+    }
+    Ok(command)
+}
+
+/// An argument of a kind that takes any text. `shown` stands for it in texts.
+fn any_text<'a>(kind: Kind<'a>, id: &'a str, shown: &'a str, help: &'a str) -> Argument<'a>
+    ensures { told result ≡ rule_of_kind kind.entry id.entry.now }
+{
+    Argument {
+        id,
+        shown,
+        help,
+        kind,
+        numbers: None,
+    }
+}
+
+/// A word that must be given.
+pub(super) fn word<'a>(id: &'a str, shown: &'a str, help: &'a str) -> Argument<'a>
+    ensures { told result ≡ spec.word id.entry.now }
+{
+    any_text(Kind::Word, id, shown, help)
+}
+
+/// An option that must be given, and takes one value.
+pub(super) fn needed<'a>(id: &'a str, shown: &'a str, help: &'a str) -> Argument<'a>
+    ensures { told result ≡ spec.needed id.entry.now }
+{
+    any_text(Kind::Needed, id, shown, help)
+}
+
+/// An option that may be missing, and takes one value.
+pub(super) fn optional<'a>(id: &'a str, shown: &'a str, help: &'a str) -> Argument<'a>
+    ensures { told result ≡ spec.optional id.entry.now }
+{
+    any_text(Kind::Optional, id, shown, help)
+}
+
+/// An option that has this value where it is missing.
+pub(super) fn defaulted<'a>(
+    id: &'a str,
+    value: &'a str,
+    shown: &'a str,
+    help: &'a str,
+) -> Argument<'a>
+    ensures { told result ≡ spec.defaulted id.entry.now value.entry.now }
+{
+    any_text(Kind::Defaulted(value), id, shown, help)
+}
+
+/// The argument, which takes the numbers from `low` to `high`.
+pub(super) fn numbered<'a>(argument: Argument<'a>, low: u64, high: u64) -> Argument<'a>
+    ensures { told result ≡ spec.numbered low high (told argument.entry) }
+{
+    Argument {
+        numbers: Some((low, high)),
+        ..argument
+    }
+}
+
+/// The option for the database, which must be given.
+pub(super) fn own_database<'a>() -> Argument<'a>
+    ensures { told result ≡ spec.own_database }
+{
+    needed("db", "DATABASE", "The file that holds the database")
+}
+
+/// The option for the book, which must be given.
+pub(super) fn own_book<'a>() -> Argument<'a>
+    ensures { told result ≡ spec.own_book }
+{
+    needed("book", "BOOK", "The file that holds the book")
+}
+
+/// The word that is an incoming file's number.
+pub(super) fn file_number<'a>() -> Argument<'a>
+    ensures { told result ≡ spec.file_number }
+{
+    let no = word("no", "NO", "The incoming file's number, 1 to 9999999");
+    numbered(no, 1, MOST_NO)
+}
+
+/// The option for the port where callers are awaited, which is `port` where it is missing.
+pub(super) fn own_port<'a>(port: &'a str) -> Argument<'a>
+    ensures { told result ≡ spec.own_port port.entry.now }
+{
+    let help = "The port where callers are awaited, 1 to 65535";
+    numbered(defaulted("port", port, "PORT", help), 1, MOST_PORT)
+}
+
+/// The option for the address where callers are awaited.
+pub(super) fn own_address<'a>() -> Argument<'a>
+    ensures { told result ≡ spec.own_address }
+{
+    let help = "The machine's address where callers are awaited";
+    defaulted("address", "127.0.0.1", "ADDRESS", help)
+}
+
+/// The option for how many callers are served.
+pub(super) fn callers<'a>(id: &'a str, help: &'a str) -> Argument<'a>
+    ensures { told result ≡ spec.callers id.entry.now }
+{
+    numbered(defaulted(id, "1", "COUNT", help), 1, MOST_CALLERS)
+}
+
+/// The option for the file to which a session's commands are appended in words.
+pub(super) fn own_trace<'a>() -> Argument<'a>
+    ensures { told result ≡ spec.own_trace }
+{
+    let help = "The file to which what goes over the connection is appended in words";
+    optional("trace", "FILE", help)
+}
+
+/// The option for how many seconds a partner may keep still.
+pub(super) fn own_patience<'a>() -> Argument<'a>
+    ensures { told result ≡ spec.own_patience }
+{
+    let help = "How many seconds the partner may keep still, 0 to 86400, 0 for ever";
+    let patience = defaulted("patience", "300", "SECONDS", help);
+    numbered(patience, 0, MOST_PATIENCE)
+}
+
+/// The fault for an error of the parser.
+fn fault_from(alloc: Global, error: &Error) -> LineFault
+    ensures { is_bad result ≡ true → kind_of error.now ≡ ErrorKind.OutOfMemory → ⊥ }
+{
+    if error.kind() == ErrorKind::OutOfMemory {
+        return LineFault::Memory;
+    }
+    match error.to_string(alloc) {
+        Ok(text) => LineFault::Bad(text),
+        Err(_) => LineFault::Memory,
+    }
+}
+
+/// What the parser makes of the words, of which the first is the command's name.
+pub(super) fn matched<'a>(
+    alloc: Global,
+    command: Command<'a>,
+    words: &'a [String],
+) -> Result<ArgMatches<'a>, LineFault>
+    requires { is_simple_and_free (app_of command) ≡ true }
+    ensures ok { IfOk result (λ m. taken (app_of command.entry) (map string_bytes words.entry.now)
+        ≡ Some (values_in m)) }
+    ensures bad { IfErr result (λ e. is_bad e ≡ true
+        → taken (app_of command.entry) (map string_bytes words.entry.now) ≡ None) }
+    ensures values { IfOk result (λ m. HasValues (app_of command.entry) (values_in m)) }
+{
+    match command.try_get_matches_from(words) {
+        Ok(matches) => Ok(matches),
+        Err(error) => Err(fault_from(alloc, &error)),
+    }
+}
+
+/// The value of an option that may be missing.
+pub(super) fn value_of<'a>(matches: &ArgMatches<'a>, id: &str) -> Option<&'a str>
+    ensures { option_map (λ s. s.now) result ≡ first_of id.now (values_in matches.now) }
+{
+    matches.get_str(id)
+}
+
+/// The value of an argument that must be given or has a default.
+pub(super) fn given<'a>(matches: &ArgMatches<'a>, id: &str) -> &'a str
+    requires { IsSome (first_of id.now (values_in matches.now)) }
+    ensures { result.now ≡ spec.given id.now (values_in matches.now) }
+{
+    value_of(matches, id).unwrap()
+}
+
+/// The number that is the value of an argument which takes numbers, and must be given or has a default.
+pub(super) fn number(matches: &ArgMatches<'_>, id: &str) -> u64
+    requires { (low : ℕ) × ((high : ℕ) × IsNumber low high id.now (values_in matches.now)) }
+    ensures { result ≡ spec.number id.now (values_in matches.now) }
+{
+    matches.get_one::<u64>(id).unwrap()
+}
+
+/// The port that is the value of an argument which takes ports, and must be given or has a default.
+pub(super) fn port(matches: &ArgMatches<'_>, id: &str) -> u16
+    requires { IsNumber 1 MOST_PORT id.now (values_in matches.now) }
+    ensures { result ≡ spec.number id.now (values_in matches.now) }
+{
+    number(matches, id) as u16
+}
+
+/// A value that is none of those that its argument has names for.
+#[derive(Clone, Copy)]
+pub(super) struct Unlisted<'a> {
+    /// The value.
+    pub(super) value: &'a str,
+    /// The argument, as texts show it.
+    pub(super) argument: &'static str,
+    /// The values that it has names for.
+    pub(super) listed: &'static str,
+}
+
+impl Unlisted<'_> {
+    /// The text that says so.
+    pub(super) fn text(&self, alloc: Global) -> Result<String, AllocError> {
+        let Unlisted {
+            value,
+            argument,
+            listed,
+        } = self;
+        let mut text = format!(in alloc; "error: invalid value '{value}' for '{argument}'\n")?;
+        write!(text, "  [possible values: {listed}]\n\n")?;
+        text.push_str("For more information, try '--help'.\n")?;
+        Ok(text)
+    }
+}

@@ -1,0 +1,159 @@
+//! The commands: how the parser is told of each, and what is read from the values that it found.
+ghost use Rattle.std.specs.Prelude.{◌≡◌, IfOk, None, OnErr, Some, codes};
+ghost use Rattle.clap.specs.Words.{app_of};
+ghost use Rattle.oftp_command_line.specs.Arguments as spec;
+ghost use Rattle.oftp_command_line.specs.Arguments.{HasValues, values_in};
+ghost use Rattle.oftp_command_line.specs.Line.{app_named, name_of, said, said_by};
+ghost use Rattle.oftp_command_line.specs.Told.{app_told, told, word_of};
+
+pub(super) mod feed;
+pub(super) mod files;
+pub(super) mod operators;
+pub(super) mod registers;
+pub(super) mod services;
+mod texts;
+
+use super::Line;
+use super::arguments::{Argument, Unlisted, command, given, own_book, own_database, word};
+use clap::{ArgMatches, Command};
+use feed::{feed_command, feed_read};
+use operators::{
+    refuse_command, refuse_read, release_command, release_read, submit_command, submit_read,
+};
+use registers::{fetch_command, fetch_read, report_command, report_read};
+use services::{call_command, call_read, http_command, http_read, listen_command, listen_read};
+use std::alloc::{AllocError, Global};
+
+/// The names of all commands, in the order in which texts have them.
+pub(super) const NAMES: [Name; 13] = [
+    Name::Init,
+    Name::Migrate,
+    Name::Check,
+    Name::Submit,
+    Name::Release,
+    Name::Refuse,
+    Name::Fetch,
+    Name::Report,
+    Name::Show,
+    Name::Feed,
+    Name::Listen,
+    Name::Call,
+    Name::Http,
+];
+
+/// The name of a command.
+#[derive(Clone, Copy)]
+pub(super) enum Name {
+    Init,
+    Migrate,
+    Check,
+    Submit,
+    Release,
+    Refuse,
+    Fetch,
+    Report,
+    Show,
+    Feed,
+    Listen,
+    Call,
+    Http,
+}
+
+impl Name {
+    /// The name that a word is.
+    pub(super) fn of(word: &str) -> Option<Name>
+        ensures { result ≡ name_of word.now }
+    {
+        match word {
+            "init" => Some(Name::Init),
+            "migrate" => Some(Name::Migrate),
+            "check" => Some(Name::Check),
+            "submit" => Some(Name::Submit),
+            "release" => Some(Name::Release),
+            "refuse" => Some(Name::Refuse),
+            "fetch" => Some(Name::Fetch),
+            "report" => Some(Name::Report),
+            "show" => Some(Name::Show),
+            "feed" => Some(Name::Feed),
+            "listen" => Some(Name::Listen),
+            "call" => Some(Name::Call),
+            "http" => Some(Name::Http),
+            _ => None,
+        }
+    }
+
+    /// The command of this name with these arguments, as the parser is told of it.
+    fn taking<'a>(
+        self,
+        alloc: Global,
+        arguments: &[Argument<'a>],
+    ) -> Result<Command<'a>, AllocError>
+        ensures { IfOk result (λ c. app_of c ≡ app_told (word_of self) arguments.now) }
+    {
+        command(alloc, self.word(), self.usage(), self.about(), arguments)
+    }
+
+    /// The command of this name, as the parser is told of it.
+    pub(super) fn command<'a>(self, alloc: Global) -> Result<Command<'a>, AllocError>
+        ensures { IfOk result (λ c. app_of c ≡ app_named self) }
+    {
+        match self {
+            Name::Init => self.taking(alloc, &[own_database()]),
+            Name::Migrate => self.taking(alloc, &[own_database()]),
+            Name::Check => self.taking(alloc, &[own_book()]),
+            Name::Submit => submit_command(alloc),
+            Name::Release => release_command(alloc),
+            Name::Refuse => refuse_command(alloc),
+            Name::Fetch => fetch_command(alloc),
+            Name::Report => report_command(alloc),
+            Name::Show => self.taking(alloc, &[input()]),
+            Name::Feed => feed_command(alloc),
+            Name::Listen => listen_command(alloc),
+            Name::Call => call_command(alloc),
+            Name::Http => http_command(alloc),
+        }
+    }
+
+    /// What the command of this name is asked for by the values of its options and words.
+    #[tactic(auto, using(crate::proofs::Values::has_text))]
+    pub(super) fn read<'a>(self, matches: &ArgMatches<'a>) -> Result<Line<'a>, Unlisted<'a>>
+        requires { HasValues (app_named self) (values_in matches.now) }
+        ensures ok { IfOk result (λ l. said_by self (values_in matches.now) ≡ Some (said l)) }
+        ensures err { OnErr result (said_by self (values_in matches.now) ≡ None) }
+    {
+        match self {
+            Name::Init => Ok(Line::Init {
+                database: given(matches, "db"),
+            }),
+            Name::Migrate => Ok(Line::Migrate {
+                database: given(matches, "db"),
+            }),
+            Name::Check => Ok(Line::Check {
+                book: given(matches, "book"),
+            }),
+            Name::Submit => submit_read(matches).map(Line::Submit),
+            Name::Release => Ok(Line::Release(release_read(matches))),
+            Name::Refuse => Ok(Line::Refuse(refuse_read(matches))),
+            Name::Fetch => Ok(Line::Fetch(fetch_read(matches))),
+            Name::Report => report_read(matches).map(Line::Report),
+            Name::Show => Ok(Line::Show {
+                input: given(matches, "in"),
+            }),
+            Name::Feed => feed_read(matches).map(Line::Feed),
+            Name::Listen => Ok(Line::Listen(listen_read(matches))),
+            Name::Call => Ok(Line::Call(call_read(matches))),
+            Name::Http => Ok(Line::Http(http_read(matches))),
+        }
+    }
+}
+
+/// The word that is the file of which `show` tells.
+fn input<'a>() -> Argument<'a>
+    ensures { told result ≡ spec.word (codes "in") }
+{
+    word(
+        "in",
+        "IN",
+        "The file that holds what one side of a session sent",
+    )
+}

@@ -1,0 +1,29 @@
+//! The two files that most commands name.
+ghost use Rattle.std.specs.Prelude.{◌≡◌, IsSome, codes};
+ghost use Rattle.clap.specs.Words.{first_of};
+ghost use Rattle.oftp_command_line.specs.Arguments.{values_in};
+ghost use Rattle.oftp_command_line.specs.Files.{files_said, files_with};
+
+use crate::line::arguments::given;
+use clap::ArgMatches;
+
+/// The files of a command that names both.
+#[derive(Debug, Clone, Copy, PartialEq, Eq)]
+pub struct Files<'a> {
+    /// The file that holds the database.
+    pub database: &'a str,
+    /// The file that holds the book.
+    pub book: &'a str,
+}
+
+/// The files that the values of the options name.
+pub(super) fn files_read<'a>(matches: &ArgMatches<'a>) -> Files<'a>
+    requires database { IsSome (first_of (codes "db") (values_in matches.now)) }
+    requires book { IsSome (first_of (codes "book") (values_in matches.now)) }
+    ensures { files_said result ≡ files_with (values_in matches.now) }
+{
+    Files {
+        database: given(matches, "db"),
+        book: given(matches, "book"),
+    }
+}

@@ -1,0 +1,156 @@
+//! The commands `listen`, `call` and `http`, which are services over sockets.
+ghost use Rattle.std.specs.Prelude.{◌≡◌, IfOk};
+ghost use Rattle.clap.specs.Words.{app_of};
+ghost use Rattle.oftp_command_line.specs.Arguments.{HasValues, values_in};
+ghost use Rattle.oftp_command_line.specs.ServiceLines.{call_app, call_said, call_with, http_app, http_said, http_with, listen_app, listen_said, listen_with};
+
+use super::Name;
+use super::files::{Files, files_read};
+use crate::line::arguments::{
+    callers, given, needed, number, own_address, own_book, own_database, own_patience, own_port,
+    own_trace, port, value_of,
+};
+use clap::{ArgMatches, Command};
+use std::alloc::{AllocError, Global};
+
+/// The command `listen`, which serves sessions of partners who call.
+#[derive(Debug, Clone, Copy, PartialEq, Eq)]
+pub struct Listen<'a> {
+    /// The database and the book.
+    pub files: Files<'a>,
+    /// The port where callers are awaited, 1 to 65,535.
+    pub port: u16,
+    /// The machine's address where callers are awaited.
+    pub address: &'a str,
+    /// How many sessions are served, 1 to 1,000,000.
+    pub sessions: u64,
+    /// How many seconds a partner may keep still, 0 to 86,400; 0 is for ever.
+    pub patience: u64,
+    /// The file to which what goes over the connection is appended in words, if one is.
+    pub trace: Option<&'a str>,
+}
+
+/// `listen`, as the parser is told of it.
+#[tactic(auto, unfolding(crate::specs::ServiceLines::listen_app))]
+pub(super) fn listen_command<'a>(alloc: Global) -> Result<Command<'a>, AllocError>
+    ensures { IfOk result (λ c. app_of c ≡ listen_app) }
+{
+    let sessions = "How many sessions are served, 1 to 1000000";
+    Name::Listen.taking(
+        alloc,
+        &[
+            own_database(),
+            own_book(),
+            own_port("3305"),
+            own_address(),
+            callers("sessions", sessions),
+            own_patience(),
+            own_trace(),
+        ],
+    )
+}
+
+/// What `listen` is asked for by the values of its options.
+#[tactic(auto, using(crate::proofs::Values::has_text), unfolding(crate::specs::ServiceLines::listen_app))]
+pub(super) fn listen_read<'a>(matches: &ArgMatches<'a>) -> Listen<'a>
+    requires { HasValues listen_app (values_in matches.now) }
+    ensures { listen_said result ≡ listen_with (values_in matches.now) }
+{
+    Listen {
+        files: files_read(matches),
+        port: port(matches, "port"),
+        address: given(matches, "address"),
+        sessions: number(matches, "sessions"),
+        patience: number(matches, "patience"),
+        trace: value_of(matches, "trace"),
+    }
+}
+
+/// The command `call`, which calls a partner for one session.
+#[derive(Debug, Clone, Copy, PartialEq, Eq)]
+pub struct Call<'a> {
+    /// The database and the book.
+    pub files: Files<'a>,
+    /// The code of the partner that is called.
+    pub partner: &'a str,
+    /// How many seconds the partner may keep still, 0 to 86,400; 0 is for ever.
+    pub patience: u64,
+    /// The file to which what goes over the connection is appended in words, if one is.
+    pub trace: Option<&'a str>,
+}
+
+/// `call`, as the parser is told of it.
+#[tactic(auto, unfolding(crate::specs::ServiceLines::call_app))]
+pub(super) fn call_command<'a>(alloc: Global) -> Result<Command<'a>, AllocError>
+    ensures { IfOk result (λ c. app_of c ≡ call_app) }
+{
+    let partner = "The code of the partner that is called";
+    Name::Call.taking(
+        alloc,
+        &[
+            own_database(),
+            own_book(),
+            needed("partner", "CODE", partner),
+            own_patience(),
+            own_trace(),
+        ],
+    )
+}
+
+/// What `call` is asked for by the values of its options.
+#[tactic(auto, using(crate::proofs::Values::has_text), unfolding(crate::specs::ServiceLines::call_app))]
+pub(super) fn call_read<'a>(matches: &ArgMatches<'a>) -> Call<'a>
+    requires { HasValues call_app (values_in matches.now) }
+    ensures { call_said result ≡ call_with (values_in matches.now) }
+{
+    Call {
+        files: files_read(matches),
+        partner: given(matches, "partner"),
+        patience: number(matches, "patience"),
+        trace: value_of(matches, "trace"),
+    }
+}
+
+/// The command `http`, which answers requests for what the database holds.
+#[derive(Debug, Clone, Copy, PartialEq, Eq)]
+pub struct Http<'a> {
+    /// The file that holds the database.
+    pub database: &'a str,
+    /// The port where callers are awaited, 1 to 65,535.
+    pub port: u16,
+    /// The machine's address where callers are awaited.
+    pub address: &'a str,
+    /// How many requests are answered, 1 to 1,000,000.
+    pub requests: u64,
+}
+
+/// `http`, as the parser is told of it.
+#[tactic(auto, unfolding(crate::specs::ServiceLines::http_app))]
+pub(super) fn http_command<'a>(alloc: Global) -> Result<Command<'a>, AllocError>
+    ensures { IfOk result (λ c. app_of c ≡ http_app) }
+{
+    let requests = "How many requests are answered, 1 to 1000000";
+    Name::Http.taking(
+        alloc,
+        &[
+            own_database(),
+            own_port("8080"),
+            own_address(),
+            callers("requests", requests),
+        ],
+    )
+}
+
+/// What `http` is asked for by the values of its options.
+#[tactic(auto, using(crate::proofs::Values::has_text), unfolding(crate::specs::ServiceLines::http_app))]
+pub(super) fn http_read<'a>(matches: &ArgMatches<'a>) -> Http<'a>
+    requires { HasValues http_app (values_in matches.now) }
+    ensures { http_said result ≡ http_with (values_in matches.now) }
+{
+    Http {
+        database: given(matches, "db"),
+        port: port(matches, "port"),
+        address: given(matches, "address"),
+        requests: number(matches, "requests"),
+    }
+}

@@ -1,0 +1,135 @@
+//! How a command comes out, as a person reads it.
+
+ghost use Rattle.std.specs.Prelude.{◌≡◌, IfErr, Some};
+ghost use Rattle.oftp_command_line.specs.Printed.{fault_line, fault_of_report, is_refusal, outcome_line, write_fault};
+
+use oftp_engine::{End, RunFault};
+use oftp_listing::ListFault;
+use oftp_partners::BookFault;
+use oftp_tables::StoreFault;
+use std::fmt;
+use std::io::{self, Write};
+
+/// Why a command failed: the line on standard error.
+#[derive(Clone, Copy, Drop)]
+pub enum Fault {
+    /// A session was broken off.
+    Run(RunFault),
+    /// The book's text is no book.
+    Book(BookFault),
+    /// The database isn't opened, or not brought to schema 2.
+    Store(StoreFault),
+    /// A file that the line names can't be read or made.
+    File,
+    /// An address can't be bound or connected to, or no caller be accepted.
+    Socket,
+}
+
+impl Fault {
+    /// Memory ran out.
+    pub const MEMORY: Fault = Fault::Run(RunFault::Memory);
+}
+
+impl From<ListFault> for Fault {
+    ghost from_gives = { λ told fault. fault ≡ fault_of_report told };
+
+    // That a request isn't whole is no fault of a report or of a whole request.
+    fn from(fault: ListFault) -> Fault {
+        Fault::Run(match fault {
+            ListFault::Incomplete | ListFault::Memory => RunFault::Memory,
+            ListFault::Office => RunFault::Office,
+            ListFault::Write => RunFault::Write,
+        })
+    }
+}
+
+impl fmt::Display for Fault {
+    ghost output = { λ fault. Some (fault_line fault) };
+
+    fn fmt<W: fmt::Write>(&self, f: &mut fmt::Formatter<W>) -> fmt::Result {
+        match self {
+            Fault::Run(RunFault::Read) => f.write_str("fault: 1 read"),
+            Fault::Run(RunFault::Write) => f.write_str("fault: 2 write"),
+            Fault::Run(RunFault::Office) => f.write_str("fault: 3 office"),
+            Fault::Run(RunFault::Memory) => f.write_str("fault: 4 memory"),
+            Fault::Book(fault) => write!(f, "fault: 5 book {}", fault.number()),
+            Fault::Store(StoreFault::Store) => f.write_str("fault: 6 store 1"),
+            Fault::Store(StoreFault::Memory) => f.write_str("fault: 6 store 2"),
+            Fault::Store(StoreFault::WrongSchema) => f.write_str("fault: 6 store 3"),
+            Fault::File => f.write_str("fault: 7 file"),
+            Fault::Socket => f.write_str("fault: 8 socket"),
+        }
+    }
+}
+
+/// What a command did: the line on standard output.
+#[derive(Clone, Copy, Drop)]
+pub enum Outcome {
+    /// The database was opened, and has its tables.
+    Initiated,
+    /// The database has schema 2.
+    Migrated,
+    /// The book is a book, of so many partners.
+    Checked(usize),
+    /// A session was served, and ended so.
+    Ended(End),
+    /// The incoming file of this number was written.
+    Fetched(u64),
+    /// What the line names isn't there.
+    Unknown,
+    /// The file isn't in the state that the command asks for.
+    WrongState,
+}
+
+impl Outcome {
+    /// Whether the command was refused.
+    pub fn is_refusal(&self) -> bool
+        ensures { result ≡ is_refusal self.now }
+    {
+        match self {
+            Outcome::Initiated | Outcome::Migrated => false,
+            Outcome::Checked(_) | Outcome::Ended(_) | Outcome::Fetched(_) => false,
+            Outcome::Unknown | Outcome::WrongState => true,
+        }
+    }
+}
+
+impl fmt::Display for Outcome {
+    ghost output = { λ outcome. Some (outcome_line outcome) };
+
+    fn fmt<W: fmt::Write>(&self, f: &mut fmt::Formatter<W>) -> fmt::Result {
+        match self {
+            Outcome::Initiated => f.write_str("done: init"),
+            Outcome::Migrated => f.write_str("done: migrate"),
+            Outcome::Checked(count) => write!(f, "ok: {count} partners"),
+            Outcome::Ended(End::Own(reason)) => {
+                let number = reason.number().get();
+                write!(f, "end: own {}{}", number / 10, number % 10)
+            }
+            Outcome::Ended(End::Partner(reason)) => {
+                let number = reason.get();
+                write!(f, "end: partner {}{}", number / 10, number % 10)
+            }
+            Outcome::Ended(End::Input) => f.write_str("end: input"),
+            Outcome::Fetched(no) => write!(f, "done: fetch {no}"),
+            Outcome::Unknown => f.write_str("refused: 2 unknown"),
+            Outcome::WrongState => f.write_str("refused: 3 state"),
+        }
+    }
+}
+
+/// Writes a line so that whoever reads the output has it at once. Any error is [`RunFault::Write`].
+pub fn write_line<L: fmt::Display>(out: &mut impl Write, line: &L) -> Result<(), Fault>
+    ensures fails { IfErr result (λ fault. fault ≡ write_fault) }
+{
+    match put_line(out, line) {
+        Ok(()) => Ok(()),
+        Err(_) => Err(Fault::Run(RunFault::Write)),
+    }
+}
+
+/// Writes a line and flushes the output.
+fn put_line<L: fmt::Display>(out: &mut impl Write, line: &L) -> io::Result<()> {
+    writeln!(out, "{line}")?;
+    out.flush()
+}

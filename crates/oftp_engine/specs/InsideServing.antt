@@ -1,0 +1,230 @@
+-- Inside: how far the engine has come in a run, for the functions of src/serving.rt.
+use Rattle.std.specs.Prelude.{◌≡◌, ℕ, ◌<◌, ◌⊎◌, ⊤, Bool, false, ◌≤◌, List, [], ◌∷◌, ◌++◌, length, take, Option, None, Some, Result, Ok, Err}
+use Rattle.oftp_wire.specs.Stream.{Stream, front, Waits}
+use Rattle.oftp_register.specs.declared.change.Change.{Change}
+use Rattle.oftp_register.specs.Register.{Register}
+use Rattle.oftp_register.specs.Changes.{apply_all}
+use Rattle.oftp_register.specs.Offices.{View, Only, WithOrWithout, next_count}
+use Rattle.oftp_session.specs.Phases.{is_over, ending_of, Step, framed}
+use Rattle.oftp_session.specs.Steps.{has_turn, Suits}
+use Rattle.oftp_session.specs.Calls.{Proceeds, Seen, Stands}
+use Rattle.oftp_session.specs.declared.session.Ending.{Ending}
+use Rattle.oftp_session.specs.declared.session.SessionFault.{SessionFault}
+use Rattle.oftp_session.specs.declared.session.SessionFault.TheVariants as session
+use Rattle.oftp_engine.specs.Runs.{Course, Output, run, is_stopped, advance, octets_of}
+use Rattle.oftp_io.specs.declared.port.Port.{Port}
+use Rattle.oftp_io.specs.Ports.{Sent}
+use Rattle.oftp_engine.specs.declared.serving.RunFault.{RunFault}
+use Rattle.oftp_engine.specs.declared.serving.RunFault.TheVariants as fault
+use Rattle.oftp_engine.specs.Serving.{Scene, Took, IsSaid, MayRunOut, last_frame}
+
+-- each output was made with at most so many changes before it
+abbrev pub Counted : ℕ → List Output → Type 0
+Counted most [] = Unit {0}
+Counted most (o ∷ outputs) = (o.after ≤ most) × Counted most outputs
+
+-- the register is the one after the changes, from r on, all of them made, and suits the phase
+pub record Sound (r : Register) (c : Course) : Type 0 where
+  pub replay : apply_all r c.changes ≡ Ok c.register
+  pub counted : Counted (length c.changes) c.outputs
+  pub suits : Suits c.phase c.register
+
+-- d comes later in a run than c
+pub record Grows (c d : Course) : Type 0 where
+  pub later_outputs : List Output
+  pub outputs : d.outputs ≡ c.outputs ++ later_outputs
+  pub later_changes : List Change
+  pub changes : d.changes ≡ c.changes ++ later_changes
+  pub sound : (r : Register) → Sound r c → Sound r d
+
+-- the run that comes from c with the octets s comes to d with t left, the end of s, whatever follows
+pub record Leads (c : Course) (s : List ℕ) (d : Course) (t : List ℕ) : Type 0 where
+  pub grows : Grows c d
+  pub same : (more : List ℕ) (limit : Option ℕ) → is_stopped limit d ≡ false → run limit (s ++ more) c ≡ run limit (t ++ more) d
+  pub gone : List ℕ
+  pub split : s ≡ gone ++ t
+
+-- the run that comes from c with the octets s comes to d, which it leaves for e
+pub record Reaches (c : Course) (s : List ℕ) (d e : Course) : Type 0 where
+  pub grows : Grows c d
+  pub same : (more : List ℕ) (limit : Option ℕ) → is_stopped limit d ≡ false → (u : List ℕ) × (run limit (s ++ more) c ≡ run limit u e)
+
+-- a session stands where a course stands
+pub record IsAt (c : Course) (seen : Seen) (scene : Scene) : Type 0 where
+  pub setting : seen.setting ≡ c.setting
+  pub stands : Stands c.phase seen
+  pub register : scene.office.register ≡ c.register
+  pub suits : Suits c.phase c.register
+
+-- the engine came from c with the octets s to d with t, and what went out between is out
+pub record Went (c : Course) (s : List ℕ) (d : Course) (t : List ℕ) (old new : Scene) : Type 0 where
+  pub leads : Leads c s d t
+  pub between : List ℕ
+  pub outputs : octets_of d.outputs ≡ octets_of c.outputs ++ between
+  pub took : Took old new between
+  pub stands : old.office.stands → new.office.stands
+  pub faults : new.office.told ≡ old.office.told
+  pub told : new.told ≡ old.told
+
+-- the writer told a fault within the output of a step
+pub record BreaksOff (c : Course) (s : List ℕ) (old new : Scene) : Type 0 where
+  pub at : Course
+  pub step : Step
+  pub count : ℕ
+  pub reaches : Reaches c s at (advance at step)
+  pub short : count < length (framed step.output)
+  pub between : List ℕ
+  pub outputs : octets_of at.outputs ≡ octets_of c.outputs ++ between
+  pub took : Took old new (between ++ take count (framed step.output))
+  pub register : new.office.register ≡ (advance at step).register
+  pub stands : old.office.stands → new.office.stands
+  pub faults : new.office.told ≡ old.office.told
+  pub told : new.told ≡ next_count old.told
+
+-- the office told a fault within a step: the register is the one before it, and a stop may leave either; or it is the one
+-- after it, and nothing else is left
+pub record StaysBefore (at : Course) (step : Step) (now : View) : Type 0 where
+  pub same : now.stands → now.register ≡ at.register
+  pub left : WithOrWithout step.change at.register now
+
+pub record StaysAfter (at : Course) (step : Step) (now : View) : Type 0 where
+  pub same : now.stands → now.register ≡ (advance at step).register
+  pub left : Only (advance at step).register now
+
+-- the office told a fault within a step
+pub record OfficeFails (c : Course) (s : List ℕ) (old new : Scene) : Type 0 where
+  pub at : Course
+  pub step : Step
+  pub count : ℕ
+  pub reaches : Reaches c s at (advance at step)
+  pub between : List ℕ
+  pub outputs : octets_of at.outputs ≡ octets_of c.outputs ++ between
+  pub took : Took old new (between ++ take count last_frame)
+  pub said : IsSaid old new count
+  pub proceeds : Proceeds at.register step
+  pub cases : StaysBefore at step new.office ⊎ StaysAfter at step new.office
+  pub faults : new.office.told ≡ next_count old.office.told
+
+-- memory ran out where the run had come, between two of its steps
+pub record IsShort (c : Course) (s : List ℕ) (old new : Scene) : Type 0 where
+  pub at : Course
+  pub rest : List ℕ
+  pub leads : Leads c s at rest
+  pub cause : MayRunOut at.phase rest
+  pub between : List ℕ
+  pub outputs : octets_of at.outputs ≡ octets_of c.outputs ++ between
+  pub took : Took old new between
+  pub register : new.office.register ≡ at.register
+  pub stands : old.office.stands → new.office.stands
+  pub faults : new.office.told ≡ old.office.told
+  pub told : new.told ≡ old.told
+
+-- what a fault leaves. A function that doesn't read tells none of the reader
+abbrev pub Fails : Course → List ℕ → Scene → Scene → RunFault → Type 0
+Fails c s old new fault.Read = ⊥
+Fails c s old new fault.Write = BreaksOff c s old new
+Fails c s old new fault.Office = OfficeFails c s old new
+Fails c s old new fault.Memory = IsShort c s old new
+
+-- one step at a course: it is made and its output is out
+pub record Made (c : Course) (step : Step) (seen : Seen) (old new : Scene) : Type 0 where
+  pub now : IsAt (advance c step) seen new
+  pub took : Took old new (framed step.output)
+  pub stands : old.office.stands → new.office.stands
+  pub faults : new.office.told ≡ old.office.told
+  pub told : new.told ≡ old.told
+
+-- one step at a course: it is made, and the writer told a fault within its output
+pub record MadePart (c : Course) (step : Step) (old new : Scene) : Type 0 where
+  pub count : ℕ
+  pub short : count < length (framed step.output)
+  pub took : Took old new (take count (framed step.output))
+  pub register : new.office.register ≡ (advance c step).register
+  pub stands : old.office.stands → new.office.stands
+  pub faults : new.office.told ≡ old.office.told
+  pub told : new.told ≡ next_count old.told
+
+-- one step at a course: the office told a fault
+pub record NotMade (c : Course) (step : Step) (old new : Scene) : Type 0 where
+  pub count : ℕ
+  pub took : Took old new (take count last_frame)
+  pub said : IsSaid old new count
+  pub cases : StaysBefore c step new.office ⊎ StaysAfter c step new.office
+  pub faults : new.office.told ≡ next_count old.office.told
+
+-- one step at a course: memory ran out, and nothing is changed
+pub record NoMemory (c : Course) (old new : Scene) : Type 0 where
+  pub took : Took old new []
+  pub register : new.office.register ≡ c.register
+  pub stands : old.office.stands → new.office.stands
+  pub faults : new.office.told ≡ old.office.told
+  pub told : new.told ≡ old.told
+
+abbrev pub StepFails : Course → Step → Scene → Scene → RunFault → Type 0
+StepFails c step old new fault.Read = ⊥
+StepFails c step old new fault.Write = MadePart c step old new
+StepFails c step old new fault.Office = NotMade c step old new
+StepFails c step old new fault.Memory = NoMemory c old new
+
+abbrev pub Stepped : {T : Type 0} → Course → Step → Seen → Scene → Scene → Result T RunFault → Type 0
+Stepped c step seen old new (Ok x) = Made c step seen old new
+Stepped c step seen old new (Err fault) = StepFails c step old new fault
+
+-- the last frame is out, or the writer told a fault within it
+abbrev pub LastWords : {W : Type 0} → (W → Option (List ℕ)) → Port W → Port W → Type 0
+LastWords contents old new = (all : Bool) × Sent contents old new last_frame all
+
+-- the engine came to some course with t left, where the session stands now
+pub record Comes (c : Course) (s t : List ℕ) (seen : Seen) (old new : Scene) : Type 0 where
+  pub at : Course
+  pub went : Went c s at t old new
+  pub now : IsAt at seen new
+
+-- every due turn is taken
+pub record Settles (c : Course) (seen : Seen) (old new : Scene) : Type 0 where
+  pub at : Course
+  pub went : Went c [] at [] old new
+  pub now : IsAt at seen new
+  pub done : has_turn at.phase ≡ false
+
+abbrev pub TurnsTaken : {T : Type 0} → Course → Seen → Scene → Scene → Result T RunFault → Type 0
+TurnsTaken c seen old new (Ok x) = Settles c seen old new
+TurnsTaken c seen old new (Err fault) = Fails c [] old new fault
+
+-- the session is over, and has ended so
+pub record IsOver (c : Course) (s t : List ℕ) (seen : Seen) (old new : Scene) (end : Ending) : Type 0 where
+  pub come : Comes c s t seen old new
+  pub ends : Some end ≡ ending_of come.at.phase
+
+-- nothing is due and no whole frame is there
+pub record IsWaiting (c : Course) (s : List ℕ) (stream : Stream) (seen : Seen) (old new : Scene) : Type 0 where
+  pub come : Comes c s stream.rest seen old new
+  pub turn : has_turn come.at.phase ≡ false
+  pub over : is_over come.at.phase ≡ false
+  pub waits : front 100003 stream.rest ≡ Waits
+  pub limit : stream.limit ≡ 100003
+  pub told : stream.told ≡ None
+
+abbrev pub Pumped : Course → List ℕ → Stream → Seen → Scene → Scene → Result (Option Ending) RunFault → Type 0
+Pumped c s stream seen old new (Ok (Some end)) = IsOver c s stream.rest seen old new end
+Pumped c s stream seen old new (Ok None) = IsWaiting c s stream seen old new
+Pumped c s stream seen old new (Err fault) = Fails c s old new fault
+
+-- a fault that isn't the reader's
+abbrev pub IsOwn : RunFault → Type 0
+IsOwn fault.Read = ⊥
+IsOwn fault.Write = ⊤
+IsOwn fault.Office = ⊤
+IsOwn fault.Memory = ⊤
+
+-- the fault that a session's fault is to its caller
+abbrev pub run_fault : SessionFault → RunFault
+run_fault session.Ended = fault.Memory
+run_fault session.Office = fault.Office
+run_fault session.Memory = fault.Memory
+
+-- after a session's fault the last words are out where the office told it, and else nothing
+abbrev pub BrokeOff : {W : Type 0} → (W → Option (List ℕ)) → Port W → Port W → SessionFault → Type 0
+BrokeOff contents old new session.Ended = new ≡ old
+BrokeOff contents old new session.Office = LastWords contents old new
+BrokeOff contents old new session.Memory = new ≡ old

@@ -1,0 +1,46 @@
+-- Inside: what the steps of a submission have read of it, for the functions of src/submitting.rt.
+use Rattle.std.specs.Prelude.{◌≡◌, Option, None, Some, Result, Ok, Err}
+use Rattle.oftp_partners.specs.Book.{BookData}
+use Rattle.oftp_partners.specs.declared.partner.Partner.{Partner}
+use Rattle.oftp_vfile.specs.LocalForm.{IsLocal}
+use Rattle.oftp_register.specs.declared.entries.OutgoingEntry.{OutgoingEntry}
+use Rattle.oftp_register.specs.declared.entry.Identity.{Identity}
+use Rattle.oftp_register.specs.declared.office.OfficeFault.{OfficeFault}
+use Rattle.oftp_engine.specs.declared.operating.Outcome.{Outcome}
+use Rattle.oftp_engine.specs.declared.operating.Outcome.TheVariants as outcome
+use Rattle.oftp_engine.specs.declared.operating.Refusal.TheVariants as refusal
+use Rattle.oftp_engine.specs.declared.serving.RunFault.{RunFault}
+use Rattle.oftp_engine.specs.declared.serving.RunFault.TheVariants as fault
+use Rattle.oftp_engine.specs.declared.submitting.Fields.{Fields}
+use Rattle.oftp_engine.specs.declared.submitting.Offer.{Offer}
+use Rattle.oftp_engine.specs.declared.submitting.Submission.{Submission}
+use Rattle.oftp_engine.specs.Operating.{AreInRange}
+
+-- the fields that were read are those of the submission, and in their ranges
+pub record AreFieldsOf (s : Submission) (fields : Fields) : Type 0 where
+  pub ranges : AreInRange s
+  pub dataset : fields.dataset ≡ s.dataset.now
+  pub date : fields.date ≡ s.date.now
+  pub time : fields.time ≡ s.time.now
+  pub description : fields.description ≡ s.description.now
+
+-- the file that was read is the one that was handed in
+pub record IsOffer (s : Submission) (offer : Offer) : Type 0 where
+  pub fields : AreFieldsOf s offer.fields
+  pub content : IsLocal s.format s.longest s.content.now offer.rows
+
+-- what names a file of these fields that goes to a partner
+abbrev pub named_by : BookData → Partner → Fields → Identity
+named_by book partner fields = record { dataset = fields.dataset; date = fields.date; time = fields.time; originator = book.station.code; destination = partner.code }
+
+-- what a file that is too big comes to, once its identity was looked up
+abbrev pub came_big : Result (Option OutgoingEntry) OfficeFault → Result Outcome RunFault
+came_big (Ok None) = Ok (outcome.Refused refusal.Limit)
+came_big (Ok (Some file)) = Ok (outcome.Refused refusal.Duplicate)
+came_big (Err told) = Err fault.Office
+
+-- what a file that was registered comes to, once its identity was looked up. It is there, where what was read is what was written
+abbrev pub came_numbered : Result (Option OutgoingEntry) OfficeFault → Result Outcome RunFault
+came_numbered (Ok None) = Err fault.Office
+came_numbered (Ok (Some file)) = Ok (outcome.Done file.no)
+came_numbered (Err told) = Err fault.Office

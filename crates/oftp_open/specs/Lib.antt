@@ -1,4 +1,0 @@
-pub mod First
-pub mod Steps
-pub mod Stands
-pub mod Opening

@@ -1,4 +1,0 @@
-pub mod Schema
-pub mod Shape
-pub mod Calls
-pub mod Making

@@ -1,0 +1,60 @@
+-- What private functions promise. No contract of a public call needs it.
+use Rattle.std.specs.Prelude.{◌≡◌, ◌≢◌, ℕ, ◌-◌, ◌%◌, ◌<◌, true, List, [], length, max, Option, None, Some, Result, Ok, Err, is_ok}
+use Rattle.oftp_register.specs.declared.change.Change.{Change}
+use Rattle.oftp_register.specs.Register.{Register}
+use Rattle.oftp_register.specs.Changes.{apply}
+use Rattle.oftp_register.specs.Soundness.{IsFit}
+use Rattle.oftp_register.specs.Offices.{View}
+use Rattle.oftp_vfile.specs.declared.format.TakeFault.{TakeFault}
+use Rattle.oftp_vfile.specs.declared.format.TakeFault.TheVariants as take
+use Rattle.oftp_vfile.specs.Reading.{shed}
+use Rattle.oftp_session.specs.declared.receiving.Reception.{Reception}
+use Rattle.oftp_session.specs.declared.session.SessionFault.{SessionFault}
+use Rattle.oftp_session.specs.declared.session.SessionFault.TheVariants as fault
+use Rattle.oftp_session.specs.declared.state.Contact.{Contact}
+use Rattle.oftp_session.specs.declared.state.State.{State}
+use Rattle.oftp_session.specs.Receiving.{carried_by, kept_of, reason_of, window}
+use Rattle.oftp_session.specs.Phases.{Receipt, Step, fails, framed}
+use Rattle.oftp_session.specs.Standings.{StandsIn, standing_of}
+use Rattle.oftp_session.specs.Calls.{DoesNot, IsMade}
+
+-- a reception stands where the phase says, as `Tracks` has it, after a payload was taken that isn't counted yet
+pub record HasTaken (contact : Contact) (f : Receipt) (s : Reception) : Type 0 where
+  pub number : s.number ≡ f.number
+  pub credit : max 1 s.credit ≡ window contact - (length f.payloads - 1) % window contact
+  pub some : 0 < length f.payloads
+  pub taker : s.taker ≡ shed (kept_of f) (carried_by f)
+
+-- a change that isn't refused
+abbrev pub IsAccepted : Register → Change → Type 0
+IsAccepted r change = is_ok (apply r change) ≡ true
+
+-- a helper that makes a change, if one is due, and says nothing
+abbrev pub Files : {T : Type 0} → Option Change → View → View → Result T SessionFault → Type 0
+Files change old new (Ok x) = IsMade change None old new []
+Files change old new (Err fault) = DoesNot change old new fault
+
+-- a helper that makes this change, over a disk that was clean all along, where the register takes it
+abbrev pub FilesFit : {T : Type 0} → Change → View → View → Result T SessionFault → Type 0
+FilesFit change old new result = new.clean → old.stands → IsFit old.register change → IsAccepted old.register change → Files (Some change) old new result
+
+-- a step that asks nothing of an office: what it says, and what the session holds after it
+pub record Goes (step : Step) (state : State) (frame : List ℕ) : Type 0 where
+  pub said : frame ≡ framed step.output
+  pub unchanged : step.change ≡ None
+  pub stands : StandsIn step.phase (standing_of state)
+
+-- a payload at fault ends the session, and only a want of memory is a fault of the session
+abbrev pub Refuses : TakeFault → Result State SessionFault → List ℕ → Type 0
+Refuses cause (Ok state) frame = Goes (fails (reason_of cause)) state frame × (cause ≢ take.Memory)
+Refuses cause (Err told) frame = (cause ≡ take.Memory) × (told ≡ fault.Memory)
+
+-- a helper that looks up what it tells of the register, and changes nothing
+abbrev pub Finds : {T : Type 0} → (Register → T) → View → View → Result T SessionFault → Type 0
+Finds look old new (Ok x) = (x ≡ look old.register) × IsMade None None old new []
+Finds look old new (Err fault) = DoesNot None old new fault
+
+-- a step over an office that leaves this frame, and what the session holds after it
+abbrev pub Takes : Step → View → View → List ℕ → Result State SessionFault → Type 0
+Takes step old new frame (Ok state) = IsMade step.change step.output old new frame × StandsIn step.phase (standing_of state)
+Takes step old new frame (Err fault) = DoesNot step.change old new fault

@@ -1,0 +1,128 @@
+//! The changes of responses: `File`, `Issue` and `Send`.
+
+ghost use Rattle.std.specs.Prelude.{◌≡◌, false};
+ghost use Rattle.sqlite.specs.Held.{state};
+ghost use Rattle.oftp_vfile.specs.declared.format.Limits.{Limits};
+ghost use Rattle.oftp_register.specs.declared.change.Change.TheVariants.{File, Issue, Send};
+ghost use Rattle.oftp_register.specs.Changes.{answered_as};
+ghost use Rattle.oftp_store.specs.Commits.{CommitsOn};
+ghost use Rattle.oftp_store.specs.FileProgress.{is_answerable, is_sendable};
+
+use super::edit::{Deed, Edit};
+use super::known::known_response;
+use super::transaction::{make_edits, make_if};
+use crate::queries::progress::ResponseProgress;
+use crate::queries::response_match::{ResponseMatch, find_response_match};
+use oftp_register::{
+    Cause, Dispatch, Identity, IncomingState, Name, OfficeFault, OutgoingState, ResponseKind,
+};
+use oftp_wire::{Count, Text};
+use sqlite::{Alter, Connection};
+use std::alloc::Global;
+
+// Where a response leaves the file that it settles.
+fn answered_as(kind: ResponseKind) -> OutgoingState
+    ensures { result ≡ answered_as kind }
+{
+    match kind {
+        ResponseKind::EndResponse => OutgoingState::Delivered,
+        ResponseKind::NegativeEndResponse => OutgoingState::Returned,
+    }
+}
+
+/// Files a response that came, and settles the file that it answers.
+pub(crate) fn file<'x, S: Alter>(
+    alloc: Global,
+    conn: &mut Connection<S>,
+    kind: ResponseKind,
+    identity: &'x Identity,
+    reason: Count<2>,
+    creator: &'x Name<25>,
+    text: &'x Text<'x>,
+) -> Result<(), OfficeFault>
+    requires { conn.old.in_transaction ≡ false }
+    ensures { (limits : Limits) → CommitsOn limits (File kind identity.now reason creator.now text.now) (state S.Store conn.old) (state S.Store conn.new) result }
+{
+    match find_response_match(alloc, conn, kind, identity)? {
+        ResponseMatch::Duplicate => Err(OfficeFault::Refused(Cause::Duplicate)),
+        ResponseMatch::Unmatched(no) => {
+            let deed = Deed::AddReceived {
+                kind,
+                identity,
+                reason,
+                creator,
+                text,
+            };
+            make_edits(conn, &[Edit { no, deed }])
+        }
+        ResponseMatch::Matched { no, file } => {
+            let settled = Edit {
+                no: file.no,
+                deed: Deed::SetOutgoing {
+                    mark: file.mark,
+                    state: answered_as(kind),
+                },
+            };
+            let deed = Deed::AddReceived {
+                kind,
+                identity,
+                reason,
+                creator,
+                text,
+            };
+            make_edits(conn, &[settled, Edit { no, deed }])
+        }
+    }
+}
+
+// Whether a file may be progress: it is whole and wasn't.
+fn is_answerable(progress: &ResponseProgress) -> bool
+    ensures { result ≡ is_answerable progress.now }
+{
+    match progress.state {
+        IncomingState::Open => false,
+        IncomingState::Whole => progress.response.is_none(),
+    }
+}
+
+// Whether the response of a file is due.
+fn is_sendable(progress: &ResponseProgress) -> bool
+    ensures { result ≡ is_sendable progress.now }
+{
+    match progress.response {
+        None => false,
+        Some(Dispatch::Due) => true,
+        Some(Dispatch::Sent) => false,
+    }
+}
+
+/// Issues the response to a whole incoming file.
+pub(crate) fn issue<S: Alter>(
+    alloc: Global,
+    conn: &mut Connection<S>,
+    no: u64,
+    kind: ResponseKind,
+    reason: Count<2>,
+    text: &Text<'_>,
+) -> Result<(), OfficeFault>
+    requires { conn.old.in_transaction ≡ false }
+    ensures { (limits : Limits) → CommitsOn limits (Issue no kind reason text.now) (state S.Store conn.old) (state S.Store conn.new) result }
+{
+    let progress = known_response(alloc, conn, no)?;
+    let deed = Deed::AddIssued { kind, reason, text };
+    make_if(is_answerable(&progress), conn, &[Edit { no, deed }])
+}
+
+/// Sets the response to an incoming file sent.
+pub(crate) fn send<S: Alter>(
+    alloc: Global,
+    conn: &mut Connection<S>,
+    no: u64,
+) -> Result<(), OfficeFault>
+    requires { conn.old.in_transaction ≡ false }
+    ensures { (limits : Limits) → CommitsOn limits (Send no) (state S.Store conn.old) (state S.Store conn.new) result }
+{
+    let progress = known_response(alloc, conn, no)?;
+    let deed = Deed::SetSent;
+    make_if(is_sendable(&progress), conn, &[Edit { no, deed }])
+}

@@ -1,0 +1,144 @@
+//! All files and responses, in order of number. One entry is read at a time.
+
+ghost use Rattle.std.specs.Prelude.{◌≡◌, ◌+◌, ◌<◌, ◌^◌, ◌++◌, List, length, slice_get, OnOk, IfErr};
+ghost use Rattle.sqlite.specs.Held.{state};
+ghost use Rattle.oftp_register.specs.Register.{Register};
+ghost use Rattle.oftp_register.specs.LookUps.{list_in, list_issued, list_out, list_received};
+ghost use Rattle.oftp_register.specs.Offices.{IsFailure};
+ghost use Rattle.oftp_tables.specs.Statements.{Looks};
+ghost use Rattle.oftp_store.specs.Numbers.{entries_in};
+ghost use Rattle.oftp_store.specs.Tells.{Tells, listed};
+
+use super::file_by_number::{find_incoming_file, find_outgoing_file};
+use super::issued::find_issued;
+use super::last_number::{Table, last_number};
+use super::received::find_received;
+use oftp_register::{IncomingEntry, IssuedEntry, OfficeFault, OutgoingEntry, ReceivedEntry};
+use sqlite::{Alter, Connection};
+use std::alloc::Global;
+
+/// Entries of one kind, which have numbers from 1 on, without gaps.
+pub(crate) trait Listed: Sized {
+    ghost entries: { Register → List Self };
+
+    /// The table that has an entry for each of them.
+    fn table() -> Table
+        ensures { (r : Register) → entries_in r result ≡ length (entries r) };
+
+    /// The entry that has so many before it, if there is one.
+    fn find_after<S: Alter>(
+        alloc: Global,
+        conn: &mut Connection<S>,
+        before: u64,
+    ) -> Result<Option<Self>, OfficeFault>
+        requires { before + 1 < 2 ^ 63 }
+        ensures looks { Looks (state S.Store conn.old) (state S.Store conn.new) result }
+        ensures answer { Tells (λ r found. found ≡ slice_get (entries r) before) (state S.Store conn.old) (state S.Store conn.new) result };
+}
+
+impl Listed for IncomingEntry {
+    ghost entries = { list_in };
+
+    fn table() -> Table {
+        Table::IncomingFiles
+    }
+
+    fn find_after<S: Alter>(
+        alloc: Global,
+        conn: &mut Connection<S>,
+        before: u64,
+    ) -> Result<Option<IncomingEntry>, OfficeFault> {
+        find_incoming_file(alloc, conn, before + 1)
+    }
+}
+
+impl Listed for OutgoingEntry {
+    ghost entries = { list_out };
+
+    fn table() -> Table {
+        Table::OutgoingFiles
+    }
+
+    fn find_after<S: Alter>(
+        alloc: Global,
+        conn: &mut Connection<S>,
+        before: u64,
+    ) -> Result<Option<OutgoingEntry>, OfficeFault> {
+        find_outgoing_file(alloc, conn, before + 1)
+    }
+}
+
+impl Listed for ReceivedEntry {
+    ghost entries = { list_received };
+
+    fn table() -> Table {
+        Table::ReceivedResponses
+    }
+
+    fn find_after<S: Alter>(
+        alloc: Global,
+        conn: &mut Connection<S>,
+        before: u64,
+    ) -> Result<Option<ReceivedEntry>, OfficeFault> {
+        find_received(alloc, conn, before + 1)
+    }
+}
+
+/// All entries of a kind.
+pub(crate) fn list<E: Listed + Drop, S: Alter>(
+    alloc: Global,
+    conn: &mut Connection<S>,
+) -> Result<Vec<E>, OfficeFault>
+    ensures looks { Looks (state S.Store conn.old) (state S.Store conn.new) result }
+    ensures answer { Tells (λ r entries. entries.items ≡ E.entries r) (state S.Store conn.old) (state S.Store conn.new) result }
+{
+    let last = match last_number(conn, E::table()) {
+        Ok(last) => last,
+        Err(fault) => return Err(fault),
+    };
+    let mut entries = Vec::new(alloc);
+    'entries: for before in 0..last {
+        match E::find_after(alloc, conn, before) {
+            Err(fault) => return Err(fault),
+            Ok(None) => return Err(OfficeFault::Store),
+            Ok(Some(entry)) => entries.push(entry)?,
+        }
+    }
+    Ok(entries)
+}
+
+// One response more, if there is one.
+fn add_if_any(entries: &mut Vec<IssuedEntry>, found: Option<IssuedEntry>) -> Result<(), OfficeFault>
+    ensures added { OnOk result (entries.new.items ≡ entries.old.items ++ listed found) }
+    ensures fails { IfErr result IsFailure }
+{
+    if let Some(entry) = found {
+        entries.push(entry)?;
+    }
+    Ok(())
+}
+
+/// All issued responses.
+pub(crate) fn list_issued<S: Alter>(
+    alloc: Global,
+    conn: &mut Connection<S>,
+) -> Result<Vec<IssuedEntry>, OfficeFault>
+    ensures looks { Looks (state S.Store conn.old) (state S.Store conn.new) result }
+    ensures answer { Tells (λ r entries. entries.items ≡ list_issued r) (state S.Store conn.old) (state S.Store conn.new) result }
+{
+    let last = match last_number(conn, Table::IncomingFiles) {
+        Ok(last) => last,
+        Err(fault) => return Err(fault),
+    };
+    let mut entries = Vec::new(alloc);
+    'files: for before in 0..last {
+        match find_issued(alloc, conn, before + 1) {
+            Err(fault) => return Err(fault),
+            Ok(found) => match add_if_any(&mut entries, found) {
+                Err(fault) => return Err(fault),
+                Ok(()) => {}
+            },
+        }
+    }
+    Ok(entries)
+}

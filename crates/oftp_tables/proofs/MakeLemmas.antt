@@ -1,0 +1,134 @@
+-- What the CREATE statements make.
+use Rattle.std.proofs.Common.{◌≡◌, ◌+◌, ◌<◌, ◌∙◌, ℕ, zero, suc, pos, List, [], ◌∷◌, ◌++◌, codes, false, None, Ok, refl, sym, ap, subst, arith}
+use Rattle.std.specs.List.{AllByRecursion}
+use Rattle.sqlite_tied.specs.Compute.{everything}
+use Rattle.sqlite.specs.declared.types.Value.TheVariants.{Null, Int}
+use Rattle.sqlite.specs.Order.{Row}
+use Rattle.sqlite.specs.Table.{Table}
+use Rattle.sqlite.specs.Tree.{Trees, put_row}
+use Rattle.sqlite.specs.Term.{Term, lit}
+use Rattle.sqlite.specs.Schema.{Schema}
+use Rattle.sqlite.specs.Command.{Command}
+use Rattle.sqlite.specs.Command.TheVariants.{CreateTable, Insert}
+use Rattle.sqlite.specs.Source.TheVariants.{Values}
+use Rattle.sqlite.specs.Compile.{table_defined_by}
+use Rattle.sqlite.specs.Change.{created, next_tree, KeepsRows}
+use Rattle.sqlite.specs.Edit.{with_rowid}
+use Rattle.sqlite.specs.Cast.{cast_row}
+use Rattle.sqlite.specs.Rowids.TheVariants.{Chosen}
+use Rattle.sqlite.specs.Listing.{understood}
+use Rattle.sqlite.specs.Effect.{Database}
+use Rattle.sqlite.specs.Does.{Does, Tally, lacks_sequence}
+use Rattle.sqlite.specs.State.{State, ExecutesInside, Writes, mode_of}
+use Rattle.sqlite.proofs.Callers.{IsPlain, command_of, statement_of, runs_as}
+use Rattle.oftp_tables.specs.Schema.{about, about_tree, office_schema, schema_at, table_at, text_at}
+use Rattle.oftp_tables.specs.Making.{Creates, HasEmptyTables, HasTables, IsEmpty, IsNew, about_row}
+use Rattle.oftp_tables.proofs.WriteLemmas.{inserts, same_value, went}
+use Rattle.oftp_tables.proofs.TermLemmas.{no_works, cast_null, cast_int}
+
+-- what the n-th text means
+record IsMeant (n : ℕ) : Type 0 where
+  command : command_of (understood (schema_at n) (text_at n)) ≡ CreateTable
+  whole : statement_of (text_at n) (understood (schema_at n) (text_at n)) ≡ text_at n
+  plain : IsPlain (understood (schema_at n) (text_at n))
+  table : table_defined_by (text_at n) ≡ Ok (table_at n)
+  uncounted : lacks_sequence (schema_at (suc n)) ≡ false
+
+meant : (n : ℕ) → n < 8 → IsMeant n
+unfolding understood everything
+meant zero h = record { command = refl; whole = refl; plain = (refl, refl); table = refl; uncounted = refl }
+meant (suc zero) h = record { command = refl; whole = refl; plain = (refl, refl); table = refl; uncounted = refl }
+meant (suc (suc zero)) h = record { command = refl; whole = refl; plain = (refl, refl); table = refl; uncounted = refl }
+meant (suc (suc (suc zero))) h = record { command = refl; whole = refl; plain = (refl, refl); table = refl; uncounted = refl }
+meant (suc (suc (suc (suc zero)))) h = record { command = refl; whole = refl; plain = (refl, refl); table = refl; uncounted = refl }
+meant (suc (suc (suc (suc (suc zero))))) h = record { command = refl; whole = refl; plain = (refl, refl); table = refl; uncounted = refl }
+meant (suc (suc (suc (suc (suc (suc zero)))))) h = record { command = refl; whole = refl; plain = (refl, refl); table = refl; uncounted = refl }
+meant (suc (suc (suc (suc (suc (suc (suc zero))))))) h = record { command = refl; whole = refl; plain = (refl, refl); table = refl; uncounted = refl }
+meant (suc (suc (suc (suc (suc (suc (suc (suc n)))))))) h = absurd (omega arith)
+
+pub makes : (n count : ℕ) (old new : State) → n < 8 → HasTables n old.now → ExecutesInside 0 (text_at n) [] old new (Ok count) → Creates n old.now new.now
+makes n count old new low has h =
+    let it = meant n low in
+    let text = text_at n in
+    let w = subst (λ t. Writes old new None CreateTable t [] count) it.whole (runs_as text [] old new (schema_at n) has CreateTable it.command it.plain count h.0) in
+    let all = went w.changed in
+    let first = went all.1 in
+    let made = first.1 in
+    let both : Ok made.table ≡ Ok (table_at n) = sym made.defined ∙ it.table in
+    let same : made.table ≡ table_at n = same_value both in
+    let schema : first.0.schema ≡ schema_at (suc n) = made.is ∙ ap (λ s. created s made.table) has ∙ ap (created (schema_at n)) same in
+    let plain : lacks_sequence first.0.schema ≡ false = ap lacks_sequence schema ∙ it.uncounted in
+    let now : new.now ≡ first.0 = ap (λ (p : Tally × Database). p.1) (same_value all.2) ∙ same_value (rw plain at first.2) in
+    let next : suc n ≡ n + 1 = omega arith in
+    record {
+      has = subst (λ k. HasTables k new.now) next (ap (λ (d : Database). d.schema) now ∙ schema);
+      sound = w.sound;
+      empty = subst (λ (d : Database). d.trees (next_tree (schema_at n)) ≡ []) (sym now) (subst (λ s. first.0.trees (next_tree s) ≡ []) has made.empty);
+      others = subst (λ (d : Database). KeepsRows (schema_at n).tables old.now.trees d.trees) (sym now) (subst (λ (s : Schema). KeepsRows s.tables old.now.trees first.0.trees) has made.others);
+    }
+
+stay_empty : (ts : List Table) (old new : Trees) → KeepsRows ts old new → AllByRecursion (λ (t : Table). old t.tree ≡ []) ts → AllByRecursion (λ (t : Table). new t.tree ≡ []) ts
+stay_empty [] old new kept empty = tt
+stay_empty (t ∷ ts) old new kept empty = (kept.0 ∙ empty.0, stay_empty ts old new kept.1 empty.1)
+
+and_last : (P : Table → Type 0) (ts : List Table) (t : Table) → AllByRecursion P ts → P t → AllByRecursion P (ts ++ t ∷ [])
+and_last P [] t all last = (last, tt)
+and_last P (x ∷ xs) t all last = (all.0, and_last P xs t all.1 last)
+
+-- one table more with no row
+pub stays_empty : (n : ℕ) (old new : Database) → HasEmptyTables n old → Creates n old new → HasEmptyTables (n + 1) new
+stays_empty n old new empty made =
+    let next : suc n ≡ n + 1 = omega arith in
+    let last : Table = record (table_at n) { tree = next_tree (schema_at n) } in
+    let ts = (schema_at n).tables in
+    let all : AllByRecursion (λ (t : Table). new.trees t.tree ≡ []) (schema_at (suc n)).tables =
+    and_last (λ (t : Table). new.trees t.tree ≡ []) ts last (stay_empty ts old.trees new.trees made.others empty.empty) made.empty in
+    record { has = made.has; empty = subst (λ k. AllByRecursion (λ (t : Table). new.trees t.tree ≡ []) (schema_at k).tables) next all }
+
+pub none_yet : (db : Database) → IsEmpty db → HasEmptyTables 0 db
+none_yet db none = record { has = none; empty = tt }
+
+-- ---- the row of `about`
+
+abbrev pub add_about_text : List ℕ
+add_about_text = codes "INSERT INTO about (id, schema) VALUES (1, 2)"
+
+abbrev terms : List Term
+terms = lit (Int (pos 1)) ∷ lit Null ∷ lit (Int (pos 2)) ∷ []
+
+abbrev insert : Command
+insert = Insert 0 (Values terms 3)
+
+about_is : command_of (understood office_schema add_about_text) ≡ insert
+unfolding understood everything
+about_is = refl
+
+about_plain : IsPlain (understood office_schema add_about_text)
+unfolding understood everything
+about_plain = (refl, refl)
+
+pub readies : (count : ℕ) (old new : State) → HasEmptyTables 8 old.now → ExecutesInside 0 add_about_text [] old new (Ok count) → IsNew new.now
+readies count old new up h =
+    let text = statement_of add_about_text (understood office_schema add_about_text) in
+    let w = runs_as add_about_text [] old new office_schema up.has insert about_is about_plain count h.0 in
+    let source : Row = Int (pos 1) ∷ Null ∷ Int (pos 2) ∷ [] in
+    let does = subst (λ s. Does old.step_limit (mode_of old) [] (record old.now { schema = s }) text None insert (Ok (w.tally, new.now))) up.has w.changed in
+    let before : Database = record { schema = office_schema; trees = old.now.trees } in
+    let made = inserts (mode_of old) old.step_limit [] before text 0 about terms 3 source (w.tally, new.now) refl refl (no_works about_tree) does in
+    let others = made.1.tables in
+    let none = up.empty in
+    let row : (rows : List Row) → put_row (with_rowid Chosen rows (cast_row about source)) [] ≡ about_row 2 ∷ [] = λ rows. simp (cast_null, cast_int) in
+    record {
+      schema = made.0;
+      sound = w.sound;
+      tables = record {
+        about = made.1.rows ∙ ap (λ (rows : List Row). put_row (with_rowid Chosen rows (cast_row about source)) rows) none.0 ∙ row [];
+        in_files = others.1.0 (λ e. omega (arith, e)) ∙ none.1.0;
+        in_rows = others.1.1.0 (λ e. omega (arith, e)) ∙ none.1.1.0;
+        out_files = others.1.1.1.0 (λ e. omega (arith, e)) ∙ none.1.1.1.0;
+        out_rows = others.1.1.1.1.0 (λ e. omega (arith, e)) ∙ none.1.1.1.1.0;
+        issued = others.1.1.1.1.1.0 (λ e. omega (arith, e)) ∙ none.1.1.1.1.1.0;
+        received = others.1.1.1.1.1.1.0 (λ e. omega (arith, e)) ∙ none.1.1.1.1.1.1.0;
+        notes = others.1.1.1.1.1.1.1.0 (λ e. omega (arith, e)) ∙ none.1.1.1.1.1.1.1.0;
+      };
+    }

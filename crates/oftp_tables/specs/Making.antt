@@ -1,0 +1,82 @@
+-- How the tables are made.
+use Rattle.std.specs.Prelude.{◌≡◌, ◌⊎◌, ◌+◌, ℕ, List, [], ◌∷◌, map, pos}
+use Rattle.std.specs.List.{AllByRecursion}
+use Rattle.sqlite.specs.declared.types.Value.TheVariants.{Null, Int}
+use Rattle.sqlite.specs.Order.{Row, column}
+use Rattle.sqlite.specs.Table.{Table}
+use Rattle.sqlite.specs.Tree.{Trees}
+use Rattle.sqlite.specs.Schema.{Schema}
+use Rattle.sqlite.specs.Change.{next_tree, KeepsRows}
+use Rattle.sqlite.specs.Effect.{Database, IsDatabase}
+use Rattle.sqlite.specs.State.{State}
+use Rattle.oftp_tables.specs.Schema.{about_tree, first_schema, in_file_tree, in_row_tree, issued_tree, no_schema, note_tree, office_schema, out_file_tree, out_row_tree, received_tree, schema_at}
+
+-- so many tables are there
+abbrev pub HasTables : ℕ → Database → Type 0
+HasTables n db = db.schema ≡ schema_at n
+
+-- the next table is there too, with no row, and the rows of the others stay
+pub record Creates (n : ℕ) (old new : Database) : Type 0 where
+  pub has : HasTables (n + 1) new
+  pub sound : IsDatabase new
+  pub empty : new.trees (next_tree (schema_at n)) ≡ []
+  pub others : KeepsRows (schema_at n).tables old.trees new.trees
+
+-- so many tables are there, with no row
+pub record HasEmptyTables (n : ℕ) (db : Database) : Type 0 where
+  pub has : HasTables n db
+  pub empty : AllByRecursion (λ (t : Table). db.trees t.tree ≡ []) (schema_at n).tables
+
+-- the row of `about`: the rowid, NULL for the column that is the rowid, and the schema
+abbrev pub about_row : ℕ → Row
+about_row schema = Int (pos 1) ∷ Null ∷ Int (pos schema) ∷ []
+
+-- `about` tells schema 2, and the other tables have no row
+pub record AreNew (db : Trees) : Type 0 where
+  pub about : db about_tree ≡ about_row 2 ∷ []
+  pub in_files : db in_file_tree ≡ []
+  pub in_rows : db in_row_tree ≡ []
+  pub out_files : db out_file_tree ≡ []
+  pub out_rows : db out_row_tree ≡ []
+  pub issued : db issued_tree ≡ []
+  pub received : db received_tree ≡ []
+  pub notes : db note_tree ≡ []
+
+-- the database has the office's tables, for no file and no response
+pub record IsNew (db : Database) : Type 0 where
+  pub schema : db.schema ≡ office_schema
+  pub sound : IsDatabase db
+  pub tables : AreNew db.trees
+
+-- the database has no table, no index and no view
+abbrev pub IsEmpty : Database → Type 0
+IsEmpty db = db.schema ≡ no_schema
+
+-- ---- what a store holds
+
+-- the schemas that have the table `about` as the office makes it
+abbrev pub HasAbout : Schema → Type 0
+HasAbout schema = (schema ≡ first_schema) ⊎ (schema ≡ office_schema)
+
+-- what `about` tells: its columns `id` and `schema`
+abbrev pub about_told : Trees → List Row
+about_told db = map (λ row. column row 0 ∷ column row 2 ∷ []) (db about_tree)
+
+-- the one row with id 1 and this schema
+abbrev pub about_rows : ℕ → List Row
+about_rows schema = (Int (pos 1) ∷ Int (pos schema) ∷ []) ∷ []
+
+-- the office's tables and nothing else, and `about` tells schema 2 and nothing else
+pub record HasOffice (db : Database) : Type 0 where
+  pub schema : db.schema ≡ office_schema
+  pub about : about_told db.trees ≡ about_rows 2
+
+-- likewise schema 1
+pub record HasFirst (db : Database) : Type 0 where
+  pub schema : db.schema ≡ first_schema
+  pub about : about_told db.trees ≡ about_rows 1
+
+-- nothing was changed
+pub record IsAsBefore (old new : State) : Type 0 where
+  pub now : new.now ≡ old.now
+  pub committed : new.committed ≡ old.committed

@@ -1,8 +1,0 @@
-use Rattle.std.proofs.Common.{codes, refl}
-use Rattle.oftp_words.specs.ReleaseLine.{release_app}
-use Rattle.oftp_words.specs.declared.line.arguments.TheConstants.{MOST_NO}
-use Rattle.oftp_words.proofs.line.commands.release.release_read.Goals as goal
-
-pub number-requires : goal.number-requires
-unfolding release_app
-number-requires c = (1, (MOST_NO, c.requires.numbers 1 MOST_NO (codes "no") refl))
