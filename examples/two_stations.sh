@@ -63,10 +63,10 @@ await() {
     until_holds grep -q "$(printf ':%04X 00000000:0000 0A' "$1")" /proc/net/tcp
 }
 
-# Starts a station's service, whose lines go to a file.
+# Starts a station's service, whose lines go to a file, those of faults too.
 serve() {
     echo "\$ oftp_station listen --db $1.db --book $1.toml --port $2 --sessions 1000000 &"
-    "$program" listen --db "$1.db" --book "$1.toml" --port "$2" --sessions 1000000 >> "$1.lines" &
+    "$program" listen --db "$1.db" --book "$1.toml" --port "$2" --sessions 1000000 >> "$1.lines" 2>&1 &
     service=$!
     services+=("$service")
     disown

@@ -7,6 +7,7 @@ Among the callers are ones that are slow, silent, gone, or send on after the end
 all run at once, so it takes some twenty seconds. The last line is `N passed, M failed`.
 """
 
+import contextlib
 import fcntl
 import re
 import socket
@@ -109,7 +110,7 @@ def silent_partner(room):
     with Service(room, "listen", "--patience", "2", "--sessions", "2") as service:
         begin = time.monotonic()
         with service.caller() as caller:
-            expect(service.line(), "fault: 1 read", "the line")
+            expect(service.fault(), "fault: 1 read", "the line")
             if not 1.5 <= time.monotonic() - begin <= 2 + SOON:
                 raise Wrong(f"it waited {time.monotonic() - begin:.1f} s")
             expect(rest_of(caller), steps_of("opening/wrong_password")[0][0][1], "the greeting")
@@ -129,7 +130,7 @@ def partner_that_reads_nothing(room):
             opening = oftp.spell("SSID", {"code": CARMAKER, "password": "CARPW", "mode": "B", **GREATEST})
             for command in (opening, b"R", oftp.spell("SFPA", {"count": "0"})):
                 caller.sendall(oftp.frame(command))
-            expect(service.line(), "fault: 2 write", "the line")
+            expect(service.fault(), "fault: 2 write", "the line")
         service.ends()
 
 
@@ -138,7 +139,7 @@ def callers_who_leave(room):
     steps, _ = steps_of("receiving/one_octet")
     with Service(room, "listen", "--sessions", "4") as service:
         service.caller().close()
-        if service.line() not in ("end: input", "fault: 1 read", "fault: 2 write"):
+        if service.either() not in ("end: input", "fault: 1 read", "fault: 2 write"):
             raise Wrong("the line of one who left at once")
         with service.caller() as caller:
             receive(caller, len(steps[0][1]))
@@ -150,7 +151,7 @@ def callers_who_leave(room):
         receive(caller, len(steps[0][1]))
         caller.setsockopt(socket.SOL_SOCKET, socket.SO_LINGER, struct.pack("ii", 1, 0))
         caller.close()
-        expect(service.line(), "fault: 1 read", "the line of one who reset")
+        expect(service.fault(), "fault: 1 read", "the line of one who reset")
         play(service, "receiving/one_octet")
         service.ends()
 
@@ -241,6 +242,15 @@ def nothing_to_print_to(room):
         expect(tables.read(service.database)["in_file"][0]["state"], "whole", "the file")
 
 
+def nothing_to_print_faults_to(room):
+    """That a fault can't be told ends no service."""
+    with open("/dev/full", "wb") as faults, Service(room, "listen", "--patience", "2", "--sessions", "2", faults=faults) as service:
+        with service.caller() as caller:
+            rest_of(caller)
+        play(service, "receiving/one_octet")
+        service.ends()
+
+
 def operator_while_it_listens(room):
     with Service(room, "listen", "--sessions", "2") as service:
         play(service, "receiving/one_octet")
@@ -251,16 +261,23 @@ def operator_while_it_listens(room):
         service.ends()
 
 
+@contextlib.contextmanager
+def held(database):
+    """Another program, which is this one, holds the database."""
+    with open(database, "r+b") as file:
+        fcntl.lockf(file, fcntl.LOCK_EX, LOCKS[1], LOCKS[0])
+        yield
+
+
 def database_held(room):
     """A caller is sent away while another program holds the database, and the next one is served."""
     with Service(room, "listen", "--sessions", "3") as service:
         play(service, "opening/wrong_password")
-        with open(service.database, "r+b") as file:
-            fcntl.lockf(file, fcntl.LOCK_EX, LOCKS[1], LOCKS[0])
+        with held(service.database):
             begin = time.monotonic()
             with service.caller() as caller:
                 expect(rest_of(caller), b"", "the station sent")
-            expect(service.line(), "fault: 6 store 1", "the line")
+            expect(service.fault(), "fault: 6 store 1", "the line")
             if not 9 <= time.monotonic() - begin <= 10 + SOON:
                 raise Wrong(f"it waited {time.monotonic() - begin:.1f} s")
         play(service, "receiving/one_octet")
@@ -452,6 +469,18 @@ def slow_request(room):
         service.ends()
 
 
+def listing_of_a_held_database(room):
+    """A request is left without a reply while another program holds the database, and the next one is answered."""
+    get = b"GET /in HTTP/1.1\r\n\r\n"
+    with Service(room, "http", "--requests", "3") as service:
+        expect_reply(ask(service, get), b"200", b"[]")
+        with held(service.database):
+            expect(ask(service, get), b"", "the reply")
+            expect(service.fault(), "fault: 6 store 1", "the line")
+        expect_reply(ask(service, get), b"200", b"[]")
+        service.ends()
+
+
 def listing_while_it_listens(room):
     """Both services share one database."""
     with Service(room, "listen", "--sessions", "1") as listener, Service(room, "http", "--requests", "1") as lister:
@@ -476,6 +505,7 @@ CASES = [
     stopped_within_a_session,
     traced,
     nothing_to_print_to,
+    nothing_to_print_faults_to,
     operator_while_it_listens,
     database_held,
     other_addresses,
@@ -485,6 +515,7 @@ CASES = [
     two_programs,
     requests,
     slow_request,
+    listing_of_a_held_database,
     listing_while_it_listens,
 ]
 
