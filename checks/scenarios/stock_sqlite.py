@@ -296,6 +296,14 @@ def a_wrong_schema(edit):
     return row
 
 
+def tables_made_in_another_order(room):
+    for names, schema in ((TABLES, 2), (FIRST, 1)):
+        db = room / f"schema_{schema}.db"
+        make_tables(db, [*(name for name in names if name != "in_file"), "in_file"], schema)
+        for command in ("init", "migrate"):
+            expect_refused(db, [command, "--db", db])
+
+
 def no_tables_to_bring_to_schema_2(room):
     db = room / "station.db"
     write(db, "VACUUM")
@@ -318,6 +326,7 @@ ROWS_OF_ALL = {
         a_database_that_stock_sqlite3_wrote_again,
         a_database_that_stock_sqlite3_made,
         a_database_of_schema_1,
+        tables_made_in_another_order,
         no_tables_to_bring_to_schema_2,
         no_database,
     )
