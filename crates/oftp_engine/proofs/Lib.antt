@@ -2,6 +2,7 @@ pub mod Courses
 pub mod Ending
 pub mod Folding
 pub mod Queues
+pub mod Resources
 pub mod Phases
 pub mod Underway
 pub mod Progress

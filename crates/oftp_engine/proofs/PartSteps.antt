@@ -1,5 +1,5 @@
 -- What each step of a session makes of a file that comes in parts, by cases of phase.
-use Rattle.std.proofs.Common.{◌≡◌, ℕ, zero, suc, ◌+◌, ◌==◌, ◌&&◌, nat_le, nat_lt, not, Bool, true, false, cond, List, [], ◌∷◌, ◌++◌, length, take, drop, slice_get, Option, None, Some, Result, Ok, Err, refl, ap, sym, ◌∙◌, subst, inl, inr, arith, length-append}
+use Rattle.std.proofs.Common.{◌≡◌, ℕ, zero, suc, ◌+◌, ◌==◌, ◌&&◌, nat_le, nat_lt, not, Bool, true, false, cond, List, [], ◌∷◌, ◌++◌, length, take, drop, slice_get, Option, None, Some, unwrap_or, Result, Ok, Err, refl, ap, sym, ◌∙◌, subst, inl, inr, arith, length-append}
 use Rattle.std.specs.Prelude.{⊤}
 use Rattle.std.proofs.lemmas.Bool.{eqb-true, not-false}
 use Rattle.std.proofs.lemmas.List.{length-take-le, take-append-drop, take-append-le}
@@ -348,7 +348,7 @@ module _ (file : File) (identity : Identity) (r : Register) where
       by (Ok t) e =
           subst (λ (x : Taking). IsPartStep file identity r (window_step contact g (rows_to_keep g x))) (carried_next f payload t e)
           (window_part contact g sound so_far (payload_holds r f t payload holds e) goes)
-      by (Err fault) e = fails_part (reason_of fault)
+      by (Err fault) e = fails_part (unwrap_or (reason_of fault) ProtocolViolation)
 
   -- EFID
 

@@ -217,7 +217,7 @@ IsOwn fault.Write = ⊤
 IsOwn fault.Office = ⊤
 IsOwn fault.Memory = ⊤
 
--- the fault that a session's fault is to its caller
+-- the fault that a session's fault is to its caller; `Ended` is never met, since a session that is closed isn't called
 abbrev pub run_fault : SessionFault → RunFault
 run_fault session.Ended = fault.Memory
 run_fault session.Office = fault.Office

@@ -4,6 +4,7 @@ pub mod Serving
 pub mod Served
 pub mod Frames
 pub mod Queues
+pub mod Resources
 pub mod Operating
 pub mod Operated
 pub mod Jobs

@@ -57,7 +57,7 @@ advance c s = record {
   outputs = with_output c.outputs s.output (length (with_change c.changes s.change));
 }
 
--- octets that spell no command end the session, for the reason that their fault has
+-- octets that spell no command end the session, for the reason that their fault has; one without a reason is never met, since it is of writing
 abbrev pub refusal : Option SessionReason → Step
 refusal (Some reason) = fails reason
 refusal None = fails CommandNotRecognised

@@ -7,6 +7,7 @@ ghost use Rattle.oftp_engine.specs.Frames.{over_commands};
 ghost use Rattle.oftp_engine.specs.Parts.{JobsMakeTheFile, NoCountPasses, PartsMakeTheFile};
 ghost use Rattle.oftp_engine.specs.Promise.{TwoStations};
 ghost use Rattle.oftp_engine.specs.Queues.{QueuesAreHeard, RunsSayCommands, RunsSayQueues};
+ghost use Rattle.oftp_engine.specs.Resources.{PayloadsNeverLackMemory, RunsNeverLackResources};
 ghost use Rattle.oftp_engine.specs.Runs.{Course, run, started};
 ghost use Rattle.oftp_session.specs.Settings.{Setting};
 ghost use Rattle.oftp_register.specs.Register.{Register};
@@ -32,6 +33,13 @@ pub fn queues_are_heard()
 pub fn runs_say_queues()
     ensures commands { RunsSayCommands }
     ensures queues { RunsSayQueues }
+{}
+
+/// No output of a run is ESID 08, whatever the book, the partner, the octets and the register, also where the writer told a fault; and no
+/// payload is refused for want of memory. So ESID 08 comes only where the office told a fault. It does nothing; its contract is the law.
+pub fn runs_never_lack_resources()
+    ensures runs { RunsNeverLackResources }
+    ensures payloads { PayloadsNeverLackMemory }
 {}
 
 /// The changes of a run from a sound register are all made, one after another.

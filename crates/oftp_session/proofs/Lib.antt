@@ -22,3 +22,4 @@ pub mod Crediting
 pub mod Replying
 pub mod Speaking
 pub mod Proceeding
+pub mod Resources

@@ -1,9 +1,9 @@
 -- A payload in a window of credit.
-use Rattle.std.proofs.Common.{◌≡◌, ℕ, suc, ◌+◌, ◌-◌, ◌%◌, ◌≤◌, ◌<◌, ◌==◌, true, false, max, nat_lt, Option, None, Some, Result, Ok, Err, ◌⊎◌, inl, inr, List, [], ◌∷◌, ◌++◌, length, refl, sym, ap, ◌∙◌, subst, arith}
+use Rattle.std.proofs.Common.{◌≡◌, ℕ, suc, ◌+◌, ◌-◌, ◌%◌, ◌≤◌, ◌<◌, ◌==◌, true, false, max, nat_lt, Option, None, Some, unwrap_or, Result, Ok, Err, ◌⊎◌, inl, inr, List, [], ◌∷◌, ◌++◌, length, refl, sym, ap, ◌∙◌, subst, arith}
 use Rattle.std.proofs.Math.Dec.{eqb-suc-zero}
 use Rattle.std.proofs.lemmas.List.{length-append, length-drop}
 use Rattle.oftp_wire.specs.declared.command.Command.TheVariants as command
-use Rattle.oftp_wire.specs.declared.reason.SessionReason.TheVariants.{BufferSizeError}
+use Rattle.oftp_wire.specs.declared.reason.SessionReason.TheVariants.{BufferSizeError, ProtocolViolation}
 use Rattle.oftp_vfile.specs.declared.format.TakeFault.{TakeFault}
 use Rattle.oftp_vfile.specs.declared.format.TakeFault.TheVariants as take
 use Rattle.oftp_vfile.specs.Taking.{Taking}
@@ -20,12 +20,12 @@ use Rattle.oftp_session.specs.declared.state.Contact.{Contact}
 use Rattle.oftp_session.specs.declared.state.State.{State}
 use Rattle.oftp_session.specs.declared.state.State.TheVariants as state
 use Rattle.oftp_session.specs.Phases.{Receipt, Receiving, Step, answers, fails, frame_of, quiet}
-use Rattle.oftp_session.specs.Receiving.{data_step, carried_by, is_window_full, kept_of, keeping, reason_of, rows_to_keep, window, window_step, with_payload, with_rows}
+use Rattle.oftp_session.specs.Receiving.{data_step, carried_by, ends_at, is_window_full, kept_of, keeping, reason_of, rows_to_keep, window, window_step, with_payload, with_rows}
 use Rattle.oftp_session.specs.Steps.{IsReceived}
 use Rattle.oftp_session.specs.Standings.{Tracks}
 use Rattle.oftp_session.specs.Calls.{DoesNot, IsMade}
 use Rattle.oftp_session.specs.Inside.{HasTaken, IsAccepted, Refuses, Takes}
-use Rattle.oftp_session.proofs.Saying.{same_takes}
+use Rattle.oftp_session.proofs.Saying.{step_same}
 use Rattle.oftp_session.proofs.Credit.{place_full, place_open}
 use Rattle.oftp_session.proofs.Receipts.{carried_next, keep_accepted, keep_fits, kept_within, payload_holds}
 
@@ -35,7 +35,7 @@ unfolding data_step
 too_long contact f payload h = rw h refl
 
 pub refused : (contact : Contact) (f : Receipt) (payload : List ℕ) (fault : TakeFault) → nat_lt contact.link.buffer (length payload + 1) ≡ false
-    → taken (carried_by f) payload ≡ Err fault → data_step contact f payload ≡ fails (reason_of fault)
+    → taken (carried_by f) payload ≡ Err fault → data_step contact f payload ≡ ends_at fault
 unfolding data_step
 refused contact f payload fault h e = rw h (rw e refl)
 
@@ -197,9 +197,10 @@ pub refused_takes : (contact : Contact) (f : Receipt) (s : Reception) (payload :
     → IsReceived now.register f → Tracks contact f s → nat_lt contact.link.buffer (length payload + 1) ≡ false
     → (cause ≡ take.Memory) ⊎ (taken s.taker payload ≡ Err cause) → Refuses cause result frame → Takes (data_step contact f payload) now now frame result
 refused_takes contact f s payload cause now frame (Ok to) stands holds at short told goes = elim told [
-  | inl e ↦ absurd (goes.1 e)
-  | inr e ↦ subst (λ (x : Step). Takes x now now frame (Ok to)) (sym (refused contact f payload cause short (next_refused now.register contact f s cause payload holds at e)))
-      (same_takes (fails (reason_of cause)) now to frame stands goes.0)
+  | inl e ↦ absurd (let none : None ≡ Some goes.0 = sym (ap reason_of e) ∙ goes.1 in let no : ⊥ = cc in no)
+  | inr e ↦ (let reason : ends_at cause ≡ fails goes.0 = ap (λ o. fails (unwrap_or o ProtocolViolation)) goes.1 in
+      let is = refused contact f payload cause short (next_refused now.register contact f s cause payload holds at e) ∙ reason in
+      step_same (data_step contact f payload) (fails goes.0) now to frame stands is goes.2)
 ]
 refused_takes contact f s payload cause now frame (Err told') stands holds at short told goes =
     subst (λ (x : SessionFault). DoesNot (data_step contact f payload).change now now x) (sym goes.1) (record { register = refl; stands = stands; faults = refl })

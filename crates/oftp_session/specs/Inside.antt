@@ -1,12 +1,12 @@
 -- What private functions promise. No contract of a public call needs it.
-use Rattle.std.specs.Prelude.{◌≡◌, ◌≢◌, ℕ, ◌-◌, ◌%◌, ◌<◌, true, List, [], length, max, Option, None, Some, Result, Ok, Err, is_ok}
+use Rattle.std.specs.Prelude.{◌≡◌, ℕ, ◌-◌, ◌%◌, ◌<◌, true, List, [], length, max, Option, None, Some, Result, Ok, Err, is_ok}
+use Rattle.oftp_wire.specs.declared.reason.SessionReason.{SessionReason}
 use Rattle.oftp_register.specs.declared.change.Change.{Change}
 use Rattle.oftp_register.specs.Register.{Register}
 use Rattle.oftp_register.specs.Changes.{apply}
 use Rattle.oftp_register.specs.Soundness.{IsFit}
 use Rattle.oftp_register.specs.Offices.{View}
 use Rattle.oftp_vfile.specs.declared.format.TakeFault.{TakeFault}
-use Rattle.oftp_vfile.specs.declared.format.TakeFault.TheVariants as take
 use Rattle.oftp_vfile.specs.Reading.{shed}
 use Rattle.oftp_session.specs.declared.receiving.Reception.{Reception}
 use Rattle.oftp_session.specs.declared.session.SessionFault.{SessionFault}
@@ -44,10 +44,10 @@ pub record Goes (step : Step) (state : State) (frame : List ℕ) : Type 0 where
   pub unchanged : step.change ≡ None
   pub stands : StandsIn step.phase (standing_of state)
 
--- a payload at fault ends the session, and only a want of memory is a fault of the session
+-- a payload at fault ends the session for the reason of its fault, and a fault without a reason, a want of memory, is the session's
 abbrev pub Refuses : TakeFault → Result State SessionFault → List ℕ → Type 0
-Refuses cause (Ok state) frame = Goes (fails (reason_of cause)) state frame × (cause ≢ take.Memory)
-Refuses cause (Err told) frame = (cause ≡ take.Memory) × (told ≡ fault.Memory)
+Refuses cause (Ok state) frame = (reason : SessionReason) × (reason_of cause ≡ Some reason) × Goes (fails reason) state frame
+Refuses cause (Err told) frame = (reason_of cause ≡ None) × (told ≡ fault.Memory)
 
 -- a helper that looks up what it tells of the register, and changes nothing
 abbrev pub Finds : {T : Type 0} → (Register → T) → View → View → Result T SessionFault → Type 0

@@ -124,7 +124,7 @@ abbrev pub opened_step : Setting → Mode → Result Agreement SessionReason →
 opened_step setting letter (Ok a) = open_step setting letter a setting.called
 opened_step setting letter (Err reason) = fails reason
 
--- an initiator offers the session to the partner that it calls
+-- an initiator offers the session to the partner that it calls; one without a partner is never met, since it begins as a responder
 abbrev pub calling_step : Setting → Option Partner → Step
 calling_step setting (Some partner) = says AwaitingSsid (command.Ssid (calling_ssid setting.book partner))
 calling_step setting None = fails ProtocolViolation

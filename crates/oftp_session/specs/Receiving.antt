@@ -1,11 +1,11 @@
 -- How a listener takes a file: SFID to EFPA (RFC 5024, sections 5.3.3 to 5.3.10).
-use Rattle.std.specs.Prelude.{ℕ, ◌+◌, ◌-◌, ◌%◌, ◌==◌, Bool, false, nat_lt, max, if◌then◌else◌, List, [], ◌∷◌, ◌++◌, length, drop, Option, None, Some, is_some, Result, Ok, Err}
+use Rattle.std.specs.Prelude.{ℕ, ◌+◌, ◌-◌, ◌%◌, ◌==◌, Bool, false, nat_lt, max, if◌then◌else◌, List, [], ◌∷◌, ◌++◌, length, drop, Option, None, Some, is_some, unwrap_or, Result, Ok, Err}
 use Rattle.oftp_wire.specs.declared.command.Command.{Command}
 use Rattle.oftp_wire.specs.declared.command.Command.TheVariants as command
 use Rattle.oftp_wire.specs.declared.command.Sfid.{Sfid}
 use Rattle.oftp_wire.specs.declared.command.Efid.{Efid}
 use Rattle.oftp_wire.specs.declared.reason.SessionReason.{SessionReason}
-use Rattle.oftp_wire.specs.declared.reason.SessionReason.TheVariants.{ProtocolViolation, InvalidData, BufferSizeError, ResourcesNotAvailable}
+use Rattle.oftp_wire.specs.declared.reason.SessionReason.TheVariants.{ProtocolViolation, InvalidData, BufferSizeError}
 use Rattle.oftp_wire.specs.declared.reason.StartReason.{StartReason}
 use Rattle.oftp_wire.specs.declared.reason.EndReason.{EndReason}
 use Rattle.oftp_wire.specs.Reasons.{start_number, end_number}
@@ -114,14 +114,18 @@ abbrev pub keeping : ℕ → List (List ℕ) → Option Change
 keeping number [] = None
 keeping number (row ∷ rows) = Some (Keep number (row ∷ rows))
 
--- the reason of the ESID that answers a payload at fault (RFC 5024, section 5.3.11)
-abbrev pub reason_of : TakeFault → SessionReason
-reason_of Cut = InvalidData
-reason_of Compressed = ProtocolViolation
-reason_of RecordSize = InvalidData
-reason_of AfterEnd = ProtocolViolation
-reason_of TooBig = InvalidData
-reason_of Memory = ResourcesNotAvailable
+-- the reason of the ESID that answers a payload at fault (RFC 5024, section 5.3.11); a want of memory is none of the payload
+abbrev pub reason_of : TakeFault → Option SessionReason
+reason_of Cut = Some InvalidData
+reason_of Compressed = Some ProtocolViolation
+reason_of RecordSize = Some InvalidData
+reason_of AfterEnd = Some ProtocolViolation
+reason_of TooBig = Some InvalidData
+reason_of Memory = None
+
+-- A payload at fault ends the session. A fault that has no reason is never met: `taken` refuses no payload for memory.
+abbrev pub ends_at : TakeFault → Step
+ends_at fault = fails (unwrap_or (reason_of fault) ProtocolViolation)
 
 -- one more payload came
 abbrev pub with_payload : Receipt → List ℕ → Receipt
@@ -147,7 +151,7 @@ window_step contact f rows = if is_window_full contact f
 
 abbrev pub on_taken : Contact → Receipt → List ℕ → Result Taking TakeFault → Step
 on_taken contact f payload (Ok t) = window_step contact (with_payload f payload) (rows_to_keep f t)
-on_taken contact f payload (Err fault) = fails (reason_of fault)
+on_taken contact f payload (Err fault) = ends_at fault
 
 -- the command octet counts
 unfoldable pub data_step : Contact → Receipt → List ℕ → Step

@@ -114,6 +114,7 @@ offered_from contact file = if contact.link.restart then file.mark else 0
 abbrev pub offer_of : Contact → ℕ → Outgoing → Offer
 offer_of contact number file = record { number = number; file = file; from = offered_from contact file }
 
+-- the file of a number is offered; none of this number is never met, since the next item is one of the register's
 abbrev pub offers : Contact → WhenDone → ℕ → Option Outgoing → Step
 offers contact done number (Some file) =
     says (AwaitingStart (having_tried_file contact number) (offer_of contact number file)) (sfid_of file (offered_from contact file))

@@ -35,14 +35,16 @@ fn is_too_long(link: &Link, payload: &[u8]) -> bool
     link.buffer.get() < payload.len() as u64 + 1
 }
 
-/// The reason of the ESID that answers a payload at fault.
-fn reason_of(fault: TakeFault) -> SessionReason
+/// The reason of the ESID that answers a payload at fault. A want of memory has none, since it is no fault of the payload.
+fn reason_of(fault: TakeFault) -> Option<SessionReason>
     ensures { result ≡ reason_of fault }
 {
     match fault {
-        TakeFault::Cut | TakeFault::RecordSize | TakeFault::TooBig => SessionReason::InvalidData,
-        TakeFault::Compressed | TakeFault::AfterEnd => SessionReason::ProtocolViolation,
-        TakeFault::Memory => SessionReason::ResourcesNotAvailable,
+        TakeFault::Cut | TakeFault::RecordSize | TakeFault::TooBig => {
+            Some(SessionReason::InvalidData)
+        }
+        TakeFault::Compressed | TakeFault::AfterEnd => Some(SessionReason::ProtocolViolation),
+        TakeFault::Memory => None,
     }
 }
 
@@ -50,13 +52,9 @@ fn reason_of(fault: TakeFault) -> SessionReason
 fn refuse(fault: TakeFault, frame: &mut Frame) -> Result<State, SessionFault>
     ensures { Refuses fault result frame.new }
 {
-    match fault {
-        TakeFault::Memory => Err(SessionFault::Memory),
-        TakeFault::Cut
-        | TakeFault::Compressed
-        | TakeFault::RecordSize
-        | TakeFault::AfterEnd
-        | TakeFault::TooBig => Ok(State::ended_here(reason_of(fault), frame)),
+    match reason_of(fault) {
+        Some(reason) => Ok(State::ended_here(reason, frame)),
+        None => Err(SessionFault::Memory),
     }
 }
 
