@@ -1,6 +1,9 @@
 pub mod Courses
 pub mod Ending
 pub mod Folding
+pub mod Sayable
+pub mod Spellable
+pub mod Spells
 pub mod Queues
 pub mod Phases
 pub mod Underway

@@ -3,9 +3,10 @@ pub mod Runs
 pub mod Serving
 pub mod Served
 pub mod Frames
-pub mod Queues
 pub mod Operating
 pub mod Operated
+pub mod Ranges
+pub mod Queues
 pub mod Jobs
 pub mod Parts
 pub mod World

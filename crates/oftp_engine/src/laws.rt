@@ -6,7 +6,8 @@ ghost use Rattle.oftp_wire.specs.Stream.{Reads};
 ghost use Rattle.oftp_engine.specs.Frames.{over_commands};
 ghost use Rattle.oftp_engine.specs.Parts.{JobsMakeTheFile, NoCountPasses, PartsMakeTheFile};
 ghost use Rattle.oftp_engine.specs.Promise.{TwoStations};
-ghost use Rattle.oftp_engine.specs.Queues.{QueuesAreHeard, RunsSayCommands, RunsSayQueues};
+ghost use Rattle.oftp_engine.specs.Queues.{QueuesAreHeard, RunsAreHeard, RunsSayCommands, RunsSayQueues};
+ghost use Rattle.oftp_engine.specs.Ranges.{RangesAreKept};
 ghost use Rattle.oftp_engine.specs.Runs.{Course, run, started};
 ghost use Rattle.oftp_session.specs.Settings.{Setting};
 ghost use Rattle.oftp_register.specs.Register.{Register};
@@ -28,10 +29,18 @@ pub fn queues_are_heard()
 {}
 
 /// What a session says are commands, each as a frame, and what it has out at its end, or at a fault, is these frames in order, cut off
-/// somewhere. It does nothing; its contract is the law.
+/// somewhere. Where it begins with a book, a partner and a register whose fields are in range, each of these commands is one that a
+/// frame can say, so the other one hears the first of them as they were said. It does nothing; its contract is the law.
 pub fn runs_say_queues()
     ensures commands { RunsSayCommands }
     ensures queues { RunsSayQueues }
+    ensures heard { RunsAreHeard }
+{}
+
+/// The fields of a register stay in range: those of an empty one are, and they are after the changes of a session, wherever it stops,
+/// and after an operator's call whose words are a text. It does nothing; its contract is the law.
+pub fn ranges_are_kept()
+    ensures { RangesAreKept }
 {}
 
 /// The changes of a run from a sound register are all made, one after another.

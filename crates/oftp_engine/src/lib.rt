@@ -11,7 +11,7 @@ mod submitting;
 pub use content::write_content;
 pub use laws::{
     changes_are_made, folds_over_frames, jobs_make_the_file, no_count_passes, parts_make_the_file,
-    two_stations,
+    queues_are_heard, ranges_are_kept, runs_say_queues, two_stations,
 };
 pub use oftp_io::Port;
 pub use operating::{Operator, Refusal, Told, operate};
