@@ -26,6 +26,8 @@ pub mod Later
 pub mod Coming
 pub mod Promised
 pub mod Stops
+pub mod Orders
+pub mod Leaving
 pub mod Events
 pub mod Stepped
 pub mod Room

@@ -22,6 +22,7 @@ use Rattle.oftp_session.specs.Steps.{Holds}
 use Rattle.oftp_session.specs.Listener.{end_response, negative_end_response}
 use Rattle.oftp_session.specs.Receiving.{offered_identity}
 use Rattle.oftp_session.specs.Sending.{payloads_in}
+use Rattle.oftp_engine.specs.InsideServing.{Counted}
 use Rattle.oftp_engine.specs.Runs.{Course}
 use Rattle.oftp_engine.specs.World.{Station, World, latest, left_after, Event, after_event}
 use Rattle.oftp_register.specs.ByIdentity.{out_at, in_at}
@@ -302,6 +303,7 @@ pub record IsInSession (start : Register) (c : Course) : Type 0 where
   pub buffer : 128 ≤ c.setting.book.station.buffer
   pub holds : Holds c.phase c.register
   pub room : HasRoom c.phase
+  pub counted : Counted (length c.changes) c.outputs
   pub now : MayLeave start c c.register
   pub replay : apply_all start c.changes ≡ Ok c.register
 

@@ -10,6 +10,7 @@ pub mod Queues
 pub mod Jobs
 pub mod Parts
 pub mod World
+pub mod Events
 pub mod TwoStations
 pub mod Promise
 pub mod Fetched

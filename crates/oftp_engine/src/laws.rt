@@ -3,6 +3,7 @@
 ghost use Rattle.std.specs.Prelude.{◌≡◌, ◌<◌, ℕ, All, List, Option, Ok};
 ghost use Rattle.oftp_wire.specs.declared.frame_fault.FrameFault.{FrameFault};
 ghost use Rattle.oftp_wire.specs.Stream.{Reads};
+ghost use Rattle.oftp_engine.specs.Events.{DeedsAreOrders, StopsLeavePrefixes};
 ghost use Rattle.oftp_engine.specs.Frames.{over_commands};
 ghost use Rattle.oftp_engine.specs.Parts.{JobsMakeTheFile, NoCountPasses, PartsMakeTheFile};
 ghost use Rattle.oftp_engine.specs.Promise.{TwoStations};
@@ -66,9 +67,21 @@ pub fn no_count_passes()
 {}
 
 /// Two stations that only the connection joins keep their promise after every list of events: sessions, commands that come or are
-/// lost, breaks, stops and faults of an office at any change, and operators' calls. What the one holds as handed over is whole at
-/// the other, what is whole there is a file of the one, and what the one holds as delivered or returned was answered so there. It
-/// does nothing; its contract is the law.
+/// lost, breaks, stops and faults of an office at any change, operators' calls, and files and responses that another caller commits.
+/// What the one holds as handed over is whole at the other, what is whole there is a file of the one, and what the one holds as
+/// delivered or returned was answered so there. It does nothing; its contract is the law.
 pub fn two_stations()
     ensures { TwoStations }
+{}
+
+/// Each deed of an operator's call at a station without a session, to any partner of its book, is an event of two stations: it leaves
+/// the register that [`operate`](crate::operate) leaves, and nothing else is changed. It does nothing; its contract is the law.
+pub fn deeds_are_orders()
+    ensures { DeedsAreOrders }
+{}
+
+/// What a stop leaves of a session, in the words of [`serve`](crate::serve), is what an event of two stations leaves: between two steps
+/// or within one, where so many octets of its frame are out. It does nothing; its contract is the law.
+pub fn stops_leave_prefixes()
+    ensures { StopsLeavePrefixes }
 {}
