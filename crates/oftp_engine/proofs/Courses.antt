@@ -41,7 +41,7 @@ grows_either : (c d e : Course) (b : Bool) → Grows c d → Grows c e → Grows
 grows_either c d e true g h = g
 grows_either c d e false g h = h
 
-output_later : (outputs : List Output) (o : Option Command) (n : ℕ) → (later : List Output) × (with_output outputs o n ≡ outputs ++ later)
+pub output_later : (outputs : List Output) (o : Option Command) (n : ℕ) → (later : List Output) × (with_output outputs o n ≡ outputs ++ later)
 output_later outputs None n = ([], sym (append-nil outputs))
 output_later outputs (Some command) n = (record { octets = frame_of command; after = n } ∷ [], refl)
 
@@ -53,7 +53,7 @@ pub replay_step : (r x : Register) (ks : List Change) (k : Option Change) → ap
 replay_step r x ks None h allows = h
 replay_step r x ks (Some k) h allows = apply_all-push r x ks k h ∙ allows
 
-counted_more : (m n : ℕ) (outputs : List Output) → m ≤ n → Counted m outputs → Counted n outputs
+pub counted_more : (m n : ℕ) (outputs : List Output) → m ≤ n → Counted m outputs → Counted n outputs
 counted_more m n [] le h = tt
 counted_more m n (o ∷ outputs) le h = (let p = h.0 in omega arith, counted_more m n outputs le h.1)
 
@@ -61,7 +61,7 @@ counted_push : (n : ℕ) (outputs : List Output) (o : Output) → o.after ≤ n 
 counted_push n [] o le h = (le, tt)
 counted_push n (x ∷ outputs) o le h = (h.0, counted_push n outputs o le h.1)
 
-counted_output : (n : ℕ) (outputs : List Output) (o : Option Command) → Counted n outputs → Counted n (with_output outputs o n)
+pub counted_output : (n : ℕ) (outputs : List Output) (o : Option Command) → Counted n outputs → Counted n (with_output outputs o n)
 counted_output n outputs None h = h
 counted_output n outputs (Some command) h = counted_push n outputs (record { octets = frame_of command; after = n }) (omega arith) h
 

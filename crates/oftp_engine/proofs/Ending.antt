@@ -1,5 +1,5 @@
 -- What a served session leaves, from how far it came.
-use Rattle.std.proofs.Common.{◌≡◌, ℕ, zero, suc, ◌+◌, ◌-◌, ◌≤◌, ◌<◌, ◌⊎◌, true, false, List, [], ◌∷◌, ◌++◌, length, take, drop, Option, None, Some, Ok, refl, sym, ap, ◌∙◌, subst, arith, length-append, inl, inr}
+use Rattle.std.proofs.Common.{◌≡◌, ℕ, zero, suc, ◌+◌, ◌-◌, ◌≤◌, ◌<◌, true, false, List, [], ◌∷◌, ◌++◌, length, take, drop, Option, None, Some, Ok, refl, sym, ap, ◌∙◌, subst, arith, length-append, inl, inr}
 use Rattle.std.proofs.Math.Seq.{take-add}
 use Rattle.std.proofs.lemmas.List.{append-nil, take_at, drop_at}
 use Rattle.std.proofs.lemmas.Bool.{le-ltb, lt-ltb}
@@ -20,8 +20,8 @@ use Rattle.oftp_engine.specs.declared.serving.RunFault.TheVariants as fault
 use Rattle.oftp_engine.specs.Runs.{Course, Output, run, started, octets_of, answered, advance, is_stopped, with_change}
 use Rattle.oftp_engine.specs.Serving.{Scene, Took, last_frame}
 use Rattle.oftp_engine.specs.InsideServing.{Grows, Leads, Reaches, BreaksOff, OfficeFails, IsShort, Fails, Comes, IsOver, Sound, Counted}
-use Rattle.oftp_engine.specs.Served.{whole, broken_off, IsPrefix, OfficeLeaves, IsWhole, IsBrokenOff, IsOfficeFault, IsOutOfMemory, ServesErr, StopsWithin}
-use Rattle.oftp_engine.proofs.Courses.{grows_on, grows_step, run_grows, run_over, run_waits, run_stopped, sound_start}
+use Rattle.oftp_engine.specs.Served.{whole, broken_off, IsPrefix, OfficeLeaves, IsWhole, IsBrokenOff, IsOfficeFault, IsOutOfMemory, ServesErr}
+use Rattle.oftp_engine.proofs.Courses.{grows_none, grows_on, grows_step, run_grows, run_over, run_waits, run_stopped, sound_start}
 use Rattle.oftp_engine.proofs.Phases.{over_from}
 use Rattle.oftp_engine.proofs.Progress.{octets_step}
 use Rattle.oftp_engine.proofs.Stepping.{made_register}
@@ -198,21 +198,12 @@ leaves_prefix r d w step (Some change) least left e g h sd se le only = λ k l.
           }
     ]
 
-stopped_within : (setting : Setting) (given : List ℕ) (r : Register) (d : Course) (step : Step) (made : ℕ) → Reaches (started setting r) given d (advance d step)
-    → Grows d (whole setting given r) → Sound r d → (made ≡ length d.changes) ⊎ (made ≡ length (advance d step).changes) → StopsWithin setting given r d.outputs made
+goes_within : (setting : Setting) (given : List ℕ) (r : Register) (d : Course) (step : Step) → Reaches (started setting r) given d (advance d step)
+    → (rest : List ℕ) × (whole setting given r ≡ run None rest (advance d step))
 unfolding is_stopped
-stopped_within setting given r d step made reaches g sd which =
+goes_within setting given r d step reaches =
     let h = reaches.same [] None refl in
-    record {
-      at = d;
-      step = step;
-      rest = h.0;
-      goes_on = ap (λ (x : List ℕ). run None x (started setting r)) (sym (append-nil given)) ∙ h.1;
-      outputs = refl;
-      changes = sym (front_changes d (whole setting given r) g);
-      register = sd.replay;
-      within = which;
-    }
+    (h.0, ap (λ (x : List ℕ). run None x (started setting r)) (sym (append-nil given)) ∙ h.1)
 
 pub is_office_fault : (setting : Setting) (given : List ℕ) (old new : Scene)
     → IsSound old.office.register → OfficeFails (started setting old.office.register) given old new → IsOfficeFault setting given old new
@@ -227,8 +218,8 @@ is_office_fault setting given old new sound h =
     let out : Took old new (octets_of h.at.outputs ++ take h.count last_frame) = subst (λ (x : List ℕ). Took old new (x ++ take h.count last_frame)) (sym h.outputs) h.took in
     let kept : answered h.at.outputs (length (octets_of h.at.outputs)) ≤ length h.at.changes = answered_most h.at.outputs (length (octets_of h.at.outputs)) (length h.at.changes) sd.counted in
     let more : length h.at.changes ≤ length (advance h.at h.step).changes = few h.at (advance h.at h.step) step in
-    let within : (made : ℕ) → (made ≡ length h.at.changes) ⊎ (made ≡ length (advance h.at h.step).changes) → StopsWithin setting given r h.at.outputs made =
-    λ made which. stopped_within setting given r h.at h.step made h.reaches g sd which in
+    let none : Grows (advance h.at h.step) (advance h.at h.step) = grows_none (advance h.at h.step) in
+    let goes = goes_within setting given r h.at h.step h.reaches in
     elim h.cases [
       | inl x ↦ record {
         outs = h.at.outputs;
@@ -240,9 +231,19 @@ is_office_fault setting given old new sound h =
         made = length h.at.changes;
         kept = kept;
         few = few h.at w g;
-        stopped = within (length h.at.changes) (inl refl);
+        stopped = record {
+          at = h.at;
+          step = h.step;
+          rest = goes.0;
+          goes_on = goes.1;
+          outputs = refl;
+          changes = sym (front_changes h.at w g);
+          register = sd.replay;
+          within = inl refl;
+        };
         register = λ s. replayed r h.at w g sd ∙ ap Ok (sym (x.same s));
         left = leaves_prefix r h.at w h.step h.step.change (answered h.at.outputs (length (octets_of h.at.outputs))) new.office refl g ge sd se kept x.left;
+        within = leaves_prefix r h.at (advance h.at h.step) h.step h.step.change (answered h.at.outputs (length (octets_of h.at.outputs))) new.office refl step none sd se kept x.left;
         faults = h.faults;
       }
       | inr x ↦ record {
@@ -255,9 +256,19 @@ is_office_fault setting given old new sound h =
         made = length (advance h.at h.step).changes;
         kept = omega arith;
         few = few (advance h.at h.step) w ge;
-        stopped = within (length (advance h.at h.step).changes) (inr refl);
+        stopped = record {
+          at = h.at;
+          step = h.step;
+          rest = goes.0;
+          goes_on = goes.1;
+          outputs = refl;
+          changes = sym (front_changes h.at w g);
+          register = sd.replay;
+          within = inr refl;
+        };
         register = λ s. replayed r (advance h.at h.step) w ge se ∙ ap Ok (sym (x.same s));
         left = λ k l. prefix_at r (advance h.at h.step) w _ new.office.holds k ge se (omega arith) (x.left k l);
+        within = λ k l. prefix_at r (advance h.at h.step) (advance h.at h.step) _ new.office.holds k none se (omega arith) (x.left k l);
         faults = h.faults;
       }
     ]

@@ -9,6 +9,7 @@ use Rattle.oftp_wire.specs.declared.reason.SessionReason.TheVariants.{ResourcesN
 use Rattle.oftp_wire.specs.Reasons.{session_number}
 use Rattle.oftp_partners.specs.declared.partner.Partner.{Partner}
 use Rattle.oftp_register.specs.declared.change.Change.{Change}
+use Rattle.oftp_register.specs.declared.change.Change.TheVariants as change
 use Rattle.oftp_register.specs.declared.change.Cause.{Cause}
 use Rattle.oftp_register.specs.Register.{Register}
 use Rattle.oftp_register.specs.Changes.{apply, apply_all}
@@ -18,7 +19,7 @@ use Rattle.oftp_session.specs.Settings.{Setting}
 use Rattle.oftp_session.specs.Phases.{Step, esid_of, is_over}
 use Rattle.oftp_session.specs.Steps.{opening, Holds}
 use Rattle.oftp_engine.specs.Runs.{Course, started, advance}
-use Rattle.oftp_engine.specs.World.{Station, World, Order, ToSubmit, ToRelease, ToRefuse, turned_round, stopped_with, stops_at, left_after, latest, called_for, begins, fails_at, may_stop, told}
+use Rattle.oftp_engine.specs.World.{Station, World, turned_round, stopped_with, stops_at, left_after, latest, is_ordered, changed_by, begins, fails_at, may_stop, told}
 use Rattle.oftp_engine.specs.TwoStations.{IfAny}
 use Rattle.oftp_engine.proofs.Standing.{AllFit, HasRoom, WorldStands, IsSoundStation, IsInSession, MayLeave, LeftBy, StationLeaves, MayCome, MayComeTo, Meet}
 use Rattle.oftp_engine.proofs.Grounds.{Grounds}
@@ -26,6 +27,7 @@ use Rattle.oftp_engine.proofs.Kept.{BothFit, apply_fits}
 use Rattle.oftp_engine.proofs.Later.{IsLater, later_self, apply_later}
 use Rattle.oftp_engine.proofs.Coming.{may_come_end, may_come_later}
 use Rattle.oftp_session.specs.Calls.{Makes}
+use Rattle.oftp_engine.proofs.Orders.{IsOrder}
 use Rattle.oftp_engine.proofs.Stops.{leaves_next}
 
 -- the two ends may be told in either order
@@ -78,18 +80,7 @@ stands_after_stop w c n e h = by (nat_le (latest c.outputs) n && nat_le n (lengt
         stands_stopped w (left_after w.one.start c n) (at_session w.one c (left_after w.one.start c n) e
         (record { changes = n; least = leb-true (latest c.outputs) n parts.0; most = leb-true n (length c.changes) parts.1; is = refl })) h
 
--- an operator's call where there is no session
-
-call_fit : (s : Station) (call : Order) (r : Register) → IsFit r (called_for s call)
-unfolding IsFit
-call_fit s (ToSubmit f) r = f.is_file
-call_fit s (ToRelease n) r = (refl, refl, refl)
-call_fit s (ToRefuse n reason text) r = tt
-
-call_grounds : (s : Station) (call : Order) (r there : Register) → Grounds r there (called_for s call)
-call_grounds s (ToSubmit f) r there = tt
-call_grounds s (ToRelease n) r there = tt
-call_grounds s (ToRefuse n reason text) r there = tt
+-- a change where there is no session
 
 -- a change of the one station while it has no session
 pub stands_changed : (w : World) (k : Change) (s : Register) → w.one.session ≡ None → IsFit w.one.start k → ((there : Register) → Grounds w.one.start there k)
@@ -127,12 +118,18 @@ stands_changed w k s none fit grounds made h = record {
         (may_come_later w.one.start s d.phase w.other.coming (apply_later w.one.start k s
         (h.one.registers w.one.start (subst (λ o. LeftBy w.one.start o w.one.start) (sym none) refl)) made) (m w.one.start (subst (λ o. LeftBy w.one.start o w.one.start) (sym none) refl)))
 
-pub stands_operated : (w : World) (call : Order) → w.one.session ≡ None → WorldStands w
-    → WorldStands (record w { one = record w.one { start = result_unwrap_or (apply w.one.start (called_for w.one call)) w.one.start } })
-stands_operated w call none h = by (apply w.one.start (called_for w.one call)) refl
+ordered_grounds : (k : Change) (r there : Register) → is_ordered k ≡ true → Grounds r there k
+ordered_grounds (change.Submit identity format longest description rows) r there h = tt
+ordered_grounds (change.Issue n kind reason text) r there h = tt
+ordered_grounds _ r there h = absurd (cc)
+
+-- an operator's call, or another caller
+pub stands_ordered : (w : World) (change : Option Change) → IfAny change IsOrder → w.one.session ≡ None → WorldStands w → WorldStands (changed_by w change)
+stands_ordered w None it none h = h
+stands_ordered w (Some k) it none h = by (apply w.one.start k) refl
   where
-    by : (result : Result Register Cause) → apply w.one.start (called_for w.one call) ≡ result → WorldStands (record w { one = record w.one { start = result_unwrap_or result w.one.start } })
-    by (Ok s) e = stands_changed w (called_for w.one call) s none (call_fit w.one call w.one.start) (λ there. call_grounds w.one call w.one.start there) e h
+    by : (result : Result Register Cause) → apply w.one.start k ≡ result → WorldStands (record w { one = record w.one { start = result_unwrap_or result w.one.start } })
+    by (Ok s) e = stands_changed w k s none (it.fit w.one.start) (λ there. ordered_grounds k w.one.start there it.ordered) e h
     by (Err cause) e = h
 
 -- Of a step: all pairs of registers that stops may leave go on fitting.
@@ -283,6 +280,7 @@ begun_sound s other other' called none h = record {
     buffer = h.room;
     holds = opens_holds called s.start;
     room = opens_room called;
+    counted = tt;
     now = record { changes = 0; least = omega arith; most = omega arith; is = refl };
     replay = refl;
   };

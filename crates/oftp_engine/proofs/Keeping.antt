@@ -4,10 +4,11 @@ use Rattle.oftp_wire.specs.declared.command.Command.{Command}
 use Rattle.oftp_register.specs.Register.{Register}
 use Rattle.oftp_session.specs.Steps.{came, turned}
 use Rattle.oftp_engine.specs.Runs.{Course}
-use Rattle.oftp_engine.specs.World.{World, Happening, Does, Breaks, Stops, StopsInStep, FailsInStep, Orders, Calls, Doing, TakesTurn, TakesCommand, step_of, left_of, does, stops_within, fails_within, calls, in_session, without_session, happens_in, happens, turned_round}
+use Rattle.oftp_engine.specs.World.{World, Happening, Does, Breaks, Stops, StopsInStep, FailsInStep, Orders, Alters, Calls, Doing, TakesTurn, TakesCommand, step_of, left_of, does, stops_within, fails_within, calls, in_session, without_session, happens_in, happens, turned_round}
 use Rattle.oftp_engine.proofs.Standing.{WorldStands, KeepsStanding}
 use Rattle.oftp_engine.specs.Promise.{TwoStations}
-use Rattle.oftp_engine.proofs.Events.{stands_round, stands_broken, stands_after_stop, stands_operated, stands_within, stands_failed, stands_called}
+use Rattle.oftp_engine.proofs.Events.{stands_round, stands_broken, stands_after_stop, stands_ordered, stands_within, stands_failed, stands_called}
+use Rattle.oftp_engine.proofs.Orders.{deed_ordered}
 use Rattle.oftp_engine.proofs.Stepped.{IsStep, stands_stepped}
 use Rattle.oftp_engine.proofs.Promised.{two_stations_from}
 
@@ -52,7 +53,8 @@ in_session_stands on w c Breaks e s = stands_broken w c e s
 in_session_stands on w c (Stops n) e s = stands_after_stop w c n e s
 in_session_stands on w c (StopsInStep doing n) e s = within_stands on w c doing n e s
 in_session_stands on w c (FailsInStep doing n) e s = failed_stands on w c doing n e s
-in_session_stands on w c (Orders call) e s = s
+in_session_stands on w c (Orders order) e s = s
+in_session_stands on w c (Alters alteration) e s = s
 in_session_stands on w c Calls e s = s
 
 stands_without_session : (w : World) (h : Happening) → w.one.session ≡ None → WorldStands w → WorldStands (without_session w h)
@@ -62,7 +64,9 @@ stands_without_session w Breaks e s = s
 stands_without_session w (Stops n) e s = s
 stands_without_session w (StopsInStep doing n) e s = s
 stands_without_session w (FailsInStep doing n) e s = s
-stands_without_session w (Orders call) e s = stands_operated w call e s
+stands_without_session w (Orders order) e s =
+    stands_ordered w (order.deed w.one.book w.one.start).change (deed_ordered w.one.book w.one.start order.call (order.deed w.one.book w.one.start) (order.is w.one.book w.one.start)) e s
+stands_without_session w (Alters a) e s = stands_ordered w (Some a.change) (record { ordered = a.ordered; fit = a.fit }) e s
 stands_without_session w Calls e s = by w.other.session refl
   where
     by : (session : Option Course) → w.other.session ≡ session → WorldStands (calls w session)

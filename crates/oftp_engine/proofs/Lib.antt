@@ -1,6 +1,9 @@
 pub mod Courses
 pub mod Ending
 pub mod Folding
+pub mod Sayable
+pub mod Spellable
+pub mod Spells
 pub mod Queues
 pub mod Resources
 pub mod Phases
@@ -24,6 +27,8 @@ pub mod Later
 pub mod Coming
 pub mod Promised
 pub mod Stops
+pub mod Orders
+pub mod Leaving
 pub mod Events
 pub mod Stepped
 pub mod Room

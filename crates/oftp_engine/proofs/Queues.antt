@@ -1,29 +1,43 @@
 -- What is out of a queue of commands is read as those whose frames are whole.
-use Rattle.std.proofs.Common.{◌≡◌, ℕ, zero, suc, ◌+◌, ◌*◌, ◌≤◌, ◌<◌, Bool, true, false, cond, ltb, ◌||◌, ◌&&◌, ◌==◌, not, List, [], ◌∷◌, ◌++◌, length, take, drop, map, Option, None, Some, Result, Ok, refl, sym, ap, ◌∙◌, subst, arith, append_assoc}
+use Rattle.std.proofs.Common.{◌≡◌, ℕ, zero, suc, ◌+◌, ◌*◌, ◌≤◌, ◌<◌, Bool, true, false, cond, ltb, ◌||◌, ◌&&◌, ◌==◌, not, List, [], ◌∷◌, ◌++◌, length, take, drop, map, fold, Option, None, Some, Result, Ok, Err, refl, sym, ap, ◌∙◌, subst, arith, append_assoc}
 use Rattle.std.proofs.lemmas.List.{append-nil, drop-append-le, drop_at, take-append-drop, take-append-le, take_at}
 use Rattle.std.proofs.lemmas.Bool.{ltb-false, ltb-true, lt-ltb}
 use Rattle.std.proofs.lemmas.Grind.{flat_map-append}
 use Rattle.std.specs.List.{AllByRecursion, flat_map}
+use Rattle.std.specs.Option.{IfSome}
 use Rattle.oftp_wire.specs.declared.command.Command.{Command}
 use Rattle.oftp_wire.specs.declared.fault.WireFault.{WireFault}
 use Rattle.oftp_wire.specs.declared.frame_fault.FrameFault.TheVariants.{BadHeader, BadLength}
+use Rattle.oftp_wire.specs.declared.reason.SessionReason.{SessionReason}
+use Rattle.oftp_wire.specs.declared.reason.SessionReason.TheVariants.{CommandNotRecognised, ProtocolViolation, ResourcesNotAvailable}
 use Rattle.oftp_wire.specs.Header.{frame, IsCommand}
 use Rattle.oftp_wire.specs.Kinds.{command_of}
+use Rattle.oftp_wire.specs.Reasons.{reason_of}
 use Rattle.oftp_wire.specs.Spelling.{Canon}
 use Rattle.oftp_wire.specs.Stream.{Head, Whole, Waits, Bad, Front, NoFrame, command_in, front, length_fault, rest_fault, sized}
 use Rattle.oftp_wire.proofs.Fronts.{front_frame, one_front}
 use Rattle.oftp_wire.proofs.Room.{canon_some}
 use Rattle.oftp_wire.proofs.SpellingLaws.{canon_spells, reads_spelled}
-use Rattle.oftp_wire.specs.declared.reason.SessionReason.TheVariants.{ProtocolViolation, ResourcesNotAvailable}
+use Rattle.oftp_partners.specs.Fields.{IsBufferSize}
+use Rattle.oftp_partners.specs.declared.partner.Partner.{Partner}
+use Rattle.oftp_register.specs.declared.change.Cause.{Cause}
+use Rattle.oftp_register.specs.declared.change.Change.{Change}
 use Rattle.oftp_register.specs.Register.{Register}
-use Rattle.oftp_session.specs.Phases.{Step, esid_of, fails, frame_of, is_over}
+use Rattle.oftp_register.specs.Changes.{apply, apply_all, go_on_by}
+use Rattle.oftp_session.specs.Phases.{Phase, Step, esid_of, fails, frame_of, is_over}
 use Rattle.oftp_session.specs.Settings.{Setting}
-use Rattle.oftp_session.specs.Steps.{has_turn, turned, turns_due}
+use Rattle.oftp_session.specs.Steps.{has_turn, opening, turns_due}
+use Rattle.oftp_session.proofs.Phases.{opening_suits}
 use Rattle.oftp_engine.specs.Frames.{over_commands}
-use Rattle.oftp_engine.specs.Queues.{IsQueue, IsSayable, QueuesAreHeard, RunsSayCommands, RunsSayQueues, as_read, over_queue}
-use Rattle.oftp_engine.specs.Runs.{Course, Output, advance, came_in, is_stopped, next_in, octets_of, on_front, run, run_by, settled, started, step_on, turned_in, turns, with_output}
+use Rattle.oftp_engine.specs.Queues.{AreHeard, IsQueue, IsSayable, QueuesAreHeard, RunsAreHeard, RunsSayCommands, RunsSayQueues, SaysQueues, as_read, in_frames, over_queue}
+use Rattle.oftp_engine.specs.Ranges.{IsSpellable, RangesAreKept, StartsInRange}
+use Rattle.oftp_engine.specs.Runs.{Course, Output, advance, came_in, is_stopped, next_in, octets_of, on_front, refusal, run, run_by, settled, started, step_on, turned_in, turns, with_change, with_output}
 use Rattle.oftp_engine.specs.Serving.{last_frame}
 use Rattle.oftp_engine.proofs.Folding.{folds, frame_length}
+use Rattle.oftp_engine.proofs.Sayable.{esid_sayable, spelled_fits}
+use Rattle.oftp_engine.proofs.Spellable.{IsSpellableChange, apply_spellable, calls_keep, empty_spellable}
+use Rattle.oftp_engine.proofs.Spells.{GoesOnInRange, IsInRange, came_in_range, fails_in_range, turned_in_range}
+use Rattle.oftp_engine.proofs.Standing.{OfBuffer}
 
 -- a beginning of a frame stands for no fault
 
@@ -175,10 +189,16 @@ queues_are_heard said octets lost each e =
       session = λ limit c. ap (λ (x : List ℕ). run limit x c) cut.whole ∙ folds limit (map Canon cut.heard) cut.rest None c cut.each cut.waits ∙ over_heard limit cut.heard c cut.same;
     }
 
+-- one command more
+one_said : (said : List Command) (c : Command) → AllByRecursion IsSayable said → IsSayable c → AllByRecursion IsSayable (said ++ c ∷ [])
+one_said [] c all say = (say, tt)
+one_said (m ∷ ms) c all say = (all.0, one_said ms c all.1 say)
+
 -- what a session says
 
--- what each step keeps, a run keeps
-module _ (P : Course → Type 0) (step : (c : Course) (s : Step) → P c → P (advance c s)) where
+-- what each step of a run keeps, a run keeps
+module _ (P : Course → Type 0) (turn : (c : Course) → P c → P (turned_in c)) (come : (c : Course) (octets : List ℕ) → P c → P (came_in c octets))
+    (fail : (c : Course) → P c → P (advance c (fails ProtocolViolation))) where
   either : (b : Bool) (c d : Course) → P c → P d → P (cond b c d)
   either true c d h k = h
   either false c d h k = k
@@ -186,9 +206,7 @@ module _ (P : Course → Type 0) (step : (c : Course) (s : Step) → P c → P (
   turns_keep : (n : ℕ) (limit : Option ℕ) (c : Course) → P c → P (turns n limit c)
   unfolding turns
   turns_keep zero limit c h = h
-  turns_keep (suc n) limit c h =
-      either (has_turn c.phase && not (is_stopped limit c)) (turns n limit (turned_in c)) c
-      (turns_keep n limit (turned_in c) (step c (turned c.setting c.phase c.register) h)) h
+  turns_keep (suc n) limit c h = either (has_turn c.phase && not (is_stopped limit c)) (turns n limit (turned_in c)) c (turns_keep n limit (turned_in c) (turn c h)) h
 
   settled_keeps : (limit : Option ℕ) (c : Course) → P c → P (settled limit c)
   unfolding settled
@@ -196,9 +214,9 @@ module _ (P : Course → Type 0) (step : (c : Course) (s : Step) → P c → P (
 
   front_keeps : (go_on : List ℕ → Course → Course) (s : List ℕ) (d : Course) (f : Head) → ((t : List ℕ) (e : Course) → P e → P (go_on t e)) → P d → P (on_front go_on s d f)
   unfolding on_front
-  front_keeps go_on s d (Whole n) more h = more (drop n s) (came_in d (command_in n s)) (step d _ h)
+  front_keeps go_on s d (Whole n) more h = more (drop n s) (came_in d (command_in n s)) (come d (command_in n s) h)
   front_keeps go_on s d Waits more h = h
-  front_keeps go_on s d (Bad fault) more h = step d (fails ProtocolViolation) h
+  front_keeps go_on s d (Bad fault) more h = fail d h
 
   run_by_keeps : (n : ℕ) (limit : Option ℕ) (s : List ℕ) (c : Course) → P c → P (run_by n limit s c)
   unfolding run_by next_in
@@ -212,70 +230,162 @@ module _ (P : Course → Type 0) (step : (c : Course) (s : Step) → P c → P (
   unfolding run
   run_keeps limit s c h = run_by_keeps (suc (length s)) limit s c h
 
--- an output is the frame of a command
-abbrev IsFrame : Output → Type 0
-IsFrame o = (command : Command) × (o.octets ≡ frame_of command)
+-- an output is the frame of a command, which under a premise a frame can say
+record IsFrame (Premise : Type 0) (o : Output) : Type 0 where
+  command : Command
+  is : o.octets ≡ frame_of command
+  sayable : Premise → IsSayable command
 
-abbrev AreFrames : List Output → Type 0
-AreFrames outputs = AllByRecursion IsFrame outputs
+abbrev AreFrames : Type 0 → List Output → Type 0
+AreFrames Premise outputs = AllByRecursion (IsFrame Premise) outputs
 
-one_more : (outputs : List Output) (o : Output) → AreFrames outputs → IsFrame o → AreFrames (outputs ++ o ∷ [])
-one_more [] o all is = (is, tt)
-one_more (p ∷ outputs) o all is = (all.0, one_more outputs o all.1 is)
+one_more : (Premise : Type 0) (outputs : List Output) (o : Output) → AreFrames Premise outputs → IsFrame Premise o → AreFrames Premise (outputs ++ o ∷ [])
+one_more Premise [] o all is = (is, tt)
+one_more Premise (p ∷ outputs) o all is = (all.0, one_more Premise outputs o all.1 is)
 
-first_ones : (outs later : List Output) → AreFrames (outs ++ later) → AreFrames outs
-first_ones [] later all = tt
-first_ones (o ∷ outs) later all = (all.0, first_ones outs later all.1)
+first_ones : (Premise : Type 0) (outs later : List Output) → AreFrames Premise (outs ++ later) → AreFrames Premise outs
+first_ones Premise [] later all = tt
+first_ones Premise (o ∷ outs) later all = (all.0, first_ones Premise outs later all.1)
 
-output_frames : (outputs : List Output) (o : Option Command) (n : ℕ) → AreFrames outputs → AreFrames (with_output outputs o n)
-output_frames outputs None n all = all
-output_frames outputs (Some command) n all = one_more outputs (record { octets = frame_of command; after = n }) all (command, refl)
+output_frames : (Premise : Type 0) (outputs : List Output) (o : Option Command) (n : ℕ) → AreFrames Premise outputs → (Premise → IfSome o IsSayable) → AreFrames Premise (with_output outputs o n)
+output_frames Premise outputs None n all say = all
+output_frames Premise outputs (Some command) n all say =
+    one_more Premise outputs (record { octets = frame_of command; after = n }) all (record { command = command; is = refl; sayable = say })
 
-step_frames : (c : Course) (s : Step) → AreFrames c.outputs → AreFrames (advance c s).outputs
+change_ranges : (changes : List Change) (k : Option Change) → AllByRecursion IsSpellableChange changes → IfSome k IsSpellableChange → AllByRecursion IsSpellableChange (with_change changes k)
+change_ranges changes None all new = all
+change_ranges [] (Some k) all new = (new, tt)
+change_ranges (x ∷ changes) (Some k) all new = (all.0, change_ranges changes (Some k) all.1 new)
+
+-- a run so far: its outputs are frames, and under the premise it is in its ranges, and so are its changes
+record IsSpoken (Premise : Type 0) (c : Course) : Type 0 where
+  frames : AreFrames Premise c.outputs
+  changes : Premise → AllByRecursion IsSpellableChange c.changes
+  range : Premise → IsInRange c.setting c.phase c.register
+
+step_spoken : (Premise : Type 0) (c : Course) (s : Step) → (IsInRange c.setting c.phase c.register → GoesOnInRange c.setting c.register s) → IsSpoken Premise c → IsSpoken Premise (advance c s)
 unfolding advance
-step_frames c s all = output_frames c.outputs s.output _ all
+step_spoken Premise c s goes h = record {
+  frames = output_frames Premise c.outputs s.output _ h.frames (λ premise. (goes (h.range premise)).said);
+  changes = λ premise. change_ranges c.changes s.change (h.changes premise) (goes (h.range premise)).change;
+  range = λ premise. (goes (h.range premise)).after;
+}
 
-run_frames : (limit : Option ℕ) (setting : Setting) (given : List ℕ) (r : Register) → AreFrames (run limit given (started setting r)).outputs
-run_frames limit setting given r = run_keeps (λ c. AreFrames c.outputs) step_frames limit given (started setting r) tt
+came_spoken : (setting : Setting) (p : Phase) (r : Register) (octets : List ℕ) (read : Result Command WireFault) → command_of octets ≡ read → IsInRange setting p r
+    → GoesOnInRange setting r (step_on setting p r read)
+came_spoken setting p r octets (Ok c) is it = came_in_range setting p r c it (spelled_fits c octets ((reads_spelled c octets).0 is))
+came_spoken setting p r octets (Err fault) is it = by (reason_of fault)
+  where
+    by : (reason : Option SessionReason) → GoesOnInRange setting r (refusal reason)
+    by (Some reason) = fails_in_range setting p r reason it
+    by None = fails_in_range setting p r CommandNotRecognised it
+
+run_spoken : (Premise : Type 0) (limit : Option ℕ) (given : List ℕ) (c : Course) → IsSpoken Premise c → IsSpoken Premise (run limit given c)
+run_spoken Premise limit given c h =
+    run_keeps (IsSpoken Premise) (λ d it. step_spoken Premise d _ (turned_in_range d.setting d.phase d.register) it)
+    (λ d octets it. step_spoken Premise d _ (came_spoken d.setting d.phase d.register octets (command_of octets) refl) it)
+    (λ d it. step_spoken Premise d _ (fails_in_range d.setting d.phase d.register ProtocolViolation) it) limit given c h
+
+start_range : (setting : Setting) (r : Register) → StartsInRange setting r → IsInRange setting (opening setting.called) r
+start_range setting r h = record { book = h.book; called = h.called; suits = opening_suits r setting.called h.sound; buffer = by setting.called; spellable = h.spellable }
+  where
+    by : (called : Option Partner) → OfBuffer IsBufferSize (opening called)
+    by None = tt
+    by (Some partner) = tt
+
+run_frames : (limit : Option ℕ) (setting : Setting) (given : List ℕ) (r : Register) → IsSpoken (StartsInRange setting r) (run limit given (started setting r))
+run_frames limit setting given r =
+    run_spoken (StartsInRange setting r) limit given (started setting r) (record { frames = tt; changes = λ starts. tt; range = start_range setting r })
 
 -- the commands whose frames these are
-record Spoken (outputs : List Output) : Type 0 where
+record Spoken (Premise : Type 0) (outputs : List Output) : Type 0 where
   said : List Command
   each : map (λ (o : Output). o.octets) outputs ≡ map frame_of said
   joined : octets_of outputs ≡ flat_map frame_of said
+  sayable : Premise → AllByRecursion IsSayable said
 
-spoken_in : (outputs : List Output) → AreFrames outputs → Spoken outputs
-spoken_in [] all = record { said = []; each = refl; joined = refl }
-spoken_in (o ∷ outputs) all =
-    let is : o.octets ≡ frame_of all.0.0 = all.0.1 in
-    let more = spoken_in outputs all.1 in
+spoken_in : (Premise : Type 0) (outputs : List Output) → AreFrames Premise outputs → Spoken Premise outputs
+spoken_in Premise [] all = record { said = []; each = refl; joined = refl; sayable = λ premise. tt }
+spoken_in Premise (o ∷ outputs) all =
+    let first = all.0 in
+    let more = spoken_in Premise outputs all.1 in
     record {
-      said = all.0.0 ∷ more.said;
-      each = ap (λ (x : List ℕ). x ∷ map (λ (o : Output). o.octets) outputs) is ∙ ap (λ (x : List (List ℕ)). frame_of all.0.0 ∷ x) more.each;
-      joined = ap (λ (x : List ℕ). x ++ octets_of outputs) is ∙ ap (λ (x : List ℕ). frame_of all.0.0 ++ x) more.joined;
+      said = first.command ∷ more.said;
+      each = ap (λ (x : List ℕ). x ∷ map (λ (o : Output). o.octets) outputs) first.is ∙ ap (λ (x : List (List ℕ)). frame_of first.command ∷ x) more.each;
+      joined = ap (λ (x : List ℕ). x ++ octets_of outputs) first.is ∙ ap (λ (x : List ℕ). frame_of first.command ++ x) more.joined;
+      sayable = λ premise. (first.sayable premise, more.sayable premise);
     }
 
 pub runs_say_commands : RunsSayCommands
-runs_say_commands limit setting given r = let its = spoken_in _ (run_frames limit setting given r) in (its.said, its.each)
+runs_say_commands limit setting given r = let its = spoken_in _ _ (run_frames limit setting given r).frames in (its.said, its.each, its.sayable)
 
-whole_queue : (outs : List Output) → Spoken outs → IsQueue (octets_of outs)
-whole_queue outs its = record { said = its.said; lost = []; all = sym its.joined ∙ sym (append-nil (octets_of outs)) }
+module _ (Premise : Type 0) (outs : List Output) (its : Spoken Premise outs) where
+  whole_queue : IsQueue (octets_of outs)
+  whole_queue = record { said = its.said; lost = []; all = sym its.joined ∙ sym (append-nil (octets_of outs)) }
 
-cut_queue : (outs : List Output) → Spoken outs → (count : ℕ) → IsQueue (take count (octets_of outs))
-cut_queue outs its count =
-    record { said = its.said; lost = drop count (octets_of outs); all = sym its.joined ∙ sym (take-append-drop count (octets_of outs)) }
+  cut_queue : (count : ℕ) → in_frames its.said ≡ take count (octets_of outs) ++ drop count (octets_of outs)
+  cut_queue count = sym its.joined ∙ sym (take-append-drop count (octets_of outs))
 
-ended_queue : (outs : List Output) → Spoken outs → (count : ℕ) → IsQueue (octets_of outs ++ take count last_frame)
-ended_queue outs its count =
-    let words = esid_of ResourcesNotAvailable ∷ [] in
-    let here = octets_of outs in
-    let apart : flat_map frame_of (its.said ++ words) ≡ here ++ last_frame =
-    flat_map-append frame_of its.said words ∙ ap (λ (x : List ℕ). x ++ (last_frame ++ [])) (sym its.joined) ∙ ap (λ (x : List ℕ). here ++ x) (append-nil last_frame) in
-    let cut : here ++ last_frame ≡ (here ++ take count last_frame) ++ drop count last_frame =
-    ap (λ (x : List ℕ). here ++ x) (sym (take-append-drop count last_frame)) ∙ sym (append_assoc here (take count last_frame) (drop count last_frame)) in
-    record { said = its.said ++ words; lost = drop count last_frame; all = apart ∙ cut }
+  ended_queue : (count : ℕ) → in_frames (its.said ++ esid_of ResourcesNotAvailable ∷ []) ≡ (octets_of outs ++ take count last_frame) ++ drop count last_frame
+  ended_queue count =
+      let here = octets_of outs in
+      let apart : flat_map frame_of (its.said ++ esid_of ResourcesNotAvailable ∷ []) ≡ here ++ last_frame =
+      flat_map-append frame_of its.said (esid_of ResourcesNotAvailable ∷ []) ∙ ap (λ (x : List ℕ). x ++ (last_frame ++ [])) (sym its.joined)
+      ∙ ap (λ (x : List ℕ). here ++ x) (append-nil last_frame) in
+      let cut : here ++ last_frame ≡ (here ++ take count last_frame) ++ drop count last_frame =
+      ap (λ (x : List ℕ). here ++ x) (sym (take-append-drop count last_frame)) ∙ sym (append_assoc here (take count last_frame) (drop count last_frame)) in
+      apart ∙ cut
+
+  says_queues : SaysQueues outs
+  says_queues = record {
+    whole = whole_queue;
+    cut = λ count. record { said = its.said; lost = drop count (octets_of outs); all = cut_queue count };
+    ended = λ count. record { said = its.said ++ esid_of ResourcesNotAvailable ∷ []; lost = drop count last_frame; all = ended_queue count };
+  }
+
+  are_heard : Premise → AreHeard outs
+  are_heard premise =
+      let all = its.sayable premise in
+      record {
+        said = its.said;
+        frames = its.each;
+        cut = λ count. queues_are_heard its.said (take count (octets_of outs)) (drop count (octets_of outs)) all (cut_queue count);
+        ended = λ count. queues_are_heard (its.said ++ esid_of ResourcesNotAvailable ∷ []) (octets_of outs ++ take count last_frame) (drop count last_frame)
+            (one_said its.said (esid_of ResourcesNotAvailable) all (esid_sayable ResourcesNotAvailable)) (ended_queue count);
+      }
+
+-- the commands of the first outputs of a run
+first_said : (limit : Option ℕ) (setting : Setting) (given : List ℕ) (r : Register) (outs later : List Output)
+    → (run limit given (started setting r)).outputs ≡ outs ++ later → Spoken (StartsInRange setting r) outs
+first_said limit setting given r outs later e =
+    spoken_in _ outs (first_ones _ outs later (subst (AreFrames (StartsInRange setting r)) e (run_frames limit setting given r).frames))
 
 pub runs_say_queues : RunsSayQueues
-runs_say_queues limit setting given r outs later e =
-    let its = spoken_in outs (first_ones outs later (subst AreFrames e (run_frames limit setting given r))) in
-    record { whole = whole_queue outs its; cut = cut_queue outs its; ended = ended_queue outs its }
+runs_say_queues limit setting given r outs later e = says_queues _ outs (first_said limit setting given r outs later e)
+
+pub runs_are_heard : RunsAreHeard
+runs_are_heard limit setting given r outs later e starts = are_heard _ outs (first_said limit setting given r outs later e) starts
+
+-- registers stay in their ranges
+
+-- a refusal stays
+stuck : (cause : Cause) (changes : List Change) (s : Register) → fold go_on_by (let e : Result Register Cause = Err cause in e) changes ≡ Ok s → ⊥
+stuck cause [] s h = cc
+stuck cause (k ∷ ks) s h = stuck cause ks s h
+
+changes_keep : (n : ℕ) (changes : List Change) (r s : Register) → IsSpellable r → AllByRecursion IsSpellableChange changes → apply_all r (take n changes) ≡ Ok s → IsSpellable s
+changes_keep zero changes r s it all h = let is : r ≡ s = cc in subst IsSpellable is it
+changes_keep (suc n) [] r s it all h = let is : r ≡ s = cc in subst IsSpellable is it
+changes_keep (suc n) (k ∷ ks) r s it all h = by (λ q now. changes_keep n ks q s now all.1) (apply r k) refl h
+  where
+    by : ((q : Register) → IsSpellable q → apply_all q (take n ks) ≡ Ok s → IsSpellable s) → (result : Result Register Cause) → apply r k ≡ result
+        → fold go_on_by result (take n ks) ≡ Ok s → IsSpellable s
+    by later (Ok q) e g = later q (apply_spellable r k q it all.0 e) g
+    by later (Err cause) e g = absurd (stuck cause (take n ks) s g)
+
+pub ranges_are_kept : RangesAreKept
+ranges_are_kept = record {
+  first = empty_spellable;
+  sessions = λ limit setting given r s n starts h. changes_keep n _ r s starts.spellable ((run_frames limit setting given r).changes starts) h;
+  calls = calls_keep;
+}

@@ -168,13 +168,14 @@ pub record IsIssuedEntry (xs : List Incoming) (e : IssuedEntry) : Type 0 where
   pub issued : file.response ≡ Some response
   pub identity : e.identity ≡ file.identity
   pub kind : response.kind ≡ e.response.kind
+  pub told : issued_response response ≡ e.response
 
-issued_found : (p : IssuedEntry → Bool) (n : ℕ) (xs : List Incoming) (e : IssuedEntry) → find p (filter_map (λ entry. entry) (numbered issued_entry n xs)) ≡ Some e → IsIssuedEntry xs e
+pub issued_found : (p : IssuedEntry → Bool) (n : ℕ) (xs : List Incoming) (e : IssuedEntry) → find p (filter_map (λ entry. entry) (numbered issued_entry n xs)) ≡ Some e → IsIssuedEntry xs e
 issued_found p n [] e h = absurd (cc)
 issued_found p n (f ∷ fs) e h = by (issued_found p (n + 1) fs e) f.response refl h
   where
     behind : IsIssuedEntry fs e → IsIssuedEntry (f ∷ fs) e
-    behind k = record { place = suc k.place; file = k.file; at = k.at; response = k.response; issued = k.issued; identity = k.identity; kind = k.kind }
+    behind k = record { place = suc k.place; file = k.file; at = k.at; response = k.response; issued = k.issued; identity = k.identity; kind = k.kind; told = k.told }
 
     by : (find p (filter_map (λ entry. entry) (numbered issued_entry (n + 1) fs)) ≡ Some e → IsIssuedEntry fs e) → (o : Option Issued) → f.response ≡ o
         → find p (filter_map (λ entry. entry) (option_map (λ (r : Issued). let x : IssuedEntry = record { no = n; identity = f.identity; response = issued_response r } in x) o ∷
@@ -185,7 +186,16 @@ issued_found p n (f ∷ fs) e h = by (issued_found p (n + 1) fs e) f.response re
         let rest = find p (filter_map (λ entry. entry) (numbered issued_entry (n + 1) fs)) in
         elim (cases_Bool (p here)) [
           | inl t ↦ (let q : Some here ≡ Some e = sym (cond-true (p here) (Some here) rest t) ∙ g in let same : here ≡ e = cc in
-              record { place = 0; file = f; at = refl; response = w; issued = is; identity = ap (λ (x : IssuedEntry). x.identity) (sym same); kind = ap (λ (x : IssuedEntry). x.response.kind) same })
+              record {
+                place = 0;
+                file = f;
+                at = refl;
+                response = w;
+                issued = is;
+                identity = ap (λ (x : IssuedEntry). x.identity) (sym same);
+                kind = ap (λ (x : IssuedEntry). x.response.kind) same;
+                told = ap (λ (x : IssuedEntry). x.response) same;
+              })
           | inr t ↦ behind (ih (sym (cond-false (p here) (Some here) rest t) ∙ g))
         ]
 

@@ -22,6 +22,7 @@ use Rattle.oftp_session.specs.Steps.{Holds}
 use Rattle.oftp_session.specs.Listener.{end_response, negative_end_response}
 use Rattle.oftp_session.specs.Receiving.{offered_identity}
 use Rattle.oftp_session.specs.Sending.{payloads_in}
+use Rattle.oftp_engine.specs.InsideServing.{Counted}
 use Rattle.oftp_engine.specs.Runs.{Course}
 use Rattle.oftp_engine.specs.World.{Station, World, latest, left_after, Event, after_event}
 use Rattle.oftp_register.specs.ByIdentity.{out_at, in_at}
@@ -258,21 +259,25 @@ Speaks talk (AwaitingEnd contact t) other = HasEnded contact t talk.coming other
 Speaks talk (EndedHere reason) other = ⊥
 Speaks talk (EndedThere reason) other = ⊥
 
+-- a fact of the agreed buffer's size, in a phase that has one
+abbrev pub OfBuffer : (ℕ → Type 0) → Phase → Type 0
+OfBuffer P ResponderOpening = ⊤
+OfBuffer P InitiatorOpening = ⊤
+OfBuffer P AwaitingSsid = ⊤
+OfBuffer P (ListenerIdle contact) = P contact.link.buffer
+OfBuffer P (Receiving contact f) = P contact.link.buffer
+OfBuffer P (SpeakerIdle contact done) = P contact.link.buffer
+OfBuffer P (GivingWay contact) = P contact.link.buffer
+OfBuffer P (AwaitingRtr contact number) = P contact.link.buffer
+OfBuffer P (AwaitingStart contact offer) = P contact.link.buffer
+OfBuffer P (Sending contact t) = P contact.link.buffer
+OfBuffer P (AwaitingEnd contact t) = P contact.link.buffer
+OfBuffer P (EndedHere reason) = ⊤
+OfBuffer P (EndedThere reason) = ⊤
+
 -- what holds of a session: its phase of its register, enough room in a DATA for a subrecord, and what may come
 abbrev pub HasRoom : Phase → Type 0
-HasRoom ResponderOpening = ⊤
-HasRoom InitiatorOpening = ⊤
-HasRoom AwaitingSsid = ⊤
-HasRoom (ListenerIdle contact) = 128 ≤ contact.link.buffer
-HasRoom (Receiving contact f) = 128 ≤ contact.link.buffer
-HasRoom (SpeakerIdle contact done) = 128 ≤ contact.link.buffer
-HasRoom (GivingWay contact) = 128 ≤ contact.link.buffer
-HasRoom (AwaitingRtr contact number) = 128 ≤ contact.link.buffer
-HasRoom (AwaitingStart contact offer) = 128 ≤ contact.link.buffer
-HasRoom (Sending contact t) = 128 ≤ contact.link.buffer
-HasRoom (AwaitingEnd contact t) = 128 ≤ contact.link.buffer
-HasRoom (EndedHere reason) = ⊤
-HasRoom (EndedThere reason) = ⊤
+HasRoom p = OfBuffer (λ size. 128 ≤ size) p
 
 -- the registers that a stop may leave in a session that began with a register: from the last change that was answered on
 pub record MayLeave (start : Register) (c : Course) (r : Register) : Type 0 where
@@ -298,6 +303,7 @@ pub record IsInSession (start : Register) (c : Course) : Type 0 where
   pub buffer : 128 ≤ c.setting.book.station.buffer
   pub holds : Holds c.phase c.register
   pub room : HasRoom c.phase
+  pub counted : Counted (length c.changes) c.outputs
   pub now : MayLeave start c c.register
   pub replay : apply_all start c.changes ≡ Ok c.register
 

@@ -1,18 +1,18 @@
 -- A step keeps the invariant, where it does what a step of a session does.
-use Rattle.std.proofs.Common.{◌≡◌, ◌⊎◌, ◌≤◌, Bool, true, false, cond, List, [], ◌∷◌, ◌++◌, length, Option, None, Some, is_some, refl, ap, sym, ◌∙◌, subst, inl, inr, arith}
+use Rattle.std.proofs.Common.{◌≡◌, ◌⊎◌, ◌≤◌, Bool, true, false, cond, List, [], ◌∷◌, ◌++◌, Option, None, Some, is_some, refl, ap, sym, ◌∙◌, subst, inl, inr, arith}
 use Rattle.oftp_wire.specs.declared.command.Command.{Command}
 use Rattle.oftp_register.specs.Register.{Register}
 use Rattle.oftp_register.specs.Soundness.{IsSound}
 use Rattle.oftp_session.specs.Phases.{Step, is_over}
 use Rattle.oftp_session.specs.Steps.{Holds}
 use Rattle.oftp_engine.specs.Runs.{Course, advance}
-use Rattle.oftp_engine.specs.World.{Station, World, stopped_with, stepped, told, latest}
+use Rattle.oftp_engine.specs.World.{Station, World, stopped_with, stepped, told}
 use Rattle.oftp_engine.specs.TwoStations.{IfAny}
 use Rattle.oftp_engine.proofs.Standing.{HasRoom, WorldStands, IsInSession, MayLeave, StationLeaves, MayCome, MayComeTo, Meet}
 use Rattle.oftp_engine.proofs.Grounds.{Grounds}
 use Rattle.oftp_engine.proofs.Kept.{BothFit}
 use Rattle.oftp_session.specs.Calls.{Makes}
-use Rattle.oftp_engine.proofs.Stops.{leaves_next, replay_next, made_after, latest_next}
+use Rattle.oftp_engine.proofs.Stops.{counted_next, leaves_next, replay_next, made_after, latest_next}
 use Rattle.oftp_engine.proofs.Events.{at_session, step_fits}
 
 -- what comes to the other one, with what was said behind it
@@ -76,9 +76,6 @@ stands_stepped w c step rest after e h s = by_over (is_over step.phase) refl
     register : (advance c step).register ≡ after
     register = made_after c.register step.change after s.made
 
-    few : latest c.outputs ≤ length c.changes
-    few = let k : IsInSession w.one.start c = subst (λ o. IfAny o (IsInSession w.one.start)) e h.one.session in omega (arith, k.now.least, k.now.most)
-
     which : (r : Register) → MayLeave w.one.start (advance c step) r → (r ≡ after) ⊎ ((step.output ≡ None) × MayLeave w.one.start c r)
     which r m =
         let k : IsInSession w.one.start c = subst (λ o. IfAny o (IsInSession w.one.start)) e h.one.session in
@@ -91,7 +88,7 @@ stands_stepped w c step rest after e h s = by_over (is_over step.phase) refl
     fits r there m d = step_fits w c step after e h s.made s.grounds r there m d
 
     now : MayLeave w.one.start (advance c step) (advance c step).register
-    now = latest_next w.one.start c step after few (let k : IsInSession w.one.start c = subst (λ o. IfAny o (IsInSession w.one.start)) e h.one.session in k.replay) s.made
+    now = let k : IsInSession w.one.start c = subst (λ o. IfAny o (IsInSession w.one.start)) e h.one.session in latest_next w.one.start c step after k.counted k.replay s.made
 
     -- what may come to the other one
     same_said : (output : Option Command) → step.output ≡ output → output ≡ None → with_said w.other.coming step.output ≡ w.other.coming
@@ -144,6 +141,7 @@ stands_stepped w c step rest after e h s = by_over (is_over step.phase) refl
           buffer = (let k : IsInSession w.one.start c = subst (λ o. IfAny o (IsInSession w.one.start)) e h.one.session in k.buffer);
           holds = subst (Holds step.phase) (sym register) (s.holds on);
           room = s.room on;
+          counted = counted_next c step (let k : IsInSession w.one.start c = subst (λ o. IfAny o (IsInSession w.one.start)) e h.one.session in k.counted);
           now = now;
           replay = replay_next w.one.start c step after (let k : IsInSession w.one.start c = subst (λ o. IfAny o (IsInSession w.one.start)) e h.one.session in k.replay) s.made;
         })

@@ -1,24 +1,54 @@
 -- Which registers a stop may leave after a step: the one after it, and, where nothing was said, those before.
-use Rattle.std.proofs.Common.{◌≡◌, ◌⊎◌, ℕ, zero, suc, ◌<◌, ◌≤◌, List, [], ◌∷◌, ◌++◌, length, take, fold, Option, None, Some, Result, Ok, Err, refl, ap, sym, ◌∙◌, subst, inl, inr, arith}
+use Rattle.std.proofs.Common.{◌≡◌, ◌⊎◌, ℕ, zero, suc, ◌+◌, ◌-◌, ◌<◌, ◌≤◌, List, [], ◌∷◌, ◌++◌, length, take, fold, Option, None, Some, Result, Ok, Err, refl, ap, sym, ◌∙◌, subst, inl, inr, arith}
 use Rattle.std.proofs.lemmas.List.{length-append, take_all, take-append-le}
 use Rattle.std.proofs.lemmas.Bool.{cases_lt}
 use Rattle.std.specs.Result.{result_unwrap_or}
 use Rattle.oftp_wire.specs.declared.command.Command.{Command}
+use Rattle.oftp_wire.specs.Spelling.{Canon}
 use Rattle.oftp_register.specs.declared.change.Change.{Change}
 use Rattle.oftp_register.specs.declared.change.Cause.{Cause}
 use Rattle.oftp_register.specs.Register.{Register}
 use Rattle.oftp_register.specs.Changes.{apply_all, go_on_by}
 use Rattle.oftp_session.specs.Calls.{Makes}
 use Rattle.oftp_session.specs.Phases.{Step, register_after, frame_of}
-use Rattle.oftp_engine.specs.Runs.{Course, Output, advance, with_change, with_output}
+use Rattle.oftp_engine.specs.InsideServing.{Counted}
+use Rattle.oftp_engine.specs.Runs.{Course, Output, advance, answered, octets_of, with_change, with_output}
 use Rattle.oftp_engine.specs.World.{latest}
 use Rattle.oftp_engine.proofs.Standing.{MayLeave}
-use Rattle.oftp_engine.proofs.Courses.{more_changes, replay_step}
+use Rattle.oftp_engine.proofs.Courses.{counted_more, counted_output, more_changes, octets-append, replay_step}
+use Rattle.oftp_engine.proofs.Ending.{answered_most}
+use Rattle.oftp_engine.proofs.Folding.{frame_length}
 
--- a fold over one element more
-fold_push : {A B : Type 0} (f : B → A → B) (b : B) (xs : List A) (x : A) → fold f b (xs ++ x ∷ []) ≡ f (fold f b xs) x
-fold_push f b [] x = refl
-fold_push f b (y ∷ ys) x = fold_push f (f b y) ys x
+-- an output of which one octet is out is answered
+answered_last : (outputs : List Output) (o : Output) (n : ℕ) → length (octets_of outputs) < n → o.after ≤ answered (outputs ++ o ∷ []) n
+answered_last [] o zero h = absurd (omega (arith, h))
+answered_last [] o (suc n) h = omega arith
+answered_last (x ∷ outputs) o zero h = absurd (omega (arith, h))
+answered_last (x ∷ outputs) o (suc n) h =
+    let split = length-append x.octets (octets_of outputs) in
+    let ih = answered_last outputs o (suc n - length x.octets) (omega (arith, split, h)) in
+    omega (arith, ih)
+
+-- more octets, and more outputs, answer no fewer changes
+pub answered_more : (outputs later : List Output) (m n : ℕ) → m ≤ n → answered outputs m ≤ answered (outputs ++ later) n
+answered_more [] later m n h = omega arith
+answered_more (o ∷ outputs) later zero n h = omega arith
+answered_more (o ∷ outputs) later (suc m) zero h = absurd (omega (arith, h))
+answered_more (o ∷ outputs) later (suc m) (suc n) h =
+    let ih = answered_more outputs later (suc m - length o.octets) (suc n - length o.octets) (omega (arith, h)) in
+    omega (arith, ih)
+
+-- a frame that was said is an answer
+said_answers : (outputs : List Output) (command : Command) (n : ℕ) → n ≤ latest (outputs ++ record { octets = frame_of command; after = n } ∷ [])
+unfolding frame_of
+said_answers outputs command n =
+    let o : Output = record { octets = frame_of command; after = n } in
+    let some = frame_length (Canon command) in
+    let split = octets-append outputs (o ∷ []) in
+    let long : length (octets_of (outputs ++ o ∷ [])) ≡ length (octets_of outputs) + length (octets_of (o ∷ [])) =
+    ap (λ (x : List ℕ). length x) split ∙ length-append (octets_of outputs) (octets_of (o ∷ [])) in
+    let own = length-append (frame_of command) [] in
+    answered_last outputs o (length (octets_of (outputs ++ o ∷ []))) (omega (arith, long, own, some))
 
 -- where all were made, each beginning of them was made
 stuck : (cause : Cause) (changes : List Change) (r : Register) → fold go_on_by (let e : Result Register Cause = Err cause in e) changes ≡ Ok r → ⊥
@@ -95,28 +125,26 @@ leaves_next start c step after r few h made leaves = by_output step.output refl 
         → (r ≡ after) ⊎ ((output ≡ None) × MayLeave start c r)
     by_output None e least = elim (cases_lt leaves.changes (length (with_change c.changes step.change))) [ inl l ↦ inr (refl, before least l) | inr l ↦ inl (last l) ]
     by_output (Some command) e least =
-        let n = length (with_change c.changes step.change) in
-        let o : Output = record { octets = frame_of command; after = n } in
-        let is : latest (c.outputs ++ o ∷ []) ≡ n = fold_push (λ (m : ℕ) (x : Output). x.after) 0 c.outputs o in
-        inl (last (omega (arith, is, least)))
+        let said = said_answers c.outputs command (length (with_change c.changes step.change)) in
+        inl (last (omega (arith, said, least)))
+
+-- the changes that outputs answer are made
+pub counted_next : (c : Course) (step : Step) → Counted (length c.changes) c.outputs → Counted (length (advance c step).changes) (advance c step).outputs
+unfolding advance
+counted_next c step counted =
+    let n = length (with_change c.changes step.change) in
+    counted_output n c.outputs step.output (counted_more (length c.changes) n c.outputs (more_changes c.changes step.change) counted)
 
 -- the register after a step is one that a stop may leave then
-pub latest_next : (start : Register) (c : Course) (step : Step) (after : Register) → latest c.outputs ≤ length c.changes → apply_all start c.changes ≡ Ok c.register
+pub latest_next : (start : Register) (c : Course) (step : Step) (after : Register) → Counted (length c.changes) c.outputs → apply_all start c.changes ≡ Ok c.register
     → Makes step.change c.register after → MayLeave start (advance c step) (advance c step).register
-unfolding advance
-latest_next start c step after few h made = record {
-  changes = length (with_change c.changes step.change);
-  least = by_output step.output;
-  most = omega arith;
-  is = sym (ap (λ (x : List Change). result_unwrap_or (apply_all start x) (register_after c.register step.change))
-      (take_all (length (with_change c.changes step.change)) (with_change c.changes step.change) (omega arith))
-      ∙ ap (λ (x : Result Register Cause). result_unwrap_or x (register_after c.register step.change)) (replay_next start c step after h made));
-}
-  where
-    by_output : (output : Option Command) → latest (with_output c.outputs output (length (with_change c.changes step.change))) ≤ length (with_change c.changes step.change)
-    by_output None = let g = more_changes c.changes step.change in omega (arith, few, g)
-    by_output (Some command) =
-        let n = length (with_change c.changes step.change) in
-        let o : Output = record { octets = frame_of command; after = n } in
-        let is : latest (c.outputs ++ o ∷ []) ≡ n = fold_push (λ (m : ℕ) (x : Output). x.after) 0 c.outputs o in
-        omega (arith, is)
+latest_next start c step after counted h made =
+    let next = advance c step in
+    let n = length next.changes in
+    record {
+      changes = n;
+      least = answered_most next.outputs (length (octets_of next.outputs)) n (counted_next c step counted);
+      most = omega arith;
+      is = sym (ap (λ (x : List Change). result_unwrap_or (apply_all start x) next.register) (take_all n next.changes (omega arith))
+          ∙ ap (λ (x : Result Register Cause). result_unwrap_or x next.register) (replay_next start c step after h made));
+    }

@@ -3,13 +3,15 @@ pub mod Runs
 pub mod Serving
 pub mod Served
 pub mod Frames
-pub mod Queues
 pub mod Resources
 pub mod Operating
 pub mod Operated
+pub mod Ranges
+pub mod Queues
 pub mod Jobs
 pub mod Parts
 pub mod World
+pub mod Events
 pub mod TwoStations
 pub mod Promise
 pub mod Fetched

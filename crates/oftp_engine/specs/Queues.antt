@@ -4,13 +4,15 @@ use Rattle.std.specs.List.{AllByRecursion, flat_map}
 use Rattle.oftp_wire.specs.declared.command.Command.{Command}
 use Rattle.oftp_wire.specs.declared.fault.WireFault.{WireFault}
 use Rattle.oftp_wire.specs.declared.frame_fault.FrameFault.{FrameFault}
+use Rattle.oftp_wire.specs.declared.reason.SessionReason.TheVariants.{ResourcesNotAvailable}
 use Rattle.oftp_wire.specs.Kinds.{command_of}
 use Rattle.oftp_wire.specs.Spelling.{Canon, IsFit}
 use Rattle.oftp_wire.specs.Stream.{Reads}
 use Rattle.oftp_register.specs.Register.{Register}
 use Rattle.oftp_session.specs.Settings.{Setting}
-use Rattle.oftp_session.specs.Phases.{frame_of, is_over}
+use Rattle.oftp_session.specs.Phases.{esid_of, frame_of, is_over}
 use Rattle.oftp_session.specs.Steps.{came}
+use Rattle.oftp_engine.specs.Ranges.{StartsInRange}
 use Rattle.oftp_engine.specs.Runs.{Course, Output, advance, is_stopped, octets_of, run, settled, started}
 use Rattle.oftp_engine.specs.Serving.{last_frame}
 
@@ -47,10 +49,11 @@ pub record IsHeard (said : List Command) (octets : List ℕ) : Type 0 where
 abbrev pub QueuesAreHeard : Type 0
 QueuesAreHeard = (said : List Command) (octets lost : List ℕ) → AllByRecursion IsSayable said → in_frames said ≡ octets ++ lost → IsHeard said octets
 
--- what a session says are commands, each as a frame
+-- What a session says are commands, each as a frame. Where it begins in the ranges of book and register, a frame can say each of them.
 abbrev pub RunsSayCommands : Type 0
 RunsSayCommands = (limit : Option ℕ) (setting : Setting) (given : List ℕ) (r : Register)
     → (said : List Command) × (map (λ (o : Output). o.octets) (run limit given (started setting r)).outputs ≡ map frame_of said)
+    × (StartsInRange setting r → AllByRecursion IsSayable said)
 
 -- octets of a queue of commands that is cut off somewhere
 pub record IsQueue (octets : List ℕ) : Type 0 where
@@ -69,3 +72,16 @@ pub record SaysQueues (outs : List Output) : Type 0 where
 abbrev pub RunsSayQueues : Type 0
 RunsSayQueues = (limit : Option ℕ) (setting : Setting) (given : List ℕ) (r : Register) (outs later : List Output)
     → (run limit given (started setting r)).outputs ≡ outs ++ later → SaysQueues outs
+
+-- The commands of these outputs, and how the other station hears them where so many octets of them are out, or ESID 08 or a beginning of it
+-- behind them all.
+pub record AreHeard (outs : List Output) : Type 0 where
+  pub said : List Command
+  pub frames : map (λ (o : Output). o.octets) outs ≡ map frame_of said
+  pub cut : (count : ℕ) → IsHeard said (take count (octets_of outs))
+  pub ended : (count : ℕ) → IsHeard (said ++ esid_of ResourcesNotAvailable ∷ []) (octets_of outs ++ take count last_frame)
+
+-- so it is wherever a run ends that begins in its ranges
+abbrev pub RunsAreHeard : Type 0
+RunsAreHeard = (limit : Option ℕ) (setting : Setting) (given : List ℕ) (r : Register) (outs later : List Output)
+    → (run limit given (started setting r)).outputs ≡ outs ++ later → StartsInRange setting r → AreHeard outs

@@ -116,7 +116,7 @@ module _ (setting : Setting) (given : List ℕ) (old new : Scene) where
     pub told : new.told ≡ next_count old.told
 
   -- the office told a fault: whole outputs are out, and after them ESID 08 or as much of it as the writer took before it told a fault.
-  -- The register is the one after some changes, at least those that were answered
+  -- The register is the one after some changes, at least those that were answered, and at most those up to the step that it stopped within
   pub record IsOfficeFault : Type 0 where
     pub outs : List Output
     pub later : List Output
@@ -130,6 +130,7 @@ module _ (setting : Setting) (given : List ℕ) (old new : Scene) where
     pub stopped : StopsWithin setting given old.office.register outs made
     pub register : new.office.stands → apply_all old.office.register (take made course.changes) ≡ Ok new.office.register
     pub left : OfficeLeaves course old.office.register (answered outs (length (octets_of outs))) made new.office
+    pub within : OfficeLeaves (advance stopped.at stopped.step) old.office.register (answered outs (length (octets_of outs))) made new.office
     pub faults : new.office.told ≡ next_count old.office.told
 
   -- memory ran out: a beginning of the outputs is out, and nothing of the next step is made

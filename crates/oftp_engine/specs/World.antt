@@ -1,21 +1,20 @@
 -- Two stations, and what is on its way between them.
-use Rattle.std.specs.Prelude.{ℕ, ◌&&◌, Bool, nat_le, if◌then◌else◌, List, [], ◌∷◌, ◌++◌, length, take, fold, Option, None, Some, is_some}
+use Rattle.std.specs.Prelude.{◌≡◌, ℕ, ◌&&◌, Bool, true, false, nat_le, if◌then◌else◌, List, [], ◌∷◌, ◌++◌, length, take, fold, Option, None, Some, is_some}
 use Rattle.std.specs.Result.{result_unwrap_or}
 use Rattle.oftp_wire.specs.declared.command.Command.{Command}
 use Rattle.oftp_partners.specs.Book.{BookData}
 use Rattle.oftp_partners.specs.declared.partner.Partner.{Partner}
-use Rattle.oftp_vfile.specs.declared.format.Format.{Format}
 use Rattle.oftp_register.specs.declared.change.Change.{Change}
 use Rattle.oftp_register.specs.declared.change.Change.TheVariants.{Submit, Issue}
-use Rattle.oftp_register.specs.declared.entry.Identity.{Identity}
-use Rattle.oftp_register.specs.declared.entry.ResponseKind.TheVariants.{EndResponse, NegativeEndResponse}
 use Rattle.oftp_register.specs.Register.{Register}
-use Rattle.oftp_register.specs.Changes.{apply, apply_all}
-use Rattle.oftp_register.specs.Soundness.{IsFile}
+use Rattle.oftp_register.specs.Changes.{apply_all}
+use Rattle.oftp_register.specs.Soundness.{IsFit}
 use Rattle.oftp_wire.specs.declared.reason.SessionReason.TheVariants.{ResourcesNotAvailable}
-use Rattle.oftp_session.specs.Phases.{Step, esid_of, is_over}
+use Rattle.oftp_session.specs.Phases.{Step, esid_of, is_over, register_after}
 use Rattle.oftp_session.specs.Steps.{came, turned}
-use Rattle.oftp_engine.specs.Runs.{Course, Output, started, advance}
+use Rattle.oftp_engine.specs.declared.operating.Operator.{Operator}
+use Rattle.oftp_engine.specs.Operating.{Deed, IsDeed}
+use Rattle.oftp_engine.specs.Runs.{Course, Output, started, advance, answered, octets_of}
 
 -- a station: its book and its entry for the other one, the register that its last session left, its session if it has one, and the
 -- commands that are on their way to it
@@ -58,9 +57,10 @@ turned_round w = record { one = w.other; other = w.one }
 abbrev pub stepped : World → Course → Step → World
 stepped w c s = record { one = with_course w.one (advance c s); other = told w.other s.output }
 
--- what a stop leaves: the register after so many of the changes of the session, of which those stay that an output answered
+-- What a stop leaves: the register after so many of the changes of the session. All octets of these outputs are out, so those changes stay
+-- that they answered.
 abbrev pub latest : List Output → ℕ
-latest outputs = fold (λ (n : ℕ) (o : Output). o.after) 0 outputs
+latest outputs = answered outputs (length (octets_of outputs))
 
 abbrev pub left_after : Register → Course → ℕ → Register
 left_after start c n = result_unwrap_or (apply_all start (take n c.changes)) c.register
@@ -94,34 +94,27 @@ left_of TakesTurn coming = coming
 left_of TakesCommand [] = []
 left_of TakesCommand (command ∷ coming) = coming
 
--- a file that an operator hands in
-pub record HandedIn : Type 0 where
-  pub dataset : List ℕ
-  pub date : List ℕ
-  pub time : List ℕ
-  pub format : Format
-  pub longest : ℕ
-  pub description : List ℕ
-  pub rows : List (List ℕ)
-  pub is_file : IsFile format longest rows
+-- an operator's call, and what it does by each book and of each register, as `operate` does it (specs/Operating.antt)
+pub record Order : Type 0 where
+  pub call : Operator
+  pub deed : BookData → Register → Deed
+  pub is : (book : BookData) (r : Register) → IsDeed book r call (deed book r)
 
--- what an operator asks of a station
-pub data Order : Type 0 where
-  ToSubmit : HandedIn → Order
-  ToRelease : (number : ℕ) → Order
-  ToRefuse : (number reason : ℕ) (text : List ℕ) → Order
+-- a change that no session makes: a file is to be sent, to anyone, or a response to a file that came
+abbrev pub is_ordered : Change → Bool
+is_ordered (Submit identity format longest description rows) = true
+is_ordered (Issue n kind reason text) = true
+is_ordered _ = false
 
--- a file goes from the station to the other one
-abbrev pub called_for : Station → Order → Change
-called_for s (ToSubmit f) =
-    let identity : Identity = record { dataset = f.dataset; date = f.date; time = f.time; originator = s.book.station.code; destination = s.partner.code } in
-    Submit identity f.format f.longest f.description f.rows
-called_for s (ToRelease number) = Issue number EndResponse 0 []
-called_for s (ToRefuse number reason text) = Issue number NegativeEndResponse reason text
+-- such a change by another caller of the office, whatever its names and words, fit as `commit` asks
+pub record Alteration : Type 0 where
+  pub change : Change
+  pub ordered : is_ordered change ≡ true
+  pub fit : (r : Register) → IsFit r change
 
 -- what happens at the one station: it does a step, loses the connection, stops between steps or within one, ends the session at a fault
--- of its office within a step, does what an operator asks, or calls the other. A stop, or a fault of the office, leaves so many of the
--- session's changes
+-- of its office within a step, does what an operator asks, has its office altered so by another caller, or calls the other. A stop, or a
+-- fault of the office, leaves so many of the session's changes
 pub data Happening : Type 0 where
   Does : Doing → Happening
   Breaks : Happening
@@ -129,6 +122,7 @@ pub data Happening : Type 0 where
   StopsInStep : Doing → (changes : ℕ) → Happening
   FailsInStep : Doing → (changes : ℕ) → Happening
   Orders : Order → Happening
+  Alters : Alteration → Happening
   Calls : Happening
 
 -- a happening where the station has a session
@@ -150,7 +144,8 @@ in_session w c Breaks = record w { one = stopped_with w.one c.register }
 in_session w c (Stops n) = stops_at w c c.outputs n
 in_session w c (StopsInStep doing n) = stops_within w c n (step_of c doing w.one.coming)
 in_session w c (FailsInStep doing n) = fails_within w c n (step_of c doing w.one.coming)
-in_session w c (Orders call) = w
+in_session w c (Orders order) = w
+in_session w c (Alters alteration) = w
 in_session w c Calls = w
 
 -- both begin a session: the one calls
@@ -161,6 +156,10 @@ abbrev pub calls : World → Option Course → World
 calls w None = record { one = begins w.one (Some w.one.partner); other = begins w.other None }
 calls w (Some c) = w
 
+-- a change where there is no session, if there is one
+abbrev pub changed_by : World → Option Change → World
+changed_by w change = record w { one = record w.one { start = register_after w.one.start change } }
+
 -- a happening where it has none
 unfoldable pub without_session : World → Happening → World
 without_session w (Does doing) = w
@@ -168,7 +167,8 @@ without_session w Breaks = w
 without_session w (Stops n) = w
 without_session w (StopsInStep doing n) = w
 without_session w (FailsInStep doing n) = w
-without_session w (Orders call) = record w { one = record w.one { start = result_unwrap_or (apply w.one.start (called_for w.one call)) w.one.start } }
+without_session w (Orders order) = changed_by w (order.deed w.one.book w.one.start).change
+without_session w (Alters alteration) = changed_by w (Some alteration.change)
 without_session w Calls = calls w w.other.session
 
 abbrev pub happens_in : World → Happening → Option Course → World

@@ -3,10 +3,12 @@
 ghost use Rattle.std.specs.Prelude.{◌≡◌, ◌<◌, ℕ, All, List, Option, Ok};
 ghost use Rattle.oftp_wire.specs.declared.frame_fault.FrameFault.{FrameFault};
 ghost use Rattle.oftp_wire.specs.Stream.{Reads};
+ghost use Rattle.oftp_engine.specs.Events.{DeedsAreOrders, StopsLeavePrefixes};
 ghost use Rattle.oftp_engine.specs.Frames.{over_commands};
 ghost use Rattle.oftp_engine.specs.Parts.{JobsMakeTheFile, NoCountPasses, PartsMakeTheFile};
 ghost use Rattle.oftp_engine.specs.Promise.{TwoStations};
-ghost use Rattle.oftp_engine.specs.Queues.{QueuesAreHeard, RunsSayCommands, RunsSayQueues};
+ghost use Rattle.oftp_engine.specs.Queues.{QueuesAreHeard, RunsAreHeard, RunsSayCommands, RunsSayQueues};
+ghost use Rattle.oftp_engine.specs.Ranges.{RangesAreKept};
 ghost use Rattle.oftp_engine.specs.Resources.{PayloadsNeverLackMemory, RunsNeverLackResources};
 ghost use Rattle.oftp_engine.specs.Runs.{Course, run, started};
 ghost use Rattle.oftp_session.specs.Settings.{Setting};
@@ -29,10 +31,18 @@ pub fn queues_are_heard()
 {}
 
 /// What a session says are commands, each as a frame, and what it has out at its end, or at a fault, is these frames in order, cut off
-/// somewhere. It does nothing; its contract is the law.
+/// somewhere. Where it begins with a book, a partner and a register whose fields are in range, each of these commands is one that a
+/// frame can say, so the other one hears the first of them as they were said. It does nothing; its contract is the law.
 pub fn runs_say_queues()
     ensures commands { RunsSayCommands }
     ensures queues { RunsSayQueues }
+    ensures heard { RunsAreHeard }
+{}
+
+/// The fields of a register stay in range: those of an empty one are, and they are after the changes of a session, wherever it stops,
+/// and after an operator's call whose words are a text. It does nothing; its contract is the law.
+pub fn ranges_are_kept()
+    ensures { RangesAreKept }
 {}
 
 /// No output of a run is ESID 08, whatever the book, the partner, the octets and the register, also where the writer told a fault; and no
@@ -65,9 +75,21 @@ pub fn no_count_passes()
 {}
 
 /// Two stations that only the connection joins keep their promise after every list of events: sessions, commands that come or are
-/// lost, breaks, stops and faults of an office at any change, and operators' calls. What the one holds as handed over is whole at
-/// the other, what is whole there is a file of the one, and what the one holds as delivered or returned was answered so there. It
-/// does nothing; its contract is the law.
+/// lost, breaks, stops and faults of an office at any change, operators' calls, and files and responses that another caller commits.
+/// What the one holds as handed over is whole at the other, what is whole there is a file of the one, and what the one holds as
+/// delivered or returned was answered so there. It does nothing; its contract is the law.
 pub fn two_stations()
     ensures { TwoStations }
+{}
+
+/// Each deed of an operator's call at a station without a session, to any partner of its book, is an event of two stations: it leaves
+/// the register that [`operate`](crate::operate) leaves, and nothing else is changed. It does nothing; its contract is the law.
+pub fn deeds_are_orders()
+    ensures { DeedsAreOrders }
+{}
+
+/// What a stop leaves of a session, in the words of [`serve`](crate::serve), is what an event of two stations leaves: between two steps
+/// or within one, where so many octets of its frame are out. It does nothing; its contract is the law.
+pub fn stops_leave_prefixes()
+    ensures { StopsLeavePrefixes }
 {}

@@ -10,8 +10,9 @@ mod submitting;
 
 pub use content::write_content;
 pub use laws::{
-    changes_are_made, folds_over_frames, jobs_make_the_file, no_count_passes, parts_make_the_file,
-    runs_never_lack_resources, two_stations,
+    changes_are_made, deeds_are_orders, folds_over_frames, jobs_make_the_file, no_count_passes,
+    parts_make_the_file, queues_are_heard, ranges_are_kept, runs_never_lack_resources,
+    runs_say_queues, stops_leave_prefixes, two_stations,
 };
 pub use oftp_io::Port;
 pub use operating::{Operator, Refusal, Told, operate};
