@@ -23,7 +23,7 @@ use Rattle.oftp_store.specs.Numbers.{file_number}
 use Rattle.oftp_store.specs.Reads.{IsPlaced}
 use Rattle.oftp_store.specs.Allocations.{IsIncomingAllocationOf, goes_on, goes_on_in}
 use Rattle.oftp_store.specs.declared.changes.edit.Edit.{Edit}
-use Rattle.oftp_store.specs.declared.changes.edit.Deed.TheVariants.{AddIncoming, CutRows, SetHeader}
+use Rattle.oftp_store.specs.declared.changes.edit.Deed.TheVariants.{AddFile, CutRows, SetHeader}
 use Rattle.oftp_store.specs.declared.queries.progress.IncomingProgress.{IncomingProgress}
 use Rattle.oftp_store.specs.declared.queries.allocation.IncomingAllocation.TheVariants as incoming_allocation
 use Rattle.oftp_store.proofs.CommitLemmas.{IsMadeBy}
@@ -91,7 +91,7 @@ full_start r it format longest description count full first =
     no_room r (new_incoming it format longest description) count is.0 (at_first count first) is.1
 
 pub made_by_begin : (r : Register) (it : Bor Identity) (format : Format) (longest : ℕ) (description : Bor Words) (count n : ℕ) → IsIncomingAllocationOf r it.now (incoming_allocation.New n) → count ≤ 0
-    → (let edit : Edit = record { no = n; deed = AddIncoming it format longest description } in IsMadeBy (edit ∷ []) r (change.Start it.now format longest description.now count))
+    → (let edit : Edit = record { no = n; deed = AddFile side.Incoming it format longest description } in IsMadeBy (edit ∷ []) r (change.Start it.now format longest description.now count))
 unfolding apply
 made_by_begin r it format longest description count n free first =
     let is = new_is r.limits (length r.incoming) n (file_number r side.Incoming it.now) free in

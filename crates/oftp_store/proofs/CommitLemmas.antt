@@ -1,5 +1,6 @@
 -- How look-ups and a transaction make a commit.
-use Rattle.std.proofs.Common.{ℕ, List, length, All, ◌≡◌, ◌≤◌, ◌<◌, ◌^◌, ◌⊎◌, Bool, true, false, cond, Option, None, Result, Ok, Err, IsTrue, OnOk, OnErr, inl, inr, refl, sym, ap, subst, ◌∙◌, arith}
+use Rattle.std.proofs.Common.{ℕ, List, All, ◌≡◌, ◌≤◌, ◌⊎◌, Bool, true, false, cond, Option, Some, None, Result, Ok, Err, IsTrue, OnOk, OnErr, IfErr, inl, inr, refl, sym, ap, subst, ◌∙◌, arith}
+use Rattle.std.specs.Result.{IsErrAnd}
 use Rattle.sqlite.specs.Tree.{Trees}
 use Rattle.sqlite.specs.Effect.{Database}
 use Rattle.sqlite.specs.View.{doubt}
@@ -16,7 +17,6 @@ use Rattle.oftp_register.specs.declared.office.OfficeFault.{OfficeFault}
 use Rattle.oftp_register.specs.declared.office.OfficeFault.TheVariants.{Store, Memory, Refused}
 use Rattle.oftp_register.specs.Register.{Register}
 use Rattle.oftp_register.specs.Changes.{apply}
-use Rattle.oftp_register.specs.LookUps.{entry_at}
 use Rattle.oftp_register.specs.Soundness.{IsFit, IsSound}
 use Rattle.oftp_register.specs.Offices.{IsFailure, IsRefused}
 use Rattle.oftp_tables.specs.Schema.{office_schema}
@@ -24,12 +24,11 @@ use Rattle.oftp_tables.specs.Transactions.{IsSpared, IsUndone, MayLeave}
 use Rattle.oftp_tables.specs.Tables.{Tables, register_in}
 use Rattle.oftp_tables.specs.Stands.{Holds, IsContentOf, Stands}
 use Rattle.oftp_tables.specs.Statements.{IsOffice, Looks, Moves}
-use Rattle.oftp_store.specs.Commits.{AreCarriedOut, CommitsOn, EndsCommit, MakesEdits, MakesIf, NeedsFile}
+use Rattle.oftp_store.specs.Commits.{AreCarriedOut, CommitsOn, EndsCommit, Finds, MakesEdits, NeedsFile, NeedsFit}
 use Rattle.oftp_store.specs.Edits.{AreEdited, IsStorable, MakesAll}
 use Rattle.oftp_store.specs.declared.changes.edit.Edit.{Edit}
 use Rattle.oftp_register.proofs.KeepLemmas.{apply_keeps}
 use Rattle.oftp_tables.proofs.BackLemmas.{register_of}
-use Rattle.oftp_store.proofs.NumberLemmas.{entry_beyond}
 
 -- ---- look-ups
 
@@ -145,26 +144,47 @@ commits_refused limits change old new x cause looks refuses = record {
   left = λ k stands fit db h. inl (looks.left k stands.holds.schema db h);
 }
 
--- ---- a commit that ends at the look-up of its file
+-- ---- a commit that ends at the look-ups of its file
 
-pub ends_failed : {X A : Type 0} (files : Register → List X) (n : ℕ) (old new : State) (fault : OfficeFault) → Looks {T = A} old new (Err fault) → EndsCommit files n old new fault
-ends_failed files n old new fault looks limits change needs = commits_failed limits change old new fault looks
+pub ends_failed : {A : Type 0} (limits : Limits) (Needs : Change → Type 0) (old new : State) (fault : OfficeFault) → Looks {T = A} old new (Err fault) → EndsCommit limits Needs old new fault
+ends_failed limits Needs old new fault looks change needs = commits_failed limits change old new fault looks
 
-pub ends_unknown : {X A : Type 0} (files : Register → List X) (n : ℕ) (old new : State) (x : A) → Looks old new (Ok x)
-    → (HasCleanDisk new → (limits : Limits) → Stands limits old → entry_at n (files (register_in limits old.now.trees)) ≡ None) → EndsCommit files n old new (Refused Unknown)
-ends_unknown files n old new x looks none limits change needs = commits_refused limits change old new x Unknown looks (λ k stands. needs.unknown _ (none k limits stands))
+pub ends_unknown : {A B : Type 0} (limits : Limits) (told : Register → ℕ → Option A → Type 0) (n : ℕ) (old new : State) (x : B) → Looks old new (Ok x)
+    → (HasCleanDisk new → Stands limits old → told (register_in limits old.now.trees) n None) → EndsCommit limits (NeedsFile told n) old new (Refused Unknown)
+ends_unknown limits told n old new x looks none change needs = commits_refused limits change old new x Unknown looks (λ k stands. needs.unknown _ (none k stands))
 
 -- no file has a number from 2^63 on, and such a change is refused with no look at the database
-pub ends_beyond : {X : Type 0} (files : Register → List X) (n : ℕ) (s : State) → 2 ^ 63 ≤ n
-    → ((limits : Limits) → Stands limits s → length (files (register_in limits s.now.trees)) < 2 ^ 63) → EndsCommit files n s s (Refused Unknown)
-ends_beyond files n s far few limits change needs = record {
+pub ends_beyond : {A : Type 0} (limits : Limits) (told : Register → ℕ → Option A → Type 0) (n : ℕ) (s : State)
+    → ((r : Register) (db : Trees) → Tables r db → told r n None) → EndsCommit limits (NeedsFile told n) s s (Refused Unknown)
+ends_beyond limits told n s none change needs = record {
   clean = omega arith;
   mode = λ m. m;
   done = λ clean stands fit. tt;
-  refused = λ clean stands. (needs.unknown _ (entry_beyond n (files (register_in limits s.now.trees)) (omega (arith, far, few limits stands))), stands);
+  refused = λ clean stands. (needs.unknown _ (none _ s.now.trees stands.holds.tables), stands);
   same = λ clean stands was_open. refl;
   left = λ clean stands fit db there. inl there;
 }
+
+-- the file is there, and what is told of it doesn't fit
+pub ends_unfit : {A : Type 0} (limits : Limits) (told : Register → ℕ → Option A → Type 0) (fits : A → Bool) (n : ℕ) (old new : State) (file : A) (allowed : Bool) (fault : OfficeFault)
+    → Finds told n old new file → allowed ≡ fits file → (allowed ≡ false) × (fault ≡ Refused Unfit) → EndsCommit limits (NeedsFit told fits n) old new fault
+ends_unfit limits told fits n old new file allowed fault finds tested unfit change needs =
+    rw unfit.1 (commits_refused limits change old new (Some file) Unfit finds.looks (λ k stands. needs.unfit _ file (finds.answer k limits stands) (sym tested ∙ unfit.0)))
+
+pub ends_unfound : {A : Type 0} (limits : Limits) (told : Register → ℕ → Option A → Type 0) (fits : A → Bool) (n : ℕ) (old new : State) (fault : OfficeFault)
+    → EndsCommit limits (NeedsFile told n) old new fault → EndsCommit limits (NeedsFit told fits n) old new fault
+ends_unfound limits told fits n old new fault ends change needs = ends change (record { unknown = needs.unknown })
+
+-- a fault that `?` passes on
+
+pub err_passed : {T : Type 0} (P : OfficeFault → Type 0) (told : OfficeFault) (result : Result T OfficeFault) → IsErrAnd result (λ (x : OfficeFault). x ≡ told) → P told → IfErr result P
+err_passed P told (Ok x) is h = absurd is
+err_passed P told (Err x) is h = subst P (sym is) h
+
+pub passed_on : {T : Type 0} (limits : Limits) (change : Change) (old new : State) (told : OfficeFault) (result : Result T OfficeFault) → IsErrAnd result (λ (x : OfficeFault). x ≡ told)
+    → CommitsOn {T = T} limits change old new (Err told) → CommitsOn limits change old new result
+passed_on limits change old new told (Ok x) is ends = absurd is
+passed_on {T = T} limits change old new told (Err x) is ends = subst (λ (fault : OfficeFault). CommitsOn {T = T} limits change old new (Err fault)) (sym is) ends
 
 -- the database can't hold what is to be made
 commits_unstored : {A : Type 0} (limits : Limits) (change : Change) (old new : State) (x : A) → Looks old new (Ok x) → CommitsOn {T = Unit {0}} limits change old new (Err Store)
@@ -277,13 +297,34 @@ pub commits_by : {S A : Type 0} (g : Ghosts S) (edits : List Edit) (limits : Lim
     → MakesEdits edits g mid new result → CommitsOn limits change (state g old) (state g new) result
 commits_by g edits limits change old mid new x result looks by makes = commits_with g edits limits change old mid new x result looks by makes.made
 
--- a commit that ends with edits that the state of its file allows or not
-pub commits_if : {S A : Type 0} (g : Ghosts S) (edits : List Edit) (allowed : Bool) (limits : Limits) (change : Change) (old mid new : Held S) (x : A) (result : Result (Unit {0}) OfficeFault)
-    → Looks (state g old) (state g mid) (Ok x) → (HasCleanDisk (state g mid) → Stands limits (state g old) → IsMadeIf allowed edits (register_in limits (state g old).now.trees) change)
-    → MakesIf allowed edits g mid new result → CommitsOn limits change (state g old) (state g new) result
-commits_if g edits true limits change old mid new x result looks by makes =
-    commits_by g edits limits change old mid new x result looks
-    (λ k stands. let m = by k stands in record { now = m.now; is = m.is; limits = m.limits; edited = m.edited refl }) (makes.made refl)
-commits_if g edits false limits change old mid new x result looks by makes =
-    let refused = makes.refused refl in
-    rw (refused.0, refused.1) (commits_refused limits change (state g old) (state g mid) x Unfit looks (λ k stands. (by k stands).is))
+-- ---- the changes of a file by its number
+
+-- a change of the file with a number is made by these edits of what is told of it, where that fits, and is refused else
+pub record IsOfFile {A : Type 0} (told : Register → ℕ → Option A → Type 0) (fits : A → Bool) (edits : A → List Edit) (n : ℕ) (change : Change) : Type 0 where
+  pub unknown : (r : Register) → told r n None → apply r change ≡ Err Unknown
+  pub known : (r : Register) (file : A) → told r n (Some file) → IsMadeIf (fits file) (edits file) r change
+
+pub needs_file : {A : Type 0} (told : Register → ℕ → Option A → Type 0) (fits : A → Bool) (edits : A → List Edit) (n : ℕ) (change : Change) → IsOfFile told fits edits n change
+    → NeedsFile told n change
+needs_file told fits edits n change is = record { unknown = is.unknown }
+
+pub needs_fit : {A : Type 0} (told : Register → ℕ → Option A → Type 0) (fits : A → Bool) (edits : A → List Edit) (n : ℕ) (change : Change) → IsOfFile told fits edits n change
+    → NeedsFit told fits n change
+needs_fit told fits edits n change is = record {
+  unknown = is.unknown;
+  unfit = λ r file here unfit. let m = is.known r file here in m.is ∙ ap (λ b. cond b (Ok m.now) (Err Unfit)) unfit;
+}
+
+pub commits_unfit : {A : Type 0} (limits : Limits) (told : Register → ℕ → Option A → Type 0) (fits : A → Bool) (edits : A → List Edit) (n : ℕ) (change : Change) (old new : State)
+    (file : A) (allowed : Bool) (fault : OfficeFault) → IsOfFile told fits edits n change → Finds told n old new file → allowed ≡ fits file → (allowed ≡ false) × (fault ≡ Refused Unfit)
+    → CommitsOn {T = Unit {0}} limits change old new (Err fault)
+commits_unfit limits told fits edits n change old new file allowed fault is finds tested unfit =
+    ends_unfit limits told fits n old new file allowed fault finds tested unfit change (needs_fit told fits edits n change is)
+
+pub commits_fit : {S A : Type 0} (g : Ghosts S) (told : Register → ℕ → Option A → Type 0) (fits : A → Bool) (edits : A → List Edit) (n : ℕ) (limits : Limits) (change : Change)
+    (old mid new : Held S) (file : A) (result : Result (Unit {0}) OfficeFault) → IsOfFile told fits edits n change → Finds told n (state g old) (state g mid) file → fits file ≡ true
+    → MakesEdits (edits file) g mid new result → CommitsOn limits change (state g old) (state g new) result
+commits_fit g told fits edits n limits change old mid new file result is finds fit makes =
+    commits_by g (edits file) limits change old mid new (Some file) result finds.looks (λ k stands.
+    let m = is.known _ file (finds.answer k limits stands) in
+    record { now = m.now; is = m.is ∙ ap (λ b. cond b (Ok m.now) (Err Unfit)) fit; limits = m.limits; edited = m.edited fit }) makes

@@ -14,11 +14,13 @@ use Rattle.oftp_tables.proofs.TermLemmas.{cast_null, cast_int}
 use Rattle.oftp_wire.specs.declared.field.Text.{Text as Words}
 use Rattle.oftp_register.specs.declared.entry.Dispatch.TheVariants.{Due, Sent}
 use Rattle.oftp_register.specs.declared.entry.Identity.{Identity}
-use Rattle.oftp_register.specs.declared.entry.IncomingState.TheVariants.{Open, Whole}
+use Rattle.oftp_register.specs.declared.entry.IncomingState.TheVariants.{Whole}
 use Rattle.oftp_register.specs.declared.entry.OutgoingState.{OutgoingState}
-use Rattle.oftp_register.specs.declared.entry.OutgoingState.TheVariants.{Waiting}
+use Rattle.oftp_register.specs.declared.entries.Side.{Side}
+use Rattle.oftp_register.specs.declared.entries.Side.TheVariants as side
 use Rattle.oftp_register.specs.declared.entry.ResponseKind.{ResponseKind}
 use Rattle.oftp_register.specs.Register.{Register, Incoming, Issued, Outgoing}
+use Rattle.oftp_register.specs.Changes.{new_incoming, new_outgoing}
 use Rattle.oftp_tables.specs.Statements.{Moves}
 use Rattle.oftp_tables.specs.Tables.{HasReason, HasRefusal, Tables, bodies_from, body_rows, format_text, identity_values, in_file_row, issued_from, issued_if_any, issued_row, kind_text, less_rowids, number_value, out_file_row, out_state_text, reason_text, refusal_text, rows_from, rows_in, rows_out}
 use Rattle.oftp_tables.proofs.SplitLemmas.{HaveNumber, IsAmong, IsSplit, among, pieces_below, pieces_from, rows_pieces}
@@ -28,9 +30,9 @@ use Rattle.oftp_tables.proofs.PerformLemmas.{moves_as}
 use Rattle.oftp_tables.proofs.BackLemmas.{at_place}
 use Rattle.std.proofs.Common.{Bor}
 use Rattle.oftp_store.specs.Edits.{Makes, header_params}
-use Rattle.oftp_store.specs.Texts.{add_incoming_text, add_issued_text, add_outgoing_text, set_header_text, set_outgoing_text, set_sent_text, set_whole_text}
-use Rattle.oftp_store.specs.declared.changes.edit.Deed.TheVariants.{AddIncoming, AddIssued, AddOutgoing, SetHeader, SetOutgoing, SetSent, SetWhole}
-use Rattle.oftp_store.proofs.EditTexts.{add_incoming_is, add_incoming_plain, add_incoming_terms, add_issued_is, add_issued_plain, add_issued_terms, add_outgoing_is, add_outgoing_plain, add_outgoing_terms, set_header_is, set_header_plain, set_header_terms, set_outgoing_is, set_outgoing_plain, set_outgoing_terms, set_sent_is, set_sent_plain, set_sent_terms, set_whole_is, set_whole_plain, set_whole_terms}
+use Rattle.oftp_store.specs.Texts.{add_file_text, add_issued_text, set_header_text, set_outgoing_text, set_sent_text, set_whole_text}
+use Rattle.oftp_store.specs.declared.changes.edit.Deed.TheVariants.{AddFile, AddIssued, SetHeader, SetOutgoing, SetSent, SetWhole}
+use Rattle.oftp_store.proofs.EditTexts.{add_file_plain, add_file_terms, add_incoming_is, add_issued_is, add_issued_plain, add_issued_terms, add_outgoing_is, set_header_is, set_header_plain, set_header_terms, set_outgoing_is, set_outgoing_plain, set_outgoing_terms, set_sent_is, set_sent_plain, set_sent_terms, set_whole_is, set_whole_plain, set_whole_terms}
 
 -- ---- one row an entry
 
@@ -200,9 +202,9 @@ all_and_last P (y ∷ xs) x all last = (all.0, all_and_last P xs x all.1 last)
 
 makes_incoming : (n : ℕ) → n < 2 ^ 63 → (identity : Bor Identity) (format : Format) (longest : ℕ) (description : Bor Words) (old new : Trees)
     → PutsIn n our_in_file (number_value n ∷ Null ∷ identity_values identity.now ++ Text (format_text format) ∷ number_value longest ∷ Text description.now ∷ Text (codes "open") ∷ []) old new
-    → Makes n (AddIncoming identity format longest description) old new
+    → Makes n (AddFile side.Incoming identity format longest description) old new
 makes_incoming n held identity format longest description old new made r s did kept =
-    let f : Incoming = record { identity = identity.now; format = format; longest = longest; description = description.now; state = Open; rows = []; response = None } in
+    let f : Incoming = new_incoming identity.now format longest description.now in
     let place = behind in_file_row (λ k x. refl) n r.incoming did.0.number in
     let was : old in_file_tree ≡ place.lo ++ [] = kept.incoming.headers ∙ place.was in
     let row = made.rows place.lo [] (in_file_row n f) place.split refl (simp (cast_null, cast_int)) was in
@@ -225,9 +227,9 @@ makes_incoming n held identity format longest description old new made r s did k
 makes_new_outgoing : (n : ℕ) → n < 2 ^ 63 → (identity : Bor Identity) (format : Format) (longest : ℕ) (description : Bor Words) (old new : Trees)
     → PutsIn n our_out_file (number_value n ∷ Null ∷ identity_values identity.now ++ Text (format_text format) ∷ number_value longest ∷ Text description.now
     ∷ number_value 0 ∷ Text (codes "waiting") ∷ Text [] ∷ []) old new
-    → Makes n (AddOutgoing identity format longest description) old new
+    → Makes n (AddFile side.Outgoing identity format longest description) old new
 makes_new_outgoing n held identity format longest description old new made r s did kept =
-    let f : Outgoing = record { identity = identity.now; format = format; longest = longest; description = description.now; rows = []; mark = 0; state = Waiting } in
+    let f : Outgoing = new_outgoing identity.now format longest description.now [] in
     let place = behind out_file_row (λ k x. refl) n r.outgoing did.0.number in
     let was : old out_file_tree ≡ place.lo ++ [] = kept.outgoing.headers ∙ place.was in
     let row = made.rows place.lo [] (out_file_row n f) place.split refl (simp (cast_null, cast_int)) was in
@@ -246,23 +248,19 @@ makes_new_outgoing n held identity format longest description old new made r s d
       received = kept.received;
     }))
 
-pub incoming_added : (old new : State) (n : ℕ) → n < 2 ^ 63 → (identity : Bor Identity) (format : Format) (longest : ℕ) (description : Bor Words) (count : ℕ) → old.now.schema ≡ office_schema
-    → ExecutesInside 0 add_incoming_text (header_params n identity.now format longest description.now) old new (Ok count)
-    → Moves (Makes n (AddIncoming identity format longest description)) old.now new.now
-incoming_added old new n held identity format longest description count has h =
+pub file_added : (which : Side) (old new : State) (n : ℕ) → n < 2 ^ 63 → (identity : Bor Identity) (format : Format) (longest : ℕ) (description : Bor Words) (count : ℕ)
+    → old.now.schema ≡ office_schema → ExecutesInside 0 (add_file_text which) (header_params n identity.now format longest description.now) old new (Ok count)
+    → Moves (Makes n (AddFile which identity format longest description)) old.now new.now
+file_added side.Incoming old new n held identity format longest description count has h =
     moves_as _ _ old.now new.now (makes_incoming n held identity format longest description)
-    (inserts_row old new add_incoming_text 1 our_in_file add_incoming_terms 11 (header_params n identity.now format longest description.now)
+    (inserts_row old new (add_file_text side.Incoming) 1 our_in_file (add_file_terms side.Incoming) 11 (header_params n identity.now format longest description.now)
     (number_value n ∷ Null ∷ identity_values identity.now ++ Text (format_text format) ∷ number_value longest ∷ Text description.now ∷ Text (codes "open") ∷ []) n count
-    has add_incoming_is add_incoming_plain refl refl h)
-
-pub outgoing_added : (old new : State) (n : ℕ) → n < 2 ^ 63 → (identity : Bor Identity) (format : Format) (longest : ℕ) (description : Bor Words) (count : ℕ) → old.now.schema ≡ office_schema
-    → ExecutesInside 0 add_outgoing_text (header_params n identity.now format longest description.now) old new (Ok count)
-    → Moves (Makes n (AddOutgoing identity format longest description)) old.now new.now
-outgoing_added old new n held identity format longest description count has h =
+    has add_incoming_is (add_file_plain side.Incoming) refl refl h)
+file_added side.Outgoing old new n held identity format longest description count has h =
     moves_as _ _ old.now new.now (makes_new_outgoing n held identity format longest description)
-    (inserts_row old new add_outgoing_text 3 our_out_file add_outgoing_terms 13 (header_params n identity.now format longest description.now)
+    (inserts_row old new (add_file_text side.Outgoing) 3 our_out_file (add_file_terms side.Outgoing) 13 (header_params n identity.now format longest description.now)
     (number_value n ∷ Null ∷ identity_values identity.now ++ Text (format_text format) ∷ number_value longest ∷ Text description.now ∷ number_value 0 ∷ Text (codes "waiting") ∷ Text [] ∷ []) n count
-    has add_outgoing_is add_outgoing_plain refl refl h)
+    has add_outgoing_is (add_file_plain side.Outgoing) refl refl h)
 
 -- ---- the response to an incoming file
 

@@ -7,9 +7,11 @@ use Rattle.sqlite.specs.Command.TheVariants.{Insert, Update}
 use Rattle.sqlite.specs.Source.TheVariants.{Values}
 use Rattle.sqlite.specs.Listing.{understood}
 use Rattle.sqlite.proofs.Callers.{IsPlain, command_of}
+use Rattle.oftp_register.specs.declared.entries.Side.{Side}
+use Rattle.oftp_register.specs.declared.entries.Side.TheVariants as side
 use Rattle.oftp_tables.specs.Schema.{office_schema, in_file_tree, issued_tree, out_file_tree}
 use Rattle.oftp_tables.proofs.StatementLemmas.{by_number_program}
-use Rattle.oftp_store.specs.Texts.{add_incoming_text, add_issued_text, add_note_text, add_outgoing_text, add_received_text, set_header_text, set_outgoing_text, set_sent_text, set_whole_text}
+use Rattle.oftp_store.specs.Texts.{add_file_text, add_issued_text, add_note_text, add_received_text, set_header_text, set_outgoing_text, set_sent_text, set_whole_text}
 
 -- ---- UPDATE
 
@@ -59,28 +61,23 @@ set_sent_plain = (refl, refl)
 
 -- ---- INSERT
 
-abbrev pub add_incoming_terms : List Term
-add_incoming_terms = col 0 0 ∷ lit Null ∷ col 0 1 ∷ col 0 2 ∷ col 0 3 ∷ col 0 4 ∷ col 0 5 ∷ col 0 6 ∷ col 0 7 ∷ col 0 8 ∷ lit (Text (codes "open")) ∷ []
+abbrev pub add_file_terms : Side → List Term
+add_file_terms side.Incoming = col 0 0 ∷ lit Null ∷ col 0 1 ∷ col 0 2 ∷ col 0 3 ∷ col 0 4 ∷ col 0 5 ∷ col 0 6 ∷ col 0 7 ∷ col 0 8 ∷ lit (Text (codes "open")) ∷ []
+add_file_terms side.Outgoing =
+    col 0 0 ∷ lit Null ∷ col 0 1 ∷ col 0 2 ∷ col 0 3 ∷ col 0 4 ∷ col 0 5 ∷ col 0 6 ∷ col 0 7 ∷ col 0 8 ∷ lit (Int (pos 0)) ∷ lit (Text (codes "waiting")) ∷ lit (Text []) ∷ []
 
-pub add_incoming_is : command_of (understood office_schema add_incoming_text) ≡ Insert 1 (Values add_incoming_terms 11)
+pub add_incoming_is : command_of (understood office_schema (add_file_text side.Incoming)) ≡ Insert 1 (Values (add_file_terms side.Incoming) 11)
 unfolding understood everything
 add_incoming_is = refl
 
-pub add_incoming_plain : IsPlain (understood office_schema add_incoming_text)
-unfolding understood everything
-add_incoming_plain = (refl, refl)
-
-abbrev pub add_outgoing_terms : List Term
-add_outgoing_terms =
-    col 0 0 ∷ lit Null ∷ col 0 1 ∷ col 0 2 ∷ col 0 3 ∷ col 0 4 ∷ col 0 5 ∷ col 0 6 ∷ col 0 7 ∷ col 0 8 ∷ lit (Int (pos 0)) ∷ lit (Text (codes "waiting")) ∷ lit (Text []) ∷ []
-
-pub add_outgoing_is : command_of (understood office_schema add_outgoing_text) ≡ Insert 3 (Values add_outgoing_terms 13)
+pub add_outgoing_is : command_of (understood office_schema (add_file_text side.Outgoing)) ≡ Insert 3 (Values (add_file_terms side.Outgoing) 13)
 unfolding understood everything
 add_outgoing_is = refl
 
-pub add_outgoing_plain : IsPlain (understood office_schema add_outgoing_text)
+pub add_file_plain : (which : Side) → IsPlain (understood office_schema (add_file_text which))
 unfolding understood everything
-add_outgoing_plain = (refl, refl)
+add_file_plain side.Incoming = (refl, refl)
+add_file_plain side.Outgoing = (refl, refl)
 
 abbrev pub add_issued_terms : List Term
 add_issued_terms = col 0 0 ∷ lit Null ∷ col 0 1 ∷ col 0 2 ∷ col 0 3 ∷ lit (Int (pos 0)) ∷ []

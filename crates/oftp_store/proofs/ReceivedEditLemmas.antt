@@ -135,10 +135,11 @@ note_added old new n creator text count has h =
 
 -- ---- a response with what belongs to it
 
-pub makes_negative : (n : ℕ) (identity : Bor Identity) (reason : ℕ) (creator : Bor (Name 25)) (text : Bor Words) (a b c : Trees)
-    → MakesNoteless n NegativeEndResponse identity.now reason a b → MakesNote n creator.now text.now b c → Makes n (AddReceived NegativeEndResponse identity reason creator text) a c
-makes_negative n identity reason creator text a b c one two r s did kept =
+pub makes_negative : (n : ℕ) (kind : ResponseKind) (identity : Bor Identity) (reason : ℕ) (creator : Bor (Name 25)) (text : Bor Words) → kind ≡ NegativeEndResponse → (a b c : Trees)
+    → MakesNoteless n kind identity.now reason a b → MakesNote n creator.now text.now b c → Makes n (AddReceived kind identity reason creator text) a c
+makes_negative n NegativeEndResponse identity reason creator text negative a b c one two r s did kept =
     subst (λ (q : Register). Tables q c) (sym did.1) (two r identity.now reason did.0 (one r creator.now text.now did.0 kept))
+makes_negative n EndResponse identity reason creator text negative a b c one two r s did kept = absurd (let no_such = negative in cc)
 
 pub makes_end : (n : ℕ) (kind : ResponseKind) (identity : Bor Identity) (reason : ℕ) (creator : Bor (Name 25)) (text : Bor Words) → kind ≡ EndResponse → (a b : Trees)
     → MakesNoteless n kind identity.now reason a b → Makes n (AddReceived kind identity reason creator text) a b

@@ -1,5 +1,5 @@
 -- What the statements on the rows of a file make of the tables of a register.
-use Rattle.std.proofs.Common.{◌≡◌, ◌+◌, ◌<◌, ◌&&◌, ℕ, ℤ, Bool, true, false, not, cond, nat_le, List, [], ◌∷◌, ◌++◌, length, map, drop, take, filter, get_or, Some, None, Ok, append-nil, append_assoc, length-append, slice_get, refl, sym, ap, subst, ◌∙◌, arith}
+use Rattle.std.proofs.Common.{◌≡◌, ◌+◌, ◌<◌, ◌&&◌, ℕ, ℤ, Bool, true, false, not, cond, nat_le, List, [], ◌∷◌, ◌++◌, length, map, drop, take, filter, get_or, Some, None, Result, Ok, Err, IsTrue, append-nil, append_assoc, length-append, slice_get, refl, sym, ap, subst, ◌∙◌, arith}
 use Rattle.std.specs.List.{AllByRecursion, list_all}
 use Rattle.std.specs.List.Sorted.{IsPermutation}
 use Rattle.std.proofs.lemmas.List.{map-append, length-map, take_more, length-take}
@@ -11,6 +11,11 @@ use Rattle.sqlite_rules.specs.Calls.{ids_of}
 use Rattle.sqlite.specs.declared.types.Value.TheVariants.{Null, Int}
 use Rattle.sqlite.specs.Order.{Row, column}
 use Rattle.sqlite.specs.Tree.{Trees, put_row}
+use Rattle.sqlite.specs.Held.{Held, state}
+use Rattle.sqlite_trees.specs.declared.store.Store.{Ghosts}
+use Rattle.sqlite.specs.declared.error.Error.{Error}
+use Rattle.sqlite.specs.declared.error.Error.TheVariants.{SqliteFailure}
+use Rattle.sqlite.specs.declared.error.ErrorCode.TheVariants.{TransactionState}
 use Rattle.sqlite.specs.Term.{Term, lit, col, holds, eval_all}
 use Rattle.sqlite.specs.Command.TheVariants.{Insert, Delete}
 use Rattle.sqlite.specs.Source.TheVariants.{Values}
@@ -20,7 +25,7 @@ use Rattle.sqlite.specs.Rowids.TheVariants.{Chosen}
 use Rattle.sqlite.specs.Listing.{understood}
 use Rattle.sqlite.specs.Does.{Does}
 use Rattle.sqlite.specs.Table.{Table}
-use Rattle.sqlite.specs.State.{State, ExecutesInside, mode_of}
+use Rattle.sqlite.specs.State.{State, ExecutesInside, HasCleanDisk, Survives, mode_of}
 use Rattle.sqlite.proofs.Callers.{IsPlain, command_of, statement_of, runs_as}
 use Rattle.oftp_tables.specs.Schema.{in_row, in_row_tree, office_schema, out_row, out_row_tree}
 use Rattle.oftp_tables.proofs.TermLemmas.{cast_int, cast_null, no_works}
@@ -29,12 +34,13 @@ use Rattle.oftp_tables.proofs.WriteLemmas.{Deleted, Inserted, deletes, inserts, 
 use Rattle.oftp_register.specs.declared.entries.Side.{Side}
 use Rattle.oftp_register.specs.declared.entries.Side.TheVariants as side
 use Rattle.oftp_register.specs.Register.{Register, Incoming, Outgoing}
-use Rattle.oftp_tables.specs.Statements.{Moves}
+use Rattle.oftp_tables.specs.Statements.{Moves, Performs, uncounted}
 use Rattle.oftp_tables.specs.Tables.{AreNumbered, HasReason, HasRefusal, Tables, body_row, bodies_from, has_number, in_file_row, issued_from, issued_if_any, less_rowids, number_value, out_file_row, rows_from, rows_in, rows_out}
 use Rattle.oftp_tables.proofs.BodyLemmas.{bodies_cut, bodies_more}
 use Rattle.oftp_tables.proofs.CutLemmas.{deleted, id_of}
 use Rattle.oftp_tables.proofs.LandLemmas.{lands}
 use Rattle.oftp_tables.proofs.ManyLemmas.{passing}
+use Rattle.oftp_tables.proofs.PerformLemmas.{performs, performs_then}
 use Rattle.oftp_tables.proofs.PlaceLemmas.{place}
 use Rattle.oftp_tables.proofs.RowLemmas.{from_filter, from_passes, from_same, from_test, put_fresh, put_numbered}
 use Rattle.oftp_tables.proofs.StatementLemmas.{Others}
@@ -247,6 +253,17 @@ pub rows_more : (which : Side) (n from i at : ℕ) (bodies : List (List ℕ)) (b
 rows_more which n from i at bodies body within item place a b c one two r s did kept =
     let parts = ends_with_row which n from i at bodies body r s within item place did in
     two parts.mid s parts.last (one r parts.mid parts.first kept)
+
+-- the statement of one row behind those of the rows before it, whatever it came to
+pub row_performed : {S : Type 0} (g : Ghosts S) (which : Side) (n from i at : ℕ) (bodies : List (List ℕ)) (body : List ℕ) (a b c : Held S) (count : Result ℕ Error) → i < length bodies
+    → body ≡ get_or bodies i body → at ≡ from + i → Performs {T = Unit {0}} (MakesRows which n from (take i bodies)) g a b (Ok tt)
+    → ((state g b).in_transaction ≡ false → (count ≡ Err (SqliteFailure TransactionState)) × (c ≡ b))
+    → (HasCleanDisk (state g c) → IsTrue (state g b).in_transaction → ExecutesInside 0 (add_row_text which) (body_row n at body) (state g b) (state g c) count)
+    → Survives (state g b) (state g c) (λ _. ⊥) → Performs (MakesRows which n from (take (i + 1) bodies)) g a c (uncounted count)
+row_performed g which n from i at bodies body a b c count within item place before ended runs survives =
+    performs_then g a b c _ _ _ tt (uncounted count) (rows_more which n from i at bodies body within item place) before
+    (performs g b c (MakesRows which n at (body ∷ [])) (add_row_text which) (body_row n at body) count ended runs survives
+    (λ done has h. row_added which (state g b) (state g c) n at body done has h))
 
 pub no_rows : (which : Side) (n from : ℕ) (db : Trees) → MakesRows which n from [] db db
 no_rows side.Incoming n from db r s did kept =

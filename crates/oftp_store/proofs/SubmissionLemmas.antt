@@ -12,7 +12,7 @@ use Rattle.oftp_register.specs.Changes.{apply, is_outgoing, new_outgoing}
 use Rattle.oftp_store.specs.Numbers.{file_number}
 use Rattle.oftp_store.specs.Allocations.{IsAllocationOf}
 use Rattle.oftp_store.specs.declared.changes.edit.Edit.{Edit}
-use Rattle.oftp_store.specs.declared.changes.edit.Deed.TheVariants.{AddOutgoing, AddRows}
+use Rattle.oftp_store.specs.declared.changes.edit.Deed.TheVariants.{AddFile, AddRows}
 use Rattle.oftp_store.specs.declared.queries.allocation.Allocation.TheVariants as allocation
 use Rattle.oftp_store.proofs.CommitLemmas.{IsMadeBy}
 use Rattle.oftp_store.proofs.AllocationLemmas.{new_is, full_is, known_out, existing_is}
@@ -32,7 +32,7 @@ full_submit r it format longest description rows full =
 
 pub made_by_submit : (r : Register) (it : Bor Identity) (format : Format) (longest : ℕ) (description : Bor Words) (rows : Bor (List (List ℕ))) (n : ℕ)
     → IsAllocationOf r side.Outgoing it.now (allocation.New n)
-    → (let header : Edit = record { no = n; deed = AddOutgoing it format longest description } in let all : Edit = record { no = n; deed = AddRows side.Outgoing 0 rows } in
+    → (let header : Edit = record { no = n; deed = AddFile side.Outgoing it format longest description } in let all : Edit = record { no = n; deed = AddRows side.Outgoing 0 rows } in
     IsMadeBy (header ∷ all ∷ []) r (change.Submit it.now format longest description.now rows.now))
 unfolding apply
 made_by_submit r it format longest description rows n free =

@@ -1,10 +1,11 @@
 -- Edits in turn, in one transaction.
-use Rattle.std.proofs.Common.{◌≡◌, ◌↔◌, ◌⊎◌, ◌+◌, ◌<◌, ℕ, List, [], ◌∷◌, ◌++◌, length, take, get_or, Ok, Err, refl, sym, ap, subst, ◌∙◌}
+use Rattle.std.proofs.Common.{◌≡◌, ◌↔◌, ◌⊎◌, ◌+◌, ◌<◌, ℕ, List, [], ◌∷◌, ◌++◌, length, take, get_or, false, true, Result, Ok, Err, OnOk, IfErr, IsTrue, inl, inr, refl, sym, ap, subst, ◌∙◌, arith}
 use Rattle.std.proofs.lemmas.List.{take_more}
 use Rattle.sqlite_trees.specs.declared.store.Store.{Ghosts}
 use Rattle.sqlite.specs.Held.{Held, state}
 use Rattle.sqlite.specs.Tree.{Trees}
-use Rattle.sqlite.specs.State.{HasCleanDisk}
+use Rattle.sqlite.specs.State.{HasCleanDisk, IsRolledBack, KeepsCounts, Shows, Survives}
+use Rattle.sqlite.specs.Steps.{FailsToCommit}
 use Rattle.sqlite.specs.declared.error.Error.{Error}
 use Rattle.sqlite.specs.declared.error.Error.TheVariants.{SqliteFailure}
 use Rattle.sqlite.specs.declared.error.ErrorCode.TheVariants.{NoRowid, OutOfMemory}
@@ -13,9 +14,11 @@ use Rattle.oftp_register.specs.declared.office.OfficeFault.{OfficeFault}
 use Rattle.oftp_register.specs.declared.office.OfficeFault.TheVariants.{Memory}
 use Rattle.oftp_register.specs.Offices.{IsFailure}
 use Rattle.oftp_register.specs.Register.{Register}
-use Rattle.oftp_tables.specs.Statements.{IsOffice, Moves}
+use Rattle.oftp_tables.specs.Statements.{IsOffice, Moves, Performs}
 use Rattle.oftp_tables.specs.Tables.{Tables}
-use Rattle.oftp_store.specs.Commits.{AreCarriedOut}
+use Rattle.oftp_tables.proofs.PerformLemmas.{performs_fails, performs_then}
+use Rattle.oftp_tables.proofs.RunLemmas.{transacts_ends, transacts_fails}
+use Rattle.oftp_store.specs.Commits.{MakesEdits}
 use Rattle.oftp_store.specs.Edits.{AreEdited, IsEdited, Makes, MakesAll}
 use Rattle.oftp_store.specs.declared.changes.edit.Edit.{Edit}
 
@@ -41,21 +44,62 @@ edits_more edits i edit within item a b c one two r s did kept =
 pub no_edits : (db : Trees) → MakesAll [] db db
 no_edits db r s same kept = subst (λ (q : Register). Tables q db) same kept
 
--- edits that were made
-pub are_carried_out : {S : Type 0} (edits : List Edit) (g : Ghosts S) (old new : Held S) → Transacts {T = Unit {0}} {E = Error} IsOffice (Moves (MakesAll edits)) (state g old) (state g new) (Ok tt)
-    → AreCarriedOut edits g old new (Ok tt)
-are_carried_out edits g old new did = record {
-  transacts = record { clean = did.clean; mode = did.mode; done = did.done; failed = λ clean is ours. tt; left = did.left };
-  told = λ clean. tt;
-  failure = tt;
-}
+-- ---- one transaction of edits in turn
 
--- edits that weren't, for an error that is told as a fault
-pub are_given_up : {S : Type 0} (edits : List Edit) (g : Ghosts S) (old new : Held S) (e : Error) (fault : OfficeFault)
-    → Transacts {T = Unit {0}} IsOffice (Moves (MakesAll edits)) (state g old) (state g new) (Err e) → (HasCleanDisk (state g new) → IsTransactionError g new e) → IsFailure fault
-    → (fault ≡ Memory) ↔ ((e ≡ SqliteFailure OutOfMemory) ⊎ (e ≡ SqliteFailure NoRowid)) → AreCarriedOut edits g old new (Err fault)
-are_given_up edits g old new e fault did told failure memory = record {
-  transacts = record { clean = did.clean; mode = did.mode; done = λ clean is ours. tt; failed = did.failed; left = did.left };
-  told = λ clean. (e, told clean, failure, memory);
-  failure = failure;
-}
+-- it begins and is over
+module _ {S : Type 0} (edits : List Edit) (g : Ghosts S) (old begin last end new : Held S) (begun : begin ≡ record old { in_transaction = true }) (same : end ≡ new)
+    (over : end.in_transaction ≡ false) where
+  -- for an error that is told as a fault
+  given_up : (e : Error) (fault : OfficeFault) → Transacts {T = Unit {0}} IsOffice (Moves (MakesAll edits)) (state g old) (state g end) (Err e)
+      → (HasCleanDisk (state g end) → IsTransactionError g end e) → IsFailure fault → (fault ≡ Memory) ↔ ((e ≡ SqliteFailure OutOfMemory) ⊎ (e ≡ SqliteFailure NoRowid))
+      → MakesEdits edits g old new (Err fault)
+  given_up e fault did told failure memory = subst (λ h. MakesEdits edits g old h (Err fault)) same (record {
+    made = inl (record {
+      transacts = record { clean = did.clean; mode = did.mode; done = λ clean is ours. tt; failed = did.failed; left = did.left };
+      told = λ clean. (e, told clean, failure, memory);
+      failure = failure;
+    });
+  })
+
+  -- it is committed, as a commit says
+  abbrev pub IsEnded : Type 0
+  IsEnded = IsTrue (state g last).in_transaction × Shows (state g last) (state g end) (state g last).now (state g last).now false × KeepsCounts (state g last) (state g end)
+      × ((state g end).marks ≡ [])
+
+  -- the edits were made, and its end was tried
+  ends : (result : Result (Unit {0}) Error) → Performs {T = Unit {0}} (MakesAll edits) g begin last (Ok tt)
+      → (HasCleanDisk (state g end) → OnOk result IsEnded)
+      → (HasCleanDisk (state g end) → IfErr result (FailsToCommit (state g last) (state g end))) → Survives (state g last) (state g end) (λ db. db ≡ (state g last).now.trees)
+      → Transacts IsOffice (Moves (MakesAll edits)) (state g old) (state g end) result
+  ends result made ok err survives =
+      let inside = subst (λ h. Performs {T = Unit {0}} (MakesAll edits) g h last (Ok tt)) begun made in
+      transacts_ends IsOffice (Moves (MakesAll edits)) (state g old) (state g last) (state g end) tt result inside.runs over ok err survives
+
+  pub edits_committed : Performs {T = Unit {0}} (MakesAll edits) g begin last (Ok tt) → (HasCleanDisk (state g end) → IsEnded)
+      → Survives (state g last) (state g end) (λ db. db ≡ (state g last).now.trees) → MakesEdits edits g old new (Ok tt)
+  edits_committed made ok survives =
+      let did = ends (Ok tt) made ok (λ clean. tt) survives in
+      subst (λ h. MakesEdits edits g old h (Ok tt)) same (record {
+        made = inl (record {
+          transacts = record { clean = did.clean; mode = did.mode; done = did.done; failed = λ clean is ours. tt; left = did.left };
+          told = λ clean. tt;
+          failure = tt;
+        });
+      })
+
+  pub edits_uncommitted : (e : Error) (fault : OfficeFault) → Performs {T = Unit {0}} (MakesAll edits) g begin last (Ok tt)
+      → (HasCleanDisk (state g end) → FailsToCommit (state g last) (state g end) e)
+      → Survives (state g last) (state g end) (λ db. db ≡ (state g last).now.trees) → IsFailure fault
+      → (fault ≡ Memory) ↔ ((e ≡ SqliteFailure OutOfMemory) ⊎ (e ≡ SqliteFailure NoRowid)) → MakesEdits edits g old new (Err fault)
+  edits_uncommitted e fault made err survives = given_up e fault (ends (Err e) made (λ clean. tt) err survives) (λ clean. (last, inr (err clean)))
+
+  -- an edit failed behind others, and it was rolled back
+  pub edits_rolled_back : (before : Trees → Trees → Type 0) (edit : Edit) (mid : Held S) (e : Error) (fault : OfficeFault) → Performs {T = Unit {0}} before g begin mid (Ok tt)
+      → Performs {T = Unit {0}} (Makes edit.no edit.deed) g mid last (Err e) → (HasCleanDisk (state g end) → IsRolledBack (state g last) (state g end))
+      → Survives (state g last) (state g end) (λ _. ⊥) → IsFailure fault → (fault ≡ Memory) ↔ ((e ≡ SqliteFailure OutOfMemory) ⊎ (e ≡ SqliteFailure NoRowid))
+      → MakesEdits edits g old new (Err fault)
+  edits_rolled_back before edit mid e fault made failed back survives =
+      let both = performs_then g begin mid last before (Makes edit.no edit.deed) (λ a b. Unit {0}) tt (Err e) (λ a b c one two. tt) made failed in
+      let inside = subst (λ h. Performs {T = Unit {0}} (MakesAll edits) g h last (Err e)) begun (performs_fails g begin last (λ a b. Unit {0}) (MakesAll edits) e both) in
+      given_up e fault (transacts_fails IsOffice (Moves (MakesAll edits)) (state g old) (state g last) (state g end) e e inside.runs over back survives)
+      (λ clean. (last, inl (failed.told (omega (arith, survives.clean, clean)))))

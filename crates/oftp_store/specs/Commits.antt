@@ -1,5 +1,5 @@
 -- What a change does to a connection.
-use Rattle.std.specs.Prelude.{◌≡◌, ◌≤◌, ◌⊎◌, ℕ, List, All, Some, None, Result, Ok, Err, OnOk, OnErr, IfErr, IsTrue, Bool, false, true}
+use Rattle.std.specs.Prelude.{◌≡◌, ◌≤◌, ◌⊎◌, ℕ, List, All, Option, Some, None, Result, Ok, Err, OnOk, OnErr, IfErr, IsTrue, Bool, false}
 use Rattle.sqlite.specs.Tree.{Trees}
 use Rattle.sqlite.specs.View.{doubt}
 use Rattle.sqlite.specs.Held.{Held, state}
@@ -9,9 +9,8 @@ use Rattle.oftp_vfile.specs.declared.format.Limits.{Limits}
 use Rattle.oftp_register.specs.declared.change.Change.{Change}
 use Rattle.oftp_register.specs.declared.change.Cause.TheVariants.{Unknown, State as Unfit}
 use Rattle.oftp_register.specs.declared.office.OfficeFault.{OfficeFault}
-use Rattle.oftp_register.specs.declared.office.OfficeFault.TheVariants.{Store, Refused}
-use Rattle.oftp_register.specs.Register.{Register, Incoming, Outgoing}
-use Rattle.oftp_register.specs.LookUps.{entry_at}
+use Rattle.oftp_register.specs.declared.office.OfficeFault.TheVariants.{Store}
+use Rattle.oftp_register.specs.Register.{Register}
 use Rattle.oftp_register.specs.Changes.{apply}
 use Rattle.oftp_register.specs.Soundness.{IsFit}
 use Rattle.oftp_register.specs.Offices.{IsFailure, IsRefused}
@@ -20,7 +19,6 @@ use Rattle.oftp_tables.specs.Statements.{IsFaultOf, IsOffice, Looks, Moves}
 use Rattle.oftp_tables.specs.Tables.{register_in}
 use Rattle.oftp_tables.specs.Stands.{IsContentOf, Stands}
 use Rattle.oftp_store.specs.Edits.{IsStorable, MakesAll}
-use Rattle.oftp_store.specs.Reads.{IsToldOf}
 use Rattle.oftp_store.specs.declared.changes.edit.Edit.{Edit}
 
 -- Within these limits the change is made, or it is refused for its cause, or the store failed and the register stays where the
@@ -45,28 +43,22 @@ pub record AreCarriedOut {S : Type 0} (edits : List Edit) (g : Ghosts S) (old ne
 pub record MakesEdits {S : Type 0} (edits : List Edit) (g : Ghosts S) (old new : Held S) (result : Result (Unit {0}) OfficeFault) : Type 0 where
   pub made : AreCarriedOut edits g old new result ⊎ ((¬ All IsStorable edits) × (result ≡ Err Store) × (new ≡ old))
 
--- Edits that the state of a file allows do this to a connection. Where it doesn't allow them, nothing is done.
-pub record MakesIf {S : Type 0} (allowed : Bool) (edits : List Edit) (g : Ghosts S) (old new : Held S) (result : Result (Unit {0}) OfficeFault) : Type 0 where
-  pub made : allowed ≡ true → MakesEdits edits g old new result
-  pub refused : allowed ≡ false → (result ≡ Err (Refused Unfit)) × (new ≡ old)
-
 -- ---- what is here of the file that a change names
 
-abbrev pub incoming_files : Register → List Incoming
-incoming_files r = r.incoming
-
-abbrev pub outgoing_files : Register → List Outgoing
-outgoing_files r = r.outgoing
-
 -- a look-up finds the file with a number, and tells this of it
-pub record Finds {X A : Type 0} (files : Register → List X) (tells : X → A) (n : ℕ) (old new : State) (told : A) : Type 0 where
-  pub looks : Looks old new (Ok (Some told))
-  pub answer : HasCleanDisk new → (limits : Limits) → Stands limits old → IsToldOf tells (files (register_in limits old.now.trees)) n (Some told)
+pub record Finds {A : Type 0} (told : Register → ℕ → Option A → Type 0) (n : ℕ) (old new : State) (file : A) : Type 0 where
+  pub looks : Looks old new (Ok (Some file))
+  pub answer : HasCleanDisk new → (limits : Limits) → Stands limits old → told (register_in limits old.now.trees) n (Some file)
 
--- a change that no register has a file for is unknown
-pub record NeedsFile {X : Type 0} (files : Register → List X) (n : ℕ) (change : Change) : Type 0 where
-  pub unknown : (r : Register) → entry_at n (files r) ≡ None → apply r change ≡ Err Unknown
+-- a change of a file that isn't there is unknown
+pub record NeedsFile {A : Type 0} (told : Register → ℕ → Option A → Type 0) (n : ℕ) (change : Change) : Type 0 where
+  pub unknown : (r : Register) → told r n None → apply r change ≡ Err Unknown
 
--- a look-up ends the commit of whichever change of the file with a number by this fault
-abbrev pub EndsCommit : {X : Type 0} → (Register → List X) → ℕ → State → State → OfficeFault → Type 0
-EndsCommit files n old new fault = (limits : Limits) (change : Change) → NeedsFile files n change → CommitsOn {T = Unit {0}} limits change old new (Err fault)
+-- and where what is told of it doesn't fit, it is refused for the file's state
+pub record NeedsFit {A : Type 0} (told : Register → ℕ → Option A → Type 0) (fits : A → Bool) (n : ℕ) (change : Change) : Type 0 where
+  pub unknown : (r : Register) → told r n None → apply r change ≡ Err Unknown
+  pub unfit : (r : Register) (file : A) → told r n (Some file) → fits file ≡ false → apply r change ≡ Err Unfit
+
+-- look-ups end the commit of whichever change that needs this by this fault
+abbrev pub EndsCommit : Limits → (Change → Type 0) → State → State → OfficeFault → Type 0
+EndsCommit limits Needs old new fault = (change : Change) → Needs change → CommitsOn {T = Unit {0}} limits change old new (Err fault)

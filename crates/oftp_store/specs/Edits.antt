@@ -5,12 +5,13 @@ use Rattle.sqlite.specs.Order.{Row}
 use Rattle.sqlite.specs.Tree.{Trees}
 use Rattle.oftp_vfile.specs.declared.format.Format.{Format}
 use Rattle.oftp_register.specs.declared.entry.Dispatch.TheVariants.{Due, Sent}
-use Rattle.oftp_register.specs.declared.entry.IncomingState.TheVariants.{Open, Whole}
-use Rattle.oftp_register.specs.declared.entry.OutgoingState.TheVariants.{Waiting}
+use Rattle.oftp_register.specs.declared.entry.IncomingState.TheVariants.{Whole}
 use Rattle.oftp_register.specs.declared.entries.Side.{Side}
 use Rattle.oftp_register.specs.declared.entries.Side.TheVariants as side
 use Rattle.oftp_register.specs.Register.{Register, Incoming, Issued, Outgoing, Received}
+use Rattle.oftp_register.specs.Changes.{new_incoming, new_outgoing}
 use Rattle.std.specs.List.{AllByRecursion}
+use Rattle.std.specs.Borrow.{Bor}
 use Rattle.oftp_register.specs.declared.entry.Identity.{Identity}
 use Rattle.oftp_register.specs.declared.entry.ResponseKind.{ResponseKind}
 use Rattle.oftp_register.specs.declared.entry.ResponseKind.TheVariants.{NegativeEndResponse}
@@ -18,31 +19,34 @@ use Rattle.oftp_tables.specs.Schema.{about_tree, in_file_tree, in_row_tree, issu
 use Rattle.oftp_tables.specs.Tables.{HoldIncoming, HoldOutgoing, Tables, about_row, format_text, notes_from, number_value, received_row, rows_from}
 use Rattle.oftp_store.specs.declared.changes.edit.Edit.{Edit}
 use Rattle.oftp_store.specs.declared.changes.edit.Deed.{Deed}
-use Rattle.oftp_store.specs.declared.changes.edit.Deed.TheVariants.{AddIncoming, AddOutgoing, SetHeader, SetWhole, SetOutgoing, AddRows, CutRows, AddIssued, SetSent, AddReceived}
+use Rattle.oftp_store.specs.declared.changes.edit.Deed.TheVariants.{AddFile, SetHeader, SetWhole, SetOutgoing, AddRows, CutRows, AddIssued, SetSent, AddReceived}
 
--- the incoming file with a number, of which a fact holds, is another
-pub record ChangesIncoming (n : ℕ) (Was : Incoming → Type 0) (change : Incoming → Incoming) (r s : Register) : Type 0 where
-  pub before : List Incoming
-  pub file : Incoming
-  pub after : List Incoming
-  pub here : r.incoming ≡ before ++ file ∷ after
+-- the entry with a number, of which a fact holds, is another
+pub record ChangesEntry {X : Type 0} (entries : Register → List X) (with_entries : Register → List X → Register) (n : ℕ) (Was : X → Type 0) (change : X → X) (r s : Register) : Type 0 where
+  pub before : List X
+  pub file : X
+  pub after : List X
+  pub here : entries r ≡ before ++ file ∷ after
   pub number : n ≡ 1 + length before
   pub was : Was file
-  pub now : s ≡ record r { incoming = before ++ change file ∷ after }
+  pub now : s ≡ with_entries r (before ++ change file ∷ after)
 
--- the outgoing file with a number, of which a fact holds, is another
-pub record ChangesOutgoing (n : ℕ) (Was : Outgoing → Type 0) (change : Outgoing → Outgoing) (r s : Register) : Type 0 where
-  pub before : List Outgoing
-  pub file : Outgoing
-  pub after : List Outgoing
-  pub here : r.outgoing ≡ before ++ file ∷ after
-  pub number : n ≡ 1 + length before
-  pub was : Was file
-  pub now : s ≡ record r { outgoing = before ++ change file ∷ after }
+abbrev pub ChangesIncoming : ℕ → (Incoming → Type 0) → (Incoming → Incoming) → Register → Register → Type 0
+ChangesIncoming = ChangesEntry (λ r. r.incoming) (λ r files. record r { incoming = files })
+
+abbrev pub ChangesOutgoing : ℕ → (Outgoing → Type 0) → (Outgoing → Outgoing) → Register → Register → Type 0
+ChangesOutgoing = ChangesEntry (λ r. r.outgoing) (λ r files. record r { outgoing = files })
 
 -- an entry takes the next number
 pub record IsNext {X : Type 0} (n : ℕ) (entries : List X) : Type 0 where
   pub number : n ≡ 1 + length entries
+
+-- a new file without rows: an incoming one is open, an outgoing one waits
+abbrev pub AddsFileTo : Side → ℕ → Identity → Format → ℕ → List ℕ → Register → Register → Type 0
+AddsFileTo side.Incoming n identity format longest description r s =
+    IsNext n r.incoming × (s ≡ record r { incoming = r.incoming ++ new_incoming identity format longest description ∷ [] })
+AddsFileTo side.Outgoing n identity format longest description r s =
+    IsNext n r.outgoing × (s ≡ record r { outgoing = r.outgoing ++ new_outgoing identity format longest description [] ∷ [] })
 
 -- rows behind those that are here
 abbrev pub AddsRowsTo : Side → ℕ → ℕ → List (List ℕ) → Register → Register → Type 0
@@ -54,22 +58,17 @@ abbrev pub HasRoom : Deed → Type 0
 HasRoom (AddRows which from rows) = from + length rows.now < 2 ^ 32
 HasRoom deed = ⊤
 
+-- more rows of an incoming file that has so many
+abbrev pub more : ℕ → ℕ → Bor (List (List ℕ)) → Edit
+more n from rows = record { no = n; deed = AddRows side.Incoming from rows }
+
 -- the database can hold what an edit makes: its number, and the positions of its rows
 abbrev pub IsStorable : Edit → Type 0
 IsStorable edit = (edit.no < 2 ^ 63) × HasRoom edit.deed
 
 -- what is made of the entry with a number
 abbrev pub IsDone : ℕ → Deed → Register → Register → Type 0
-IsDone n (AddIncoming identity format longest description) r s =
-    IsNext n r.incoming × (s ≡ record r {
-      incoming = r.incoming
-          ++ (record { identity = identity.now; format = format; longest = longest; description = description.now; state = Open; rows = []; response = None }) ∷ [];
-    })
-IsDone n (AddOutgoing identity format longest description) r s =
-    IsNext n r.outgoing × (s ≡ record r {
-      outgoing = r.outgoing
-          ++ (record { identity = identity.now; format = format; longest = longest; description = description.now; rows = []; mark = 0; state = Waiting }) ∷ [];
-    })
+IsDone n (AddFile which identity format longest description) r s = AddsFileTo which n identity.now format longest description.now r s
 IsDone n (SetHeader format longest description) r s = ChangesIncoming n (λ f. ⊤) (λ f. record f { format = format; longest = longest; description = description.now }) r s
 IsDone n SetWhole r s = ChangesIncoming n (λ f. ⊤) (λ f. record f { state = Whole }) r s
 IsDone n (SetOutgoing mark state) r s = ChangesOutgoing n (λ f. ⊤) (λ f. record f { mark = mark; state = state }) r s

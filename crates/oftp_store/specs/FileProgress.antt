@@ -1,11 +1,12 @@
 -- What changes ask of the file with a number.
-use Rattle.std.specs.Prelude.{length, Bool, true, false, Option, Some, None}
+use Rattle.std.specs.Prelude.{ℕ, length, Bool, true, false, Option, Some, None}
 use Rattle.oftp_register.specs.declared.entry.Dispatch.TheVariants.{Due, Sent}
 use Rattle.oftp_register.specs.declared.entry.IncomingState.{IncomingState}
 use Rattle.oftp_register.specs.declared.entry.IncomingState.TheVariants.{Open, Whole}
 use Rattle.std.specs.Option.{option_map}
 use Rattle.oftp_register.specs.declared.entry.Dispatch.{Dispatch}
-use Rattle.oftp_register.specs.Register.{Incoming, Issued, Outgoing}
+use Rattle.oftp_register.specs.Register.{Register, Incoming, Issued, Outgoing}
+use Rattle.oftp_store.specs.Reads.{IsToldOf}
 use Rattle.oftp_store.specs.declared.queries.progress.IncomingProgress.{IncomingProgress}
 use Rattle.oftp_store.specs.declared.queries.progress.OutgoingProgress.{OutgoingProgress}
 use Rattle.oftp_store.specs.declared.queries.progress.ResponseProgress.{ResponseProgress}
@@ -22,10 +23,25 @@ dispatch_of x = x.dispatch
 abbrev pub response_progress_of : Incoming → ResponseProgress
 response_progress_of f = record { state = f.state; response = option_map dispatch_of f.response }
 
+-- this is told of the file with a number, if there is one
+
+abbrev pub incoming_told : Register → ℕ → Option IncomingProgress → Type 0
+incoming_told r n found = IsToldOf incoming_progress_of r.incoming n found
+
+abbrev pub outgoing_told : Register → ℕ → Option OutgoingProgress → Type 0
+outgoing_told r n found = IsToldOf outgoing_progress_of r.outgoing n found
+
+abbrev pub response_told : Register → ℕ → Option ResponseProgress → Type 0
+response_told r n found = IsToldOf response_progress_of r.incoming n found
+
 -- more of an incoming file is awaited
+
 abbrev pub is_open : IncomingState → Bool
 is_open Open = true
 is_open Whole = false
+
+abbrev pub is_open_file : IncomingProgress → Bool
+is_open_file file = is_open file.state
 
 -- a file may be answered that is whole and wasn't
 

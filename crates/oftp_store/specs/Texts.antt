@@ -3,10 +3,13 @@ use Rattle.std.specs.Prelude.{ℕ, List, codes}
 use Rattle.oftp_register.specs.declared.entries.Side.{Side}
 use Rattle.oftp_register.specs.declared.entries.Side.TheVariants as side
 
--- ---- what changes make
+-- ---- what changes make of files, of their rows and of responses
 
-abbrev pub set_outgoing_text : List ℕ
-set_outgoing_text = codes "UPDATE out_file SET mark = ?2, state = ?3, reason = ?4 WHERE no = ?1"
+abbrev pub add_file_text : Side → List ℕ
+add_file_text side.Incoming =
+    codes "INSERT INTO in_file (no, dataset, date, time, originator, destination, format, longest, description, state) VALUES (?1, ?2, ?3, ?4, ?5, ?6, ?7, ?8, ?9, 'open')"
+add_file_text side.Outgoing =
+    codes "INSERT INTO out_file (no, dataset, date, time, originator, destination, format, longest, description, mark, state, reason) VALUES (?1, ?2, ?3, ?4, ?5, ?6, ?7, ?8, ?9, 0, 'waiting', '')"
 
 abbrev pub set_header_text : List ℕ
 set_header_text = codes "UPDATE in_file SET format = ?2, longest = ?3, description = ?4 WHERE no = ?1"
@@ -14,24 +17,8 @@ set_header_text = codes "UPDATE in_file SET format = ?2, longest = ?3, descripti
 abbrev pub set_whole_text : List ℕ
 set_whole_text = codes "UPDATE in_file SET state = 'whole' WHERE no = ?1"
 
-abbrev pub set_sent_text : List ℕ
-set_sent_text = codes "UPDATE issued SET sent = 1 WHERE no = ?1"
-
-abbrev pub add_incoming_text : List ℕ
-add_incoming_text = codes "INSERT INTO in_file (no, dataset, date, time, originator, destination, format, longest, description, state) VALUES (?1, ?2, ?3, ?4, ?5, ?6, ?7, ?8, ?9, 'open')"
-
-abbrev pub add_outgoing_text : List ℕ
-add_outgoing_text =
-    codes "INSERT INTO out_file (no, dataset, date, time, originator, destination, format, longest, description, mark, state, reason) VALUES (?1, ?2, ?3, ?4, ?5, ?6, ?7, ?8, ?9, 0, 'waiting', '')"
-
-abbrev pub add_issued_text : List ℕ
-add_issued_text = codes "INSERT INTO issued (no, kind, reason, note, sent) VALUES (?1, ?2, ?3, ?4, 0)"
-
-abbrev pub add_received_text : List ℕ
-add_received_text = codes "INSERT INTO received (no, kind, dataset, date, time, originator, destination, reason) VALUES (?1, ?2, ?3, ?4, ?5, ?6, ?7, ?8)"
-
-abbrev pub add_note_text : List ℕ
-add_note_text = codes "INSERT INTO received_note (no, creator, note) VALUES (?1, ?2, ?3)"
+abbrev pub set_outgoing_text : List ℕ
+set_outgoing_text = codes "UPDATE out_file SET mark = ?2, state = ?3, reason = ?4 WHERE no = ?1"
 
 abbrev pub add_row_text : Side → List ℕ
 add_row_text side.Incoming = codes "INSERT INTO in_row (no, pos, body) VALUES (?1, ?2, ?3)"
@@ -39,6 +26,18 @@ add_row_text side.Outgoing = codes "INSERT INTO out_row (no, pos, body) VALUES (
 
 abbrev pub cut_rows_text : List ℕ
 cut_rows_text = codes "DELETE FROM in_row WHERE no = ?1 AND pos >= ?2"
+
+abbrev pub add_issued_text : List ℕ
+add_issued_text = codes "INSERT INTO issued (no, kind, reason, note, sent) VALUES (?1, ?2, ?3, ?4, 0)"
+
+abbrev pub set_sent_text : List ℕ
+set_sent_text = codes "UPDATE issued SET sent = 1 WHERE no = ?1"
+
+abbrev pub add_received_text : List ℕ
+add_received_text = codes "INSERT INTO received (no, kind, dataset, date, time, originator, destination, reason) VALUES (?1, ?2, ?3, ?4, ?5, ?6, ?7, ?8)"
+
+abbrev pub add_note_text : List ℕ
+add_note_text = codes "INSERT INTO received_note (no, creator, note) VALUES (?1, ?2, ?3)"
 
 -- ---- what look-ups ask
 

@@ -1,5 +1,6 @@
 -- How statements make a transaction over the office's tables.
-use Rattle.std.proofs.Common.{◌≡◌, ℕ, List, false, Result, Ok, Err, IsTrue}
+use Rattle.std.proofs.Common.{◌≡◌, ℕ, List, false, Result, Ok, Err, IsTrue, sym, subst}
+use Rattle.std.specs.Result.{IsErrAnd}
 use Rattle.sqlite_trees.specs.declared.store.Store.{Ghosts}
 use Rattle.sqlite.specs.Held.{Held, state}
 use Rattle.sqlite.specs.Order.{Row}
@@ -29,6 +30,12 @@ performs_whatever g old new Made x y one = record { runs = runs_whatever IsOffic
 pub performs_fails : {S T U : Type 0} (g : Ghosts S) (old new : Held S) (Made Other : Trees → Trees → Type 0) (e : Error) → Performs {T = T} Made g old new (Err e)
     → Performs {T = U} Other g old new (Err e)
 performs_fails g old new Made Other e one = record { runs = runs_fails IsOffice (Moves Made) (Moves Other) (state g old) (state g new) e e one.runs; told = one.told }
+
+-- and `?` passed the error on
+pub performs_passed : {S T : Type 0} (g : Ghosts S) (old new : Held S) (Made : Trees → Trees → Type 0) (e : Error) (result : Result T Error) → IsErrAnd result (λ (x : Error). x ≡ e)
+    → Performs {T = T} Made g old new (Err e) → Performs Made g old new result
+performs_passed g old new Made e (Ok x) is one = absurd is
+performs_passed {T = T} g old new Made e (Err x) is one = subst (λ (x : Error). Performs {T = T} Made g old new (Err x)) (sym is) one
 
 -- one statement, however many rows it changed
 pub performs : {S : Type 0} (g : Ghosts S) (old new : Held S) (Made : Trees → Trees → Type 0) (sql : List ℕ) (params : Row) (count : Result ℕ Error)

@@ -1,5 +1,5 @@
 -- The entry with a number, and what a query by a number finds.
-use Rattle.std.proofs.Common.{◌≡◌, ◌==◌, ◌+◌, ◌<◌, ◌≤◌, ℕ, zero, suc, Bool, true, false, cond, List, [], ◌∷◌, ◌++◌, length, flat_map, Some, None, Result, Ok, Err, refl, ap, subst, ◌∙◌, arith}
+use Rattle.std.proofs.Common.{◌≡◌, ◌==◌, ◌+◌, ◌^◌, ◌<◌, ◌≤◌, ℕ, zero, suc, Bool, true, false, cond, List, [], ◌∷◌, ◌++◌, length, flat_map, Some, None, Result, Ok, Err, refl, ap, subst, ◌∙◌, arith}
 use Rattle.std.proofs.lemmas.Bool.Decides.{nat_tests}
 use Rattle.sqlite.specs.Order.{Row}
 use Rattle.oftp_register.specs.declared.change.Cause.{Cause}
@@ -50,6 +50,11 @@ pub entry_past : {A : Type 0} (k : ℕ) (xs : List A) → length xs ≤ k → en
 entry_past k [] h = refl
 entry_past zero (x ∷ xs) h = absurd (omega (arith, h))
 entry_past (suc k) (x ∷ xs) h = entry_past k xs (omega (arith, h))
+
+-- a number that a column can't hold
+pub entry_far : {A : Type 0} (k : ℕ) (xs : List A) → length xs < 2 ^ 63 → 2 ^ 63 ≤ k → entry_at k xs ≡ None
+entry_far zero xs few far = refl
+entry_far (suc k) xs few far = entry_past k xs (omega (arith, few, far))
 
 -- ---- what a query by the number shows
 

@@ -5,12 +5,11 @@ ghost use Rattle.sqlite.specs.Held.{state};
 ghost use Rattle.oftp_store.specs.Commits.{CommitsOn};
 
 use super::incoming::{close, give_up, keep, start};
-use super::outgoing::{begin_closing, hand_over, mark, refuse, reopen, submit};
+use super::means::Means;
+use super::outgoing::{Fate, change_outgoing, submit};
 use super::responses::{file, issue, send};
 use oftp_register::{Change, OfficeFault};
-use oftp_vfile::Limits;
 use sqlite::{Alter, Connection};
-use std::alloc::Global;
 
 /// Makes a change of the register, in one transaction. No file has a number from 2^63 on.
 ///
@@ -19,50 +18,49 @@ use std::alloc::Global;
 /// [`OfficeFault::Refused`] for the first cause that fits, after look-ups alone. [`OfficeFault::Memory`] where a growth was refused or
 /// no number is left, and else [`OfficeFault::Store`]. The register is then as it was where the connection is open.
 pub(crate) fn commit_change<S: Alter>(
-    alloc: Global,
+    means: Means,
     conn: &mut Connection<S>,
-    limits: Limits,
     change: Change<'_>,
 ) -> Result<(), OfficeFault>
     requires { conn.old.in_transaction ≡ false }
-    ensures { CommitsOn limits change.entry (state S.Store conn.old) (state S.Store conn.new) result }
+    ensures { CommitsOn means.limits change.entry (state S.Store conn.old) (state S.Store conn.new) result }
 {
     match &change {
         Change::Submit {
-            identity: file,
+            identity,
             format,
-            longest: most,
+            longest,
             description: words,
             rows,
-        } => submit(conn, limits, file, *format, *most, words, rows.as_slice()),
+        } => submit(means, conn, identity, *format, *longest, words, rows),
         Change::Start {
             identity,
             format,
-            longest: most,
+            longest,
             description: words,
             count,
-        } => start(alloc, conn, limits, identity, *format, *most, words, *count),
-        Change::Keep { no, rows } => keep(alloc, conn, *no, rows.as_slice()),
-        Change::Close { no, rows } => close(alloc, conn, *no, rows.as_slice()),
-        Change::GiveUp { no } => give_up(alloc, conn, *no),
+        } => start(means, conn, identity, *format, *longest, words, *count),
+        Change::Keep { no, rows } => keep(means, conn, *no, rows),
+        Change::Close { no, rows } => close(means, conn, *no, rows),
+        Change::GiveUp { no } => give_up(means, conn, *no),
         Change::File {
             kind,
             identity,
             reason,
             creator,
             text,
-        } => file(alloc, conn, *kind, identity, *reason, creator, text),
+        } => file(means, conn, *kind, identity, *reason, creator, text),
         Change::Issue {
             no,
             kind,
             reason,
             text,
-        } => issue(alloc, conn, *no, *kind, *reason, text),
-        Change::Mark { no, rows } => mark(alloc, conn, *no, *rows),
-        Change::BeginClosing { no } => begin_closing(alloc, conn, *no),
-        Change::HandOver { no } => hand_over(alloc, conn, *no),
-        Change::Refuse { no, reason } => refuse(alloc, conn, *no, *reason),
-        Change::Reopen { no } => reopen(alloc, conn, *no),
-        Change::Send { no } => send(alloc, conn, *no),
+        } => issue(means, conn, *no, *kind, *reason, text),
+        Change::Mark { no, rows } => change_outgoing(means, conn, *no, Fate::Mark(*rows)),
+        Change::BeginClosing { no } => change_outgoing(means, conn, *no, Fate::BeginClosing),
+        Change::HandOver { no } => change_outgoing(means, conn, *no, Fate::HandOver),
+        Change::Refuse { no, reason } => change_outgoing(means, conn, *no, Fate::Refuse(*reason)),
+        Change::Reopen { no } => change_outgoing(means, conn, *no, Fate::Reopen),
+        Change::Send { no } => send(means, conn, *no),
     }
 }

@@ -1,21 +1,15 @@
 //! The edits of which the transactions of an office are made.
 
-use oftp_register::{Dispatch, Identity, Name, OutgoingState, ResponseKind, Side};
-use oftp_vfile::{Format, Row};
+use oftp_register::{Identity, Name, OutgoingState, ResponseKind, Side};
+use oftp_vfile::{Format, Rows};
 use oftp_wire::{Count, Text};
 
 /// What is made of an entry.
 #[derive(Drop)]
 pub(crate) enum Deed<'a> {
-    /// It is a new incoming file without rows, open.
-    AddIncoming {
-        identity: &'a Identity,
-        format: Format,
-        longest: u32,
-        description: &'a Text<'a>,
-    },
-    /// It is a new outgoing file without rows, waiting.
-    AddOutgoing {
+    /// It is a new file without rows: an incoming one is open, an outgoing one waits.
+    AddFile {
+        side: Side,
         identity: &'a Identity,
         format: Format,
         longest: u32,
@@ -38,7 +32,7 @@ pub(crate) enum Deed<'a> {
     AddRows {
         side: Side,
         from: u32,
-        rows: &'a [Row],
+        rows: &'a Rows,
     },
     /// It is an incoming file, and keeps so many of its rows at most.
     CutRows {

@@ -1,23 +1,39 @@
 //! The changes of an incoming file: `Start`, `Keep`, `Close` and `GiveUp`.
 
-ghost use Rattle.std.specs.Prelude.{◌≡◌, false};
+ghost use Rattle.std.specs.Prelude.{◌≡◌, IfErr, IfOk, false, true};
 ghost use Rattle.sqlite.specs.Held.{state};
-ghost use Rattle.oftp_vfile.specs.declared.format.Limits.{Limits};
 ghost use Rattle.oftp_register.specs.declared.change.Change.TheVariants.{Close, GiveUp, Keep, Start};
-ghost use Rattle.oftp_store.specs.Commits.{CommitsOn};
-ghost use Rattle.oftp_store.specs.FileProgress.{is_open};
+ghost use Rattle.oftp_tables.proofs.SpotLemmas.{entry_far};
+ghost use Rattle.oftp_store.specs.Commits.{CommitsOn, EndsCommit, Finds, NeedsFit};
+ghost use Rattle.oftp_store.specs.Edits.{more};
+ghost use Rattle.oftp_store.specs.FileProgress.{incoming_told, is_open, is_open_file};
 ghost use Rattle.oftp_store.specs.Allocations.{goes_on};
 
 use super::edit::{Deed, Edit};
-use super::known::known_incoming;
-use super::transaction::{make_edits, make_if};
+use super::known::{Progress, allowed, known};
+use super::means::Means;
+use super::transaction::make_edits;
 use crate::queries::allocation::{IncomingAllocation, find_incoming_allocation};
-use crate::queries::progress::IncomingProgress;
+use crate::queries::progress::{IncomingProgress, find_incoming_progress};
 use oftp_register::{Cause, Identity, IncomingState, OfficeFault, Side};
-use oftp_vfile::{Format, Limits, Row};
+use oftp_vfile::{Format, Rows};
 use oftp_wire::Text;
 use sqlite::{Alter, Connection};
 use std::alloc::Global;
+
+impl Progress for IncomingProgress {
+    ghost told = { incoming_told };
+
+    fn find<S: Alter>(
+        alloc: Global,
+        conn: &mut Connection<S>,
+        no: u64,
+    ) -> Result<Option<IncomingProgress>, OfficeFault> {
+        find_incoming_progress(alloc, conn, no)
+    }
+
+    ghost beyond = { λ r db n tables far. entry_far n r.incoming tables.incoming.few far };
+}
 
 // Whether a file may go on after so many of its rows.
 fn goes_on(progress: &IncomingProgress, count: u64) -> bool
@@ -31,9 +47,8 @@ fn goes_on(progress: &IncomingProgress, count: u64) -> bool
 
 /// Begins a file that comes, or goes on with one after so many of its rows.
 pub(crate) fn start<S: Alter>(
-    alloc: Global,
+    means: Means,
     conn: &mut Connection<S>,
-    limits: Limits,
     identity: &Identity,
     format: Format,
     longest: u32,
@@ -41,9 +56,9 @@ pub(crate) fn start<S: Alter>(
     count: u64,
 ) -> Result<(), OfficeFault>
     requires { conn.old.in_transaction ≡ false }
-    ensures { CommitsOn limits (Start identity.now format longest description.now count) (state S.Store conn.old) (state S.Store conn.new) result }
+    ensures { CommitsOn means.limits (Start identity.now format longest description.now count) (state S.Store conn.old) (state S.Store conn.new) result }
 {
-    match find_incoming_allocation(alloc, conn, limits, identity)? {
+    match find_incoming_allocation(means.alloc, conn, means.limits, identity)? {
         IncomingAllocation::Full => {
             if count > 0 {
                 return Err(OfficeFault::Refused(Cause::State));
@@ -54,7 +69,8 @@ pub(crate) fn start<S: Alter>(
             if count > 0 {
                 return Err(OfficeFault::Refused(Cause::State));
             }
-            let deed = Deed::AddIncoming {
+            let deed = Deed::AddFile {
+                side: Side::Incoming,
                 identity,
                 format,
                 longest,
@@ -89,59 +105,74 @@ fn is_open(state: &IncomingState) -> bool
     }
 }
 
-/// Keeps more rows of an open file.
-pub(crate) fn keep<S: Alter>(
-    alloc: Global,
+// The file with a number, of which more is awaited.
+fn open_file<S: Alter>(
+    means: Means,
     conn: &mut Connection<S>,
     no: u64,
-    rows: &[Row],
-) -> Result<(), OfficeFault>
+) -> Result<IncomingProgress, OfficeFault>
     requires { conn.old.in_transaction ≡ false }
-    ensures { (limits : Limits) → CommitsOn limits (Keep no rows.now) (state S.Store conn.old) (state S.Store conn.new) result }
+    ensures autocommit { conn.new.in_transaction ≡ false }
+    ensures found { IfOk result (Finds incoming_told no (state S.Store conn.old) (state S.Store conn.new)) }
+    ensures open { IfOk result (λ file. is_open_file file ≡ true) }
+    ensures ends { IfErr result (EndsCommit means.limits (NeedsFit incoming_told is_open_file no) (state S.Store conn.old) (state S.Store conn.new)) }
 {
-    let progress = known_incoming(alloc, conn, no)?;
-    let more = Deed::AddRows {
+    let file = known::<IncomingProgress, S>(means, conn, no)?;
+    allowed(is_open(&file.state))?;
+    Ok(file)
+}
+
+// More rows of a file behind those that are here.
+fn more<'x>(no: u64, file: &IncomingProgress, rows: &'x Rows) -> Edit<'x>
+    ensures { result ≡ more no file.now.rows rows.entry }
+{
+    let deed = Deed::AddRows {
         side: Side::Incoming,
-        from: progress.rows,
+        from: file.rows,
         rows,
     };
-    make_if(is_open(&progress.state), conn, &[Edit { no, deed: more }])
+    Edit { no, deed }
+}
+
+/// Keeps more rows of an open file.
+pub(crate) fn keep<S: Alter>(
+    means: Means,
+    conn: &mut Connection<S>,
+    no: u64,
+    rows: &Rows,
+) -> Result<(), OfficeFault>
+    requires { conn.old.in_transaction ≡ false }
+    ensures { CommitsOn means.limits (Keep no rows.now) (state S.Store conn.old) (state S.Store conn.new) result }
+{
+    let file = open_file(means, conn, no)?;
+    make_edits(conn, &[more(no, &file, rows)])
 }
 
 /// Keeps the last rows of an open file, which is whole then.
 pub(crate) fn close<S: Alter>(
-    alloc: Global,
+    means: Means,
     conn: &mut Connection<S>,
     no: u64,
-    rows: &[Row],
+    rows: &Rows,
 ) -> Result<(), OfficeFault>
     requires { conn.old.in_transaction ≡ false }
-    ensures { (limits : Limits) → CommitsOn limits (Close no rows.now) (state S.Store conn.old) (state S.Store conn.new) result }
+    ensures { CommitsOn means.limits (Close no rows.now) (state S.Store conn.old) (state S.Store conn.new) result }
 {
-    let progress = known_incoming(alloc, conn, no)?;
-    let more = Deed::AddRows {
-        side: Side::Incoming,
-        from: progress.rows,
-        rows,
-    };
+    let file = open_file(means, conn, no)?;
     let whole = Deed::SetWhole;
-    make_if(
-        is_open(&progress.state),
-        conn,
-        &[Edit { no, deed: more }, Edit { no, deed: whole }],
-    )
+    make_edits(conn, &[more(no, &file, rows), Edit { no, deed: whole }])
 }
 
 /// Gives up the rows of an open file.
 pub(crate) fn give_up<S: Alter>(
-    alloc: Global,
+    means: Means,
     conn: &mut Connection<S>,
     no: u64,
 ) -> Result<(), OfficeFault>
     requires { conn.old.in_transaction ≡ false }
-    ensures { (limits : Limits) → CommitsOn limits (GiveUp no) (state S.Store conn.old) (state S.Store conn.new) result }
+    ensures { CommitsOn means.limits (GiveUp no) (state S.Store conn.old) (state S.Store conn.new) result }
 {
-    let progress = known_incoming(alloc, conn, no)?;
+    open_file(means, conn, no)?;
     let none = Deed::CutRows { count: 0 };
-    make_if(is_open(&progress.state), conn, &[Edit { no, deed: none }])
+    make_edits(conn, &[Edit { no, deed: none }])
 }

@@ -1,74 +1,64 @@
-//! What is here of the file that a change names by its number. No file has a number from 2^63 on.
+//! What is here of the file that a change names by its number, and whether that allows the change.
 
-ghost use Rattle.std.specs.Prelude.{◌≡◌, IfErr, IfOk, false};
+ghost use Rattle.std.specs.Prelude.{◌≡◌, ◌≤◌, ◌<◌, ◌^◌, ℕ, Option, None, IfErr, IfOk, OnOk, false, true};
+ghost use Rattle.sqlite.specs.Tree.{Trees};
 ghost use Rattle.sqlite.specs.Held.{state};
-ghost use Rattle.oftp_store.specs.Commits.{EndsCommit, Finds, incoming_files, outgoing_files};
-ghost use Rattle.oftp_store.specs.FileProgress.{response_progress_of, incoming_progress_of, outgoing_progress_of};
+ghost use Rattle.oftp_register.specs.Register.{Register};
+ghost use Rattle.oftp_tables.specs.Statements.{Looks};
+ghost use Rattle.oftp_tables.specs.Tables.{Tables};
+ghost use Rattle.oftp_store.specs.Commits.{EndsCommit, Finds, NeedsFile};
+ghost use Rattle.oftp_store.specs.Tells.{Tells};
 
-use crate::queries::progress::{
-    IncomingProgress, OutgoingProgress, ResponseProgress, find_incoming_progress,
-    find_outgoing_progress, find_response_progress,
-};
+use super::means::Means;
+use crate::numbers::FIRST_FAR;
 use oftp_register::{Cause, OfficeFault};
 use sqlite::{Alter, Connection};
 use std::alloc::Global;
 
-/// How far the incoming file with a number has come.
-pub(crate) fn known_incoming<S: Alter>(
-    alloc: Global,
+/// What changes ask of the file with a number.
+pub(crate) trait Progress: Sized {
+    ghost told: { Register → ℕ → Option Self → Type 0 };
+
+    /// That of the file with a number, if there is one.
+    fn find<S: Alter>(
+        alloc: Global,
+        conn: &mut Connection<S>,
+        no: u64,
+    ) -> Result<Option<Self>, OfficeFault>
+        requires { no < 2 ^ 63 }
+        ensures looks { Looks (state S.Store conn.old) (state S.Store conn.new) result }
+        ensures answer { Tells (λ r found. told r no found) (state S.Store conn.old) (state S.Store conn.new) result };
+
+    ghost beyond: { (r : Register) (db : Trees) (n : ℕ) → Tables r db → 2 ^ 63 ≤ n → told r n None };
+}
+
+/// What a change asks of the file that it names.
+pub(crate) fn known<P: Progress, S: Alter>(
+    means: Means,
     conn: &mut Connection<S>,
     no: u64,
-) -> Result<IncomingProgress, OfficeFault>
+) -> Result<P, OfficeFault>
     requires { conn.old.in_transaction ≡ false }
     ensures autocommit { conn.new.in_transaction ≡ false }
-    ensures found { IfOk result (Finds incoming_files incoming_progress_of no (state S.Store conn.old) (state S.Store conn.new)) }
-    ensures ends { IfErr result (EndsCommit incoming_files no (state S.Store conn.old) (state S.Store conn.new)) }
+    ensures found { IfOk result (Finds P.told no (state S.Store conn.old) (state S.Store conn.new)) }
+    ensures ends { IfErr result (EndsCommit means.limits (NeedsFile P.told no) (state S.Store conn.old) (state S.Store conn.new)) }
 {
-    if no >= 1 << 63 {
+    if no >= FIRST_FAR {
         return Err(OfficeFault::Refused(Cause::Unknown));
     }
-    match find_incoming_progress(alloc, conn, no)? {
+    match P::find(means.alloc, conn, no)? {
         None => Err(OfficeFault::Refused(Cause::Unknown)),
         Some(progress) => Ok(progress),
     }
 }
 
-/// How far the outgoing file with a number has come.
-pub(crate) fn known_outgoing<S: Alter>(
-    alloc: Global,
-    conn: &mut Connection<S>,
-    no: u64,
-) -> Result<OutgoingProgress, OfficeFault>
-    requires { conn.old.in_transaction ≡ false }
-    ensures autocommit { conn.new.in_transaction ≡ false }
-    ensures found { IfOk result (Finds outgoing_files outgoing_progress_of no (state S.Store conn.old) (state S.Store conn.new)) }
-    ensures ends { IfErr result (EndsCommit outgoing_files no (state S.Store conn.old) (state S.Store conn.new)) }
+/// The refusal of a change that the state of its file doesn't allow.
+pub(crate) fn allowed(is_allowed: bool) -> Result<(), OfficeFault>
+    ensures ok { OnOk result (is_allowed ≡ true) }
+    ensures err { IfErr result (λ fault. (is_allowed ≡ false) × (fault ≡ OfficeFault.Refused Cause.State)) }
 {
-    if no >= 1 << 63 {
-        return Err(OfficeFault::Refused(Cause::Unknown));
+    if is_allowed {
+        return Ok(());
     }
-    match find_outgoing_progress(alloc, conn, no)? {
-        None => Err(OfficeFault::Refused(Cause::Unknown)),
-        Some(progress) => Ok(progress),
-    }
-}
-
-/// Whether the incoming file with a number is whole and was progress.
-pub(crate) fn known_response<S: Alter>(
-    alloc: Global,
-    conn: &mut Connection<S>,
-    no: u64,
-) -> Result<ResponseProgress, OfficeFault>
-    requires { conn.old.in_transaction ≡ false }
-    ensures autocommit { conn.new.in_transaction ≡ false }
-    ensures found { IfOk result (Finds incoming_files response_progress_of no (state S.Store conn.old) (state S.Store conn.new)) }
-    ensures ends { IfErr result (EndsCommit incoming_files no (state S.Store conn.old) (state S.Store conn.new)) }
-{
-    if no >= 1 << 63 {
-        return Err(OfficeFault::Refused(Cause::Unknown));
-    }
-    match find_response_progress(alloc, conn, no)? {
-        None => Err(OfficeFault::Refused(Cause::Unknown)),
-        Some(progress) => Ok(progress),
-    }
+    Err(OfficeFault::Refused(Cause::State))
 }

@@ -2,16 +2,17 @@
 
 ghost use Rattle.std.specs.Prelude.{◌≡◌, false};
 ghost use Rattle.sqlite.specs.Held.{state};
-ghost use Rattle.oftp_vfile.specs.declared.format.Limits.{Limits};
 ghost use Rattle.oftp_register.specs.declared.change.Change.TheVariants.{File, Issue, Send};
 ghost use Rattle.oftp_register.specs.Changes.{answered_as};
+ghost use Rattle.oftp_tables.proofs.SpotLemmas.{entry_far};
 ghost use Rattle.oftp_store.specs.Commits.{CommitsOn};
-ghost use Rattle.oftp_store.specs.FileProgress.{is_answerable, is_sendable};
+ghost use Rattle.oftp_store.specs.FileProgress.{is_answerable, is_sendable, response_told};
 
 use super::edit::{Deed, Edit};
-use super::known::known_response;
-use super::transaction::{make_edits, make_if};
-use crate::queries::progress::ResponseProgress;
+use super::known::{Progress, allowed, known};
+use super::means::Means;
+use super::transaction::make_edits;
+use crate::queries::progress::{ResponseProgress, find_response_progress};
 use crate::queries::response_match::{ResponseMatch, find_response_match};
 use oftp_register::{
     Cause, Dispatch, Identity, IncomingState, Name, OfficeFault, OutgoingState, ResponseKind,
@@ -32,7 +33,7 @@ fn answered_as(kind: ResponseKind) -> OutgoingState
 
 /// Files a response that came, and settles the file that it answers.
 pub(crate) fn file<'x, S: Alter>(
-    alloc: Global,
+    means: Means,
     conn: &mut Connection<S>,
     kind: ResponseKind,
     identity: &'x Identity,
@@ -41,9 +42,9 @@ pub(crate) fn file<'x, S: Alter>(
     text: &'x Text<'x>,
 ) -> Result<(), OfficeFault>
     requires { conn.old.in_transaction ≡ false }
-    ensures { (limits : Limits) → CommitsOn limits (File kind identity.now reason creator.now text.now) (state S.Store conn.old) (state S.Store conn.new) result }
+    ensures { CommitsOn means.limits (File kind identity.now reason creator.now text.now) (state S.Store conn.old) (state S.Store conn.new) result }
 {
-    match find_response_match(alloc, conn, kind, identity)? {
+    match find_response_match(means.alloc, conn, kind, identity)? {
         ResponseMatch::Duplicate => Err(OfficeFault::Refused(Cause::Duplicate)),
         ResponseMatch::Unmatched(no) => {
             let deed = Deed::AddReceived {
@@ -75,7 +76,21 @@ pub(crate) fn file<'x, S: Alter>(
     }
 }
 
-// Whether a file may be progress: it is whole and wasn't.
+impl Progress for ResponseProgress {
+    ghost told = { response_told };
+
+    fn find<S: Alter>(
+        alloc: Global,
+        conn: &mut Connection<S>,
+        no: u64,
+    ) -> Result<Option<ResponseProgress>, OfficeFault> {
+        find_response_progress(alloc, conn, no)
+    }
+
+    ghost beyond = { λ r db n tables far. entry_far n r.incoming tables.incoming.few far };
+}
+
+// Whether a file may be answered: it is whole and wasn't.
 fn is_answerable(progress: &ResponseProgress) -> bool
     ensures { result ≡ is_answerable progress.now }
 {
@@ -98,7 +113,7 @@ fn is_sendable(progress: &ResponseProgress) -> bool
 
 /// Issues the response to a whole incoming file.
 pub(crate) fn issue<S: Alter>(
-    alloc: Global,
+    means: Means,
     conn: &mut Connection<S>,
     no: u64,
     kind: ResponseKind,
@@ -106,23 +121,25 @@ pub(crate) fn issue<S: Alter>(
     text: &Text<'_>,
 ) -> Result<(), OfficeFault>
     requires { conn.old.in_transaction ≡ false }
-    ensures { (limits : Limits) → CommitsOn limits (Issue no kind reason text.now) (state S.Store conn.old) (state S.Store conn.new) result }
+    ensures { CommitsOn means.limits (Issue no kind reason text.now) (state S.Store conn.old) (state S.Store conn.new) result }
 {
-    let progress = known_response(alloc, conn, no)?;
+    let progress = known::<ResponseProgress, S>(means, conn, no)?;
+    allowed(is_answerable(&progress))?;
     let deed = Deed::AddIssued { kind, reason, text };
-    make_if(is_answerable(&progress), conn, &[Edit { no, deed }])
+    make_edits(conn, &[Edit { no, deed }])
 }
 
 /// Sets the response to an incoming file sent.
 pub(crate) fn send<S: Alter>(
-    alloc: Global,
+    means: Means,
     conn: &mut Connection<S>,
     no: u64,
 ) -> Result<(), OfficeFault>
     requires { conn.old.in_transaction ≡ false }
-    ensures { (limits : Limits) → CommitsOn limits (Send no) (state S.Store conn.old) (state S.Store conn.new) result }
+    ensures { CommitsOn means.limits (Send no) (state S.Store conn.old) (state S.Store conn.new) result }
 {
-    let progress = known_response(alloc, conn, no)?;
+    let progress = known::<ResponseProgress, S>(means, conn, no)?;
+    allowed(is_sendable(&progress))?;
     let deed = Deed::SetSent;
-    make_if(is_sendable(&progress), conn, &[Edit { no, deed }])
+    make_edits(conn, &[Edit { no, deed }])
 }

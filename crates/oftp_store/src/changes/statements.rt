@@ -6,15 +6,14 @@ ghost use Rattle.oftp_wire.specs.Octets.{decimal};
 ghost use Rattle.oftp_tables.specs.Statements.{Performs, uncounted};
 ghost use Rattle.oftp_tables.specs.Tables.{HasRefusal, format_text, kind_text, out_state_text, reason_text, refusal_text};
 ghost use Rattle.oftp_register.specs.declared.entry.OutgoingState.{OutgoingState};
-ghost use Rattle.oftp_register.specs.declared.entry.ResponseKind.TheVariants.{NegativeEndResponse};
 ghost use Rattle.oftp_store.specs.Edits.{Makes, MakesNote, MakesNoteless, MakesRows, header_params};
-ghost use Rattle.oftp_store.specs.Texts.{add_row_text};
-ghost use Rattle.oftp_store.specs.declared.changes.edit.Deed.TheVariants.{AddIncoming, AddIssued, AddOutgoing, AddReceived, AddRows, CutRows, SetHeader, SetOutgoing, SetSent, SetWhole};
+ghost use Rattle.oftp_store.specs.Texts.{add_file_text, add_row_text};
+ghost use Rattle.oftp_store.specs.declared.changes.edit.Deed.TheVariants.{AddFile, AddIssued, AddReceived, AddRows, CutRows, SetHeader, SetOutgoing, SetSent, SetWhole};
 
 use arrayvec::ArrayVec;
 use oftp_register::{Identity, Name, OutgoingState, ResponseKind, Side};
 use oftp_tables::number;
-use oftp_vfile::{Format, Row};
+use oftp_vfile::{Format, Rows};
 use oftp_wire::{Count, Text};
 use sqlite::types::ValueRef;
 use sqlite::{Alter, Error, Transaction, params};
@@ -206,28 +205,24 @@ fn header_values<'x>(
     ]
 }
 
-/// Adds an incoming file without rows, which is open.
-pub(crate) fn add_incoming<'x, S: Alter>(
-    tx: &mut Transaction<'_, S>,
-    no: u64,
-    identity: &'x Identity,
-    format: Format,
-    longest: u32,
-    description: &'x Text<'x>,
-) -> Result<(), Error>
-    requires { no < 2 ^ 63 }
-    ensures same_reference { tx.new.conn.ghost_name ≡ tx.old.conn.ghost_name }
-    ensures performs { Performs (Makes no (AddIncoming identity.entry format longest description.entry)) S.Store tx.old.conn.now tx.new.conn.now result }
+// The text that adds a file of a side.
+fn add_file_text(side: Side) -> &'static str
+    ensures { result.now ≡ add_file_text side }
 {
-    done(tx.execute(
-        "INSERT INTO in_file (no, dataset, date, time, originator, destination, format, longest, description, state) VALUES (?1, ?2, ?3, ?4, ?5, ?6, ?7, ?8, ?9, 'open')",
-        &header_values(no, identity, format, longest, description),
-    ))
+    match side {
+        Side::Incoming => {
+            "INSERT INTO in_file (no, dataset, date, time, originator, destination, format, longest, description, state) VALUES (?1, ?2, ?3, ?4, ?5, ?6, ?7, ?8, ?9, 'open')"
+        }
+        Side::Outgoing => {
+            "INSERT INTO out_file (no, dataset, date, time, originator, destination, format, longest, description, mark, state, reason) VALUES (?1, ?2, ?3, ?4, ?5, ?6, ?7, ?8, ?9, 0, 'waiting', '')"
+        }
+    }
 }
 
-/// Adds an outgoing file without rows, which is waiting.
-pub(crate) fn add_outgoing<'x, S: Alter>(
+/// Adds a file without rows: an incoming one is open, an outgoing one waits.
+pub(crate) fn add_file<'x, S: Alter>(
     tx: &mut Transaction<'_, S>,
+    side: Side,
     no: u64,
     identity: &'x Identity,
     format: Format,
@@ -236,10 +231,10 @@ pub(crate) fn add_outgoing<'x, S: Alter>(
 ) -> Result<(), Error>
     requires { no < 2 ^ 63 }
     ensures same_reference { tx.new.conn.ghost_name ≡ tx.old.conn.ghost_name }
-    ensures performs { Performs (Makes no (AddOutgoing identity.entry format longest description.entry)) S.Store tx.old.conn.now tx.new.conn.now result }
+    ensures performs { Performs (Makes no (AddFile side identity.entry format longest description.entry)) S.Store tx.old.conn.now tx.new.conn.now result }
 {
     done(tx.execute(
-        "INSERT INTO out_file (no, dataset, date, time, originator, destination, format, longest, description, mark, state, reason) VALUES (?1, ?2, ?3, ?4, ?5, ?6, ?7, ?8, ?9, 0, 'waiting', '')",
+        add_file_text(side),
         &header_values(no, identity, format, longest, description),
     ))
 }
@@ -375,57 +370,26 @@ fn add_row_text(side: Side) -> &'static str
     }
 }
 
-// Adds a row to a file.
-fn add_row<S: Alter>(
-    tx: &mut Transaction<'_, S>,
-    side: Side,
-    no: u64,
-    at: u32,
-    body: &Row,
-) -> Result<(), Error>
-    requires { no < 2 ^ 63 }
-    ensures same_reference { tx.new.conn.ghost_name ≡ tx.old.conn.ghost_name }
-    ensures performs { Performs (MakesRows side no at (body.now ∷ [])) S.Store tx.old.conn.now tx.new.conn.now result }
-{
-    done(tx.execute(add_row_text(side), params![number(no), at, body.octets()]))
-}
-
 /// Adds rows to a file, behind those that it has.
 pub(crate) fn add_rows<S: Alter>(
     tx: &mut Transaction<'_, S>,
     side: Side,
     no: u64,
     from: u32,
-    rows: &[Row],
+    rows: &Rows,
 ) -> Result<(), Error>
     requires number { no < 2 ^ 63 }
     requires room { from + length rows.now < 2 ^ 32 }
     ensures same_reference { tx.new.conn.ghost_name ≡ tx.old.conn.ghost_name }
     ensures performs { Performs (MakesRows side no from rows.now) S.Store tx.old.conn.now tx.new.conn.now result }
 {
+    let text = add_row_text(side);
     let mut at = from;
-    'rows: for row in rows {
-        add_row(tx, side, no, at, row)?;
+    'rows: for row in rows.as_slice() {
+        tx.execute(text, params![number(no), at, row.octets()])?;
         at += 1;
     }
     Ok(())
-}
-
-// Adds a negative response that came, with its note.
-fn add_negative<S: Alter>(
-    tx: &mut Transaction<'_, S>,
-    no: u64,
-    identity: &Identity,
-    reason: Count<2>,
-    creator: &Name<25>,
-    text: &Text<'_>,
-) -> Result<(), Error>
-    requires { no < 2 ^ 63 }
-    ensures same_reference { tx.new.conn.ghost_name ≡ tx.old.conn.ghost_name }
-    ensures performs { Performs (Makes no (AddReceived NegativeEndResponse identity.entry reason creator.entry text.entry)) S.Store tx.old.conn.now tx.new.conn.now result }
-{
-    add_noteless(tx, no, ResponseKind::NegativeEndResponse, identity, reason)?;
-    add_note(tx, no, creator, text)
 }
 
 /// Adds a response that came. An end response has no creator and no text.
@@ -442,8 +406,9 @@ pub(crate) fn add_received<S: Alter>(
     ensures same_reference { tx.new.conn.ghost_name ≡ tx.old.conn.ghost_name }
     ensures performs { Performs (Makes no (AddReceived kind identity.entry reason creator.entry text.entry)) S.Store tx.old.conn.now tx.new.conn.now result }
 {
+    add_noteless(tx, no, kind, identity, reason)?;
     match kind {
-        ResponseKind::EndResponse => add_noteless(tx, no, kind, identity, reason),
-        ResponseKind::NegativeEndResponse => add_negative(tx, no, identity, reason, creator, text),
+        ResponseKind::EndResponse => Ok(()),
+        ResponseKind::NegativeEndResponse => add_note(tx, no, creator, text),
     }
 }

@@ -8,6 +8,8 @@ ghost use Rattle.oftp_store.specs.Views.{content_alone, view_of};
 
 use super::SqlOffice;
 use crate::changes::commit::commit_change;
+use crate::changes::means::Means;
+use crate::numbers::FIRST_FAR;
 use crate::queries::{
     file_by_identity, file_by_number, identity, last_number, lists, next_item, rows, units,
 };
@@ -17,9 +19,6 @@ use oftp_register::{
 };
 use oftp_vfile::{Limits, MOST_ROWS, Rows};
 use sqlite::Alter;
-
-// No entry has this number or a greater one: the database can't hold it.
-const FIRST_FAR: u64 = 0x8000_0000_0000_0000;
 
 // Counts a fault.
 fn counted<T>(faults: &mut u64, found: Result<T, OfficeFault>) -> Result<T, OfficeFault>
@@ -142,7 +141,11 @@ impl<S: Alter> Office for SqlOffice<S> {
     }
 
     fn commit(&mut self, change: Change<'_>) -> Result<(), OfficeFault> {
-        let made = commit_change(self.alloc, &mut self.conn, self.limits, change);
+        let means = Means {
+            alloc: self.alloc,
+            limits: self.limits,
+        };
+        let made = commit_change(means, &mut self.conn, change);
         counted(&mut self.faults, made)
     }
 

@@ -1,21 +1,12 @@
-use Rattle.std.proofs.Common.{[], ◌∷◌}
-use Rattle.std.proofs.lemmas.Result.{err_from_is_err_and}
-use Rattle.oftp_register.specs.declared.change.Change.TheVariants.{GiveUp}
-use Rattle.oftp_store.specs.declared.changes.edit.Edit.{Edit}
-use Rattle.oftp_store.specs.declared.changes.edit.Deed.TheVariants.{CutRows}
-use Rattle.oftp_store.proofs.ChangeLemmas.{made_by_give_up, needs_give_up}
-use Rattle.oftp_store.proofs.CommitLemmas.{commits_if}
+use Rattle.oftp_store.proofs.ChangeLemmas.{give_up_is}
+use Rattle.oftp_store.proofs.CommitLemmas.{commits_fit, needs_fit, passed_on}
 use Rattle.oftp_store.proofs.changes.incoming.give_up.Goals as goal
 
-pub returns : goal.returns
-returns g c limits =
-    let none : Edit = record { no = c.args.no; deed = CutRows 0 } in
-    commits_if g.S.Store (none ∷ []) _ limits (GiveUp c.args.no)
-    c.args.conn.now c.known_incoming.new.conn c.make_if.new.conn _ c.make_if.result c.in_ok-progress.ensures.found.looks
-    (λ k stands. rw c.is_open.ensures
-    (made_by_give_up c.args.no _ c.in_ok-progress.progress (c.in_ok-progress.ensures.found.answer k limits stands))) c.make_if.ensures
+pub returns-in_err-open_file : goal.returns-in_err-open_file
+returns-in_err-open_file g c =
+    passed_on _ _ _ _ c.in_err-open_file.field-0.0 _ c.from_residual.ensures.1 (c.in_err-open_file.ensures.ends _ (needs_fit _ _ _ _ _ (give_up_is c.args.no)))
 
-pub returns-in_err-progress : goal.returns-in_err-progress
-returns-in_err-progress g c limits =
-    let p = err_from_is_err_and c.from_residual.result c.from_residual.ensures.1 in
-    rw (p.1, p.2) (c.in_err-progress.ensures.ends limits (GiveUp c.args.no) (needs_give_up c.args.no))
+pub returns : goal.returns
+returns g c =
+    let file = c.in_ok-open_file.ensures in
+    commits_fit g.S.Store _ _ _ _ _ _ c.args.conn.now c.open_file.new.conn c.make_edits.new.conn _ _ (give_up_is c.args.no) file.found file.open c.make_edits.ensures

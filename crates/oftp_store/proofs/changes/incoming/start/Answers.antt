@@ -1,8 +1,9 @@
 use Rattle.std.proofs.Common.{[], ◌∷◌, ◌∙◌, refl, sym}
 use Rattle.oftp_register.specs.declared.change.Change.TheVariants.{Start}
 use Rattle.oftp_register.specs.declared.change.Cause.TheVariants as cause
+use Rattle.oftp_register.specs.declared.entries.Side.TheVariants as side
 use Rattle.oftp_store.specs.declared.changes.edit.Edit.{Edit}
-use Rattle.oftp_store.specs.declared.changes.edit.Deed.TheVariants.{AddIncoming, CutRows, SetHeader}
+use Rattle.oftp_store.specs.declared.changes.edit.Deed.TheVariants.{AddFile, CutRows, SetHeader}
 use Rattle.oftp_store.proofs.CommitLemmas.{commits_by, commits_refused}
 use Rattle.oftp_store.proofs.BeginningLemmas.{full_start, late_start, late_start_full, made_by_begin, made_by_go_on, unfit_start}
 use Rattle.oftp_store.proofs.changes.incoming.start.Goals as goal
@@ -10,29 +11,29 @@ use Rattle.oftp_store.proofs.changes.incoming.start.Goals as goal
 pub returns-then-count-gt0 : goal.returns-then-count-gt0
 returns-then-count-gt0 g c =
     let a = c.args in
-    commits_refused a.limits (Start a.identity.now a.format a.longest a.description.now a.count) _ _ _ cause.State c.in_ok-find_incoming_allocation.ensures.looks
+    commits_refused a.means.limits (Start a.identity.now a.format a.longest a.description.now a.count) _ _ _ cause.State c.in_ok-find_incoming_allocation.ensures.looks
     (λ k stands. late_start_full _ a.identity.now a.format a.longest a.description.now a.count
     ((rw c.in-Full.is at c.in_ok-find_incoming_allocation.ensures.answer) k stands.holds.schema _ refl stands.holds.tables) c.if-count-gt0.true)
 
 pub returns-else-count-gt0 : goal.returns-else-count-gt0
 returns-else-count-gt0 g c =
     let a = c.args in
-    commits_refused a.limits (Start a.identity.now a.format a.longest a.description.now a.count) _ _ _ cause.Full c.in_ok-find_incoming_allocation.ensures.looks
+    commits_refused a.means.limits (Start a.identity.now a.format a.longest a.description.now a.count) _ _ _ cause.Full c.in_ok-find_incoming_allocation.ensures.looks
     (λ k stands. full_start _ a.identity.now a.format a.longest a.description.now a.count
     ((rw c.in-Full.is at c.in_ok-find_incoming_allocation.ensures.answer) k stands.holds.schema _ refl stands.holds.tables) c.if-count-gt0.false)
 
 pub returns-then-count-gt0-2 : goal.returns-then-count-gt0-2
 returns-then-count-gt0-2 g c =
     let a = c.args in
-    commits_refused a.limits (Start a.identity.now a.format a.longest a.description.now a.count) _ _ _ cause.State c.in_ok-find_incoming_allocation.ensures.looks
+    commits_refused a.means.limits (Start a.identity.now a.format a.longest a.description.now a.count) _ _ _ cause.State c.in_ok-find_incoming_allocation.ensures.looks
     (λ k stands. late_start _ a.identity.now a.format a.longest a.description.now a.count c.in-New.no
     ((rw c.in-New.is at c.in_ok-find_incoming_allocation.ensures.answer) k stands.holds.schema _ refl stands.holds.tables) c.if-count-gt0-2.true)
 
 pub returns-else-count-gt0-2 : goal.returns-else-count-gt0-2
 returns-else-count-gt0-2 g c =
     let a = c.args in
-    let edit : Edit = record { no = c.in-New.no; deed = AddIncoming a.identity a.format a.longest a.description } in
-    commits_by g.S.Store (edit ∷ []) a.limits (Start a.identity.now a.format a.longest a.description.now a.count) a.conn.now c.find_incoming_allocation.new.conn
+    let edit : Edit = record { no = c.in-New.no; deed = AddFile side.Incoming a.identity a.format a.longest a.description } in
+    commits_by g.S.Store (edit ∷ []) a.means.limits (Start a.identity.now a.format a.longest a.description.now a.count) a.conn.now c.find_incoming_allocation.new.conn
     c.make_edits.new.conn _ c.make_edits.result c.in_ok-find_incoming_allocation.ensures.looks
     (λ k stands. made_by_begin _ a.identity a.format a.longest a.description a.count c.in-New.no
     ((rw c.in-New.is at c.in_ok-find_incoming_allocation.ensures.answer) k stands.holds.schema _ refl stands.holds.tables) c.if-count-gt0-2.false) c.make_edits.ensures
@@ -40,7 +41,7 @@ returns-else-count-gt0-2 g c =
 pub returns-then-not-goes_on : goal.returns-then-not-goes_on
 returns-then-not-goes_on g c =
     let a = c.args in
-    commits_refused a.limits (Start a.identity.now a.format a.longest a.description.now a.count) _ _ _ cause.State c.in_ok-find_incoming_allocation.ensures.looks
+    commits_refused a.means.limits (Start a.identity.now a.format a.longest a.description.now a.count) _ _ _ cause.State c.in_ok-find_incoming_allocation.ensures.looks
     (λ k stands. unfit_start _ a.identity.now a.format a.longest a.description.now a.count c.in-Known.no c.in-Known.progress
     ((rw c.in-Known.is at c.in_ok-find_incoming_allocation.ensures.answer) k stands.holds.schema _ refl stands.holds.tables) (sym c.goes_on.ensures ∙ c.if-not-goes_on.true))
 
@@ -49,7 +50,7 @@ returns-else-not-goes_on g c =
     let a = c.args in
     let header : Edit = record { no = c.in-Known.no; deed = SetHeader a.format a.longest a.description } in
     let rest : Edit = record { no = c.in-Known.no; deed = CutRows a.count } in
-    commits_by g.S.Store (header ∷ rest ∷ []) a.limits (Start a.identity.now a.format a.longest a.description.now a.count) a.conn.now c.find_incoming_allocation.new.conn
+    commits_by g.S.Store (header ∷ rest ∷ []) a.means.limits (Start a.identity.now a.format a.longest a.description.now a.count) a.conn.now c.find_incoming_allocation.new.conn
     c.make_edits-in-Known.new.conn _ c.make_edits-in-Known.result c.in_ok-find_incoming_allocation.ensures.looks
     (λ k stands. made_by_go_on _ a.identity a.format a.longest a.description a.count c.in-Known.no c.in-Known.progress
     ((rw c.in-Known.is at c.in_ok-find_incoming_allocation.ensures.answer) k stands.holds.schema _ refl stands.holds.tables) (sym c.goes_on.ensures ∙ c.if-not-goes_on.false))

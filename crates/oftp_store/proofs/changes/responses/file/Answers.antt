@@ -8,29 +8,29 @@ use Rattle.oftp_store.proofs.FilingLemmas.{duplicate_file, made_by_file, made_by
 use Rattle.oftp_store.proofs.changes.responses.file.Goals as goal
 
 pub returns-in-Duplicate : goal.returns-in-Duplicate
-returns-in-Duplicate g c limits =
+returns-in-Duplicate g c =
     let a = c.args in
-    commits_refused limits (File a.kind a.identity.now a.reason a.creator.now a.text.now) _ _ _ cause.Duplicate c.in_ok-find_response_match.ensures.looks
+    commits_refused a.means.limits (File a.kind a.identity.now a.reason a.creator.now a.text.now) _ _ _ cause.Duplicate c.in_ok-find_response_match.ensures.looks
     (λ k stands. duplicate_file _ a.kind a.identity.now a.reason a.creator.now a.text.now
     ((rw c.in-Duplicate.is at c.in_ok-find_response_match.ensures.answer) k stands.holds.schema _ stands.holds.tables stands.holds.sound))
 
 pub returns-in-Unmatched : goal.returns-in-Unmatched
-returns-in-Unmatched g c limits =
+returns-in-Unmatched g c =
     let a = c.args in
     let response : Edit = record { no = c.in-Unmatched.no; deed = AddReceived a.kind a.identity a.reason a.creator a.text } in
-    commits_by g.S.Store (response ∷ []) limits (File a.kind a.identity.now a.reason a.creator.now a.text.now) a.conn.now c.find_response_match.new.conn
+    commits_by g.S.Store (response ∷ []) a.means.limits (File a.kind a.identity.now a.reason a.creator.now a.text.now) a.conn.now c.find_response_match.new.conn
     c.make_edits.new.conn _
     c.make_edits.result c.in_ok-find_response_match.ensures.looks
     (λ k stands. made_by_file _ a.kind a.identity a.reason a.creator a.text c.in-Unmatched.no
     ((rw c.in-Unmatched.is at c.in_ok-find_response_match.ensures.answer) k stands.holds.schema _ stands.holds.tables stands.holds.sound)) c.make_edits.ensures
 
 pub returns-in-Matched : goal.returns-in-Matched
-returns-in-Matched g c limits =
+returns-in-Matched g c =
     let a = c.args in
     let file = c.in-Matched.file in
     let settled : Edit = record { no = file.no; deed = SetOutgoing file.mark c.answered_as.result } in
     let response : Edit = record { no = c.in-Matched.no; deed = AddReceived a.kind a.identity a.reason a.creator a.text } in
-    commits_by g.S.Store (settled ∷ response ∷ []) limits (File a.kind a.identity.now a.reason a.creator.now a.text.now) a.conn.now c.find_response_match.new.conn
+    commits_by g.S.Store (settled ∷ response ∷ []) a.means.limits (File a.kind a.identity.now a.reason a.creator.now a.text.now) a.conn.now c.find_response_match.new.conn
     c.make_edits-in-Matched.new.conn _ c.make_edits-in-Matched.result c.in_ok-find_response_match.ensures.looks
     (λ k stands. rw c.answered_as.ensures (made_by_settling _ a.kind a.identity a.reason a.creator a.text c.in-Matched.no file
     ((rw c.in-Matched.is at c.in_ok-find_response_match.ensures.answer) k stands.holds.schema _ stands.holds.tables stands.holds.sound))) c.make_edits-in-Matched.ensures

@@ -9,6 +9,6 @@ invariant-rows g l =
     let none : Result (Unit {0}) Error = Ok tt in
     record {
       same_reference : l.tx.conn.ghost_name ≡ l.fn.tx.conn.ghost_name;
-      performs : Performs (MakesRows l.side l.no l.from (take l.row-index l.rows)) g.S.Store l.fn.tx.conn.now l.tx.conn.now none;
+      performs : Performs (MakesRows l.fn.side l.no l.from (take l.row-index l.rows)) g.S.Store l.fn.tx.conn.now l.tx.conn.now none;
       progress : l.at ≡ l.from + l.row-index;
     }

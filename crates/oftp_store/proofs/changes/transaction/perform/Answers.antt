@@ -1,10 +1,7 @@
 use Rattle.oftp_store.proofs.changes.transaction.perform.Goals as goal
 
-pub returns-in-AddIncoming-clause-performs : goal.returns-in-AddIncoming-clause-performs
-returns-in-AddIncoming-clause-performs g c = rw c.in-AddIncoming.is c.add_incoming.ensures.performs
-
-pub returns-in-AddOutgoing-clause-performs : goal.returns-in-AddOutgoing-clause-performs
-returns-in-AddOutgoing-clause-performs g c = rw c.in-AddOutgoing.is c.add_outgoing.ensures.performs
+pub returns-in-AddFile-clause-performs : goal.returns-in-AddFile-clause-performs
+returns-in-AddFile-clause-performs g c = rw c.in-AddFile.is c.add_file.ensures.performs
 
 pub returns-in-SetHeader-clause-performs : goal.returns-in-SetHeader-clause-performs
 returns-in-SetHeader-clause-performs g c = rw c.in-SetHeader.is c.set_header.ensures.performs
