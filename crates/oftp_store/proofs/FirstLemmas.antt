@@ -1,5 +1,5 @@
 -- What a query answers that asks for the first number whose row passes.
-use Rattle.std.proofs.Common.{◌≡◌, ◌==◌, ◌+◌, ◌<◌, ◌≤◌, ◌++◌, ℕ, pos, nat_lt, Bool, true, false, cond, if◌then◌else◌, List, [], ◌∷◌, map, take, find, slice_get, is_some, ◌||◌, Option, Some, None, Less, refl, sym, ap, subst, ◌∙◌, arith}
+use Rattle.std.proofs.Common.{◌≡◌, ◌==◌, ◌+◌, ◌<◌, ◌≤◌, ◌++◌, ℕ, pos, nat_lt, Bool, true, false, cond, if◌then◌else◌, List, [], ◌∷◌, length, map, take, find, slice_get, is_some, ◌||◌, Option, Some, None, option_to_list, Less, refl, sym, ap, subst, ◌∙◌, arith}
 use Rattle.std.specs.List.{AllByRecursion, list_all, list_any}
 use Rattle.std.specs.Option.{option_map}
 use Rattle.std.proofs.lemmas.Bool.Decides.{nat_tests}
@@ -87,17 +87,24 @@ module _ {X : Type 0} (row : ℕ → X → Row) (numbers : (n : ℕ) (x : X) →
       (subst (IsPermutation (map shown (passing test 1 xs))) (sym outputs_are) (IsPermutation-refl _))
       ∙ first_shown (passing test 1 xs)
 
--- ---- the number that is read
+-- ---- what is read
 
-pub number_told : (ns : List ℕ) (rows : List Row) (told : Option ℕ) → rows ≡ first_row ns → TellsNo rows told → told ≡ slice_get ns 0
-number_told [] rows told is tells = subst (λ rows. TellsNo rows told → told ≡ None) (sym is) (none told) tells
+-- an iterator gives the first of its items first
+pub first_given : {A : Type 0} (items rest : List A) (given : Option A) → items ≡ option_to_list given ++ rest → (given ≡ None → length items ≡ 0) → given ≡ slice_get items 0
+first_given [] rest None is none = refl
+first_given [] rest (Some x) is none = absurd (let no_such = is in cc)
+first_given (y ∷ items) rest None is none = absurd (omega (arith, none refl))
+first_given (y ∷ items) rest (Some x) is none = cc
+
+pub number_told : (ns : List ℕ) (rows : List Row) (told : Option ℕ) → rows ≡ first_row ns → TellsNo told (slice_get rows 0) → told ≡ slice_get ns 0
+number_told [] rows told is tells = subst (λ rows. TellsNo told (slice_get rows 0) → told ≡ None) (sym is) (none told) tells
   where
-    none : (told : Option ℕ) → TellsNo [] told → told ≡ None
+    none : (told : Option ℕ) → TellsNo told None → told ≡ None
     none None t = refl
     none (Some n) t = absurd t
-number_told (n ∷ ns) rows told is tells = subst (λ rows. TellsNo rows told → told ≡ Some n) (sym is) (some told) tells
+number_told (n ∷ ns) rows told is tells = subst (λ rows. TellsNo told (slice_get rows 0) → told ≡ Some n) (sym is) (some told) tells
   where
-    some : (told : Option ℕ) → TellsNo ((number_value n ∷ []) ∷ []) told → told ≡ Some n
+    some : (told : Option ℕ) → TellsNo told (Some (number_value n ∷ [])) → told ≡ Some n
     some None t = absurd t
     some (Some m) t = cc
 
@@ -129,10 +136,6 @@ any_told [] rows is = ap (λ (rows : List Row). is_some (slice_get rows 0)) is
 any_told (n ∷ ns) rows is = ap (λ (rows : List Row). is_some (slice_get rows 0)) is
 
 -- ---- an entry by its number
-
-pub none_told : {E : Type 0} (number : E → ℕ) (found : Option E) → None ≡ option_map number found → None ≡ found
-none_told number None is = refl
-none_told number (Some e) is = absurd (let no_such = is in cc)
 
 module _ {X E : Type 0} (entry : ℕ → X → E) (no : E → ℕ) (same : (n : ℕ) (x : X) → no (entry n x) ≡ n) (wanted : E → Bool) where
   none_below : (k n : ℕ) (xs : List X) → option_map no (find wanted (numbered entry n xs)) ≡ Some k → n ≤ k

@@ -1,5 +1,5 @@
 -- What a query answers that asks for the last number of a table.
-use Rattle.std.proofs.Common.{◌≡◌, ◌+◌, ◌≤◌, ◌++◌, ℕ, zero, suc, pos, true, List, [], ◌∷◌, length, map, take, codes, Less, refl, sym, ap, subst, ◌∙◌, arith}
+use Rattle.std.proofs.Common.{◌≡◌, ◌+◌, ◌≤◌, ◌++◌, ℕ, zero, suc, pos, true, List, [], ◌∷◌, length, map, take, slice_get, unwrap_or, codes, Option, Less, refl, sym, ap, subst, ◌∙◌, arith}
 use Rattle.std.specs.List.{AllByRecursion}
 use Rattle.std.specs.List.Sorted.{IsPermutation}
 use Rattle.std.proofs.lemmas.List.Sorted.{IsPermutation-refl, IsPermutation-trans, IsPermutation-cons, IsPermutation-sym, IsPermutation-to_front}
@@ -21,10 +21,10 @@ use Rattle.oftp_tables.specs.Schema.{in_file_tree, office_schema, out_file_tree,
 use Rattle.oftp_register.specs.Register.{Register}
 use Rattle.oftp_tables.specs.Tables.{Tables, in_file_row, number_value, out_file_row, received_row, rows_from}
 use Rattle.oftp_tables.proofs.SortedLemmas.{ordered_query, found, answers_in_order}
-use Rattle.oftp_store.specs.Numbers.{TellsLast, entries_in, last_text}
+use Rattle.oftp_store.specs.Numbers.{TellsNo, entries_in, last_text}
 use Rattle.oftp_store.specs.declared.queries.last_number.Table.{Table}
 use Rattle.oftp_store.specs.declared.queries.last_number.Table.TheVariants as table
-use Rattle.oftp_store.proofs.FirstLemmas.{less_number, shown}
+use Rattle.oftp_store.proofs.FirstLemmas.{less_number, number_told, shown}
 use Rattle.oftp_store.proofs.ReadLemmas.{IsRead, read_so}
 
 abbrev falling : Key
@@ -102,15 +102,13 @@ last_there table.IncomingFiles r db rows kept = answers_last in_file_row (λ n x
 last_there table.OutgoingFiles r db rows kept = answers_last out_file_row (λ n x. refl) db out_file_tree rows r.outgoing kept.outgoing.headers
 last_there table.ReceivedResponses r db rows kept = answers_last received_row (λ n x. refl) db received_tree rows r.received kept.received.responses_are
 
-last_is_told : (m told : ℕ) (rows : List Row) → rows ≡ last_row m → TellsLast rows told → told ≡ m
-last_is_told zero told rows is tells = subst (λ rows. TellsLast rows told → told ≡ 0) (sym is) (λ t. t) tells
-last_is_told (suc m) told rows is tells = subst (λ rows. TellsLast rows told → told ≡ suc m) (sym is) same tells
-  where
-    same : TellsLast (last_row (suc m)) told → told ≡ suc m
-    same t = cc
+last_is_told : (m : ℕ) (told : Option ℕ) (rows : List Row) → rows ≡ last_row m → TellsNo told (slice_get rows 0) → unwrap_or told 0 ≡ m
+last_is_told zero told rows is tells = ap (λ o. unwrap_or o 0) (number_told [] rows told is tells)
+last_is_told (suc m) told rows is tells = ap (λ o. unwrap_or o 0) (number_told (suc m ∷ []) rows told is tells)
 
-pub finds_last_no : (which : Table) (old new : State) (rows : List Row) (told : ℕ) → old.now.schema ≡ office_schema → Shown (last_text which) [] old new rows → TellsLast rows told
-    → (r : Register) → Tables r old.now.trees → told ≡ entries_in r which
+pub finds_last_no : (which : Table) (old new : State) (rows : List Row) (told : Option ℕ) → old.now.schema ≡ office_schema → Shown (last_text which) [] old new rows
+    → TellsNo told (slice_get rows 0)
+    → (r : Register) → Tables r old.now.trees → unwrap_or told 0 ≡ entries_in r which
 finds_last_no which old new rows told has h tells r kept =
     let read = read_so (last_text which) [] old new _ rows (last_read which) has h in
     last_is_told (entries_in r which) told rows (last_there which r old.now.trees rows kept (read.answer Null)) tells

@@ -80,10 +80,10 @@ no_outgoing r k none = entry_unknown outgoing_entry (λ (e : OutgoingEntry). e.n
 abbrev incoming_as : ℕ → IncomingHeader → ℕ → Option IssuedResponse → IncomingEntry
 incoming_as k h rows response = record {
   no = k;
-  identity = h.identity;
-  format = h.format;
-  longest = h.longest;
-  description = h.description;
+  identity = h.file.identity;
+  format = h.file.format;
+  longest = h.file.longest;
+  description = h.file.description;
   state = h.state;
   rows = rows;
   response = response;
@@ -101,10 +101,10 @@ incoming_told r k count h response (before, f, after, placed, header) counted an
 abbrev outgoing_as : ℕ → OutgoingHeader → ℕ → OutgoingEntry
 outgoing_as k h rows = record {
   no = k;
-  identity = h.identity;
-  format = h.format;
-  longest = h.longest;
-  description = h.description;
+  identity = h.file.identity;
+  format = h.file.format;
+  longest = h.file.longest;
+  description = h.file.description;
   rows = rows;
   mark = h.mark;
   state = h.state;

@@ -1,5 +1,5 @@
 -- What the look-ups on the rows of a file answer.
-use Rattle.std.proofs.Common.{◌≡◌, ◌==◌, ◌&&◌, ◌+◌, ◌<◌, ◌≤◌, ◌^◌, nat_lt, ℕ, zero, suc, pos, Bool, true, false, cond, nat_le, List, [], ◌∷◌, ◌++◌, length, map, drop, take, filter, unwrap_or, codes, Option, Some, None, Less, refl, sym, ap, subst, subst₂, ◌∙◌, arith}
+use Rattle.std.proofs.Common.{◌≡◌, ◌==◌, ◌&&◌, ◌+◌, ◌<◌, ◌≤◌, ◌^◌, nat_lt, ℕ, zero, suc, pos, Bool, true, false, cond, nat_le, List, [], ◌∷◌, ◌++◌, length, map, drop, take, filter, slice_get, unwrap_or, codes, Option, Some, None, Less, refl, sym, ap, subst, subst₂, ◌∙◌, arith}
 use Rattle.std.specs.List.{AllByRecursion, list_all}
 use Rattle.std.specs.List.Sorted.{IsPermutation}
 use Rattle.std.proofs.lemmas.Bool.Decides.{nat_tests}
@@ -33,7 +33,7 @@ use Rattle.oftp_tables.proofs.PlaceLemmas.{place}
 use Rattle.oftp_tables.proofs.RowLemmas.{from_filter, from_passes, from_same, from_test}
 use Rattle.oftp_tables.proofs.SpotLemmas.{Spot, spot, zeroth, there, past}
 use Rattle.oftp_tables.proofs.ManyLemmas.{without_rowids, rows_from_place, no_rows_past, no_rows_zeroth, passing}
-use Rattle.oftp_store.specs.Reads.{TellsCount, position_told}
+use Rattle.oftp_store.specs.Reads.{TellsCount}
 use Rattle.oftp_store.specs.Texts.{last_row_text, some_rows_text}
 use Rattle.oftp_store.proofs.NumberLemmas.{entry_beyond, entry_placed}
 use Rattle.oftp_store.proofs.ReadLemmas.{IsRead, read_so}
@@ -255,13 +255,9 @@ finds_last which old new n rows has h r kept =
         (places_down (length bodies)) answer (falling_places (tree_of which) (length bodies)) (IsPermutation-trans _ _ _ (turned_over (length bodies)) outputs)
         ∙ first_place (length bodies)
 
-position_back : (m at : ℕ) → position_told (number_value m) ≡ Some at → at ≡ m
-position_back m at h = go (nat_lt m (2 ^ 32)) h
+pub count_is_told : (n count : ℕ) (rows : List Row) → rows ≡ last_rows n → TellsCount (slice_get rows 0) count → count ≡ n
+count_is_told zero count rows is tells = subst (λ rows. TellsCount (slice_get rows 0) count → count ≡ 0) (sym is) (λ t. t) tells
+count_is_told (suc n) count rows is tells = subst (λ rows. TellsCount (slice_get rows 0) count → count ≡ suc n) (sym is) same tells
   where
-    go : (b : Bool) → cond b (Some m) None ≡ Some at → at ≡ m
-    go true e = cc
-    go false e = absurd (let no_such = e in cc)
-
-pub count_is_told : (n count : ℕ) (rows : List Row) → rows ≡ last_rows n → TellsCount rows count → count ≡ n
-count_is_told zero count rows is tells = subst (λ rows. TellsCount rows count → count ≡ 0) (sym is) (λ t. t) tells
-count_is_told (suc n) count rows is tells = subst (λ rows. TellsCount rows count → count ≡ suc n) (sym is) (λ t. omega (arith, t.2, position_back n t.0 t.1)) tells
+    same : TellsCount (Some (number_value n ∷ [])) count → count ≡ suc n
+    same (at, is, counted) = let same : n ≡ at = cc in omega (arith, counted, same)

@@ -1,7 +1,10 @@
 -- The texts of the statements.
 use Rattle.std.specs.Prelude.{ℕ, List, codes}
+use Rattle.sqlite.specs.Given.{IsPlain}
+use Rattle.sqlite.specs.Listing.{understood}
 use Rattle.oftp_register.specs.declared.entries.Side.{Side}
 use Rattle.oftp_register.specs.declared.entries.Side.TheVariants as side
+use Rattle.oftp_tables.specs.Schema.{office_schema}
 
 -- ---- what changes make
 
@@ -41,6 +44,10 @@ abbrev pub cut_rows_text : List ℕ
 cut_rows_text = codes "DELETE FROM in_row WHERE no = ?1 AND pos >= ?2"
 
 -- ---- what look-ups ask
+
+-- a text that the office's tables understand, which has no RETURNING and doesn't read the time
+abbrev pub IsPlainText : List ℕ → Type 0
+IsPlainText text = IsPlain (understood office_schema text)
 
 abbrev pub in_header_text : List ℕ
 in_header_text = codes "SELECT dataset, date, time, originator, destination, format, longest, description, state FROM in_file WHERE no = ?1"

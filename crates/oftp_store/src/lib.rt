@@ -3,6 +3,7 @@
 
 mod changes;
 mod file;
+mod numbers;
 mod office;
 mod open;
 mod queries;
