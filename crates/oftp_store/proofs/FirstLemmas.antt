@@ -1,5 +1,5 @@
 -- What a query answers that asks for the first number whose row passes.
-use Rattle.std.proofs.Common.{◌≡◌, ◌==◌, ◌+◌, ◌<◌, ◌≤◌, ◌++◌, ℕ, pos, nat_lt, Bool, true, false, cond, if◌then◌else◌, List, [], ◌∷◌, length, map, take, find, slice_get, is_some, ◌||◌, Option, Some, None, option_to_list, Less, refl, sym, ap, subst, ◌∙◌, arith}
+use Rattle.std.proofs.Common.{◌≡◌, ◌==◌, ◌+◌, ◌<◌, ◌≤◌, ◌++◌, ℕ, pos, nat_lt, Bool, true, false, cond, if◌then◌else◌, List, [], ◌∷◌, map, take, find, slice_get, is_some, ◌||◌, Option, Some, None, Less, refl, sym, ap, subst, ◌∙◌, arith}
 use Rattle.std.specs.List.{AllByRecursion, list_all, list_any}
 use Rattle.std.specs.Option.{option_map}
 use Rattle.std.proofs.lemmas.Bool.Decides.{nat_tests}
@@ -87,14 +87,7 @@ module _ {X : Type 0} (row : ℕ → X → Row) (numbers : (n : ℕ) (x : X) →
       (subst (IsPermutation (map shown (passing test 1 xs))) (sym outputs_are) (IsPermutation-refl _))
       ∙ first_shown (passing test 1 xs)
 
--- ---- what is read
-
--- an iterator gives the first of its items first
-pub first_given : {A : Type 0} (items rest : List A) (given : Option A) → items ≡ option_to_list given ++ rest → (given ≡ None → length items ≡ 0) → given ≡ slice_get items 0
-first_given [] rest None is none = refl
-first_given [] rest (Some x) is none = absurd (let no_such = is in cc)
-first_given (y ∷ items) rest None is none = absurd (omega (arith, none refl))
-first_given (y ∷ items) rest (Some x) is none = cc
+-- ---- the number that is read
 
 pub number_told : (ns : List ℕ) (rows : List Row) (told : Option ℕ) → rows ≡ first_row ns → TellsNo told (slice_get rows 0) → told ≡ slice_get ns 0
 number_told [] rows told is tells = subst (λ rows. TellsNo told (slice_get rows 0) → told ≡ None) (sym is) (none told) tells

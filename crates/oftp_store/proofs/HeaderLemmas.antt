@@ -36,15 +36,15 @@ file_back h = ap (λ format. record h { format = format }) (format_back h.format
 
 -- ---- incoming files
 
-abbrev pub in_project : List Term
+abbrev in_project : List Term
 in_project = col 1 2 ∷ col 1 3 ∷ col 1 4 ∷ col 1 5 ∷ col 1 6 ∷ col 1 7 ∷ col 1 8 ∷ col 1 9 ∷ col 1 10 ∷ []
 
-abbrev pub in_select : Command
+abbrev in_select : Command
 in_select =
     Select (record { lets = []; body = plain_query in_file_tree by_number in_project })
     (codes "dataset" ∷ codes "date" ∷ codes "time" ∷ codes "originator" ∷ codes "destination" ∷ codes "format" ∷ codes "longest" ∷ codes "description" ∷ codes "state" ∷ [])
 
-pub in_header_read : IsRead in_header_text in_select
+in_header_read : IsRead in_header_text in_select
 unfolding understood everything
 in_header_read = record { is = refl; unlisted = refl; plain = (refl, refl) }
 
@@ -60,16 +60,16 @@ finds_in_header = by_its_number in_header_read (λ db k rows answer r kept.
 
 -- ---- outgoing files
 
-abbrev pub out_project : List Term
+abbrev out_project : List Term
 out_project = col 1 2 ∷ col 1 3 ∷ col 1 4 ∷ col 1 5 ∷ col 1 6 ∷ col 1 7 ∷ col 1 8 ∷ col 1 9 ∷ col 1 10 ∷ col 1 11 ∷ col 1 12 ∷ []
 
-abbrev pub out_select : Command
+abbrev out_select : Command
 out_select =
     Select (record { lets = []; body = plain_query out_file_tree by_number out_project })
     (codes "dataset" ∷ codes "date" ∷ codes "time" ∷ codes "originator" ∷ codes "destination" ∷ codes "format" ∷ codes "longest" ∷ codes "description" ∷ codes "mark"
     ∷ codes "state" ∷ codes "reason" ∷ [])
 
-pub out_header_read : IsRead out_header_text out_select
+out_header_read : IsRead out_header_text out_select
 unfolding understood everything
 out_header_read = record { is = refl; unlisted = refl; plain = (refl, refl) }
 
@@ -88,13 +88,13 @@ finds_out_header = by_its_number out_header_read (λ db k rows answer r kept.
 
 -- ---- responses
 
-abbrev pub response_project : List Term
+abbrev response_project : List Term
 response_project = col 1 2 ∷ col 1 3 ∷ col 1 4 ∷ col 1 5 ∷ []
 
-abbrev pub response_select : Command
+abbrev response_select : Command
 response_select = Select (record { lets = []; body = plain_query issued_tree by_number response_project }) (codes "kind" ∷ codes "reason" ∷ codes "note" ∷ codes "sent" ∷ [])
 
-pub response_read : IsRead response_text response_select
+response_read : IsRead response_text response_select
 unfolding understood everything
 response_read = record { is = refl; unlisted = refl; plain = (refl, refl) }
 

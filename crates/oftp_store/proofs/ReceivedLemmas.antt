@@ -35,15 +35,15 @@ use Rattle.oftp_store.proofs.ReceivedEditLemmas.{note_number, note_piece, notes_
 
 -- ---- without the texts
 
-abbrev pub received_project : List Term
+abbrev received_project : List Term
 received_project = col 1 2 ∷ col 1 3 ∷ col 1 4 ∷ col 1 5 ∷ col 1 6 ∷ col 1 7 ∷ col 1 8 ∷ []
 
-abbrev pub received_select : Command
+abbrev received_select : Command
 received_select =
     Select (record { lets = []; body = plain_query received_tree by_number received_project })
     (codes "kind" ∷ codes "dataset" ∷ codes "date" ∷ codes "time" ∷ codes "originator" ∷ codes "destination" ∷ codes "reason" ∷ [])
 
-pub received_read : IsRead received_text received_select
+received_read : IsRead received_text received_select
 unfolding understood everything
 received_read = record { is = refl; unlisted = refl; plain = (refl, refl) }
 
@@ -71,13 +71,13 @@ finds_received = by_its_number received_read (λ db k rows answer r kept sound.
 
 -- ---- the texts
 
-abbrev pub received_note_project : List Term
+abbrev received_note_project : List Term
 received_note_project = col 1 2 ∷ col 1 3 ∷ []
 
-abbrev pub received_note_select : Command
+abbrev received_note_select : Command
 received_note_select = Select (record { lets = []; body = plain_query note_tree by_number received_note_project }) (codes "creator" ∷ codes "note" ∷ [])
 
-pub received_note_read : IsRead received_note_text received_note_select
+received_note_read : IsRead received_note_text received_note_select
 unfolding understood everything
 received_note_read = record { is = refl; unlisted = refl; plain = (refl, refl) }
 

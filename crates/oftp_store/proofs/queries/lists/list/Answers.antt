@@ -1,7 +1,7 @@
 use Rattle.std.proofs.Common.{◌≡◌, ◌∙◌, ◌++◌, [], ◌∷◌, ap, sym, arith, slice_get, take_all}
 use Rattle.std.proofs.lemmas.Bool.Decides.{nat_tests}
 use Rattle.oftp_store.proofs.ListLemmas.{one_more}
-use Rattle.oftp_store.proofs.LoopLemmas.{begins_known, goes_on_known, looks_other}
+use Rattle.oftp_store.proofs.LoopLemmas.{begins_known, goes_on_known}
 use Rattle.oftp_store.proofs.queries.lists.list.Goals as goal
 
 pub entries-init : goal.entries-init
@@ -18,9 +18,6 @@ entries-preserved g c =
       c.in_ok-push.ensures.items ∙ ap (λ es. es ++ c.in_ok-entry.entry ∷ []) known.1
           ∙ sym (one_more c.entries.before (entries r) c.in_ok-entry.entry (sym c.in_ok-entry.ensures.ok_part ∙ said)),
     ))
-
-pub returns-clause-looks : goal.returns-clause-looks
-returns-clause-looks g c = looks_other _ _ 0 _ c.entries.invariant.looks
 
 pub returns-clause-answer : goal.returns-clause-answer
 returns-clause-answer g c clean has r kept sound =

@@ -2,7 +2,7 @@ use Rattle.std.proofs.Common.{◌≡◌, ◌∙◌, ◌+◌, ◌++◌, ap, sym, 
 use Rattle.std.proofs.lemmas.Bool.Decides.{nat_tests}
 use Rattle.oftp_store.specs.Tells.{issued_by_no, listed}
 use Rattle.oftp_store.proofs.ListLemmas.{issued_in_order, issued_more}
-use Rattle.oftp_store.proofs.LoopLemmas.{begins_known, goes_on_known, looks_other}
+use Rattle.oftp_store.proofs.LoopLemmas.{begins_known, goes_on_known}
 use Rattle.oftp_store.proofs.queries.lists.list_issued.Goals as goal
 
 pub files-init : goal.files-init
@@ -15,9 +15,6 @@ files-preserved g c =
       known.0,
       c.in_ok-add_if_any.ensures.added ∙ ap (λ es. es ++ listed c.in_ok-found.found) known.1 ∙ sym (issued_more c.files.before r.incoming c.in_ok-found.found said),
     ))
-
-pub returns-clause-looks : goal.returns-clause-looks
-returns-clause-looks g c = looks_other _ _ 0 _ c.files.invariant.looks
 
 pub returns-clause-answer : goal.returns-clause-answer
 returns-clause-answer g c clean has r kept sound =

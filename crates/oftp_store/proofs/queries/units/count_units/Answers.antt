@@ -2,7 +2,7 @@ use Rattle.std.proofs.Common.{◌≡◌, ◌∙◌, ◌+◌, ◌*◌, ◌/◌, �
 use Rattle.std.proofs.lemmas.Bool.Decides.{nat_tests}
 use Rattle.oftp_vfile.specs.VirtualFile.{units_in}
 use Rattle.oftp_register.specs.LookUps.{file_rows}
-use Rattle.oftp_store.proofs.LoopLemmas.{begins_known, goes_on_known, looks_other}
+use Rattle.oftp_store.proofs.LoopLemmas.{begins_known, goes_on_known}
 use Rattle.oftp_store.proofs.PageLemmas.{all_pages, page_more}
 use Rattle.oftp_store.proofs.queries.units.count_units.Goals as goal
 
@@ -20,9 +20,6 @@ pages-preserved g c = record {
       ));
   within = c.in_ok-units.ensures.within;
 }
-
-pub returns-clause-looks : goal.returns-clause-looks
-returns-clause-looks g c = looks_other _ _ 0 _ c.pages.invariant.known.looks
 
 pub returns-clause-answer : goal.returns-clause-answer
 returns-clause-answer g c clean has r kept sound =
