@@ -34,7 +34,8 @@ module _ {X : Type 0} (row : ℕ → X → Row) (numbers : (n : ℕ) (x : X) →
   answers_last : (db : Trees) (tree : ℕ) (rows : List Row) (xs : List X) → db tree ≡ rows_from row 1 xs → IsAnswer (last_query tree) (overlay db []) [] rows → rows ≡ last_row 1 (length xs)
   answers_last db tree rows xs is answer =
       let all : map (output (last_query tree)) (found [] [] (db tree)) ≡ up 1 (length xs) = ap (λ t. map (output (last_query tree)) (found [] [] t)) is ∙ outputs tree 1 xs in
-      answers_in_order db tree [] (col 1 0 ∷ []) ((col 1 0, falling) ∷ []) (lit (Int (pos 1))) [] rows (down 1 (length xs)) answer (descends (last_query tree) (λ j k h. rw (less_number j k h) refl) 1 (length xs))
+      answers_in_order db tree [] (col 1 0 ∷ []) ((col 1 0, falling) ∷ []) (lit (Int (pos 1))) [] rows (down 1 (length xs)) answer
+      (descends (last_query tree) (λ j k h. rw (less_number j k h) refl) 1 (length xs))
       (subst (IsPermutation (down 1 (length xs))) (sym all) (turned_over 1 (length xs)))
       ∙ first_down 1 (length xs)
 

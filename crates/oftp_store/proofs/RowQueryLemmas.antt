@@ -203,7 +203,8 @@ finds_last which old new n rows has h r kept =
         (sym (without_rowids (last_query (tree_of which)) (number_value n ∷ []) (last_test n) last_show (last_passes n) (last_shows (tree_of which) n) (db (tree_of which))))
         (IsPermutation-map last_show (body_rows n 0 bodies) _ among) in
         answers_in_order db (tree_of which) last_filter (col 1 2 ∷ []) ((col 1 2, falling) ∷ []) (lit (Int (pos 1))) (number_value n ∷ []) rows
-        (down 0 (length bodies)) answer (descends (last_query (tree_of which)) (λ j k h. rw (less_number j k h) refl) 0 (length bodies)) (IsPermutation-trans _ _ _ (turned_over 0 (length bodies)) outputs)
+        (down 0 (length bodies)) answer (descends (last_query (tree_of which)) (λ j k h. rw (less_number j k h) refl) 0 (length bodies))
+        (IsPermutation-trans _ _ _ (turned_over 0 (length bodies)) outputs)
         ∙ first_down 0 (length bodies)
 
 pub count_is_told : (n count : ℕ) (rows : List Row) → rows ≡ last_row 0 n → TellsCount (slice_get rows 0) count → count ≡ n
