@@ -8,8 +8,8 @@ use Rattle.oftp_register.specs.declared.entries.Side.TheVariants as side
 use Rattle.oftp_register.specs.Register.{Register, Outgoing, same_identity}
 use Rattle.oftp_register.specs.Changes.{is_outgoing}
 use Rattle.oftp_register.specs.LookUps.{outgoing_entry}
-use Rattle.oftp_store.specs.Numbers.{entries_in, file_number}
-use Rattle.oftp_store.specs.Allocations.{IsAllocationOf, allocation_after, allocation_of, table_of}
+use Rattle.oftp_store.specs.Numbers.{entries_in, file_number, table_of}
+use Rattle.oftp_store.specs.Allocations.{IsAllocationOf, allocation_after, allocation_of}
 use Rattle.oftp_store.specs.declared.queries.allocation.Allocation.{Allocation}
 use Rattle.oftp_store.specs.declared.queries.allocation.Allocation.TheVariants as allocation
 use Rattle.oftp_store.proofs.FirstLemmas.{any_wanted, first_wanted}

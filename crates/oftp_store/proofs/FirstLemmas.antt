@@ -89,15 +89,15 @@ module _ {X : Type 0} (row : ℕ → X → Row) (numbers : (n : ℕ) (x : X) →
 
 -- ---- the number that is read
 
-pub number_told : (ns : List ℕ) (rows : List Row) (told : Option ℕ) → rows ≡ first_row ns → TellsNo rows told → told ≡ slice_get ns 0
-number_told [] rows told is tells = subst (λ rows. TellsNo rows told → told ≡ None) (sym is) (none told) tells
+pub number_told : (ns : List ℕ) (rows : List Row) (told : Option ℕ) → rows ≡ first_row ns → TellsNo told (slice_get rows 0) → told ≡ slice_get ns 0
+number_told [] rows told is tells = subst (λ rows. TellsNo told (slice_get rows 0) → told ≡ None) (sym is) (none told) tells
   where
-    none : (told : Option ℕ) → TellsNo [] told → told ≡ None
+    none : (told : Option ℕ) → TellsNo told None → told ≡ None
     none None t = refl
     none (Some n) t = absurd t
-number_told (n ∷ ns) rows told is tells = subst (λ rows. TellsNo rows told → told ≡ Some n) (sym is) (some told) tells
+number_told (n ∷ ns) rows told is tells = subst (λ rows. TellsNo told (slice_get rows 0) → told ≡ Some n) (sym is) (some told) tells
   where
-    some : (told : Option ℕ) → TellsNo ((number_value n ∷ []) ∷ []) told → told ≡ Some n
+    some : (told : Option ℕ) → TellsNo told (Some (number_value n ∷ [])) → told ≡ Some n
     some None t = absurd t
     some (Some m) t = cc
 
@@ -129,10 +129,6 @@ any_told [] rows is = ap (λ (rows : List Row). is_some (slice_get rows 0)) is
 any_told (n ∷ ns) rows is = ap (λ (rows : List Row). is_some (slice_get rows 0)) is
 
 -- ---- an entry by its number
-
-pub none_told : {E : Type 0} (number : E → ℕ) (found : Option E) → None ≡ option_map number found → None ≡ found
-none_told number None is = refl
-none_told number (Some e) is = absurd (let no_such = is in cc)
 
 module _ {X E : Type 0} (entry : ℕ → X → E) (no : E → ℕ) (same : (n : ℕ) (x : X) → no (entry n x) ≡ n) (wanted : E → Bool) where
   none_below : (k n : ℕ) (xs : List X) → option_map no (find wanted (numbered entry n xs)) ≡ Some k → n ≤ k

@@ -10,107 +10,101 @@ use Rattle.sqlite.specs.Term.{Term, col, eval_all}
 use Rattle.sqlite.specs.Command.{Command}
 use Rattle.sqlite.specs.Command.TheVariants.{Select}
 use Rattle.sqlite.specs.Listing.{understood}
-use Rattle.sqlite.specs.State.{State, Shown}
+use Rattle.sqlite.specs.Effect.{Database, Reads}
 use Rattle.sqlite.proofs.Callers.{one_permutation}
-use Rattle.oftp_tables.specs.Schema.{in_file_tree, issued_tree, office_schema, out_file_tree}
+use Rattle.oftp_tables.specs.Schema.{in_file_tree, issued_tree, out_file_tree}
 use Rattle.oftp_tables.proofs.QueryLemmas.{answers, chosen, plain_query}
 use Rattle.oftp_register.specs.Register.{Register, Incoming, Issued, Outgoing}
 use Rattle.oftp_register.specs.Soundness.{IsSound, IsSoundAnswer, IsSoundIncoming}
 use Rattle.oftp_register.specs.LookUps.{issued_response}
-use Rattle.oftp_tables.specs.Tables.{HasReason, HasRefusal, Tables, in_file_row, in_state_in, in_state_text, issued_from, issued_if_any, issued_row, number_value, out_file_row, out_state_in, out_state_text, refusal_text}
+use Rattle.oftp_tables.specs.Tables.{HasReason, HasRefusal, Tables, format_in, format_text, in_file_row, in_state_in, in_state_text, issued_from, issued_if_any, issued_row, number_value, out_file_row, out_state_in, out_state_text, refusal_text}
 use Rattle.oftp_tables.proofs.BackLemmas.{all_at_place, at_place, format_back, in_state_back, issued_back, out_state_back}
 use Rattle.oftp_tables.proofs.SplitLemmas.{among, by_number, chosen_none, chosen_one}
 use Rattle.oftp_store.specs.Reads.{IsResponseTo, IsToldOf, first_told, incoming_header_in, incoming_header_of, outgoing_header_in, outgoing_header_of, response_in}
+use Rattle.oftp_store.specs.Tells.{FindsByNumber}
 use Rattle.oftp_store.specs.Texts.{in_header_text, out_header_text, response_text}
+use Rattle.oftp_store.specs.declared.queries.header.FileHeader.{FileHeader}
 use Rattle.oftp_store.specs.declared.queries.header.IncomingHeader.{IncomingHeader}
 use Rattle.oftp_store.specs.declared.queries.header.OutgoingHeader.{OutgoingHeader}
 use Rattle.oftp_store.proofs.EditLemmas.{issued_number, issued_piece, issued_pieces}
 use Rattle.oftp_store.proofs.NumberLemmas.{no_rows}
-use Rattle.oftp_store.proofs.ReadLemmas.{IsRead, finds_told, read_so}
+use Rattle.oftp_store.proofs.ReadLemmas.{IsRead, by_its_number, finds_told}
+
+-- what the tables of both sides have of a file is read back
+file_back : (h : FileHeader) → record h { format = format_in (format_text h.format) } ≡ h
+file_back h = ap (λ format. record h { format = format }) (format_back h.format)
 
 -- ---- incoming files
 
-abbrev pub in_project : List Term
+abbrev in_project : List Term
 in_project = col 1 2 ∷ col 1 3 ∷ col 1 4 ∷ col 1 5 ∷ col 1 6 ∷ col 1 7 ∷ col 1 8 ∷ col 1 9 ∷ col 1 10 ∷ []
 
-abbrev pub in_select : Command
+abbrev in_select : Command
 in_select =
     Select (record { lets = []; body = plain_query in_file_tree by_number in_project })
     (codes "dataset" ∷ codes "date" ∷ codes "time" ∷ codes "originator" ∷ codes "destination" ∷ codes "format" ∷ codes "longest" ∷ codes "description" ∷ codes "state" ∷ [])
 
-pub in_header_read : IsRead in_header_text in_select
+in_header_read : IsRead in_header_text in_select
 unfolding understood everything
 in_header_read = record { is = refl; unlisted = refl; plain = (refl, refl) }
 
 in_back : (k : ℕ) (f : Incoming) → incoming_header_in (eval_all in_project ((number_value k ∷ []) ∷ in_file_row k f ∷ [])) ≡ incoming_header_of f
 in_back k f =
-    ap (λ x. let h : IncomingHeader = record { identity = f.identity; format = x; longest = f.longest; description = f.description; state = in_state_in (in_state_text f.state) } in h)
-    (format_back f.format)
-    ∙ ap (λ x. let h : IncomingHeader = record { identity = f.identity; format = f.format; longest = f.longest; description = f.description; state = x } in h) (in_state_back f.state)
+    let file = (incoming_header_of f).file in
+    ap (λ x. let h : IncomingHeader = record { file = x; state = in_state_in (in_state_text f.state) } in h) (file_back file)
+    ∙ ap (λ x. let h : IncomingHeader = record { file = file; state = x } in h) (in_state_back f.state)
 
-pub finds_in_header : (old new : State) (k : ℕ) (rows : List Row) → old.now.schema ≡ office_schema → Shown in_header_text (number_value k ∷ []) old new rows → (r : Register) → Tables r old.now.trees
-    → IsToldOf incoming_header_of r.incoming k (first_told incoming_header_in rows)
-finds_in_header old new k rows has h r kept =
-    finds_told in_file_row (λ n x. refl) in_file_tree in_project in_header_text _ in_header_read incoming_header_in incoming_header_of old new r.incoming k rows has h kept.incoming.headers
-    (λ before f after placed. in_back k f)
+pub finds_in_header : FindsByNumber in_header_text incoming_header_in (λ r k found. IsToldOf incoming_header_of r.incoming k found)
+finds_in_header = by_its_number in_header_read (λ db k rows answer r kept.
+    finds_told in_file_row (λ n x. refl) in_file_tree in_project incoming_header_in incoming_header_of db r.incoming k rows answer kept.incoming.headers (λ before f after placed. in_back k f))
 
 -- ---- outgoing files
 
-abbrev pub out_project : List Term
+abbrev out_project : List Term
 out_project = col 1 2 ∷ col 1 3 ∷ col 1 4 ∷ col 1 5 ∷ col 1 6 ∷ col 1 7 ∷ col 1 8 ∷ col 1 9 ∷ col 1 10 ∷ col 1 11 ∷ col 1 12 ∷ []
 
-abbrev pub out_select : Command
+abbrev out_select : Command
 out_select =
     Select (record { lets = []; body = plain_query out_file_tree by_number out_project })
     (codes "dataset" ∷ codes "date" ∷ codes "time" ∷ codes "originator" ∷ codes "destination" ∷ codes "format" ∷ codes "longest" ∷ codes "description" ∷ codes "mark"
     ∷ codes "state" ∷ codes "reason" ∷ [])
 
-pub out_header_read : IsRead out_header_text out_select
+out_header_read : IsRead out_header_text out_select
 unfolding understood everything
 out_header_read = record { is = refl; unlisted = refl; plain = (refl, refl) }
 
 out_back : (k : ℕ) (f : Outgoing) → HasRefusal f.state → outgoing_header_in (eval_all out_project ((number_value k ∷ []) ∷ out_file_row k f ∷ [])) ≡ outgoing_header_of f
 out_back k f small =
-    ap (λ x. let h : OutgoingHeader = record {
-      identity = f.identity;
-      format = x;
-      longest = f.longest;
-      description = f.description;
-      mark = f.mark;
-      state = out_state_in (out_state_text f.state) (refusal_text f.state);
-    } in h) (format_back f.format)
-    ∙ ap (λ x. let h : OutgoingHeader = record { identity = f.identity; format = f.format; longest = f.longest; description = f.description; mark = f.mark; state = x } in h)
-    (out_state_back f.state small)
+    let file = (outgoing_header_of f).file in
+    ap (λ x. let h : OutgoingHeader = record { file = x; mark = f.mark; state = out_state_in (out_state_text f.state) (refusal_text f.state) } in h) (file_back file)
+    ∙ ap (λ x. let h : OutgoingHeader = record { file = file; mark = f.mark; state = x } in h) (out_state_back f.state small)
 
-pub finds_out_header : (old new : State) (k : ℕ) (rows : List Row) → old.now.schema ≡ office_schema → Shown out_header_text (number_value k ∷ []) old new rows → (r : Register) → Tables r old.now.trees
-    → IsToldOf outgoing_header_of r.outgoing k (first_told outgoing_header_in rows)
-finds_out_header old new k rows has h r kept =
-    finds_told out_file_row (λ n x. refl) out_file_tree out_project out_header_text _ out_header_read outgoing_header_in outgoing_header_of old new r.outgoing k rows has h kept.outgoing.headers
+pub finds_out_header : FindsByNumber out_header_text outgoing_header_in (λ r k found. IsToldOf outgoing_header_of r.outgoing k found)
+finds_out_header = by_its_number out_header_read (λ db k rows answer r kept.
+    finds_told out_file_row (λ n x. refl) out_file_tree out_project outgoing_header_in outgoing_header_of db r.outgoing k rows answer kept.outgoing.headers
     (λ before f after placed.
     let small = at_place (λ (x : Outgoing). HasRefusal x.state) before f after (subst (AllByRecursion (λ (x : Outgoing). HasRefusal x.state)) placed.here kept.outgoing.reasons) in
-    out_back k f small)
+    out_back k f small))
 
 -- ---- responses
 
-abbrev pub response_project : List Term
+abbrev response_project : List Term
 response_project = col 1 2 ∷ col 1 3 ∷ col 1 4 ∷ col 1 5 ∷ []
 
-abbrev pub response_select : Command
+abbrev response_select : Command
 response_select = Select (record { lets = []; body = plain_query issued_tree by_number response_project }) (codes "kind" ∷ codes "reason" ∷ codes "note" ∷ codes "sent" ∷ [])
 
-pub response_read : IsRead response_text response_select
+response_read : IsRead response_text response_select
 unfolding understood everything
 response_read = record { is = refl; unlisted = refl; plain = (refl, refl) }
 
-pub finds_response : (old new : State) (k : ℕ) (rows : List Row) → old.now.schema ≡ office_schema → Shown response_text (number_value k ∷ []) old new rows
-    → (r : Register) → Tables r old.now.trees → IsSound r
+response_there : (db : Database) (k : ℕ) (rows : List Row) → Reads response_select db (number_value k ∷ []) rows → (r : Register) → Tables r db.trees → IsSound r
     → IsResponseTo r k (first_told response_in rows)
-finds_response old new k rows has h r kept sound before f after placed =
+response_there db k rows read r kept sound before f after placed =
     let params = number_value k ∷ [] in
-    let read = read_so response_text params old new _ rows response_read has h in
-    let perm = answers old.now.trees issued_tree by_number response_project params rows (read.answer Null) in
+    let perm = answers db.trees issued_tree by_number response_project params rows (read.answer Null) in
     let place = among issued_piece issued_number k before f after placed.number in
-    let table : old.now.trees issued_tree ≡ _ = kept.incoming.responses ∙ ap (issued_from 1) placed.here ∙ issued_pieces 1 (before ++ f ∷ after) ∙ place.rows in
+    let table : db.trees issued_tree ≡ _ = kept.incoming.responses ∙ ap (issued_from 1) placed.here ∙ issued_pieces 1 (before ++ f ∷ after) ∙ place.rows in
     let small = at_place (λ (x : Incoming). HasReason x.response) before f after (subst (AllByRecursion (λ (x : Incoming). HasReason x.response)) placed.here kept.incoming.reasons) in
     let right = (all_at_place IsSoundIncoming before f after (subst (All IsSoundIncoming) placed.here sound.incoming)).answer in
     go f.response small right (subst (λ table. IsPermutation (chosen by_number response_project params table) rows) table perm)
@@ -130,3 +124,6 @@ finds_response old new k rows has h r kept sound before f after placed =
         ap (first_told response_in) (one_permutation _ rows
         (subst (λ all. IsPermutation all rows) (chosen_one response_project k [] (issued_row k x) lo hi refl (among issued_piece issued_number k before f after placed.number).split) perm))
         ∙ ap (λ (i : Issued). Some (issued_response i)) (issued_back k x small right)
+
+pub finds_response : FindsByNumber response_text response_in (λ r k found. IsSound r → IsResponseTo r k found)
+finds_response = by_its_number response_read response_there

@@ -51,7 +51,7 @@ incoming_passes it n f = simp (equal_texts, and_true)
 outgoing_passes : (it : Identity) (n : ℕ) (f : Outgoing) → list_all (holds (identity_values it ∷ out_file_row n f ∷ [])) by_identity ≡ same_identity f.identity it
 outgoing_passes it n f = simp (equal_texts, and_true)
 
-no_there : (which : Side) (it : Identity) (rows : List Row) (told : Option ℕ) (r : Register) (db : Trees) → TellsNo rows told → Tables r db
+no_there : (which : Side) (it : Identity) (rows : List Row) (told : Option ℕ) (r : Register) (db : Trees) → TellsNo told (slice_get rows 0) → Tables r db
     → IsAnswer (first_query (tree_of which) by_identity) (overlay db []) (identity_values it) rows → told ≡ file_number r which it
 no_there side.Incoming it rows told r db tells kept answer =
     number_told _ rows told (answers_first in_file_row (λ n x. refl) by_identity (identity_values it) (λ n (f : Incoming). same_identity f.identity it)
@@ -65,7 +65,7 @@ no_there side.Outgoing it rows told r db tells kept answer =
     (λ n x. refl) 1 r.outgoing
 
 pub finds_no : (which : Side) (old new : State) (it : Identity) (rows : List Row) (told : Option ℕ) → old.now.schema ≡ office_schema
-    → Shown (file_number_text which) (identity_values it) old new rows → TellsNo rows told
+    → Shown (file_number_text which) (identity_values it) old new rows → TellsNo told (slice_get rows 0)
     → (r : Register) → Tables r old.now.trees → told ≡ file_number r which it
 finds_no which old new it rows told has h tells r kept =
     let read = read_so (file_number_text which) (identity_values it) old new _ rows (file_number_read which) has h in

@@ -4,6 +4,7 @@ mod RowEditLemmas
 mod ReceivedEditLemmas
 mod TransactionLemmas
 mod FirstLemmas
+mod DescentLemmas
 mod LastNumberLemmas
 mod IdentityLemmas
 mod NextNumberLemmas

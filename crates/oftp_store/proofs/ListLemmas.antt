@@ -249,9 +249,9 @@ issued_none r k is = go (spot k r.incoming)
         let placed : IsPlaced r.incoming k before f after = record { here = here; number = at } in issued_placed r k None before f after placed (is before f after placed)
 
 pub issued_some : (r : Register) (k : ℕ) (h : IncomingHeader) (x : IssuedResponse) → IsToldOf incoming_header_of r.incoming k (Some h) → IsResponseTo r k (Some x)
-    → (let e : IssuedEntry = record { no = k; identity = h.identity; response = x } in Some e ≡ issued_by_no r k)
+    → (let e : IssuedEntry = record { no = k; identity = h.file.identity; response = x } in Some e ≡ issued_by_no r k)
 issued_some r k h x (before, f, after, placed, header) is =
-    ap (λ (h : IncomingHeader). let e : IssuedEntry = record { no = k; identity = h.identity; response = x } in Some e) header
+    ap (λ (h : IncomingHeader). let e : IssuedEntry = record { no = k; identity = h.file.identity; response = x } in Some e) header
     ∙ issued_placed r k (Some x) before f after placed (is before f after placed)
 
 -- ---- what is next

@@ -1,5 +1,6 @@
--- What one look-up leaves to the next, and what the next tells.
-use Rattle.std.proofs.Common.{◌≡◌, Result, Ok, IfOk, sym, ap, subst, ◌∙◌, arith}
+-- What a look-up leaves that failed, what one leaves to the next, and what the next tells.
+use Rattle.std.proofs.Common.{◌≡◌, Result, Ok, Err, IfOk, sym, ap, subst, ◌∙◌, arith}
+use Rattle.std.specs.Result.{IsErrAnd}
 use Rattle.std.proofs.lemmas.Result.{IfOk-weaker}
 use Rattle.sqlite.specs.Effect.{Database}
 use Rattle.sqlite.specs.State.{State, HasCleanDisk, IsUnchanged}
@@ -8,6 +9,13 @@ use Rattle.oftp_register.specs.declared.office.OfficeFault.{OfficeFault}
 use Rattle.oftp_register.specs.Register.{Register}
 use Rattle.oftp_tables.specs.Statements.{Looks}
 use Rattle.oftp_tables.specs.Tables.{Tables}
+use Rattle.oftp_tables.proofs.LookupLemmas.{looks_as}
+
+-- a look-up failed, and `?` passes its fault on
+pub looks_failed : {A B : Type 0} (old new : State) (fault : OfficeFault) (result : Result B OfficeFault) → Looks {T = A} old new (Err fault)
+    → IsErrAnd result (λ (passed : OfficeFault). passed ≡ fault) → Looks old new result
+looks_failed old new fault (Ok x) looks is = absurd is
+looks_failed {A} old new fault (Err passed) looks is = looks_as old new passed (subst (λ f. Looks {T = A} old new (Err f)) (sym is) looks)
 
 -- a clean disk with the tables of the office, which are those of a register
 pub record IsLeft (r : Register) (s : State) : Type 0 where

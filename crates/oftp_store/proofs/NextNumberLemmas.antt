@@ -38,7 +38,9 @@ use Rattle.oftp_register.specs.Register.{Register, Incoming, Issued, Outgoing}
 use Rattle.oftp_register.specs.LookUps.{is_due, is_next_file, is_next_response, is_on_its_way, issued_entry, issued_response, numbered, outgoing_entry}
 use Rattle.oftp_tables.specs.Tables.{Tables, in_file_row, issued_from, issued_if_any, issued_row, number_value, out_file_row, out_state_text, rows_from, sent_number}
 use Rattle.oftp_tables.proofs.BindLemmas.{number_bound}
-use Rattle.oftp_store.specs.Numbers.{TellsNo, next_file_number, next_file_text, next_response_number, next_response_text}
+use Rattle.oftp_store.specs.Numbers.{TellsNo, next_number, next_text}
+use Rattle.oftp_store.specs.declared.queries.next_number.Sendable.{Sendable}
+use Rattle.oftp_store.specs.declared.queries.next_number.Sendable.TheVariants as sendable
 use Rattle.oftp_store.proofs.FirstLemmas.{answers_first, ascending, first_query, first_row, first_shown, first_wanted, number_told, passing, rising, shown}
 use Rattle.oftp_store.proofs.ReadLemmas.{IsRead, read_so}
 
@@ -77,13 +79,6 @@ greater_numbers m n = truth_of (is_gt (value_cmp (Int (pos m)) (Int (pos n)))) �
 abbrev next_file_filter : List Term
 next_file_filter = above (col 1 0) (col 0 0) ∷ op2 by.Or (equal (col 1 11) (lit (Text (codes "waiting")))) (equal (col 1 11) (lit (Text (codes "closing")))) ∷ equal (col 1 6) (col 0 1) ∷ []
 
-abbrev pub next_file_select : Command
-next_file_select = Select (record { lets = []; body = first_query out_file_tree next_file_filter }) (codes "no" ∷ [])
-
-pub next_file_read : IsRead next_file_text next_file_select
-unfolding understood everything
-next_file_read = record { is = refl; unlisted = refl; plain = (refl, refl) }
-
 on_its_way : (s : OutgoingState) → is_true (binary by.Or (binary (by.Compare compare.Eq Binary) (Text (out_state_text s)) (Text (codes "waiting"))) (binary (by.Compare compare.Eq Binary)
     (Text (out_state_text s)) (Text (codes "closing")))) ≡ is_on_its_way s
 unfolding binary value_cmp lib.Ieee.is_nan lib.Ieee.lt
@@ -100,16 +95,6 @@ is_next partner tried n f = nat_lt tried n && (is_on_its_way f.state && bytes_eq
 file_passes : (partner : List ℕ) (tried n : ℕ) (f : Outgoing) → list_all (holds (next_params tried partner ∷ out_file_row n f ∷ [])) next_file_filter ≡ is_next partner tried n f
 file_passes partner tried n f = simp (greater_numbers, on_its_way, equal_texts, and_true)
 
-pub finds_next_file : (old new : State) (partner : List ℕ) (tried : ℕ) (rows : List Row) → old.now.schema ≡ office_schema
-    → Shown next_file_text (next_params tried partner) old new rows → (told : Option ℕ) → TellsNo rows told
-    → (r : Register) → Tables r old.now.trees → told ≡ next_file_number r partner tried
-finds_next_file old new partner tried rows has h told tells r kept =
-    let params = next_params tried partner in
-    let read = read_so next_file_text params old new _ rows next_file_read has h in
-    number_told _ rows told (answers_first out_file_row (λ n x. refl) next_file_filter params (is_next partner tried)
-    (file_passes partner tried) old.now.trees out_file_tree rows r.outgoing kept.outgoing.headers (read.answer Null)) tells
-    ∙ first_wanted outgoing_entry (λ (e : OutgoingEntry). e.no) (λ n x. refl) (is_next_file partner tried) (is_next partner tried) (λ n x. refl) 1 r.outgoing
-
 -- ---- responses
 
 abbrev due_filter : List Term
@@ -117,13 +102,6 @@ due_filter = equal (col 2 0) (col 1 0) ∷ above (col 1 0) (col 0 0) ∷ equal (
 
 abbrev due_query : Query
 due_query = record (first_query issued_tree due_filter) { from = inner issued_tree (inner in_file_tree end) }
-
-abbrev pub due_select : Command
-due_select = Select (record { lets = []; body = due_query }) (codes "no" ∷ [])
-
-pub due_read : IsRead next_response_text due_select
-unfolding understood everything
-due_read = record { is = refl; unlisted = refl; plain = (refl, refl) }
 
 -- a file's response is the next
 abbrev is_due_in : List ℕ → ℕ → ℕ → Incoming → Option Issued → Bool
@@ -252,11 +230,33 @@ first_due partner tried n (f ∷ files) = go f.response (first_due partner tried
     go None more = more
     go (Some x) more = pick (is_due_in partner tried n f (Some x)) x more
 
-pub finds_next_response : (old new : State) (partner : List ℕ) (tried : ℕ) (rows : List Row) → old.now.schema ≡ office_schema
-    → Shown next_response_text (next_params tried partner) old new rows → (told : Option ℕ) → TellsNo rows told
-    → (r : Register) → Tables r old.now.trees → told ≡ next_response_number r partner tried
-finds_next_response old new partner tried rows has h told tells r kept =
-    let params = next_params tried partner in
-    let read = read_so next_response_text params old new _ rows due_read has h in
-    number_told _ rows told (due_rows old.now.trees partner tried rows r.incoming kept.incoming.responses kept.incoming.headers (read.answer Null)) tells
+-- ---- either
+
+abbrev pub query_of : Sendable → Query
+query_of sendable.File = first_query out_file_tree next_file_filter
+query_of sendable.Response = due_query
+
+abbrev pub next_select : Sendable → Command
+next_select what = Select (record { lets = []; body = query_of what }) (codes "no" ∷ [])
+
+pub next_read : (what : Sendable) → IsRead (next_text what) (next_select what)
+unfolding understood everything
+next_read sendable.File = record { is = refl; unlisted = refl; plain = (refl, refl) }
+next_read sendable.Response = record { is = refl; unlisted = refl; plain = (refl, refl) }
+
+next_there : (what : Sendable) (partner : List ℕ) (tried : ℕ) (rows : List Row) (told : Option ℕ) (r : Register) (db : Trees) → TellsNo told (slice_get rows 0) → Tables r db
+    → IsAnswer (query_of what) (overlay db []) (next_params tried partner) rows → told ≡ next_number r what partner tried
+next_there sendable.File partner tried rows told r db tells kept answer =
+    number_told _ rows told (answers_first out_file_row (λ n x. refl) next_file_filter (next_params tried partner) (is_next partner tried)
+    (file_passes partner tried) db out_file_tree rows r.outgoing kept.outgoing.headers answer) tells
+    ∙ first_wanted outgoing_entry (λ (e : OutgoingEntry). e.no) (λ n x. refl) (is_next_file partner tried) (is_next partner tried) (λ n x. refl) 1 r.outgoing
+next_there sendable.Response partner tried rows told r db tells kept answer =
+    number_told _ rows told (due_rows db partner tried rows r.incoming kept.incoming.responses kept.incoming.headers answer) tells
     ∙ first_due partner tried 1 r.incoming
+
+pub finds_next : (what : Sendable) (old new : State) (partner : List ℕ) (tried : ℕ) (rows : List Row) (told : Option ℕ) → old.now.schema ≡ office_schema
+    → Shown (next_text what) (next_params tried partner) old new rows → TellsNo told (slice_get rows 0)
+    → (r : Register) → Tables r old.now.trees → told ≡ next_number r what partner tried
+finds_next what old new partner tried rows told has h tells r kept =
+    let read = read_so (next_text what) (next_params tried partner) old new _ rows (next_read what) has h in
+    next_there what partner tried rows told r old.now.trees tells kept (read.answer Null)

@@ -1,11 +1,11 @@
 -- What changes ask of the file with a number, from its header, its rows and its response.
-use Rattle.std.proofs.Common.{◌≡◌, ℕ, List, [], ◌∷◌, length, map, Option, Some, None, unwrap_or, refl, sym, ap, ◌∙◌, arith}
+use Rattle.std.proofs.Common.{◌≡◌, ◌==◌, ℕ, List, [], ◌∷◌, length, map, find, Option, Some, None, unwrap_or, refl, sym, ap, ◌∙◌, arith}
 use Rattle.std.specs.Option.{option_map}
 use Rattle.std.proofs.lemmas.List.{map-append, length-map}
 use Rattle.oftp_register.specs.declared.entries.IssuedResponse.{IssuedResponse}
 use Rattle.oftp_register.specs.declared.entries.Side.TheVariants as side
-use Rattle.oftp_register.specs.Register.{Register, Incoming, Issued, Outgoing}
-use Rattle.oftp_register.specs.LookUps.{entry_at, file_rows, in_by_no, incoming_entry, issued_response, out_by_no, outgoing_entry}
+use Rattle.oftp_register.specs.Register.{Register, Incoming, Issued}
+use Rattle.oftp_register.specs.LookUps.{entry_at, file_rows, in_by_no, incoming_entry, issued_response, numbered, out_by_no, outgoing_entry}
 use Rattle.oftp_register.specs.declared.entries.IncomingEntry.{IncomingEntry}
 use Rattle.oftp_register.specs.declared.entries.OutgoingEntry.{OutgoingEntry}
 use Rattle.oftp_tables.specs.Tables.{rows_in, rows_out}
@@ -24,33 +24,25 @@ mapped_placed f k xs before x after placed =
     entry_placed k (map f xs) (map f before) (f x) (map f after)
     (record { here = ap (map f) placed.here ∙ map-append f before (x ∷ after); number = omega (arith, placed.number, length-map before f) })
 
-pub in_rows_placed : (r : Register) (k : ℕ) (before : List Incoming) (f : Incoming) (after : List Incoming) → IsPlaced r.incoming k before f after → file_rows r side.Incoming k ≡ f.rows
-in_rows_placed r k before f after placed = ap (λ o. unwrap_or o []) (mapped_placed rows_in k r.incoming before f after placed)
+-- what is told of a file by its header and by how many rows it has
+counted_told : {X H P : Type 0} (rows : X → List (List ℕ)) (tell : X → H) (make : H → ℕ → P) (k count : ℕ) (xs : List X) (h : H) → IsToldOf tell xs k (Some h)
+    → count ≡ length (unwrap_or (entry_at k (map rows xs)) []) → IsToldOf (λ x. make (tell x) (length (rows x))) xs k (Some (make h count))
+counted_told rows tell make k count xs h (before, x, after, placed, is) counted =
+    let same : count ≡ length (rows x) = counted ∙ ap (λ o. length (unwrap_or o [])) (mapped_placed rows k xs before x after placed) in
+    (before, x, after, placed, ap (λ h. make h count) is ∙ ap (make (tell x)) same)
 
-pub out_rows_placed : (r : Register) (k : ℕ) (before : List Outgoing) (f : Outgoing) (after : List Outgoing) → IsPlaced r.outgoing k before f after → file_rows r side.Outgoing k ≡ f.rows
-out_rows_placed r k before f after placed = ap (λ o. unwrap_or o []) (mapped_placed rows_out k r.outgoing before f after placed)
+-- and by the response to it
+answered_told : {P : Type 0} (make : Incoming → Option IssuedResponse → P) (r : Register) (k : ℕ) (response : Option IssuedResponse) (p : P)
+    → IsToldOf (λ f. make f response) r.incoming k (Some p) → IsResponseTo r k response → IsToldOf (λ f. make f (option_map issued_response f.response)) r.incoming k (Some p)
+answered_told make r k response p (before, f, after, placed, is) answered = (before, f, after, placed, is ∙ ap (make f) (answered before f after placed))
 
 pub incoming_progress_told : (r : Register) (k count : ℕ) (h : IncomingHeader) → IsToldOf incoming_header_of r.incoming k (Some h) → count ≡ length (file_rows r side.Incoming k)
     → (let progress : IncomingProgress = record { state = h.state; rows = count } in IsToldOf incoming_progress_of r.incoming k (Some progress))
-incoming_progress_told r k count h (before, f, after, placed, is) counted = (
-  before,
-  f,
-  after,
-  placed,
-  ap (λ st. let p : IncomingProgress = record { state = st; rows = count } in p) (ap (λ (h : IncomingHeader). h.state) is)
-      ∙ ap (λ n. let p : IncomingProgress = record { state = f.state; rows = n } in p) (counted ∙ ap length (in_rows_placed r k before f after placed)),
-)
+incoming_progress_told r k count h = counted_told rows_in incoming_header_of (λ h n. let p : IncomingProgress = record { state = h.state; rows = n } in p) k count r.incoming h
 
 pub outgoing_progress_told : (r : Register) (k count : ℕ) (h : OutgoingHeader) → IsToldOf outgoing_header_of r.outgoing k (Some h) → count ≡ length (file_rows r side.Outgoing k)
     → (let progress : OutgoingProgress = record { mark = h.mark; state = h.state; rows = count } in IsToldOf outgoing_progress_of r.outgoing k (Some progress))
-outgoing_progress_told r k count h (before, f, after, placed, is) counted = (
-  before,
-  f,
-  after,
-  placed,
-  ap (λ (h : OutgoingHeader). let s : OutgoingProgress = record { mark = h.mark; state = h.state; rows = count } in s) is
-      ∙ ap (λ n. let s : OutgoingProgress = record { mark = f.mark; state = f.state; rows = n } in s) (counted ∙ ap length (out_rows_placed r k before f after placed)),
-)
+outgoing_progress_told r k count h = counted_told rows_out outgoing_header_of (λ h n. let p : OutgoingProgress = record { mark = h.mark; state = h.state; rows = n } in p) k count r.outgoing h
 
 pub response_progress_told : (r : Register) (k : ℕ) (h : IncomingHeader) (found : Option IssuedResponse) → IsToldOf incoming_header_of r.incoming k (Some h) → IsResponseTo r k found
     → (let progress : ResponseProgress = record { state = h.state; response = option_map (λ (i : IssuedResponse). i.dispatch) found } in IsToldOf response_progress_of r.incoming k (Some progress))
@@ -76,14 +68,19 @@ no_incoming r k none = entry_unknown incoming_entry (λ (e : IncomingEntry). e.n
 pub no_outgoing : (r : Register) (k : ℕ) → entry_at k r.outgoing ≡ None → out_by_no r k ≡ None
 no_outgoing r k none = entry_unknown outgoing_entry (λ (e : OutgoingEntry). e.no) (λ n x. refl) k r.outgoing none
 
+-- the entry that is told is the one that is handed out
+found_entry : {X E : Type 0} (entry : ℕ → X → E) (number : E → ℕ) → ((n : ℕ) (x : X) → number (entry n x) ≡ n) → (k : ℕ) (xs : List X) (e : E) → IsToldOf (entry k) xs k (Some e)
+    → Some e ≡ find (λ e. number e == k) (numbered entry 1 xs)
+found_entry entry number same k xs e (before, x, after, placed, is) = ap Some is ∙ sym (entry_known entry number same k xs before x after placed)
+
 -- the entry of an incoming file of which these are told
 abbrev incoming_as : ℕ → IncomingHeader → ℕ → Option IssuedResponse → IncomingEntry
 incoming_as k h rows response = record {
   no = k;
-  identity = h.identity;
-  format = h.format;
-  longest = h.longest;
-  description = h.description;
+  identity = h.file.identity;
+  format = h.file.format;
+  longest = h.file.longest;
+  description = h.file.description;
   state = h.state;
   rows = rows;
   response = response;
@@ -91,20 +88,19 @@ incoming_as k h rows response = record {
 
 pub incoming_told : (r : Register) (k count : ℕ) (h : IncomingHeader) (response : Option IssuedResponse) → IsToldOf incoming_header_of r.incoming k (Some h)
     → count ≡ length (file_rows r side.Incoming k) → IsResponseTo r k response → Some (incoming_as k h count response) ≡ in_by_no r k
-incoming_told r k count h response (before, f, after, placed, header) counted answered =
-    ap (λ (h : IncomingHeader). Some (incoming_as k h count response)) header
-    ∙ ap (λ m. Some (incoming_as k (incoming_header_of f) m response)) (counted ∙ ap length (in_rows_placed r k before f after placed))
-    ∙ ap (λ o. Some (incoming_as k (incoming_header_of f) (length f.rows) o)) (answered before f after placed)
-    ∙ sym (entry_known incoming_entry (λ (e : IncomingEntry). e.no) (λ n x. refl) k r.incoming before f after placed)
+incoming_told r k count h response told counted answered =
+    found_entry incoming_entry (λ (e : IncomingEntry). e.no) (λ n x. refl) k r.incoming _
+    (answered_told (λ f o. incoming_as k (incoming_header_of f) (length f.rows) o) r k response _
+    (counted_told rows_in incoming_header_of (λ h n. incoming_as k h n response) k count r.incoming h told counted) answered)
 
 -- the entry of an outgoing file of which these are told
 abbrev outgoing_as : ℕ → OutgoingHeader → ℕ → OutgoingEntry
 outgoing_as k h rows = record {
   no = k;
-  identity = h.identity;
-  format = h.format;
-  longest = h.longest;
-  description = h.description;
+  identity = h.file.identity;
+  format = h.file.format;
+  longest = h.file.longest;
+  description = h.file.description;
   rows = rows;
   mark = h.mark;
   state = h.state;
@@ -112,7 +108,5 @@ outgoing_as k h rows = record {
 
 pub outgoing_told : (r : Register) (k count : ℕ) (h : OutgoingHeader) → IsToldOf outgoing_header_of r.outgoing k (Some h) → count ≡ length (file_rows r side.Outgoing k)
     → Some (outgoing_as k h count) ≡ out_by_no r k
-outgoing_told r k count h (before, f, after, placed, header) counted =
-    ap (λ (h : OutgoingHeader). Some (outgoing_as k h count)) header
-    ∙ ap (λ m. Some (outgoing_as k (outgoing_header_of f) m)) (counted ∙ ap length (out_rows_placed r k before f after placed))
-    ∙ sym (entry_known outgoing_entry (λ (e : OutgoingEntry). e.no) (λ n x. refl) k r.outgoing before f after placed)
+outgoing_told r k count h told counted =
+    found_entry outgoing_entry (λ (e : OutgoingEntry). e.no) (λ n x. refl) k r.outgoing _ (counted_told rows_out outgoing_header_of (outgoing_as k) k count r.outgoing h told counted)

@@ -1,6 +1,5 @@
 -- How the texts of the look-ups are read, and what a query by a number tells.
-use Rattle.std.proofs.Common.{◌≡◌, ◌<◌, ◌^◌, ℕ, ℤ, pos, w64, to_z, of_z, false, List, [], ◌∷◌, Result, IfOk, sym, ap, subst, ◌∙◌}
-use Rattle.std.proofs.lemmas.Result.{IfOk-weaker}
+use Rattle.std.proofs.Common.{◌≡◌, ◌<◌, ◌^◌, ℕ, ℤ, pos, w64, to_z, of_z, false, List, [], ◌∷◌, slice_get, option_map, Option, refl, sym, ap, subst, ◌∙◌}
 use Rattle.std.specs.List.Sorted.{IsPermutation}
 use Rattle.sqlite.specs.declared.types.Value.{Value}
 use Rattle.sqlite.specs.declared.types.Value.TheVariants.{Int, Null}
@@ -9,24 +8,26 @@ use Rattle.sqlite.specs.Values.{bound_value}
 use Rattle.sqlite.specs.Term.{Term, eval_all}
 use Rattle.sqlite.specs.Command.{Command}
 use Rattle.sqlite.specs.Command.TheVariants.{Select}
-use Rattle.sqlite.specs.Effect.{Reads}
+use Rattle.sqlite.specs.Effect.{Database, Reads}
 use Rattle.sqlite.specs.Listing.{understood, reads_listing}
 use Rattle.sqlite.specs.State.{State, Shown}
-use Rattle.sqlite.proofs.Callers.{IsPlain, command_of, reads_as}
-use Rattle.oftp_register.specs.declared.office.OfficeFault.{OfficeFault}
+use Rattle.sqlite.proofs.Callers.{command_of, reads_as}
+use Rattle.oftp_register.specs.Register.{Register}
 use Rattle.oftp_tables.specs.Schema.{office_schema}
 use Rattle.oftp_tables.proofs.QueryLemmas.{answers, chosen, plain_query}
-use Rattle.oftp_tables.specs.Tables.{number_value, rows_from}
+use Rattle.oftp_tables.specs.Tables.{Tables, number_value, rows_from}
 use Rattle.oftp_tables.proofs.BindLemmas.{number_bound}
 use Rattle.oftp_tables.proofs.SplitLemmas.{by_number}
 use Rattle.oftp_store.specs.Reads.{IsPlaced, IsToldOf, first_told}
+use Rattle.oftp_store.specs.Tells.{FindsByNumber}
+use Rattle.oftp_store.specs.Texts.{IsPlainText}
 use Rattle.oftp_store.proofs.NumberLemmas.{OneRow, nowhere, one_row, somewhere}
 
 -- the text of a look-up is this command over the office's tables, and nothing more
 pub record IsRead (text : List ℕ) (command : Command) : Type 0 where
   pub is : command_of (understood office_schema text) ≡ command
   pub unlisted : reads_listing office_schema text ≡ false
-  pub plain : IsPlain (understood office_schema text)
+  pub plain : IsPlainText text
 
 -- so the rows that it shows are the answer of that command
 pub read_so : (text : List ℕ) (params : Row) (old new : State) (command : Command) (rows : List Row) → IsRead text command → old.now.schema ≡ office_schema → Shown text params old new rows
@@ -39,22 +40,36 @@ pub number_given : {k : ℕ} {value : ℤ} {v : Value} (text : List ℕ) (old ne
 number_given {k} {value} text old new rows small value_is is h =
     subst (λ u. Shown text (u ∷ []) old new rows) (ap bound_value is ∙ ap Int (number_bound k value value_is small)) h
 
--- what is told is what was made of the rows
-pub told_as : {T : Type 0} (result : Result T OfficeFault) (x : T) (Says : T → Type 0) → IfOk result (λ found. found ≡ x) → Says x → IfOk result Says
-told_as result x Says told says = IfOk-weaker result _ _ (λ found same. subst Says (sym same) says) told
+-- ---- queries by the number of an entry
 
--- what a query for the entry with a number tells of it, where a table has a row for each entry
-pub finds_told : {X H : Type 0} (row : ℕ → X → Row) → ((n : ℕ) (x : X) → column (row n x) 0 ≡ Int (pos n)) → (tree : ℕ) (project : List Term) (text : List ℕ) (names : List (List ℕ))
-    → IsRead text (Select (record { lets = []; body = plain_query tree by_number project }) names) → (read : Row → H) (tell : X → H) (old new : State) (xs : List X) (k : ℕ) (rows : List Row)
-    → old.now.schema ≡ office_schema → Shown text (number_value k ∷ []) old new rows → old.now.trees tree ≡ rows_from row 1 xs
+-- what the command of such a query answers is what its text answers
+pub by_its_number : {A : Type 0} {text : List ℕ} {command : Command} {read : Row → A} {IsFound : Register → ℕ → Option A → Type 0} → IsRead text command
+    → ((db : Database) (k : ℕ) (rows : List Row) → Reads command db (number_value k ∷ []) rows → (r : Register) → Tables r db.trees → IsFound r k (first_told read rows))
+    → FindsByNumber text read IsFound
+by_its_number reading finds = record {
+  plain = reading.plain;
+  unlisted = reading.unlisted;
+  finds = λ db k rows answer. finds db k rows (subst (λ command. Reads command db (number_value k ∷ []) rows) reading.is answer);
+}
+
+-- what its first row tells is found
+pub found_by_number : {A : Type 0} (text : List ℕ) (read : Row → A) (IsFound : Register → ℕ → Option A → Type 0) (old new : State) (k : ℕ) (rows : List Row) (first : Option Row) (found : Option A)
+    → FindsByNumber text read IsFound → old.now.schema ≡ office_schema → Shown text (number_value k ∷ []) old new rows → first ≡ slice_get rows 0 → found ≡ option_map read first
+    → (r : Register) → Tables r old.now.trees → IsFound r k found
+found_by_number text read IsFound old new k rows first found by has shown is told r kept =
+    let answer = reads_as text (number_value k ∷ []) old new office_schema has _ refl by.plain by.unlisted rows shown in
+    subst (IsFound r k) (sym (told ∙ ap (option_map read) is)) (by.finds old.now k rows answer r kept)
+
+-- what one tells of the entry, where a table has a row for each
+pub finds_told : {X H : Type 0} (row : ℕ → X → Row) → ((n : ℕ) (x : X) → column (row n x) 0 ≡ Int (pos n)) → (tree : ℕ) (project : List Term)
+    (read : Row → H) (tell : X → H) (db : Database) (xs : List X) (k : ℕ) (rows : List Row)
+    → Reads (Select (record { lets = []; body = plain_query tree by_number project }) []) db (number_value k ∷ []) rows → db.trees tree ≡ rows_from row 1 xs
     → ((before : List X) (x : X) (after : List X) → IsPlaced xs k before x after → read (eval_all project ((number_value k ∷ []) ∷ row k x ∷ [])) ≡ tell x)
     → IsToldOf tell xs k (first_told read rows)
-finds_told {X} row numbers tree project text names reading read tell old new xs k rows has shown table back =
+finds_told {X} row numbers tree project read tell db xs k rows answered table back =
     let params = number_value k ∷ [] in
-    let select : Command = Select (record { lets = []; body = plain_query tree by_number project }) names in
-    let answered = read_so text params old new select rows reading has shown in
     go (one_row row numbers xs k project rows
-    (subst (λ table. IsPermutation (chosen by_number project params table) rows) table (answers old.now.trees tree by_number project params rows (answered.answer Null))))
+    (subst (λ table. IsPermutation (chosen by_number project params table) rows) table (answers db.trees tree by_number project params rows (answered.answer Null))))
   where
     go : OneRow row xs k project rows → IsToldOf tell xs k (first_told read rows)
     go (nowhere none unknown) = subst (λ rows. IsToldOf tell xs k (first_told read rows)) (sym none) unknown

@@ -1,15 +1,14 @@
 -- What the look-ups on the rows of a file answer.
-use Rattle.std.proofs.Common.{◌≡◌, ◌==◌, ◌&&◌, ◌+◌, ◌<◌, ◌≤◌, ◌^◌, nat_lt, ℕ, zero, suc, pos, Bool, true, false, cond, nat_le, List, [], ◌∷◌, ◌++◌, length, map, drop, take, filter, unwrap_or, codes, Option, Some, None, Less, refl, sym, ap, subst, subst₂, ◌∙◌, arith}
+use Rattle.std.proofs.Common.{◌≡◌, ◌==◌, ◌&&◌, ◌+◌, ◌<◌, ℕ, zero, suc, pos, Bool, true, nat_le, List, [], ◌∷◌, length, map, drop, take, filter, slice_get, unwrap_or, codes, Some, Less, refl, sym, ap, subst, subst₂, ◌∙◌, arith}
 use Rattle.std.specs.List.{AllByRecursion, list_all}
 use Rattle.std.specs.List.Sorted.{IsPermutation}
 use Rattle.std.proofs.lemmas.Bool.Decides.{nat_tests}
-use Rattle.std.proofs.lemmas.List.Sorted.{IsPermutation-map, IsPermutation-refl, IsPermutation-trans, IsPermutation-cons, IsPermutation-sym, IsPermutation-to_front}
+use Rattle.std.proofs.lemmas.List.Sorted.{IsPermutation-map, IsPermutation-trans}
 use Rattle.sqlite_tied.specs.Compute.{everything}
 use Rattle.sqlite_trees.specs.Tree.{IsAscending}
-use Rattle.sqlite_value.specs.declared.keys.Key.{Key}
 use Rattle.sqlite.specs.Collation.TheVariants.{Binary}
 use Rattle.sqlite.specs.declared.types.Value.TheVariants.{Null, Int, Blob}
-use Rattle.sqlite.specs.Order.{Row, column, value_cmp}
+use Rattle.sqlite.specs.Order.{Row, column}
 use Rattle.sqlite.specs.Tree.{Trees}
 use Rattle.sqlite.specs.Term.{Term, lit, col, holds}
 use Rattle.sqlite.specs.Ops.{binary, is_true}
@@ -22,7 +21,7 @@ use Rattle.sqlite.specs.State.{State, Shown}
 use Rattle.sqlite_sql.specs.declared.ops.BinaryOp.TheVariants as by
 use Rattle.sqlite_sql.specs.declared.ops.CompareOp.TheVariants as compare
 use Rattle.oftp_tables.specs.Schema.{in_row_tree, office_schema, out_row_tree}
-use Rattle.oftp_tables.proofs.TermLemmas.{equal, equal_numbers, and_true, number_cmp}
+use Rattle.oftp_tables.proofs.TermLemmas.{equal, equal_numbers, and_true}
 use Rattle.oftp_register.specs.declared.entries.Side.{Side}
 use Rattle.oftp_register.specs.declared.entries.Side.TheVariants as side
 use Rattle.oftp_register.specs.Register.{Register}
@@ -33,8 +32,10 @@ use Rattle.oftp_tables.proofs.PlaceLemmas.{place}
 use Rattle.oftp_tables.proofs.RowLemmas.{from_filter, from_passes, from_same, from_test}
 use Rattle.oftp_tables.proofs.SpotLemmas.{Spot, spot, zeroth, there, past}
 use Rattle.oftp_tables.proofs.ManyLemmas.{without_rowids, rows_from_place, no_rows_past, no_rows_zeroth, passing}
-use Rattle.oftp_store.specs.Reads.{TellsCount, position_told}
+use Rattle.oftp_store.specs.Reads.{TellsCount}
 use Rattle.oftp_store.specs.Texts.{last_row_text, some_rows_text}
+use Rattle.oftp_store.proofs.DescentLemmas.{descends, down, falling, first_down, last_row, turned_over, up}
+use Rattle.oftp_store.proofs.FirstLemmas.{less_number, rising, shown}
 use Rattle.oftp_store.proofs.NumberLemmas.{entry_beyond, entry_placed}
 use Rattle.oftp_store.proofs.ReadLemmas.{IsRead, read_so}
 
@@ -43,12 +44,6 @@ tree_of side.Incoming = in_row_tree
 tree_of side.Outgoing = out_row_tree
 
 -- ---- the rows of a file
-
-abbrev rising : Key
-rising = record { collation = Binary; descending = false }
-
-abbrev falling : Key
-falling = record { collation = Binary; descending = true }
 
 -- from a position on
 
@@ -73,16 +68,13 @@ some_shows : (tree n from most : ℕ) (r : Row) → output (some_query tree) (so
 some_shows tree n from most [] = refl
 some_shows tree n from most (v ∷ r) = refl
 
-pub less_at : (m n : ℕ) → m < n → value_cmp (number_value m) (number_value n) ≡ Less
-less_at m n h = number_cmp m n ∙ (let below : Rattle.std.proofs.Common.nat_lt m n ≡ true = grind (arith, nat_tests, h) in rw below refl)
-
 rising_rows : (tree n at : ℕ) (bodies : List (List ℕ)) → IsAscending (λ a b. output_cmp (some_query tree) a b ≡ Less) (map some_show (body_rows n at bodies))
 rising_rows tree n at [] = tt
 rising_rows tree n at (b ∷ bodies) = (later (at + 1) bodies (omega arith), rising_rows tree n (at + 1) bodies)
   where
     later : (k : ℕ) (more : List (List ℕ)) → at < k → AllByRecursion (λ o. output_cmp (some_query tree) (some_show (body_row n at b)) o ≡ Less) (map some_show (body_rows n k more))
     later k [] h = tt
-    later k (c ∷ more) h = (rw (less_at at k h) refl, later (k + 1) more (omega (arith, h)))
+    later k (c ∷ more) h = (rw (less_number at k h) refl, later (k + 1) more (omega (arith, h)))
 
 shown_bodies : (n at : ℕ) (bodies : List (List ℕ)) → map (λ (o : Output). o.1) (map some_show (body_rows n at bodies)) ≡ map (λ b. Blob b ∷ []) bodies
 shown_bodies n at [] = refl
@@ -187,81 +179,37 @@ from_first at b = let any : nat_le 0 at ≡ true = grind (arith, nat_tests) in r
 last_same : (n m at : ℕ) (b : List ℕ) → last_test n (body_row m at b) ≡ (has_number n (body_row m at b) && nat_le 0 (place (body_row m at b)))
 last_same n m at b = simp (equal_numbers, and_true) (sym (from_first at (m == n) ∙ and_true (m == n)))
 
-abbrev shown_place : ℕ → Output
-shown_place at = (number_value at ∷ [], number_value at ∷ [])
-
--- the places from one on, and the same from the last down
-abbrev places_up : ℕ → ℕ → List Output
-places_up at zero = []
-places_up at (suc m) = shown_place at ∷ places_up (at + 1) m
-
-abbrev places_down : ℕ → List Output
-places_down zero = []
-places_down (suc m) = shown_place m ∷ places_down m
-
-up_last : (at m : ℕ) → places_up at (suc m) ≡ places_up at m ++ shown_place (at + m) ∷ []
-up_last at zero = let same : at ≡ at + 0 = omega arith in ap (λ k. shown_place k ∷ []) same
-up_last at (suc m) = let same : (at + 1) + m ≡ at + suc m = omega arith in ap (λ os. shown_place at ∷ os) (up_last (at + 1) m ∙ ap (λ k. places_up (at + 1) m ++ shown_place k ∷ []) same)
-
-turned_over : (m : ℕ) → IsPermutation (places_down m) (places_up 0 m)
-turned_over zero = IsPermutation-refl []
-turned_over (suc m) =
-    let same : 0 + m ≡ m = omega arith in
-    IsPermutation-trans _ (shown_place m ∷ places_up 0 m) _ (IsPermutation-cons (shown_place m) _ _ (turned_over m))
-    (subst (IsPermutation (shown_place m ∷ places_up 0 m)) (sym (up_last 0 m ∙ ap (λ k. places_up 0 m ++ shown_place k ∷ []) same))
-    (IsPermutation-sym _ _ (IsPermutation-to_front (places_up 0 m) (shown_place m))))
-
-places_of : (n at : ℕ) (bodies : List (List ℕ)) → map last_show (body_rows n at bodies) ≡ places_up at (length bodies)
+places_of : (n at : ℕ) (bodies : List (List ℕ)) → map last_show (body_rows n at bodies) ≡ up at (length bodies)
 places_of n at [] = refl
-places_of n at (b ∷ bodies) = ap (λ os. shown_place at ∷ os) (places_of n (at + 1) bodies)
-
-falling_places : (tree m : ℕ) → IsAscending (λ a b. output_cmp (last_query tree) a b ≡ Less) (places_down m)
-falling_places tree zero = tt
-falling_places tree (suc m) = (lower m (omega arith), falling_places tree m)
-  where
-    lower : (k : ℕ) → k ≤ m → AllByRecursion (λ o. output_cmp (last_query tree) (shown_place m) o ≡ Less) (places_down k)
-    lower zero h = tt
-    lower (suc k) h = (rw (less_at k m (omega (arith, h))) refl, lower k (omega (arith, h)))
-
--- the row that the query answers
-abbrev pub last_rows : ℕ → List Row
-last_rows zero = []
-last_rows (suc m) = (number_value m ∷ []) ∷ []
+places_of n at (b ∷ bodies) = ap (λ os. shown at ∷ os) (places_of n (at + 1) bodies)
 
 pub finds_last : (which : Side) (old new : State) (n : ℕ) (rows : List Row) → old.now.schema ≡ office_schema
     → Shown (last_row_text which) (number_value n ∷ []) old new rows → (r : Register) → Tables r old.now.trees
-    → rows ≡ last_rows (length (file_rows r which n))
+    → rows ≡ last_row 0 (length (file_rows r which n))
 finds_last which old new n rows has h r kept =
     let read = read_so (last_row_text which) (number_value n ∷ []) old new _ rows (last_read which) has h in
     go (subst (Bodies n 0 (files_of which r)) (sym (own_rows which r n)) (bodies_at n 0 (files_of which r))) (read.answer Null)
   where
-    first_place : (m : ℕ) → take 1 (map (λ (o : Output). o.1) (places_down m)) ≡ last_rows m
-    first_place zero = refl
-    first_place (suc m) = refl
-
     go : Bodies n 0 (files_of which r) (file_rows r which n) → IsAnswer (last_query (tree_of which)) (overlay old.now.trees []) (number_value n ∷ []) rows
-        → rows ≡ last_rows (length (file_rows r which n))
+        → rows ≡ last_row 0 (length (file_rows r which n))
     go (are is) answer =
         let db = old.now.trees in
         let bodies = file_rows r which n in
         let among : IsPermutation (body_rows n 0 bodies) (filter (last_test n) (less_rowids (db (tree_of which)))) =
         subst (λ xs. IsPermutation xs (filter (last_test n) (less_rowids (db (tree_of which))))) is
         (passing (last_test n) (λ r. has_number n r && nat_le 0 (place r)) (last_same n) (files_of which r) (less_rowids (db (tree_of which))) (kept_rows which r db kept)) in
-        let outputs : IsPermutation (places_up 0 (length bodies)) (map (output (last_query (tree_of which))) (found last_filter (number_value n ∷ []) (db (tree_of which)))) =
+        let outputs : IsPermutation (up 0 (length bodies)) (map (output (last_query (tree_of which))) (found last_filter (number_value n ∷ []) (db (tree_of which)))) =
         subst₂ IsPermutation (places_of n 0 bodies)
         (sym (without_rowids (last_query (tree_of which)) (number_value n ∷ []) (last_test n) last_show (last_passes n) (last_shows (tree_of which) n) (db (tree_of which))))
         (IsPermutation-map last_show (body_rows n 0 bodies) _ among) in
         answers_in_order db (tree_of which) last_filter (col 1 2 ∷ []) ((col 1 2, falling) ∷ []) (lit (Int (pos 1))) (number_value n ∷ []) rows
-        (places_down (length bodies)) answer (falling_places (tree_of which) (length bodies)) (IsPermutation-trans _ _ _ (turned_over (length bodies)) outputs)
-        ∙ first_place (length bodies)
+        (down 0 (length bodies)) answer (descends (last_query (tree_of which)) (λ j k h. rw (less_number j k h) refl) 0 (length bodies))
+        (IsPermutation-trans _ _ _ (turned_over 0 (length bodies)) outputs)
+        ∙ first_down 0 (length bodies)
 
-position_back : (m at : ℕ) → position_told (number_value m) ≡ Some at → at ≡ m
-position_back m at h = go (nat_lt m (2 ^ 32)) h
+pub count_is_told : (n count : ℕ) (rows : List Row) → rows ≡ last_row 0 n → TellsCount (slice_get rows 0) count → count ≡ n
+count_is_told zero count rows is tells = subst (λ rows. TellsCount (slice_get rows 0) count → count ≡ 0) (sym is) (λ t. t) tells
+count_is_told (suc n) count rows is tells = subst (λ rows. TellsCount (slice_get rows 0) count → count ≡ suc n) (sym is) same tells
   where
-    go : (b : Bool) → cond b (Some m) None ≡ Some at → at ≡ m
-    go true e = cc
-    go false e = absurd (let no_such = e in cc)
-
-pub count_is_told : (n count : ℕ) (rows : List Row) → rows ≡ last_rows n → TellsCount rows count → count ≡ n
-count_is_told zero count rows is tells = subst (λ rows. TellsCount rows count → count ≡ 0) (sym is) (λ t. t) tells
-count_is_told (suc n) count rows is tells = subst (λ rows. TellsCount rows count → count ≡ suc n) (sym is) (λ t. omega (arith, t.2, position_back n t.0 t.1)) tells
+    same : TellsCount (Some (number_value (0 + n) ∷ [])) count → count ≡ suc n
+    same (at, is, counted) = let same : 0 + n ≡ at = cc in omega (arith, counted, same)

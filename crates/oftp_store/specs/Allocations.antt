@@ -7,21 +7,14 @@ use Rattle.oftp_register.specs.declared.entry.IncomingState.TheVariants.{Open, W
 use Rattle.oftp_register.specs.declared.entries.Side.{Side}
 use Rattle.oftp_register.specs.declared.entries.Side.TheVariants as side
 use Rattle.oftp_register.specs.Register.{Register}
-use Rattle.oftp_store.specs.Numbers.{entries_in, file_number}
+use Rattle.oftp_store.specs.Numbers.{entries_in, file_number, table_of}
 use Rattle.oftp_store.specs.FileProgress.{incoming_progress_of}
 use Rattle.oftp_store.specs.Reads.{IsToldOf}
-use Rattle.oftp_store.specs.declared.queries.last_number.Table.{Table}
-use Rattle.oftp_store.specs.declared.queries.last_number.Table.TheVariants as table
 use Rattle.oftp_store.specs.declared.queries.progress.IncomingProgress.{IncomingProgress}
 use Rattle.oftp_store.specs.declared.queries.allocation.Allocation.{Allocation}
 use Rattle.oftp_store.specs.declared.queries.allocation.Allocation.TheVariants as allocation
 use Rattle.oftp_store.specs.declared.queries.allocation.IncomingAllocation.{IncomingAllocation}
 use Rattle.oftp_store.specs.declared.queries.allocation.IncomingAllocation.TheVariants as incoming_allocation
-
--- the table of the files of a side
-abbrev pub table_of : Side → Table
-table_of side.Incoming = table.IncomingFiles
-table_of side.Outgoing = table.OutgoingFiles
 
 -- where a new file goes in a table with so many
 abbrev pub allocation_after : Limits → ℕ → Allocation

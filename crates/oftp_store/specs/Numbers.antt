@@ -1,5 +1,5 @@
 -- The look-ups that answer a number.
-use Rattle.std.specs.Prelude.{◌≡◌, ℕ, List, [], ◌∷◌, length, codes, pos, Option, Some, None, ⊤}
+use Rattle.std.specs.Prelude.{◌≡◌, ℕ, List, length, codes, pos, Option, Some, None, ⊤}
 use Rattle.std.specs.Option.{option_map}
 use Rattle.sqlite.specs.declared.types.Value.TheVariants.{Int}
 use Rattle.sqlite.specs.Order.{Row, column}
@@ -15,18 +15,15 @@ use Rattle.oftp_register.specs.Register.{Register}
 use Rattle.oftp_register.specs.LookUps.{look_in, look_out, next_file, next_response}
 use Rattle.oftp_store.specs.declared.queries.last_number.Table.{Table}
 use Rattle.oftp_store.specs.declared.queries.last_number.Table.TheVariants as table
+use Rattle.oftp_store.specs.declared.queries.next_number.Sendable.{Sendable}
+use Rattle.oftp_store.specs.declared.queries.next_number.Sendable.TheVariants as sendable
 
--- an answer tells the number in its first row, or that there is none
-abbrev pub TellsNo : List Row → Option ℕ → Type 0
-TellsNo [] None = ⊤
-TellsNo [] (Some n) = ⊥
-TellsNo (row ∷ rows) None = ⊥
-TellsNo (row ∷ rows) (Some n) = column row 0 ≡ Int (pos n)
-
--- an answer tells the number in its first row, or 0
-abbrev pub TellsLast : List Row → ℕ → Type 0
-TellsLast [] n = n ≡ 0
-TellsLast (row ∷ rows) n = column row 0 ≡ Int (pos n)
+-- this is the number that a row tells, if there is one
+abbrev pub TellsNo : Option ℕ → Option Row → Type 0
+TellsNo None None = ⊤
+TellsNo None (Some row) = ⊥
+TellsNo (Some n) None = ⊥
+TellsNo (Some n) (Some row) = column row 0 ≡ Int (pos n)
 
 -- ---- the last number of a table
 
@@ -41,10 +38,10 @@ entries_in r table.IncomingFiles = length r.incoming
 entries_in r table.OutgoingFiles = length r.outgoing
 entries_in r table.ReceivedResponses = length r.received
 
--- how many files a side has
-abbrev pub files_in : Register → Side → ℕ
-files_in r side.Incoming = length r.incoming
-files_in r side.Outgoing = length r.outgoing
+-- the table of the files of a side
+abbrev pub table_of : Side → Table
+table_of side.Incoming = table.IncomingFiles
+table_of side.Outgoing = table.OutgoingFiles
 
 -- ---- the number of an identity
 
@@ -65,16 +62,12 @@ file_number r side.Outgoing identity = option_map (λ (e : OutgoingEntry). e.no)
 
 -- ---- what is sent next
 
-abbrev pub next_file_text : List ℕ
-next_file_text = codes "SELECT no FROM out_file WHERE no > ?1 AND (state = 'waiting' OR state = 'closing') AND destination = ?2 ORDER BY no LIMIT 1"
+abbrev pub next_text : Sendable → List ℕ
+next_text sendable.File = codes "SELECT no FROM out_file WHERE no > ?1 AND (state = 'waiting' OR state = 'closing') AND destination = ?2 ORDER BY no LIMIT 1"
+next_text sendable.Response =
+    codes "SELECT issued.no FROM issued JOIN in_file ON in_file.no = issued.no WHERE issued.no > ?1 AND sent = 0 AND originator = ?2 ORDER BY issued.no LIMIT 1"
 
-abbrev pub next_response_text : List ℕ
-next_response_text = codes "SELECT issued.no FROM issued JOIN in_file ON in_file.no = issued.no WHERE issued.no > ?1 AND sent = 0 AND originator = ?2 ORDER BY issued.no LIMIT 1"
-
--- the number of the first file to a partner that is on its way and wasn't tried, if there is one
-abbrev pub next_file_number : Register → List ℕ → ℕ → Option ℕ
-next_file_number r partner tried = option_map (λ (e : OutgoingEntry). e.no) (next_file r partner tried)
-
--- the number of the file with the first response that is due to a partner and wasn't tried, if there is one
-abbrev pub next_response_number : Register → List ℕ → ℕ → Option ℕ
-next_response_number r partner tried = option_map (λ (e : IssuedEntry). e.no) (next_response r partner tried)
+-- the number of the first file that is on its way to a partner, or of that with the first response that is due to it, if it wasn't tried
+abbrev pub next_number : Register → Sendable → List ℕ → ℕ → Option ℕ
+next_number r sendable.File partner tried = option_map (λ (e : OutgoingEntry). e.no) (next_file r partner tried)
+next_number r sendable.Response partner tried = option_map (λ (e : IssuedEntry). e.no) (next_response r partner tried)

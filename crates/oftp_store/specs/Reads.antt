@@ -1,10 +1,10 @@
 -- What is read back from the rows of an answer.
-use Rattle.std.specs.Prelude.{◌≡◌, ◌+◌, ◌++◌, ◌^◌, nat_lt, ℕ, if◌then◌else◌, List, [], ◌∷◌, length, pos, negsuc, Option, Some, None}
+use Rattle.std.specs.Prelude.{◌≡◌, ◌+◌, ◌++◌, ℕ, List, [], ◌∷◌, length, Option, Some, None, slice_get}
 use Rattle.std.specs.Option.{option_map}
-use Rattle.sqlite.specs.declared.types.Value.{Value}
-use Rattle.sqlite.specs.declared.types.Value.TheVariants.{Null, Int, Text, Blob, Real}
+use Rattle.sqlite.specs.declared.types.Value.TheVariants.{Text}
 use Rattle.sqlite.specs.Order.{Row, bytes, column}
 use Rattle.oftp_wire.specs.Octets.{number}
+use Rattle.oftp_vfile.specs.VirtualFile.{IsLongest}
 use Rattle.oftp_register.specs.declared.entry.OutgoingState.{OutgoingState}
 use Rattle.oftp_register.specs.declared.entry.ResponseKind.TheVariants.{NegativeEndResponse}
 use Rattle.oftp_register.specs.declared.entries.IssuedResponse.{IssuedResponse}
@@ -12,6 +12,7 @@ use Rattle.oftp_register.specs.declared.entries.ReceivedEntry.{ReceivedEntry}
 use Rattle.oftp_register.specs.Register.{Register, Incoming, Outgoing, Received}
 use Rattle.oftp_register.specs.LookUps.{entry_at, issued_response}
 use Rattle.oftp_tables.specs.Tables.{dispatch_in, format_in, format_text, identity_in, identity_values, in_state_in, in_state_text, kind_in, kind_text, number_in, number_value, out_state_in, out_state_text, reason_text, refusal_text, sent_number}
+use Rattle.oftp_store.specs.declared.queries.header.FileHeader.{FileHeader}
 use Rattle.oftp_store.specs.declared.queries.header.IncomingHeader.{IncomingHeader}
 use Rattle.oftp_store.specs.declared.queries.header.OutgoingHeader.{OutgoingHeader}
 use Rattle.oftp_store.specs.declared.queries.received.ReceivedHeader.{ReceivedHeader}
@@ -19,46 +20,48 @@ use Rattle.oftp_store.specs.declared.queries.received.ReceivedNote.{ReceivedNote
 
 -- ---- headers
 
-abbrev pub incoming_header_in : Row → IncomingHeader
-incoming_header_in row = record {
+-- what the first columns tell, which both tables of files have
+abbrev pub file_header_in : Row → FileHeader
+file_header_in row = record {
   identity = identity_in 0 row;
   format = format_in (bytes (column row 5));
   longest = number_in (column row 6);
   description = bytes (column row 7);
-  state = in_state_in (bytes (column row 8));
 }
 
+abbrev pub incoming_header_in : Row → IncomingHeader
+incoming_header_in row = record { file = file_header_in row; state = in_state_in (bytes (column row 8)) }
+
 abbrev pub outgoing_header_in : Row → OutgoingHeader
-outgoing_header_in row = record {
-  identity = identity_in 0 row;
-  format = format_in (bytes (column row 5));
-  longest = number_in (column row 6);
-  description = bytes (column row 7);
-  mark = number_in (column row 8);
-  state = out_state_in (bytes (column row 9)) (bytes (column row 10));
-}
+outgoing_header_in row = record { file = file_header_in row; mark = number_in (column row 8); state = out_state_in (bytes (column row 9)) (bytes (column row 10)) }
 
 -- the columns of a file in the order in which they are asked for: those of its row but for the number
 
+abbrev pub file_values : FileHeader → Row
+file_values h = identity_values h.identity ++ Text (format_text h.format) ∷ number_value h.longest ∷ Text h.description ∷ []
+
 abbrev pub incoming_values : IncomingHeader → Row
-incoming_values h = identity_values h.identity ++ Text (format_text h.format) ∷ number_value h.longest ∷ Text h.description ∷ Text (in_state_text h.state) ∷ []
+incoming_values h = file_values h.file ++ Text (in_state_text h.state) ∷ []
 
 abbrev pub mark_and_state_values : ℕ → OutgoingState → Row
 mark_and_state_values mark state = number_value mark ∷ Text (out_state_text state) ∷ Text (refusal_text state) ∷ []
 
 abbrev pub outgoing_values : OutgoingHeader → Row
-outgoing_values h = identity_values h.identity ++ Text (format_text h.format) ∷ number_value h.longest ∷ Text h.description ∷ mark_and_state_values h.mark h.state
+outgoing_values h = file_values h.file ++ mark_and_state_values h.mark h.state
 
--- what an answer tells, if it has a row
+-- the longest record is one that the format allows
+abbrev pub IsFileWithin : FileHeader → Type 0
+IsFileWithin h = IsLongest h.format h.longest
+
+-- what the first row of an answer tells, if there is one
 abbrev pub first_told : {A : Type 0} → (Row → A) → List Row → Option A
-first_told read [] = None
-first_told read (row ∷ rows) = Some (read row)
+first_told read rows = option_map read (slice_get rows 0)
 
 abbrev pub incoming_header_of : Incoming → IncomingHeader
-incoming_header_of f = record { identity = f.identity; format = f.format; longest = f.longest; description = f.description; state = f.state }
+incoming_header_of f = record { file = record { identity = f.identity; format = f.format; longest = f.longest; description = f.description }; state = f.state }
 
 abbrev pub outgoing_header_of : Outgoing → OutgoingHeader
-outgoing_header_of f = record { identity = f.identity; format = f.format; longest = f.longest; description = f.description; mark = f.mark; state = f.state }
+outgoing_header_of f = record { file = record { identity = f.identity; format = f.format; longest = f.longest; description = f.description }; mark = f.mark; state = f.state }
 
 -- the entry with a number, between the others
 pub record IsPlaced {X : Type 0} (entries : List X) (k : ℕ) (before : List X) (x : X) (after : List X) : Type 0 where
@@ -105,9 +108,10 @@ received_note_values m = Text m.creator ∷ Text m.text ∷ []
 abbrev pub received_note_of : Received → ReceivedNote
 received_note_of x = record { creator = x.creator; text = x.text }
 
--- the texts of the response with a number, where it is a negative one
-abbrev pub IsReceivedNoteOf : Register → ℕ → ReceivedNote → Type 0
-IsReceivedNoteOf r k note = (before : List Received) (x : Received) (after : List Received) → IsPlaced r.received k before x after → x.kind ≡ NegativeEndResponse → note ≡ received_note_of x
+-- the texts that are stored of the response with a number are its own, where it is a negative one
+abbrev pub IsStoredNoteOf : Register → ℕ → Option ReceivedNote → Type 0
+IsStoredNoteOf r k found =
+    (before : List Received) (x : Received) (after : List Received) → IsPlaced r.received k before x after → x.kind ≡ NegativeEndResponse → found ≡ Some (received_note_of x)
 
 -- a response that came as it is handed out
 abbrev pub received_entry_of : ℕ → ReceivedHeader → ReceivedNote → ReceivedEntry
@@ -116,16 +120,7 @@ received_entry_of n header note =
 
 -- ---- the number of rows
 
--- the position that a value tells, if it tells one
-abbrev pub position_told : Value → Option ℕ
-position_told (Int (pos n)) = if nat_lt n (2 ^ 32) then Some n else None
-position_told (Int (negsuc n)) = None
-position_told (Text t) = None
-position_told Null = None
-position_told (Real x) = None
-position_told (Blob b) = None
-
--- the rows of an answer tell the last position of a file, or that there is no row
-abbrev pub TellsCount : List Row → ℕ → Type 0
-TellsCount [] count = count ≡ 0
-TellsCount (row ∷ rows) count = (at : ℕ) × (position_told (column row 0) ≡ Some at) × (count ≡ at + 1)
+-- a row tells the last position of a file, which has so many rows, or there is none
+abbrev pub TellsCount : Option Row → ℕ → Type 0
+TellsCount None count = count ≡ 0
+TellsCount (Some row) count = (at : ℕ) × (column row 0 ≡ number_value at) × (count ≡ at + 1)

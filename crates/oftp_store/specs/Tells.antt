@@ -1,18 +1,45 @@
 -- What look-ups tell of the register that the tables stand for, and the responses by number.
-use Rattle.std.specs.Prelude.{◌≡◌, ◌==◌, ℕ, List, [], ◌∷◌, Option, Some, None, Result, IfOk, find}
-use Rattle.sqlite.specs.State.{State, HasCleanDisk}
+use Rattle.std.specs.Prelude.{◌≡◌, ◌==◌, ℕ, false, List, [], ◌∷◌, Option, Some, None, Result, IfOk, find, slice_get}
+use Rattle.sqlite.specs.Order.{Row}
+use Rattle.sqlite.specs.Effect.{Database, Reads}
+use Rattle.sqlite.specs.Listing.{reads_listing, understood}
+use Rattle.sqlite.specs.State.{State, HasCleanDisk, Shown}
+use Rattle.sqlite.proofs.Callers.{command_of}
 use Rattle.oftp_tables.specs.Schema.{office_schema}
+use Rattle.oftp_vfile.specs.declared.format.Limits.{Limits}
 use Rattle.oftp_register.specs.declared.office.OfficeFault.{OfficeFault}
 use Rattle.oftp_register.specs.declared.entries.IssuedEntry.{IssuedEntry}
 use Rattle.oftp_register.specs.declared.entries.ReceivedEntry.{ReceivedEntry}
 use Rattle.oftp_register.specs.Register.{Register}
 use Rattle.oftp_register.specs.Soundness.{IsSound}
 use Rattle.oftp_register.specs.LookUps.{list_issued, list_received}
-use Rattle.oftp_tables.specs.Tables.{Tables}
+use Rattle.oftp_tables.specs.Tables.{Tables, number_value}
+use Rattle.oftp_store.specs.Reads.{first_told}
+use Rattle.oftp_store.specs.Texts.{IsPlainText}
 
--- an answer tells this of the register
+-- an answer tells this of the register that the tables stand for
+abbrev pub TellsStored : {T : Type 0} → (Register → T → Type 0) → State → State → Result T OfficeFault → Type 0
+TellsStored told old new result = HasCleanDisk new → old.now.schema ≡ office_schema → IfOk result (λ x. (r : Register) → Tables r old.now.trees → told r x)
+
+-- and this where that register has these limits
+abbrev pub TellsLimited : {T : Type 0} → Limits → (Register → T → Type 0) → State → State → Result T OfficeFault → Type 0
+TellsLimited limits told old new result =
+    HasCleanDisk new → old.now.schema ≡ office_schema → IfOk result (λ x. (r : Register) → r.limits ≡ limits → Tables r old.now.trees → told r x)
+
+-- and this where it is sound
 abbrev pub Tells : {T : Type 0} → (Register → T → Type 0) → State → State → Result T OfficeFault → Type 0
-Tells told old new result = HasCleanDisk new → old.now.schema ≡ office_schema → IfOk result (λ x. (r : Register) → Tables r old.now.trees → IsSound r → told r x)
+Tells told = TellsStored (λ r x. IsSound r → told r x)
+
+-- a query shows rows, and an answer tells this of the first, if there is one
+abbrev pub TellsFirst : {T : Type 0} → List ℕ → Row → (T → Option Row → Type 0) → State → State → Result T OfficeFault → Type 0
+TellsFirst text params Told old new result = HasCleanDisk new → IfOk result (λ x. (rows : List Row) × Shown text params old new rows × Told x (slice_get rows 0))
+
+-- The text of a query with a number is plain and lists no schema. The first row that it answers tells this of the entry with that number.
+pub record FindsByNumber {A : Type 0} (text : List ℕ) (read : Row → A) (IsFound : Register → ℕ → Option A → Type 0) : Type 0 where
+  pub plain : IsPlainText text
+  pub unlisted : reads_listing office_schema text ≡ false
+  pub finds : (db : Database) (n : ℕ) (rows : List Row) → Reads (command_of (understood office_schema text)) db (number_value n ∷ []) rows
+      → (r : Register) → Tables r db.trees → IsFound r n (first_told read rows)
 
 -- the response to the incoming file with a number, if one was issued
 abbrev pub issued_by_no : Register → ℕ → Option IssuedEntry

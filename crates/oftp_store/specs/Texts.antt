@@ -1,7 +1,10 @@
 -- The texts of the statements.
 use Rattle.std.specs.Prelude.{ℕ, List, codes}
+use Rattle.sqlite.specs.Given.{IsPlain}
+use Rattle.sqlite.specs.Listing.{understood}
 use Rattle.oftp_register.specs.declared.entries.Side.{Side}
 use Rattle.oftp_register.specs.declared.entries.Side.TheVariants as side
+use Rattle.oftp_tables.specs.Schema.{office_schema}
 
 -- ---- what changes make of files, of their rows and of responses
 
@@ -40,6 +43,10 @@ abbrev pub add_note_text : List ℕ
 add_note_text = codes "INSERT INTO received_note (no, creator, note) VALUES (?1, ?2, ?3)"
 
 -- ---- what look-ups ask
+
+-- a text that the office's tables understand, which has no RETURNING and doesn't read the time
+abbrev pub IsPlainText : List ℕ → Type 0
+IsPlainText text = IsPlain (understood office_schema text)
 
 abbrev pub in_header_text : List ℕ
 in_header_text = codes "SELECT dataset, date, time, originator, destination, format, longest, description, state FROM in_file WHERE no = ?1"

@@ -1,10 +1,11 @@
 //! The look-ups in the database.
 
 pub(crate) mod allocation;
+mod by_number;
 pub(crate) mod file_by_identity;
 pub(crate) mod file_by_number;
-mod first_number;
-pub(crate) mod header;
+mod first_row;
+mod header;
 pub(crate) mod identity;
 mod issued;
 pub(crate) mod last_number;
@@ -13,7 +14,7 @@ pub(crate) mod next_item;
 pub(crate) mod next_number;
 pub(crate) mod progress;
 mod received;
-pub(crate) mod response;
+mod response;
 pub(crate) mod response_match;
 pub(crate) mod rows;
 pub(crate) mod units;

@@ -1,77 +1,64 @@
-//! The headers of files, by number.
+//! The headers of files: what their tables have of them, without their rows.
 
 ghost use Rattle.std.specs.Prelude.{◌≡◌, ◌<◌, ◌^◌, ℕ, IfOk, IfSome, IfErr, IsSome};
-ghost use Rattle.sqlite.specs.Held.{state};
-ghost use Rattle.sqlite.specs.State.{HasCleanDisk};
-ghost use Rattle.oftp_vfile.specs.VirtualFile.{IsLongest};
-ghost use Rattle.oftp_register.specs.Register.{Register};
 ghost use Rattle.oftp_register.specs.declared.entry.OutgoingState.{OutgoingState};
 ghost use Rattle.oftp_register.specs.Offices.{IsFailure};
-ghost use Rattle.oftp_tables.specs.Schema.{office_schema};
-ghost use Rattle.oftp_tables.specs.Statements.{Looks};
-ghost use Rattle.oftp_tables.specs.Tables.{HasRefusal, Tables, TellsValues};
-ghost use Rattle.oftp_store.specs.Reads.{IsToldOf, first_told, incoming_header_in, incoming_header_of, incoming_values, outgoing_header_in, outgoing_header_of, outgoing_values, mark_and_state_values};
+ghost use Rattle.oftp_tables.specs.Tables.{HasRefusal, TellsValues};
+ghost use Rattle.oftp_store.specs.Reads.{IsFileWithin, IsToldOf, file_header_in, file_values, incoming_header_in, incoming_header_of, incoming_values, outgoing_header_in, outgoing_header_of, outgoing_values, mark_and_state_values};
 
+use super::by_number::ByNumber;
 use oftp_register::{Identity, IncomingState, Note, OfficeFault, OutgoingState};
 use oftp_tables::{
-    ask, format_at, identity_at, incoming_state_at, number, number_at, outgoing_state_at, text_at,
+    format_at, identity_at, incoming_state_at, number_at, outgoing_state_at, text_at,
 };
 use oftp_vfile::Format;
-use sqlite::{Alter, Connection, Row, params};
+use sqlite::Row;
 use std::alloc::Global;
 
-/// An incoming file without its rows and its response.
+/// What both tables of files have of one.
 #[derive(Drop)]
-pub(crate) struct IncomingHeader {
+pub(crate) struct FileHeader {
     pub identity: Identity,
     pub format: Format,
     pub longest: u32,
     pub description: Note,
+}
+
+/// An incoming file without its rows and its response.
+#[derive(Drop)]
+pub(crate) struct IncomingHeader {
+    pub file: FileHeader,
     pub state: IncomingState,
 }
 
 /// An outgoing file without its rows.
 #[derive(Drop)]
 pub(crate) struct OutgoingHeader {
-    pub identity: Identity,
-    pub format: Format,
-    pub longest: u32,
-    pub description: Note,
+    pub file: FileHeader,
     pub mark: u32,
     pub state: OutgoingState,
 }
 
-// The header of an incoming file that a row tells. A row that is none of the table's, whatever the file, is a fault of the store.
-fn incoming_header_in(alloc: Global, row: &Row) -> Result<IncomingHeader, OfficeFault>
-    ensures told { IfOk result (λ header. header ≡ incoming_header_in row.now) }
-    ensures fits { IfOk result (λ header. TellsValues (incoming_values header) 0 row.now) }
-    ensures within { IfOk result (λ header. IsLongest header.format header.longest) }
+// What the first columns of a row tell. Columns that are those of neither table, whatever the file, are a fault of the store.
+fn file_header_in(alloc: Global, row: &Row) -> Result<FileHeader, OfficeFault>
+    ensures told { IfOk result (λ header. header ≡ file_header_in row.now) }
+    ensures fits { IfOk result (λ header. TellsValues (file_values header) 0 row.now) }
+    ensures within { IfOk result IsFileWithin }
     ensures fails { IfErr result IsFailure }
 {
-    match (
-        identity_at(row, 0),
-        format_at(row, 5),
-        number_at(row, 6),
-        incoming_state_at(row, 8),
-    ) {
-        (Some(identity), Some(format), Some(longest), Some(state)) => {
-            if format.allows_longest(longest) {
-                match text_at(alloc, row, 7) {
-                    Ok(description) => Ok(IncomingHeader {
-                        identity,
-                        format,
-                        longest,
-                        description,
-                        state,
-                    }),
-                    Err(fault) => Err(fault),
-                }
-            } else {
-                Err(OfficeFault::Store)
-            }
-        }
-        _ => Err(OfficeFault::Store),
+    let identity = identity_at(row, 0).ok_or(OfficeFault::Store)?;
+    let format = format_at(row, 5).ok_or(OfficeFault::Store)?;
+    let longest = number_at(row, 6).ok_or(OfficeFault::Store)?;
+    if !format.allows_longest(longest) {
+        return Err(OfficeFault::Store);
     }
+    let description = text_at(alloc, row, 7)?;
+    Ok(FileHeader {
+        identity,
+        format,
+        longest,
+        description,
+    })
 }
 
 // The mark and the state of an outgoing file that a row tells.
@@ -86,110 +73,42 @@ fn mark_and_state_in(row: &Row) -> Option<(u32, OutgoingState)>
     }
 }
 
-// The header of an outgoing file that a row tells. A row that is none of the table's, whatever the file, is a fault of the store.
-fn outgoing_header_in(alloc: Global, row: &Row) -> Result<OutgoingHeader, OfficeFault>
-    ensures told { IfOk result (λ header. header ≡ outgoing_header_in row.now) }
-    ensures fits { IfOk result (λ header. TellsValues (outgoing_values header) 0 row.now) }
-    ensures within { IfOk result (λ header. IsLongest header.format header.longest) }
-    ensures fails { IfErr result IsFailure }
-{
-    match (
-        identity_at(row, 0),
-        format_at(row, 5),
-        number_at(row, 6),
-        mark_and_state_in(row),
-    ) {
-        (Some(identity), Some(format), Some(longest), Some((mark, state))) => {
-            if format.allows_longest(longest) {
-                match text_at(alloc, row, 7) {
-                    Ok(description) => Ok(OutgoingHeader {
-                        identity,
-                        format,
-                        longest,
-                        description,
-                        mark,
-                        state,
-                    }),
-                    Err(fault) => Err(fault),
-                }
-            } else {
-                Err(OfficeFault::Store)
-            }
-        }
-        _ => Err(OfficeFault::Store),
+impl ByNumber for IncomingHeader {
+    ghost told = { incoming_header_in };
+
+    ghost values = { incoming_values };
+
+    ghost is_within = { λ header. IsFileWithin header.file };
+
+    ghost is_found = { λ r no found. IsToldOf incoming_header_of r.incoming no found };
+
+    fn query() -> &'static str {
+        "SELECT dataset, date, time, originator, destination, format, longest, description, state FROM in_file WHERE no = ?1"
+    }
+
+    fn from_row(alloc: Global, row: &Row) -> Result<IncomingHeader, OfficeFault> {
+        let state = incoming_state_at(row, 8).ok_or(OfficeFault::Store)?;
+        let file = file_header_in(alloc, row)?;
+        Ok(IncomingHeader { file, state })
     }
 }
 
-// The header of an incoming file that an answer tells.
-fn incoming_header_told(alloc: Global, rows: &[Row]) -> Result<Option<IncomingHeader>, OfficeFault>
-    ensures told { IfOk result (λ found. found ≡ first_told incoming_header_in rows.now) }
-    ensures within { IfOk result (λ found. IfSome found (λ header. IsLongest header.format header.longest)) }
-    ensures fails { IfErr result IsFailure }
-{
-    match rows {
-        [] => Ok(None),
-        [row, ..] => match incoming_header_in(alloc, row) {
-            Ok(header) => Ok(Some(header)),
-            Err(fault) => Err(fault),
-        },
-    }
-}
+impl ByNumber for OutgoingHeader {
+    ghost told = { outgoing_header_in };
 
-// The header of an outgoing file that an answer tells.
-fn outgoing_header_told(alloc: Global, rows: &[Row]) -> Result<Option<OutgoingHeader>, OfficeFault>
-    ensures told { IfOk result (λ found. found ≡ first_told outgoing_header_in rows.now) }
-    ensures within { IfOk result (λ found. IfSome found (λ header. IsLongest header.format header.longest)) }
-    ensures fails { IfErr result IsFailure }
-{
-    match rows {
-        [] => Ok(None),
-        [row, ..] => match outgoing_header_in(alloc, row) {
-            Ok(header) => Ok(Some(header)),
-            Err(fault) => Err(fault),
-        },
-    }
-}
+    ghost values = { outgoing_values };
 
-/// The header of the incoming file with a number.
-pub(crate) fn find_incoming_header<S: Alter>(
-    alloc: Global,
-    conn: &mut Connection<S>,
-    no: u64,
-) -> Result<Option<IncomingHeader>, OfficeFault>
-    requires { no < 2 ^ 63 }
-    ensures looks { Looks (state S.Store conn.old) (state S.Store conn.new) result }
-    ensures answer { HasCleanDisk (state S.Store conn.new) → conn.old.schema ≡ office_schema
-        → IfOk result (λ found. (r : Register) → Tables r (state S.Store conn.old).now.trees → IsToldOf incoming_header_of r.incoming no found) }
-    ensures within { IfOk result (λ found. IfSome found (λ header. IsLongest header.format header.longest)) }
-{
-    match ask(
-        conn,
-        "SELECT dataset, date, time, originator, destination, format, longest, description, state FROM in_file WHERE no = ?1",
-        params![number(no)],
-    ) {
-        Ok(rows) => incoming_header_told(alloc, rows.as_slice()),
-        Err(fault) => Err(fault),
-    }
-}
+    ghost is_within = { λ header. IsFileWithin header.file };
 
-/// The header of the outgoing file with a number.
-pub(crate) fn find_outgoing_header<S: Alter>(
-    alloc: Global,
-    conn: &mut Connection<S>,
-    no: u64,
-) -> Result<Option<OutgoingHeader>, OfficeFault>
-    requires { no < 2 ^ 63 }
-    ensures looks { Looks (state S.Store conn.old) (state S.Store conn.new) result }
-    ensures answer { HasCleanDisk (state S.Store conn.new) → conn.old.schema ≡ office_schema
-        → IfOk result (λ found. (r : Register) → Tables r (state S.Store conn.old).now.trees → IsToldOf outgoing_header_of r.outgoing no found) }
-    ensures within { IfOk result (λ found. IfSome found (λ header. IsLongest header.format header.longest)) }
-{
-    match ask(
-        conn,
-        "SELECT dataset, date, time, originator, destination, format, longest, description, mark, state, reason FROM out_file WHERE no = ?1",
-        params![number(no)],
-    ) {
-        Ok(rows) => outgoing_header_told(alloc, rows.as_slice()),
-        Err(fault) => Err(fault),
+    ghost is_found = { λ r no found. IsToldOf outgoing_header_of r.outgoing no found };
+
+    fn query() -> &'static str {
+        "SELECT dataset, date, time, originator, destination, format, longest, description, mark, state, reason FROM out_file WHERE no = ?1"
+    }
+
+    fn from_row(alloc: Global, row: &Row) -> Result<OutgoingHeader, OfficeFault> {
+        let (mark, state) = mark_and_state_in(row).ok_or(OfficeFault::Store)?;
+        let file = file_header_in(alloc, row)?;
+        Ok(OutgoingHeader { file, mark, state })
     }
 }

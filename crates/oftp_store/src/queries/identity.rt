@@ -1,19 +1,18 @@
 //! Files and responses by identity.
 
-ghost use Rattle.std.specs.Prelude.{◌≡◌, ◌<◌, ◌^◌, is_some, slice_get, IfOk, IfSome};
+ghost use Rattle.std.specs.Prelude.{◌≡◌, ◌<◌, ◌^◌, IfOk, IfSome};
 ghost use Rattle.sqlite.specs.Held.{state};
-ghost use Rattle.sqlite.specs.State.{HasCleanDisk};
-ghost use Rattle.oftp_register.specs.Register.{Register, has_received};
-ghost use Rattle.oftp_tables.specs.Schema.{office_schema};
+ghost use Rattle.sqlite.specs.Values.{bound};
+ghost use Rattle.oftp_register.specs.Register.{has_received};
 ghost use Rattle.oftp_tables.specs.Statements.{Looks};
-ghost use Rattle.oftp_tables.specs.Tables.{Tables};
+ghost use Rattle.oftp_tables.specs.Tables.{identity_values};
 ghost use Rattle.oftp_store.specs.Numbers.{has_filed_text, file_number, file_number_text};
+ghost use Rattle.oftp_store.specs.Tells.{TellsStored};
 
-use crate::queries::first_number::first_number;
+use super::first_row::{first_number, first_row};
 use oftp_register::{Identity, OfficeFault, ResponseKind, Side};
-use oftp_tables::ask;
 use sqlite::types::ValueRef;
-use sqlite::{Alter, Connection, Row};
+use sqlite::{Alter, Connection};
 
 // The text that asks for the number of an identity.
 fn file_number_text(side: Side) -> &'static str
@@ -39,6 +38,19 @@ fn has_filed_text(kind: ResponseKind) -> &'static str
     }
 }
 
+// The values of the columns of an identity.
+fn identity_values(identity: &Identity) -> [ValueRef<'_>; 5]
+    ensures { bound result ≡ identity_values identity.now }
+{
+    [
+        ValueRef::Text(identity.dataset.octets()),
+        ValueRef::Text(identity.date.octets()),
+        ValueRef::Text(identity.time.octets()),
+        ValueRef::Text(identity.originator.octets()),
+        ValueRef::Text(identity.destination.octets()),
+    ]
+}
+
 /// The number of the file of an identity.
 pub(crate) fn file_number<S: Alter>(
     conn: &mut Connection<S>,
@@ -46,31 +58,10 @@ pub(crate) fn file_number<S: Alter>(
     identity: &Identity,
 ) -> Result<Option<u64>, OfficeFault>
     ensures looks { Looks (state S.Store conn.old) (state S.Store conn.new) result }
-    ensures answer { HasCleanDisk (state S.Store conn.new) → conn.old.schema ≡ office_schema → IfOk result (λ no. (r : Register) → Tables r (state S.Store conn.old).now.trees
-        → no ≡ file_number r side identity.now) }
+    ensures answer { TellsStored (λ r no. no ≡ file_number r side identity.now) (state S.Store conn.old) (state S.Store conn.new) result }
     ensures small { IfOk result (λ found. IfSome found (λ no. no < 2 ^ 63)) }
 {
-    match ask(
-        conn,
-        file_number_text(side),
-        &[
-            ValueRef::Text(identity.dataset.octets()),
-            ValueRef::Text(identity.date.octets()),
-            ValueRef::Text(identity.time.octets()),
-            ValueRef::Text(identity.originator.octets()),
-            ValueRef::Text(identity.destination.octets()),
-        ],
-    ) {
-        Ok(rows) => first_number(rows.as_slice()),
-        Err(fault) => Err(fault),
-    }
-}
-
-// Whether an answer has a row.
-fn is_any(rows: &[Row]) -> bool
-    ensures { result ≡ is_some (slice_get rows.now 0) }
-{
-    rows.first().is_some()
+    first_number(conn, file_number_text(side), &identity_values(identity))
 }
 
 /// Whether a response of this kind came for the file of an identity.
@@ -80,21 +71,8 @@ pub(crate) fn has_filed<S: Alter>(
     identity: &Identity,
 ) -> Result<bool, OfficeFault>
     ensures looks { Looks (state S.Store conn.old) (state S.Store conn.new) result }
-    ensures answer { HasCleanDisk (state S.Store conn.new) → conn.old.schema ≡ office_schema → IfOk result (λ there. (r : Register) → Tables r (state S.Store conn.old).now.trees
-        → there ≡ has_received r kind identity.now) }
+    ensures answer { TellsStored (λ r there. there ≡ has_received r kind identity.now) (state S.Store conn.old) (state S.Store conn.new) result }
 {
-    match ask(
-        conn,
-        has_filed_text(kind),
-        &[
-            ValueRef::Text(identity.dataset.octets()),
-            ValueRef::Text(identity.date.octets()),
-            ValueRef::Text(identity.time.octets()),
-            ValueRef::Text(identity.originator.octets()),
-            ValueRef::Text(identity.destination.octets()),
-        ],
-    ) {
-        Ok(rows) => Ok(is_any(rows.as_slice())),
-        Err(fault) => Err(fault),
-    }
+    let first = first_row(conn, has_filed_text(kind), &identity_values(identity))?;
+    Ok(first.is_some())
 }

@@ -5,9 +5,9 @@ ghost use Rattle.sqlite.specs.Held.{state};
 ghost use Rattle.oftp_tables.specs.Statements.{Looks};
 ghost use Rattle.oftp_store.specs.Tells.{Tells, issued_by_no};
 
-use super::header::find_incoming_header;
-use super::response::find_response;
-use oftp_register::{IssuedEntry, OfficeFault};
+use super::by_number::find;
+use super::header::IncomingHeader;
+use oftp_register::{IssuedEntry, IssuedResponse, OfficeFault};
 use sqlite::{Alter, Connection};
 use std::alloc::Global;
 
@@ -21,17 +21,14 @@ pub(crate) fn find_issued<S: Alter>(
     ensures looks { Looks (state S.Store conn.old) (state S.Store conn.new) result }
     ensures answer { Tells (λ r found. found ≡ issued_by_no r no) (state S.Store conn.old) (state S.Store conn.new) result }
 {
-    match find_response(alloc, conn, no) {
-        Err(fault) => Err(fault),
-        Ok(None) => Ok(None),
-        Ok(Some(response)) => match find_incoming_header(alloc, conn, no) {
-            Err(fault) => Err(fault),
-            Ok(None) => Err(OfficeFault::Store),
-            Ok(Some(header)) => Ok(Some(IssuedEntry {
-                no,
-                identity: header.identity,
-                response,
-            })),
-        },
-    }
+    let Some(response) = find::<IssuedResponse, S>(alloc, conn, no)? else {
+        return Ok(None);
+    };
+    let header = find::<IncomingHeader, S>(alloc, conn, no)?.ok_or(OfficeFault::Store)?;
+    let file = header.file;
+    Ok(Some(IssuedEntry {
+        no,
+        identity: file.identity,
+        response,
+    }))
 }

@@ -1,20 +1,17 @@
 //! The last number of a table.
 
-ghost use Rattle.std.specs.Prelude.{◌≡◌, ◌+◌, ◌≤◌, ◌<◌, ◌^◌, Ok, Err, IfOk, IfErr};
+ghost use Rattle.std.specs.Prelude.{◌≡◌, ◌+◌, ◌≤◌, ◌<◌, ◌^◌, nat_le, Ok, Err, IfOk};
 ghost use Rattle.sqlite.specs.Held.{state};
-ghost use Rattle.sqlite.specs.State.{HasCleanDisk};
 ghost use Rattle.oftp_register.specs.Register.{Register};
-ghost use Rattle.oftp_register.specs.Offices.{IsFailure};
-ghost use Rattle.oftp_tables.specs.Schema.{office_schema};
-ghost use Rattle.oftp_tables.specs.Statements.{Looks};
-ghost use Rattle.oftp_tables.specs.Tables.{Tables};
 ghost use Rattle.oftp_register.specs.LookUps.{files_full};
-ghost use Rattle.oftp_store.specs.Numbers.{TellsLast, entries_in, files_in, last_text};
-ghost use Rattle.oftp_store.specs.Tells.{Tells};
+ghost use Rattle.oftp_tables.specs.Statements.{Looks};
+ghost use Rattle.oftp_store.specs.Numbers.{entries_in, last_text, table_of};
+ghost use Rattle.oftp_store.specs.Tells.{Tells, TellsStored};
 
+use super::first_row::first_number;
+use crate::numbers::FIRST_FAR;
 use oftp_register::{OfficeFault, Side};
-use oftp_tables::{ask, no_at};
-use sqlite::{Alter, Connection, Row};
+use sqlite::{Alter, Connection};
 
 /// A table whose entries have numbers from 1 on, without gaps.
 #[derive(Clone, Copy, Debug, Drop, PartialEq, Eq)]
@@ -38,40 +35,23 @@ fn last_text(table: Table) -> &'static str
     }
 }
 
-// The last number that an answer tells, 0 where there is none.
-fn last_told(rows: &[Row]) -> Result<u64, OfficeFault>
-    ensures told { IfOk result (TellsLast rows.now) }
-    ensures small { IfOk result (λ no. no < 2 ^ 63) }
-    ensures fails { IfErr result IsFailure }
-{
-    match rows {
-        [] => Ok(0),
-        [row, ..] => match no_at(row, 0) {
-            Some(no) if no < 0x8000_0000_0000_0000 => Ok(no),
-            _ => Err(OfficeFault::Store),
-        },
-    }
-}
-
 /// The last number of a table, which is how many entries it has.
 pub(crate) fn last_number<S: Alter>(
     conn: &mut Connection<S>,
     table: Table,
 ) -> Result<u64, OfficeFault>
     ensures looks { Looks (state S.Store conn.old) (state S.Store conn.new) result }
-    ensures answer { HasCleanDisk (state S.Store conn.new) → conn.old.schema ≡ office_schema → IfOk result (λ no. (r : Register) → Tables r (state S.Store conn.old).now.trees
-        → no ≡ entries_in r table) }
+    ensures answer { TellsStored (λ r no. no ≡ entries_in r table) (state S.Store conn.old) (state S.Store conn.new) result }
     ensures small { IfOk result (λ no. no < 2 ^ 63) }
 {
-    match ask(conn, last_text(table), &[]) {
-        Ok(rows) => last_told(rows.as_slice()),
-        Err(fault) => Err(fault),
-    }
+    let last = first_number(conn, last_text(table), &[])?;
+    Ok(last.unwrap_or(0))
 }
 
-// The table of the files of a side.
-fn table_of(side: Side) -> Table
-    ensures { (r : Register) → entries_in r result ≡ files_in r side }
+/// The table of the files of a side.
+pub(crate) fn table_of(side: Side) -> Table
+    ensures is { result ≡ table_of side }
+    ensures full { (r : Register) → files_full r side ≡ nat_le r.limits.files (entries_in r result) }
 {
     match side {
         Side::Incoming => Table::IncomingFiles,
@@ -86,13 +66,10 @@ pub(crate) fn is_full<S: Alter>(
     most: u64,
 ) -> Result<bool, OfficeFault>
     ensures looks { Looks (state S.Store conn.old) (state S.Store conn.new) result }
-    ensures answer { Tells (λ r full. r.limits.files ≡ most → full ≡ files_full r side)
-        (state S.Store conn.old) (state S.Store conn.new) result }
+    ensures answer { Tells (λ r full. r.limits.files ≡ most → full ≡ files_full r side) (state S.Store conn.old) (state S.Store conn.new) result }
 {
-    match last_number(conn, table_of(side)) {
-        Ok(last) => Ok(last >= most),
-        Err(fault) => Err(fault),
-    }
+    let last = last_number(conn, table_of(side))?;
+    Ok(last >= most)
 }
 
 /// The number after this one. Where the database can hold none, this counts as a growth that was refused.
@@ -100,7 +77,7 @@ pub(crate) fn number_after(last: u64) -> Result<u64, OfficeFault>
     ensures made { last + 1 < 2 ^ 63 → result ≡ Ok (last + 1) }
     ensures full { 2 ^ 63 ≤ last + 1 → result ≡ Err OfficeFault.Memory }
 {
-    if last < 0x7fff_ffff_ffff_ffff {
+    if last < FIRST_FAR - 1 {
         Ok(last + 1)
     } else {
         Err(OfficeFault::Memory)
@@ -117,12 +94,9 @@ pub(crate) fn new_number<S: Alter>(
     table: Table,
 ) -> Result<u64, OfficeFault>
     ensures looks { Looks (state S.Store conn.old) (state S.Store conn.new) result }
-    ensures answer { HasCleanDisk (state S.Store conn.new) → conn.old.schema ≡ office_schema → IfOk result (λ no. (r : Register) → Tables r (state S.Store conn.old).now.trees
-        → no ≡ 1 + entries_in r table) }
+    ensures answer { TellsStored (λ r no. no ≡ 1 + entries_in r table) (state S.Store conn.old) (state S.Store conn.new) result }
     ensures small { IfOk result (λ no. no < 2 ^ 63) }
 {
-    match last_number(conn, table) {
-        Ok(last) => number_after(last),
-        Err(fault) => Err(fault),
-    }
+    let last = last_number(conn, table)?;
+    number_after(last)
 }

@@ -92,17 +92,11 @@ pub(crate) fn list<E: Listed + Drop, S: Alter>(
     ensures looks { Looks (state S.Store conn.old) (state S.Store conn.new) result }
     ensures answer { Tells (λ r entries. entries.items ≡ E.entries r) (state S.Store conn.old) (state S.Store conn.new) result }
 {
-    let last = match last_number(conn, E::table()) {
-        Ok(last) => last,
-        Err(fault) => return Err(fault),
-    };
+    let last = last_number(conn, E::table())?;
     let mut entries = Vec::new(alloc);
     'entries: for before in 0..last {
-        match E::find_after(alloc, conn, before) {
-            Err(fault) => return Err(fault),
-            Ok(None) => return Err(OfficeFault::Store),
-            Ok(Some(entry)) => entries.push(entry)?,
-        }
+        let entry = E::find_after(alloc, conn, before)?.ok_or(OfficeFault::Store)?;
+        entries.push(entry)?;
     }
     Ok(entries)
 }
@@ -126,19 +120,11 @@ pub(crate) fn list_issued<S: Alter>(
     ensures looks { Looks (state S.Store conn.old) (state S.Store conn.new) result }
     ensures answer { Tells (λ r entries. entries.items ≡ list_issued r) (state S.Store conn.old) (state S.Store conn.new) result }
 {
-    let last = match last_number(conn, Table::IncomingFiles) {
-        Ok(last) => last,
-        Err(fault) => return Err(fault),
-    };
+    let last = last_number(conn, Table::IncomingFiles)?;
     let mut entries = Vec::new(alloc);
     'files: for before in 0..last {
-        match find_issued(alloc, conn, before + 1) {
-            Err(fault) => return Err(fault),
-            Ok(found) => match add_if_any(&mut entries, found) {
-                Err(fault) => return Err(fault),
-                Ok(()) => {}
-            },
-        }
+        let found = find_issued(alloc, conn, before + 1)?;
+        add_if_any(&mut entries, found)?;
     }
     Ok(entries)
 }

@@ -8,7 +8,8 @@ ghost use Rattle.oftp_store.specs.Tells.{Tells};
 
 use super::file_by_identity::next_file;
 use super::issued::find_issued;
-use super::next_number::next_response_number;
+use super::next_number::{Sendable, next_number};
+use crate::numbers::FIRST_FAR;
 use oftp_register::{Cursor, IssuedEntry, Item, Name, OfficeFault};
 use sqlite::{Alter, Connection};
 use std::alloc::Global;
@@ -19,11 +20,7 @@ fn within_store(tried: u64) -> u64
     ensures same { tried < 2 ^ 63 → result ≡ tried }
     ensures far { 2 ^ 63 ≤ tried → result + 1 ≡ 2 ^ 63 }
 {
-    if tried < 0x8000_0000_0000_0000 {
-        tried
-    } else {
-        0x7fff_ffff_ffff_ffff
-    }
+    tried.min(FIRST_FAR - 1)
 }
 
 /// The first response that is due to a partner, above a number.
@@ -35,13 +32,11 @@ pub(crate) fn next_response<S: Alter>(
 ) -> Result<Option<IssuedEntry>, OfficeFault>
     requires { tried < 2 ^ 63 }
     ensures looks { Looks (state S.Store conn.old) (state S.Store conn.new) result }
-    ensures answer { Tells (λ r found. found ≡ next_response r partner.now tried)
-        (state S.Store conn.old) (state S.Store conn.new) result }
+    ensures answer { Tells (λ r found. found ≡ next_response r partner.now tried) (state S.Store conn.old) (state S.Store conn.new) result }
 {
-    match next_response_number(conn, partner, tried) {
-        Err(fault) => Err(fault),
-        Ok(None) => Ok(None),
-        Ok(Some(no)) => find_issued(alloc, conn, no),
+    match next_number(conn, Sendable::Response, partner, tried)? {
+        Some(no) => find_issued(alloc, conn, no),
+        None => Ok(None),
     }
 }
 
@@ -54,22 +49,16 @@ pub(crate) fn next_item<S: Alter>(
     files: bool,
 ) -> Result<Option<Item>, OfficeFault>
     ensures looks { Looks (state S.Store conn.old) (state S.Store conn.new) result }
-    ensures answer { Tells (λ r item. item ≡ next_item r partner.now cursor files)
-        (state S.Store conn.old) (state S.Store conn.new) result }
+    ensures answer { Tells (λ r item. item ≡ next_item r partner.now cursor files) (state S.Store conn.old) (state S.Store conn.new) result }
     ensures within { IfOk result (λ found. IfSome found IsItemWithin) }
 {
-    match next_response(alloc, conn, partner, within_store(cursor.response)) {
-        Err(fault) => Err(fault),
-        Ok(Some(response)) => Ok(Some(Item::Response(response))),
-        Ok(None) => {
-            if !files {
-                return Ok(None);
-            }
-            match next_file(alloc, conn, partner, within_store(cursor.file)) {
-                Err(fault) => Err(fault),
-                Ok(Some(file)) => Ok(Some(Item::File(file))),
-                Ok(None) => Ok(None),
-            }
-        }
+    let tried = within_store(cursor.response);
+    if let Some(response) = next_response(alloc, conn, partner, tried)? {
+        return Ok(Some(Item::Response(response)));
     }
+    if !files {
+        return Ok(None);
+    }
+    let file = next_file(alloc, conn, partner, within_store(cursor.file))?;
+    Ok(file.map(Item::File))
 }

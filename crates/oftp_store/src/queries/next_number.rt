@@ -2,65 +2,55 @@
 
 ghost use Rattle.std.specs.Prelude.{◌≡◌, ◌<◌, ◌^◌, IfOk, IfSome};
 ghost use Rattle.sqlite.specs.Held.{state};
-ghost use Rattle.sqlite.specs.State.{HasCleanDisk};
-ghost use Rattle.oftp_register.specs.Register.{Register};
-ghost use Rattle.oftp_tables.specs.Schema.{office_schema};
 ghost use Rattle.oftp_tables.specs.Statements.{Looks};
-ghost use Rattle.oftp_tables.specs.Tables.{Tables};
-ghost use Rattle.oftp_store.specs.Numbers.{next_file_number, next_response_number};
+ghost use Rattle.oftp_store.specs.Numbers.{next_number, next_text};
+ghost use Rattle.oftp_store.specs.Tells.{TellsStored};
 
-use crate::queries::first_number::first_number;
+use super::first_row::first_number;
 use oftp_register::{Name, OfficeFault};
-use oftp_tables::{ask, number};
+use oftp_tables::number;
 use sqlite::types::ValueRef;
 use sqlite::{Alter, Connection};
 
-/// The number of the first file to a partner that is waiting or closing, above a number.
-pub(crate) fn next_file_number<S: Alter>(
-    conn: &mut Connection<S>,
-    partner: &Name<25>,
-    tried: u64,
-) -> Result<Option<u64>, OfficeFault>
-    requires { tried < 2 ^ 63 }
-    ensures looks { Looks (state S.Store conn.old) (state S.Store conn.new) result }
-    ensures answer { HasCleanDisk (state S.Store conn.new) → conn.old.schema ≡ office_schema → IfOk result (λ no. (r : Register) → Tables r (state S.Store conn.old).now.trees
-        → no ≡ next_file_number r partner.now tried) }
-    ensures small { IfOk result (λ found. IfSome found (λ no. no < 2 ^ 63)) }
+/// What is sent to a partner.
+#[derive(Clone, Copy, Debug, Drop, PartialEq, Eq)]
+pub(crate) enum Sendable {
+    /// A file that is waiting or closing.
+    File,
+    /// A response that is due. It has the number of its file.
+    Response,
+}
+
+// The text that asks for the number of the next one.
+fn next_text(what: Sendable) -> &'static str
+    ensures { result.now ≡ next_text what }
 {
-    match ask(
-        conn,
-        "SELECT no FROM out_file WHERE no > ?1 AND (state = 'waiting' OR state = 'closing') AND destination = ?2 ORDER BY no LIMIT 1",
-        &[
-            ValueRef::Int(number(tried)),
-            ValueRef::Text(partner.octets()),
-        ],
-    ) {
-        Ok(rows) => first_number(rows.as_slice()),
-        Err(fault) => Err(fault),
+    match what {
+        Sendable::File =>
+            "SELECT no FROM out_file WHERE no > ?1 AND (state = 'waiting' OR state = 'closing') AND destination = ?2 ORDER BY no LIMIT 1",
+        Sendable::Response =>
+            "SELECT issued.no FROM issued JOIN in_file ON in_file.no = issued.no WHERE issued.no > ?1 AND sent = 0 AND originator = ?2 ORDER BY issued.no LIMIT 1",
     }
 }
 
-/// The number of the first incoming file whose response is due to a partner, above a number.
-pub(crate) fn next_response_number<S: Alter>(
+/// The number of the first that is sent to a partner, above a number.
+pub(crate) fn next_number<S: Alter>(
     conn: &mut Connection<S>,
+    what: Sendable,
     partner: &Name<25>,
     tried: u64,
 ) -> Result<Option<u64>, OfficeFault>
     requires { tried < 2 ^ 63 }
     ensures looks { Looks (state S.Store conn.old) (state S.Store conn.new) result }
-    ensures answer { HasCleanDisk (state S.Store conn.new) → conn.old.schema ≡ office_schema → IfOk result (λ no. (r : Register) → Tables r (state S.Store conn.old).now.trees
-        → no ≡ next_response_number r partner.now tried) }
+    ensures answer { TellsStored (λ r no. no ≡ next_number r what partner.now tried) (state S.Store conn.old) (state S.Store conn.new) result }
     ensures small { IfOk result (λ found. IfSome found (λ no. no < 2 ^ 63)) }
 {
-    match ask(
+    first_number(
         conn,
-        "SELECT issued.no FROM issued JOIN in_file ON in_file.no = issued.no WHERE issued.no > ?1 AND sent = 0 AND originator = ?2 ORDER BY issued.no LIMIT 1",
+        next_text(what),
         &[
             ValueRef::Int(number(tried)),
             ValueRef::Text(partner.octets()),
         ],
-    ) {
-        Ok(rows) => first_number(rows.as_slice()),
-        Err(fault) => Err(fault),
-    }
+    )
 }

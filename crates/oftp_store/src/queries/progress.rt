@@ -2,19 +2,17 @@
 
 ghost use Rattle.std.specs.Prelude.{◌≡◌, ◌≤◌, ◌<◌, ◌^◌, IfOk, IfSome};
 ghost use Rattle.sqlite.specs.Held.{state};
-ghost use Rattle.sqlite.specs.State.{HasCleanDisk};
-ghost use Rattle.oftp_register.specs.Register.{Register};
 ghost use Rattle.oftp_register.specs.Soundness.{IsSound};
-ghost use Rattle.oftp_tables.specs.Schema.{office_schema};
+ghost use Rattle.oftp_vfile.specs.declared.format.TheConstants.{MOST_ROWS};
 ghost use Rattle.oftp_tables.specs.Statements.{Looks};
-ghost use Rattle.oftp_tables.specs.Tables.{Tables};
 ghost use Rattle.oftp_store.specs.Reads.{IsToldOf};
 ghost use Rattle.oftp_store.specs.FileProgress.{response_progress_of, incoming_progress_of, outgoing_progress_of};
+ghost use Rattle.oftp_store.specs.Tells.{Tells, TellsStored};
 
-use super::header::{find_incoming_header, find_outgoing_header};
-use super::response::find_response;
+use super::by_number::find;
+use super::header::{IncomingHeader, OutgoingHeader};
 use super::rows::count_rows;
-use oftp_register::{Dispatch, IncomingState, OfficeFault, OutgoingState, Side};
+use oftp_register::{Dispatch, IncomingState, IssuedResponse, OfficeFault, OutgoingState, Side};
 use sqlite::{Alter, Connection};
 use std::alloc::Global;
 
@@ -50,21 +48,17 @@ pub(crate) fn find_incoming_progress<S: Alter>(
 ) -> Result<Option<IncomingProgress>, OfficeFault>
     requires { no < 2 ^ 63 }
     ensures looks { Looks (state S.Store conn.old) (state S.Store conn.new) result }
-    ensures answer { HasCleanDisk (state S.Store conn.new) → conn.old.schema ≡ office_schema
-        → IfOk result (λ found. (r : Register) → Tables r (state S.Store conn.old).now.trees → IsToldOf incoming_progress_of r.incoming no found) }
-    ensures few { IfOk result (λ found. IfSome found (λ progress. progress.rows ≤ 1000000)) }
+    ensures answer { TellsStored (λ r found. IsToldOf incoming_progress_of r.incoming no found) (state S.Store conn.old) (state S.Store conn.new) result }
+    ensures few { IfOk result (λ found. IfSome found (λ progress. progress.rows ≤ MOST_ROWS)) }
 {
-    match find_incoming_header(alloc, conn, no) {
-        Err(fault) => Err(fault),
-        Ok(None) => Ok(None),
-        Ok(Some(header)) => match count_rows(conn, Side::Incoming, no) {
-            Err(fault) => Err(fault),
-            Ok(rows) => Ok(Some(IncomingProgress {
-                state: header.state,
-                rows,
-            })),
-        },
-    }
+    let Some(header) = find::<IncomingHeader, S>(alloc, conn, no)? else {
+        return Ok(None);
+    };
+    let rows = count_rows(conn, Side::Incoming, no)?;
+    Ok(Some(IncomingProgress {
+        state: header.state,
+        rows,
+    }))
 }
 
 /// How far the outgoing file with a number has come.
@@ -75,22 +69,18 @@ pub(crate) fn find_outgoing_progress<S: Alter>(
 ) -> Result<Option<OutgoingProgress>, OfficeFault>
     requires { no < 2 ^ 63 }
     ensures looks { Looks (state S.Store conn.old) (state S.Store conn.new) result }
-    ensures answer { HasCleanDisk (state S.Store conn.new) → conn.old.schema ≡ office_schema
-        → IfOk result (λ found. (r : Register) → Tables r (state S.Store conn.old).now.trees → IsToldOf outgoing_progress_of r.outgoing no found) }
-    ensures few { IfOk result (λ found. IfSome found (λ progress. progress.rows ≤ 1000000)) }
+    ensures answer { TellsStored (λ r found. IsToldOf outgoing_progress_of r.outgoing no found) (state S.Store conn.old) (state S.Store conn.new) result }
+    ensures few { IfOk result (λ found. IfSome found (λ progress. progress.rows ≤ MOST_ROWS)) }
 {
-    match find_outgoing_header(alloc, conn, no) {
-        Err(fault) => Err(fault),
-        Ok(None) => Ok(None),
-        Ok(Some(header)) => match count_rows(conn, Side::Outgoing, no) {
-            Err(fault) => Err(fault),
-            Ok(rows) => Ok(Some(OutgoingProgress {
-                mark: header.mark,
-                state: header.state,
-                rows,
-            })),
-        },
-    }
+    let Some(header) = find::<OutgoingHeader, S>(alloc, conn, no)? else {
+        return Ok(None);
+    };
+    let rows = count_rows(conn, Side::Outgoing, no)?;
+    Ok(Some(OutgoingProgress {
+        mark: header.mark,
+        state: header.state,
+        rows,
+    }))
 }
 
 /// Whether the incoming file with a number is whole and was answered.
@@ -101,22 +91,14 @@ pub(crate) fn find_response_progress<S: Alter>(
 ) -> Result<Option<ResponseProgress>, OfficeFault>
     requires { no < 2 ^ 63 }
     ensures looks { Looks (state S.Store conn.old) (state S.Store conn.new) result }
-    ensures answer { HasCleanDisk (state S.Store conn.new) → conn.old.schema ≡ office_schema
-        → IfOk result (λ found. (r : Register) → Tables r (state S.Store conn.old).now.trees → IsSound r → IsToldOf response_progress_of r.incoming no found) }
+    ensures answer { Tells (λ r found. IsToldOf response_progress_of r.incoming no found) (state S.Store conn.old) (state S.Store conn.new) result }
 {
-    match find_incoming_header(alloc, conn, no) {
-        Err(fault) => Err(fault),
-        Ok(None) => Ok(None),
-        Ok(Some(header)) => match find_response(alloc, conn, no) {
-            Err(fault) => Err(fault),
-            Ok(None) => Ok(Some(ResponseProgress {
-                state: header.state,
-                response: None,
-            })),
-            Ok(Some(response)) => Ok(Some(ResponseProgress {
-                state: header.state,
-                response: Some(response.dispatch),
-            })),
-        },
-    }
+    let Some(header) = find::<IncomingHeader, S>(alloc, conn, no)? else {
+        return Ok(None);
+    };
+    let response = find::<IssuedResponse, S>(alloc, conn, no)?;
+    Ok(Some(ResponseProgress {
+        state: header.state,
+        response: response.map(|response| response.dispatch),
+    }))
 }

@@ -1,13 +1,9 @@
 //! What a response that comes finds.
 
-ghost use Rattle.std.specs.Prelude.{◌≡◌, ◌<◌, ◌^◌, IfOk, IfSome};
+ghost use Rattle.std.specs.Prelude.{◌≡◌};
 ghost use Rattle.sqlite.specs.Held.{state};
-ghost use Rattle.sqlite.specs.State.{HasCleanDisk};
-ghost use Rattle.oftp_register.specs.Register.{Register};
-ghost use Rattle.oftp_register.specs.Soundness.{IsSound};
-ghost use Rattle.oftp_tables.specs.Schema.{office_schema};
 ghost use Rattle.oftp_tables.specs.Statements.{Looks};
-ghost use Rattle.oftp_tables.specs.Tables.{Tables};
+ghost use Rattle.oftp_store.specs.Tells.{Tells};
 ghost use Rattle.oftp_store.specs.ResponseMatches.{IsResponseMatchOf, Settles, is_awaiting};
 
 use super::identity::{file_number, has_filed};
@@ -53,25 +49,19 @@ pub(crate) fn find_settled_file<S: Alter>(
     identity: &Identity,
 ) -> Result<Option<SettledFile>, OfficeFault>
     ensures looks { Looks (state S.Store conn.old) (state S.Store conn.new) result }
-    ensures answer { HasCleanDisk (state S.Store conn.new) → conn.old.schema ≡ office_schema → IfOk result (λ found. (r : Register) → Tables r (state S.Store conn.old).now.trees
-        → IsSound r → Settles r identity.now found) }
+    ensures answer { Tells (λ r found. Settles r identity.now found) (state S.Store conn.old) (state S.Store conn.new) result }
 {
-    match file_number(conn, Side::Outgoing, identity) {
-        Err(fault) => Err(fault),
-        Ok(None) => Ok(None),
-        Ok(Some(no)) => match find_outgoing_progress(alloc, conn, no) {
-            Err(fault) => Err(fault),
-            Ok(None) => Err(OfficeFault::Store),
-            Ok(Some(progress)) => {
-                if is_awaiting(&progress.state) {
-                    let mark = progress.mark;
-                    Ok(Some(SettledFile { no, mark }))
-                } else {
-                    Ok(None)
-                }
-            }
-        },
+    let Some(no) = file_number(conn, Side::Outgoing, identity)? else {
+        return Ok(None);
+    };
+    let progress = find_outgoing_progress(alloc, conn, no)?.ok_or(OfficeFault::Store)?;
+    if !is_awaiting(&progress.state) {
+        return Ok(None);
     }
+    Ok(Some(SettledFile {
+        no,
+        mark: progress.mark,
+    }))
 }
 
 /// How a response to the file of an identity is filed.
@@ -86,19 +76,14 @@ pub(crate) fn find_response_match<S: Alter>(
     identity: &Identity,
 ) -> Result<ResponseMatch, OfficeFault>
     ensures looks { Looks (state S.Store conn.old) (state S.Store conn.new) result }
-    ensures answer { HasCleanDisk (state S.Store conn.new) → conn.old.schema ≡ office_schema → IfOk result (λ response_match. (r : Register) → Tables r (state S.Store conn.old).now.trees
-        → IsSound r → IsResponseMatchOf r kind identity.now response_match) }
+    ensures answer { Tells (λ r found. IsResponseMatchOf r kind identity.now found) (state S.Store conn.old) (state S.Store conn.new) result }
 {
-    match has_filed(conn, kind, identity) {
-        Err(fault) => Err(fault),
-        Ok(true) => Ok(ResponseMatch::Duplicate),
-        Ok(false) => match new_number(conn, Table::ReceivedResponses) {
-            Err(fault) => Err(fault),
-            Ok(no) => match find_settled_file(alloc, conn, identity) {
-                Err(fault) => Err(fault),
-                Ok(None) => Ok(ResponseMatch::Unmatched(no)),
-                Ok(Some(file)) => Ok(ResponseMatch::Matched { no, file }),
-            },
-        },
+    if has_filed(conn, kind, identity)? {
+        return Ok(ResponseMatch::Duplicate);
+    }
+    let no = new_number(conn, Table::ReceivedResponses)?;
+    match find_settled_file(alloc, conn, identity)? {
+        Some(file) => Ok(ResponseMatch::Matched { no, file }),
+        None => Ok(ResponseMatch::Unmatched(no)),
     }
 }

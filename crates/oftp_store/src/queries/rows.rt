@@ -3,22 +3,18 @@
 ghost use Rattle.std.specs.Prelude.{◌≡◌, ◌≤◌, ◌<◌, ◌^◌, map, take, drop, length, IfOk, IfErr};
 ghost use Rattle.sqlite.specs.Held.{state};
 ghost use Rattle.sqlite.specs.Order.{bytes, column};
-ghost use Rattle.sqlite.specs.State.{HasCleanDisk};
-ghost use Rattle.oftp_register.specs.Register.{Register};
 ghost use Rattle.oftp_register.specs.LookUps.{AreRowsWithin, file_rows, rows_of};
 ghost use Rattle.oftp_vfile.specs.declared.format.TheConstants.{MOST_ROWS};
 ghost use Rattle.oftp_register.specs.Offices.{IsFailure};
-ghost use Rattle.oftp_tables.specs.Schema.{office_schema};
 ghost use Rattle.oftp_tables.specs.Statements.{Looks};
-ghost use Rattle.oftp_tables.specs.Tables.{Tables};
-ghost use Rattle.oftp_store.specs.Reads.{TellsCount, position_told};
-ghost use Rattle.oftp_store.specs.Tells.{Tells};
+ghost use Rattle.oftp_store.specs.Reads.{TellsCount};
+ghost use Rattle.oftp_store.specs.Tells.{Tells, TellsStored};
 ghost use Rattle.oftp_store.specs.Texts.{last_row_text, some_rows_text};
 
+use super::first_row::first_row;
 use oftp_register::{OfficeFault, Side};
-use oftp_tables::{ask, body_at, number};
+use oftp_tables::{ask, body_at, number, number_at};
 use oftp_vfile::{MOST_ROWS, Rows};
-use sqlite::types::ValueRef;
 use sqlite::{Alter, Connection, Row, params};
 use std::alloc::Global;
 
@@ -44,31 +40,18 @@ fn some_rows_text(side: Side) -> &'static str
     }
 }
 
-// The position that a row tells.
-fn position_in(row: &Row) -> Option<u32>
-    ensures { result ≡ position_told (column row.now 0) }
-{
-    match row.get_ref(0) {
-        Ok(ValueRef::Int(at)) => match u32::try_from(at) {
-            Ok(at) => Some(at),
-            Err(_) => None,
-        },
-        _ => None,
-    }
-}
-
-// The count that an answer with the last position tells.
-fn count_told(rows: &[Row]) -> Result<u32, OfficeFault>
-    ensures told { IfOk result (TellsCount rows.now) }
-    ensures few { IfOk result (λ count. count ≤ 1000000) }
+// How many rows there are up to this last one, which tells its position, if there is one.
+fn count_to(last: Option<Row>) -> Result<u32, OfficeFault>
+    ensures told { IfOk result (TellsCount last) }
+    ensures few { IfOk result (λ count. count ≤ MOST_ROWS) }
     ensures fails { IfErr result IsFailure }
 {
-    match rows.first() {
-        None => Ok(0),
-        Some(row) => match position_in(row) {
-            Some(at) if at < 1_000_000 => Ok(at + 1),
-            _ => Err(OfficeFault::Store),
-        },
+    let Some(row) = last else {
+        return Ok(0);
+    };
+    match number_at(&row, 0) {
+        Some(at) if at < MOST_ROWS as u32 => Ok(at + 1),
+        _ => Err(OfficeFault::Store),
     }
 }
 
@@ -80,14 +63,11 @@ pub(crate) fn count_rows<S: Alter>(
 ) -> Result<u32, OfficeFault>
     requires { no < 2 ^ 63 }
     ensures looks { Looks (state S.Store conn.old) (state S.Store conn.new) result }
-    ensures answer { HasCleanDisk (state S.Store conn.new) → conn.old.schema ≡ office_schema
-        → IfOk result (λ count. (r : Register) → Tables r (state S.Store conn.old).now.trees → count ≡ length (file_rows r side no)) }
-    ensures few { IfOk result (λ count. count ≤ 1000000) }
+    ensures answer { TellsStored (λ r count. count ≡ length (file_rows r side no)) (state S.Store conn.old) (state S.Store conn.new) result }
+    ensures few { IfOk result (λ count. count ≤ MOST_ROWS) }
 {
-    match ask(conn, last_row_text(side), params![number(no)]) {
-        Ok(rows) => count_told(rows.as_slice()),
-        Err(fault) => Err(fault),
-    }
+    let last = first_row(conn, last_row_text(side), params![number(no)])?;
+    count_to(last)
 }
 
 // The bodies that an answer tells.
@@ -114,13 +94,10 @@ pub(crate) fn find_rows<S: Alter>(
 ) -> Result<Vec<oftp_vfile::Row>, OfficeFault>
     requires { no < 2 ^ 63 }
     ensures looks { Looks (state S.Store conn.old) (state S.Store conn.new) result }
-    ensures answer { HasCleanDisk (state S.Store conn.new) → conn.old.schema ≡ office_schema
-        → IfOk result (λ rows. (r : Register) → Tables r (state S.Store conn.old).now.trees → rows.items ≡ take most (drop from (file_rows r side no))) }
+    ensures answer { TellsStored (λ r rows. rows.items ≡ take most (drop from (file_rows r side no))) (state S.Store conn.old) (state S.Store conn.new) result }
 {
-    match ask(conn, some_rows_text(side), params![number(no), from, most]) {
-        Ok(rows) => bodies_told(alloc, rows.as_slice()),
-        Err(fault) => Err(fault),
-    }
+    let rows = ask(conn, some_rows_text(side), params![number(no), from, most])?;
+    bodies_told(alloc, rows.as_slice())
 }
 
 /// Rows of the file with a number as an office hands them out: from one on, and so many at most. More rows than were asked for, or
@@ -140,14 +117,10 @@ pub(crate) fn rows_of<S: Alter>(
     ensures within { IfOk result (AreRowsWithin from most) }
 {
     let few = most.min(MOST_ROWS as u64) as u32;
-    match find_rows(alloc, conn, side, no, from as u32, few) {
-        Err(fault) => Err(fault),
-        Ok(rows) => {
-            let len = rows.len() as u64;
-            if len > most || len > MOST_ROWS as u64 - from {
-                return Err(OfficeFault::Store);
-            }
-            Ok(Rows::new(rows))
-        }
+    let rows = find_rows(alloc, conn, side, no, from as u32, few)?;
+    let len = rows.len() as u64;
+    if len > most || len > MOST_ROWS as u64 - from {
+        return Err(OfficeFault::Store);
     }
+    Ok(Rows::new(rows))
 }

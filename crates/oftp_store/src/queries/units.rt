@@ -47,19 +47,11 @@ pub(crate) fn count_units<S: Alter>(
     ensures answer { Tells (λ r units. units ≡ units_of r side no) (state S.Store conn.old) (state S.Store conn.new) result }
     ensures within { IfOk result (λ units. units ≤ MOST_UNITS) }
 {
-    let count = match count_rows(conn, side, no) {
-        Ok(count) => count,
-        Err(fault) => return Err(fault),
-    };
+    let count = count_rows(conn, side, no)?;
     let mut units = 0;
     'pages: for page in 0..count / PAGE + 1 {
-        match find_rows(alloc, conn, side, no, page * PAGE, PAGE) {
-            Err(fault) => return Err(fault),
-            Ok(rows) => match add_units(units, rows.as_slice()) {
-                Err(fault) => return Err(fault),
-                Ok(sum) => units = sum,
-            },
-        }
+        let rows = find_rows(alloc, conn, side, no, page * PAGE, PAGE)?;
+        units = add_units(units, rows.as_slice())?;
     }
     Ok(units)
 }

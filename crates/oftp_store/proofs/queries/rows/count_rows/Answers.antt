@@ -1,22 +1,16 @@
-use Rattle.std.proofs.Common.{Result, Ok, Err, IfOk}
-use Rattle.oftp_tables.proofs.BindLemmas.{number_bound}
-use Rattle.oftp_tables.proofs.LookupLemmas.{looks_as, looks_then}
-use Rattle.oftp_store.proofs.RowQueryLemmas.{last_read, finds_last, count_is_told}
+use Rattle.std.proofs.Common.{subst}
+use Rattle.std.proofs.lemmas.Result.{IfOk-weaker}
+use Rattle.oftp_store.specs.Reads.{TellsCount}
+use Rattle.oftp_store.proofs.ReadLemmas.{number_given}
+use Rattle.oftp_store.proofs.RowQueryLemmas.{count_is_told, finds_last, last_read}
 use Rattle.oftp_store.proofs.queries.rows.count_rows.Goals as goal
 
-IfOk_then : {A E : Type 0} {P Q : A → Type 0} (r : Result A E) → IfOk r P → ((x : A) → P x → Q x) → IfOk r Q
-IfOk_then (Ok x) p f = f x p
-IfOk_then (Err e) p f = tt
+pub first_row-requires : goal.first_row-requires
+first_row-requires g c = rw c.last_row_text.ensures (last_read c.args.side).plain
 
-pub returns-in-Ok-clause-looks : goal.returns-in-Ok-clause-looks
-returns-in-Ok-clause-looks g c = looks_then _ _ _ c.count_told.result (rw c.last_row_text.ensures at c.in-Ok.ensures.looks (last_read c.args.side).plain) c.count_told.ensures.fails
-
-pub returns-in-Err-clause-looks : goal.returns-in-Err-clause-looks
-returns-in-Err-clause-looks g c = looks_as _ _ _ (rw c.last_row_text.ensures at c.in-Err.ensures.looks (last_read c.args.side).plain)
-
-pub returns-in-Ok-clause-answer : goal.returns-in-Ok-clause-answer
-returns-in-Ok-clause-answer g c clean has =
-    let back = number_bound c.args.no c.number.result c.number.ensures c.requires in
-    let shown = rw (c.last_row_text.ensures, c.params-to_sql.ensures, back) at (c.in-Ok.ensures.shown clean) in
-    IfOk_then c.count_told.result c.count_told.ensures.told
-    (λ told tells r kept. count_is_told _ told _ (finds_last c.args.side _ _ c.args.no _ has shown r kept) (rw c.as_slice.ensures.value at tells))
+pub returns-clause-answer : goal.returns-clause-answer
+returns-clause-answer g c clean has =
+    let last = rw c.last_row_text.ensures at (c.in_ok-last.ensures.shown clean) in
+    let shown = number_given _ _ _ _ c.requires c.number.ensures c.params-to_sql.ensures last.1 in
+    IfOk-weaker c.count_to.result _ _ (λ count told r kept.
+    count_is_told _ count _ (finds_last c.args.side _ _ c.args.no last.0 has shown r kept) (subst (λ row. TellsCount row count) last.2 told)) c.count_to.ensures.told

@@ -3,7 +3,8 @@ use Rattle.std.proofs.lemmas.Result.{IfOk-weaker}
 use Rattle.sqlite.specs.Order.{Row, bytes, column}
 use Rattle.sqlite.specs.declared.types.Value.TheVariants.{Blob}
 use Rattle.oftp_tables.proofs.BindLemmas.{number_bound}
-use Rattle.oftp_tables.proofs.LookupLemmas.{looks_as, looks_then}
+use Rattle.oftp_tables.proofs.LookupLemmas.{looks_then}
+use Rattle.oftp_store.proofs.LookLemmas.{looks_failed}
 use Rattle.oftp_store.proofs.RowQueryLemmas.{some_read, finds_rows}
 use Rattle.oftp_store.proofs.queries.rows.find_rows.Goals as goal
 
@@ -11,16 +12,16 @@ bodies_back : (bodies : List (List ℕ)) → map (λ (row : Row). bytes (column 
 bodies_back [] = refl
 bodies_back (b ∷ bodies) = ap (λ more. b ∷ more) (bodies_back bodies)
 
-pub returns-in-Ok-clause-looks : goal.returns-in-Ok-clause-looks
-returns-in-Ok-clause-looks g c = looks_then _ _ _ c.bodies_told.result (rw c.some_rows_text.ensures at c.in-Ok.ensures.looks (some_read c.args.side).plain) c.bodies_told.ensures.fails
+pub returns-in_err-rows-clause-looks : goal.returns-in_err-rows-clause-looks
+returns-in_err-rows-clause-looks g c = looks_failed _ _ c.in_err-rows.field-0.0 _ (rw c.some_rows_text.ensures at c.in_err-rows.ensures.looks (some_read c.args.side).plain) c.from_residual.ensures.1
 
-pub returns-in-Err-clause-looks : goal.returns-in-Err-clause-looks
-returns-in-Err-clause-looks g c = looks_as _ _ _ (rw c.some_rows_text.ensures at c.in-Err.ensures.looks (some_read c.args.side).plain)
+pub returns-clause-looks : goal.returns-clause-looks
+returns-clause-looks g c = looks_then _ _ _ c.bodies_told.result (rw c.some_rows_text.ensures at c.in_ok-rows.ensures.looks (some_read c.args.side).plain) c.bodies_told.ensures.fails
 
-pub returns-in-Ok-clause-answer : goal.returns-in-Ok-clause-answer
-returns-in-Ok-clause-answer g c clean has =
+pub returns-clause-answer : goal.returns-clause-answer
+returns-clause-answer g c clean has =
     let back = number_bound c.args.no c.number.result c.number.ensures c.requires in
-    let shown = rw (c.some_rows_text.ensures, c.params-to_sql.ensures, back, c.params-to_sql-2.ensures, c.params-to_sql-3.ensures) at (c.in-Ok.ensures.shown clean) in
+    let shown = rw (c.some_rows_text.ensures, c.params-to_sql.ensures, back, c.params-to_sql-2.ensures, c.params-to_sql-3.ensures) at (c.in_ok-rows.ensures.shown clean) in
     IfOk-weaker c.bodies_told.result _ _ (λ out told r kept.
     told ∙ ap (map (λ (row : Row). bytes (column row 0))) (c.as_slice.ensures.value ∙ finds_rows c.args.side _ _ c.args.no c.args.from c.args.most _ has shown r kept) ∙ bodies_back _)
     c.bodies_told.ensures.told

@@ -1,0 +1,12 @@
+use Rattle.std.proofs.lemmas.Result.{IfOk-weaker}
+use Rattle.oftp_store.proofs.NextNumberLemmas.{finds_next, next_given, next_read}
+use Rattle.oftp_store.proofs.queries.next_number.next_number.Goals as goal
+
+pub first_number-requires : goal.first_number-requires
+first_number-requires g c = rw c.next_text.ensures (next_read c.args.what).plain
+
+pub returns-clause-answer : goal.returns-clause-answer
+returns-clause-answer g c clean has =
+    IfOk-weaker c.first_number.result _ _ (λ no told r kept.
+    finds_next c.args.what _ _ _ _ told.0 no has (next_given _ _ _ _ c.requires c.number.ensures c.octets.ensures.value told.1) told.2 r kept)
+    (rw c.next_text.ensures at (c.first_number.ensures.shown clean))

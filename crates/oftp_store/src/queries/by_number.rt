@@ -1,0 +1,59 @@
+//! What the tables have of an entry in one row, by its number.
+
+ghost use Rattle.std.specs.Prelude.{◌≡◌, ◌<◌, ◌^◌, ℕ, List, Option, IfOk, IfErr, IfSome};
+ghost use Rattle.sqlite.specs.declared.types.Value.{Value};
+ghost use Rattle.sqlite.specs.Held.{state};
+ghost use Rattle.oftp_register.specs.Register.{Register};
+ghost use Rattle.oftp_register.specs.Offices.{IsFailure};
+ghost use Rattle.oftp_tables.specs.Statements.{Looks};
+ghost use Rattle.oftp_tables.specs.Tables.{TellsValues};
+ghost use Rattle.oftp_store.specs.Tells.{FindsByNumber, TellsStored};
+
+use super::first_row::first_row;
+use oftp_register::OfficeFault;
+use oftp_tables::number;
+use sqlite::{Alter, Connection, Row, params};
+use std::alloc::Global;
+
+/// What a table has of an entry in one row, which the entry's number finds.
+pub(crate) trait ByNumber: Sized {
+    // what a row tells
+    ghost told: { List Value → Self };
+
+    // the columns of one
+    ghost values: { Self → List Value };
+
+    // what holds of one whatever the register
+    ghost is_within: { Self → Type 0 };
+
+    // what one tells of the entry of a register with a number
+    ghost is_found: { Register → ℕ → Option Self → Type 0 };
+
+    /// The text that asks for the row with a number.
+    fn query() -> &'static str
+        ensures { FindsByNumber result.now told is_found };
+
+    /// What a row tells. A row that is none of the table's, whatever the entry, is a fault of the store.
+    fn from_row(alloc: Global, row: &Row) -> Result<Self, OfficeFault>
+        ensures told { IfOk result (λ x. x ≡ told row.now) }
+        ensures fits { IfOk result (λ x. TellsValues (values x) 0 row.now) }
+        ensures within { IfOk result is_within }
+        ensures fails { IfErr result IsFailure };
+}
+
+/// What the table has of the entry with a number, if there is one.
+pub(crate) fn find<T: ByNumber, S: Alter>(
+    alloc: Global,
+    conn: &mut Connection<S>,
+    no: u64,
+) -> Result<Option<T>, OfficeFault>
+    requires { no < 2 ^ 63 }
+    ensures looks { Looks (state S.Store conn.old) (state S.Store conn.new) result }
+    ensures answer { TellsStored (λ r found. T.is_found r no found) (state S.Store conn.old) (state S.Store conn.new) result }
+    ensures within { IfOk result (λ found. IfSome found T.is_within) }
+{
+    let Some(row) = first_row(conn, T::query(), params![number(no)])? else {
+        return Ok(None);
+    };
+    Ok(Some(T::from_row(alloc, &row)?))
+}

@@ -1,0 +1,50 @@
+//! The first row of an answer.
+
+ghost use Rattle.std.specs.Prelude.{◌≡◌, ◌<◌, ◌^◌, IfOk, IfSome};
+ghost use Rattle.sqlite.specs.Held.{state};
+ghost use Rattle.sqlite.specs.Values.{bound};
+ghost use Rattle.oftp_tables.specs.Statements.{Looks};
+ghost use Rattle.oftp_store.specs.Numbers.{TellsNo};
+ghost use Rattle.oftp_store.specs.Tells.{TellsFirst};
+ghost use Rattle.oftp_store.specs.Texts.{IsPlainText};
+
+use crate::numbers::FIRST_FAR;
+use oftp_register::OfficeFault;
+use oftp_tables::{ask, no_at};
+use sqlite::types::ValueRef;
+use sqlite::{Alter, Connection, Row};
+
+/// The first row that a SELECT over the office's tables answers, if there is one.
+pub(crate) fn first_row<S: Alter>(
+    conn: &mut Connection<S>,
+    sql: &str,
+    params: &[ValueRef<'_>],
+) -> Result<Option<Row>, OfficeFault>
+    requires { IsPlainText sql.now }
+    ensures looks { Looks (state S.Store conn.old) (state S.Store conn.new) result }
+    ensures shown { TellsFirst sql.now (bound params.now) (λ first row. first ≡ row) (state S.Store conn.old) (state S.Store conn.new) result }
+{
+    let rows = ask(conn, sql, params)?;
+    Ok(rows.into_iter().next())
+}
+
+/// The number in the first row that such a SELECT answers, if there is one. A value that is no number of an entry is a fault of the
+/// store.
+pub(crate) fn first_number<S: Alter>(
+    conn: &mut Connection<S>,
+    sql: &str,
+    params: &[ValueRef<'_>],
+) -> Result<Option<u64>, OfficeFault>
+    requires { IsPlainText sql.now }
+    ensures looks { Looks (state S.Store conn.old) (state S.Store conn.new) result }
+    ensures shown { TellsFirst sql.now (bound params.now) TellsNo (state S.Store conn.old) (state S.Store conn.new) result }
+    ensures small { IfOk result (λ found. IfSome found (λ no. no < 2 ^ 63)) }
+{
+    let Some(row) = first_row(conn, sql, params)? else {
+        return Ok(None);
+    };
+    match no_at(&row, 0) {
+        Some(no) if no < FIRST_FAR => Ok(Some(no)),
+        _ => Err(OfficeFault::Store),
+    }
+}
