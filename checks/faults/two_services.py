@@ -415,7 +415,7 @@ class Session:
         if status == -9 and place in self.killed:
             return "killed"
         line = (out + err).decode().removesuffix("\n")
-        if status not in (0, 1) or line not in ENDS:
+        if status not in (0, 1) or line not in ENDS or line.startswith("fault:") != bool(err):
             raise Wrong(f"the {['caller', 'listener'][place]} ended by status {status}, {out!r}, {err!r}")
         return line
 

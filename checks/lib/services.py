@@ -43,14 +43,15 @@ def free_port(host="127.0.0.1"):
 class Service:
     """A service of the program in a room of its own, with its database and port."""
 
-    def __init__(self, room, command, *words, book=BOOK, port=None, output=subprocess.PIPE, environment=None):
+    def __init__(self, room, command, *words, book=BOOK, port=None, output=subprocess.PIPE, faults=subprocess.PIPE, environment=None):
         self.port = port or free_port()
         self.database = room / "database"
         of_book = ["--book", book] if command == "listen" else []
         words = [PROGRAM, command, "--db", self.database, *of_book, "--port", str(self.port), *words]
         environment = {**os.environ, **(environment or {})}
-        self.program = subprocess.Popen(words, stdout=output, stderr=subprocess.PIPE, env=environment)
-        self.text = b""
+        self.program = subprocess.Popen(words, stdout=output, stderr=faults, env=environment)
+        # What came of each output and isn't a line yet that was asked for.
+        self.texts = {stream: b"" for stream in (self.program.stdout, self.program.stderr) if stream}
 
     def __enter__(self):
         return self
@@ -77,24 +78,41 @@ class Service:
                     raise
                 time.sleep(0.02)
 
-    def line(self, seconds=LONG):
+    def line(self):
         """The next line on standard output."""
-        until = time.monotonic() + seconds
-        while b"\n" not in self.text:
-            ready, _, _ = select.select([self.program.stdout], [], [], max(until - time.monotonic(), 0))
-            if not ready:
-                raise Wrong("no line comes")
-            piece = os.read(self.program.stdout.fileno(), 4096)
+        return self.next_of([self.program.stdout])
+
+    def fault(self):
+        """The next line on standard error."""
+        return self.next_of([self.program.stderr])
+
+    def either(self):
+        """The next line, wherever it comes."""
+        return self.next_of([self.program.stdout, self.program.stderr])
+
+    def next_of(self, streams):
+        """The next line of one of these outputs."""
+        until = time.monotonic() + LONG
+        while not any(b"\n" in self.texts[stream] for stream in streams):
+            ready, _, _ = select.select(streams, [], [], max(until - time.monotonic(), 0))
+            piece = os.read(ready[0].fileno(), 4096) if ready else b""
             if not piece:
-                raise Wrong(f"it ended: {self.program.communicate()[1]!r}")
-            self.text += piece
-        line, _, self.text = self.text.partition(b"\n")
+                self.program.kill()
+                raise Wrong(f"{'it ended' if ready else 'no line comes'}, and it told {self.rest()}")
+            self.texts[ready[0]] += piece
+        stream = next(stream for stream in streams if b"\n" in self.texts[stream])
+        line, _, self.texts[stream] = self.texts[stream].partition(b"\n")
         return line.decode()
 
+    def rest(self):
+        """What it told beside the lines that were asked for, up to its end: of standard output, and of standard error."""
+        streams = (self.program.stdout, self.program.stderr)
+        return [self.texts.get(stream, b"") + (more or b"") for stream, more in zip(streams, self.program.communicate(timeout=LONG))]
+
     def ends(self, status=0, err=b""):
-        """It ends by itself, and no line is left."""
-        out, told = self.program.communicate(timeout=LONG)
-        expect((self.program.returncode, self.text + (out or b""), told), (status, b"", err), "the service ended")
+        """It ends by itself, and has told nothing else but this on standard error."""
+        told = self.rest()
+        expect((self.program.returncode, *told), (status, b"", err), "the service ended")
 
     def give(self, command, *words):
         """An operator's command over the database of the service."""

@@ -7,6 +7,7 @@ Among the callers are ones that are slow, silent, gone, or send on after the end
 all run at once, so it takes some twenty seconds. The last line is `N passed, M failed`.
 """
 
+import contextlib
 import fcntl
 import re
 import socket
@@ -20,6 +21,7 @@ from pathlib import Path
 
 sys.path.insert(0, str(Path(__file__).resolve().parents[1] / "lib"))
 
+import acts
 import oftp
 import row_files
 import tables
@@ -28,15 +30,33 @@ from services import BOOK, CARMAKER, LONG, Service, Wrong, expect, free_port, re
 
 # Where SQLite's locks on a database file lie: the pending, the reserved and the shared ones.
 LOCKS = (1 << 30, 512)
-# How long what needs no wait may take there: a busy host has stopped all of it for nine seconds.
+# A busy host has stopped all of this for nine seconds. What needs no wait may take so long there, and no partner that isn't silent is given up
+# within so many seconds.
 SOON = 25
+PATIENT = "12"
 GREATEST = {"buffer": "16384", "credit": "99"}
+
+
+class NotTried(Exception):
+    """What this machine hasn't, and what isn't tried for want of it."""
+
+
+def row_of(name):
+    return row_files.Row(row_files.ROWS / f"{name}.row")
 
 
 def steps_of(row):
     """The steps of a row's first session, and the line for its end."""
-    session = row_files.Row(row_files.ROWS / f"{row}.row").sessions()[0]
+    session = row_of(row).sessions()[0]
     return session.steps, session.end[1]
+
+
+def expect_left(database, *rows):
+    """The database has what these rows say, each of other tables, and nothing else."""
+    both, left = row_files.Remains(), tables.read(database)
+    both.left = {table: entries for row in rows for table, entries in row.left.items()}
+    expect(len(both.left), sum(len(row.left) for row in rows), "tables of which a row says what is left")
+    expect((tables.unfit(left), acts.check_left(both, left)), (None, None), "what is left")
 
 
 def receive(connection, size):
@@ -82,6 +102,22 @@ def sessions_one_after_another(room):
         again.ends()
 
 
+def rows_over_loopback(room):
+    """Two callers at once, who say all that two rows have and then nothing more: each reads what its row has, and the tables are those of both."""
+    rows = [row_of("receiving/empty_file"), row_of("listening/repeated_end_response")]
+    with Service(room, "listen", "--sessions", "2") as service:
+        callers = [service.caller() for _ in rows]
+        for caller, row in zip(callers, rows):
+            caller.sendall(row.sessions()[0].joined("in"))
+            caller.shutdown(socket.SHUT_WR)
+        for caller, row in zip(callers, rows):
+            with caller:
+                expect(rest_of(caller), row.sessions()[0].joined("out"), f"{row.name}: the station sent")
+            expect(service.line() + "\n", row.sessions()[0].end[1], "the line")
+        service.ends()
+        expect_left(service.database, *rows)
+
+
 def many_connections(room):
     steps, end = steps_of("opening/wrong_password")
     with Service(room, "listen", "--sessions", "200") as service:
@@ -94,7 +130,7 @@ def many_connections(room):
 def octet_each_two_seconds(room):
     """A partner that is slow isn't silent, though all that it says takes longer than the patience."""
     steps, end = steps_of("opening/wrong_password")
-    with Service(room, "listen", "--patience", "12") as service:
+    with Service(room, "listen", "--patience", PATIENT) as service:
         caller = service.caller()
         expect(receive(caller, len(steps[0][1])), steps[0][1], "the greeting")
         for place in range(8):
@@ -106,11 +142,11 @@ def octet_each_two_seconds(room):
 
 
 def silent_partner(room):
-    with Service(room, "listen", "--patience", "2", "--sessions", "2") as service:
+    with Service(room, "listen", "--patience", PATIENT, "--sessions", "2") as service:
         begin = time.monotonic()
         with service.caller() as caller:
-            expect(service.line(), "fault: 1 read", "the line")
-            if not 1.5 <= time.monotonic() - begin <= 2 + SOON:
+            expect(service.fault(), "fault: 1 read", "the line")
+            if not int(PATIENT) - 0.5 <= time.monotonic() - begin <= int(PATIENT) + SOON:
                 raise Wrong(f"it waited {time.monotonic() - begin:.1f} s")
             expect(rest_of(caller), steps_of("opening/wrong_password")[0][0][1], "the greeting")
         play(service, "receiving/one_octet")
@@ -123,13 +159,13 @@ def partner_that_reads_nothing(room):
     book.write_text(BOOK.read_text().replace("buffer = 128", "buffer = 16384").replace("credit = 2", "credit = 99"))
     file = room / "file"
     file.write_bytes(bytes(1 << 21))
-    with Service(room, "listen", "--patience", "2", book=book) as service:
+    with Service(room, "listen", "--patience", PATIENT, book=book) as service:
         service.submit(file)
         with service.caller(is_narrow=True) as caller:
             opening = oftp.spell("SSID", {"code": CARMAKER, "password": "CARPW", "mode": "B", **GREATEST})
             for command in (opening, b"R", oftp.spell("SFPA", {"count": "0"})):
                 caller.sendall(oftp.frame(command))
-            expect(service.line(), "fault: 2 write", "the line")
+            expect(service.fault(), "fault: 2 write", "the line")
         service.ends()
 
 
@@ -138,7 +174,7 @@ def callers_who_leave(room):
     steps, _ = steps_of("receiving/one_octet")
     with Service(room, "listen", "--sessions", "4") as service:
         service.caller().close()
-        if service.line() not in ("end: input", "fault: 1 read", "fault: 2 write"):
+        if service.either() not in ("end: input", "fault: 1 read", "fault: 2 write"):
             raise Wrong("the line of one who left at once")
         with service.caller() as caller:
             receive(caller, len(steps[0][1]))
@@ -150,7 +186,7 @@ def callers_who_leave(room):
         receive(caller, len(steps[0][1]))
         caller.setsockopt(socket.SOL_SOCKET, socket.SO_LINGER, struct.pack("ii", 1, 0))
         caller.close()
-        expect(service.line(), "fault: 1 read", "the line of one who reset")
+        expect(service.fault(), "fault: 1 read", "the line of one who reset")
         play(service, "receiving/one_octet")
         service.ends()
 
@@ -241,6 +277,15 @@ def nothing_to_print_to(room):
         expect(tables.read(service.database)["in_file"][0]["state"], "whole", "the file")
 
 
+def nothing_to_print_faults_to(room):
+    """That a fault can't be told ends no service."""
+    with open("/dev/full", "wb") as faults, Service(room, "listen", "--patience", PATIENT, "--sessions", "2", faults=faults) as service:
+        with service.caller() as caller:
+            rest_of(caller)
+        play(service, "receiving/one_octet")
+        service.ends()
+
+
 def operator_while_it_listens(room):
     with Service(room, "listen", "--sessions", "2") as service:
         play(service, "receiving/one_octet")
@@ -251,32 +296,42 @@ def operator_while_it_listens(room):
         service.ends()
 
 
+@contextlib.contextmanager
+def held(database):
+    """Another program, which is this one, holds the database."""
+    with open(database, "r+b") as file:
+        fcntl.lockf(file, fcntl.LOCK_EX, LOCKS[1], LOCKS[0])
+        yield
+
+
 def database_held(room):
     """A caller is sent away while another program holds the database, and the next one is served."""
     with Service(room, "listen", "--sessions", "3") as service:
         play(service, "opening/wrong_password")
-        with open(service.database, "r+b") as file:
-            fcntl.lockf(file, fcntl.LOCK_EX, LOCKS[1], LOCKS[0])
+        with held(service.database):
             begin = time.monotonic()
             with service.caller() as caller:
                 expect(rest_of(caller), b"", "the station sent")
-            expect(service.line(), "fault: 6 store 1", "the line")
+            expect(service.fault(), "fault: 6 store 1", "the line")
             if not 9 <= time.monotonic() - begin <= 10 + SOON:
                 raise Wrong(f"it waited {time.monotonic() - begin:.1f} s")
         play(service, "receiving/one_octet")
         service.ends()
 
 
-def other_addresses(room):
+def other_address(room):
     with Service(room, "listen", "--address", "127.0.0.2", port=free_port("127.0.0.2")) as service:
         play(service, "receiving/one_octet", "127.0.0.2")
         service.ends()
-    if not socket.has_ipv6:
-        return
+
+
+def address_of_ipv6(room):
     try:
-        port = free_port("::1")
-    except OSError:
-        return
+        with socket.socket(socket.AF_INET6) as probe:
+            probe.bind(("::1", 0))
+    except OSError as why:
+        raise NotTried("IPv6: a service at an address of it") from why
+    port = free_port("::1")
     with Service(room, "listen", "--address", "::1", port=port) as service:
         play(service, "opening/wrong_password", "::1")
         service.ends()
@@ -342,6 +397,23 @@ def calls(room):
     expect(told(call(room, address, partner="O0099OTHER")), (1, b"refused: 2 unknown\n", b""), "the call of a stranger")
 
 
+def row_over_loopback(room):
+    """The station calls a partner who says all that a row has at once: it sends what the row has, and the tables are those of the row."""
+    row = row_of("sending/three_octets_out")
+    *before, session = row.acts
+    for act in before:
+        expect(acts.play_act(acts.in_one_piece, act, room, room / "database"), None, "before the call")
+    with socket.create_server(("127.0.0.1", 0)) as partner:
+        partner.settimeout(LONG)
+        program = call(room, f"127.0.0.1:{partner.getsockname()[1]}")
+        with partner.accept()[0] as caller:
+            caller.sendall(session.joined("in"))
+            caller.shutdown(socket.SHUT_WR)
+            expect(rest_of(caller), session.joined("out"), "the station sent")
+        expect(told(program), (0, session.end[1].encode(), b""), "the call")
+    expect_left(room / "database", row)
+
+
 def partner_who_does_not_answer(room):
     """A partner's machine leaves a connection without an answer: the call is given up in time, and holds no database until then."""
     with socket.socket() as partner, socket.socket() as other:
@@ -398,7 +470,7 @@ def ask(service, *pieces):
     with service.caller() as caller:
         for piece in pieces:
             caller.sendall(piece)
-            time.sleep(0.02)
+            time.sleep(0.01)
         return rest_of(caller)
 
 
@@ -452,6 +524,18 @@ def slow_request(room):
         service.ends()
 
 
+def listing_of_a_held_database(room):
+    """A request is left without a reply while another program holds the database, and the next one is answered."""
+    get = b"GET /in HTTP/1.1\r\n\r\n"
+    with Service(room, "http", "--requests", "3") as service:
+        expect_reply(ask(service, get), b"200", b"[]")
+        with held(service.database):
+            expect(ask(service, get), b"", "the reply")
+            expect(service.fault(), "fault: 6 store 1", "the line")
+        expect_reply(ask(service, get), b"200", b"[]")
+        service.ends()
+
+
 def listing_while_it_listens(room):
     """Both services share one database."""
     with Service(room, "listen", "--sessions", "1") as listener, Service(room, "http", "--requests", "1") as lister:
@@ -466,6 +550,7 @@ def listing_while_it_listens(room):
 
 CASES = [
     sessions_one_after_another,
+    rows_over_loopback,
     many_connections,
     octet_each_two_seconds,
     silent_partner,
@@ -476,36 +561,41 @@ CASES = [
     stopped_within_a_session,
     traced,
     nothing_to_print_to,
+    nothing_to_print_faults_to,
     operator_while_it_listens,
     database_held,
-    other_addresses,
+    other_address,
+    address_of_ipv6,
     sockets_that_fail,
     calls,
+    row_over_loopback,
     partner_who_does_not_answer,
     two_programs,
     requests,
     slow_request,
+    listing_of_a_held_database,
     listing_while_it_listens,
 ]
 
 
 def tried(case):
-    """Runs a case. It answers why it came out otherwise, or None."""
+    """Runs a case. It answers what came of it: `as it must be`, why it isn't tried, or why it came out otherwise, and whether it failed."""
     with tempfile.TemporaryDirectory() as room:
         try:
             case(Path(room))
+        except NotTried as why:
+            return f"NOT TRIED for want of {why}", False
         except (Wrong, OSError, subprocess.SubprocessError) as why:
-            return f"{type(why).__name__}: {why}"
-    return None
+            return f"{case.__name__.replace('_', ' ')}: {type(why).__name__}: {why}", True
+    return f"{case.__name__.replace('_', ' ')}: as it must be", False
 
 
 def main():
-    failed = 0
     with ThreadPoolExecutor(max_workers=len(CASES)) as runners:
-        for case, why in zip(CASES, runners.map(tried, CASES)):
-            failed += why is not None
-            print(f"{case.__name__.replace('_', ' ')}: {why or 'as it must be'}")
-    print(f"{len(CASES) - failed} passed, {failed} failed")
+        tries = list(runners.map(tried, CASES))
+    print("\n".join(told for told, _ in tries))
+    failed = sum(has_failed for _, has_failed in tries)
+    print(f"{sum(told.endswith('as it must be') for told, _ in tries)} passed, {failed} failed")
     return 1 if failed else 0
 
 

@@ -29,7 +29,7 @@ pub fn perform(
     err: &mut impl Write,
 ) -> u8 {
     match line_of(rt.alloc(), words) {
-        Ok(line) => match carry_out(rt, &line, out) {
+        Ok(line) => match carry_out(rt, &line, out, err) {
             Ok(status) => status,
             Err(fault) => {
                 let _ = writeln!(err, "{fault}");
@@ -58,8 +58,13 @@ pub fn tell_unread(error: &io::Error, err: &mut impl Write) -> u8 {
 }
 
 /// Carries out a command, writes what it did, and answers the exit status. A call of the operator, a report and a
-/// service write it themselves.
-fn carry_out(rt: &HostRuntime, line: &Line<'_>, out: &mut impl Write) -> Result<u8, Fault> {
+/// service write it themselves, a service the faults of its callers too.
+fn carry_out(
+    rt: &HostRuntime,
+    line: &Line<'_>,
+    out: &mut impl Write,
+    err: &mut impl Write,
+) -> Result<u8, Fault> {
     match line {
         Line::Submit(submit) => operators::submit(rt, submit, out).map(status_of),
         Line::Release(release) => operators::release(rt, release, out).map(status_of),
@@ -80,11 +85,11 @@ fn carry_out(rt: &HostRuntime, line: &Line<'_>, out: &mut impl Write) -> Result<
         }),
         Line::Call(call) => tell(services::call(rt, call)?, out),
         Line::Listen(listen) => {
-            services::listen(rt, listen, out)?;
+            services::listen(rt, listen, out, err)?;
             Ok(DONE)
         }
         Line::Http(http) => {
-            services::http(rt, http, out)?;
+            services::http(rt, http, err)?;
             Ok(DONE)
         }
     }

@@ -16,11 +16,12 @@ fn patience_of(seconds: u64) -> Option<Duration> {
     }
 }
 
-/// Serves the sessions of partners who call, and writes a line for each.
+/// Serves the sessions of partners who call, and writes a line for each: its end to `out`, or its fault to `err`.
 pub(super) fn listen(
     rt: &HostRuntime,
     line: &Listen<'_>,
     out: &mut impl Write,
+    err: &mut impl Write,
 ) -> Result<(), Fault> {
     let book = read_book(rt, line.files.book)?;
     database::make(rt, line.files.database)?;
@@ -37,7 +38,7 @@ pub(super) fn listen(
         patience: patience_of(line.patience),
         trace: trace.as_ref(),
     };
-    listen_on(rt, &listener, line.sessions, &station, out)
+    listen_on(rt, &listener, line.sessions, &station, out, err)
 }
 
 /// Calls a partner for one session.
@@ -64,9 +65,9 @@ pub(super) fn call(rt: &HostRuntime, line: &Call<'_>) -> Result<Outcome, Fault> 
     dial(rt, stream, partner, &station).map(Outcome::Ended)
 }
 
-/// Answers requests for what a database holds.
-pub(super) fn http(rt: &HostRuntime, line: &Http<'_>, out: &mut impl Write) -> Result<(), Fault> {
+/// Answers requests for what a database holds. The fault of one caller is written to `err`.
+pub(super) fn http(rt: &HostRuntime, line: &Http<'_>, err: &mut impl Write) -> Result<(), Fault> {
     database::make(rt, line.database)?;
     let listener = bound(rt, line.address, line.port)?;
-    http_on(rt, &listener, line.requests, line.database, out)
+    http_on(rt, &listener, line.requests, line.database, err)
 }

@@ -8,7 +8,7 @@ use std::io::Write;
 /// Why a caller wasn't served to the end.
 #[derive(Clone, Copy, Drop)]
 pub(super) enum Trouble {
-    /// It is this caller's alone: its line says so, and the service goes on.
+    /// It is this caller's alone: a line on standard error says so, and the service goes on.
     OfCaller(Fault),
     /// It ends the service.
     OfService(Fault),
@@ -48,15 +48,15 @@ impl From<PathFault> for Trouble {
     }
 }
 
-/// What came of serving a caller, or nothing where its trouble was its own, which has its line then.
+/// What came of serving a caller, or nothing where its trouble was its own, which is told then. That it can't be told ends no service.
 pub(super) fn settled<T: Drop>(
     served: Result<T, Trouble>,
-    out: &mut impl Write,
+    err: &mut impl Write,
 ) -> Result<Option<T>, Fault> {
     match served {
         Ok(value) => Ok(Some(value)),
         Err(Trouble::OfCaller(fault)) => {
-            write_line(out, &fault)?;
+            let _ = write_line(err, &fault);
             Ok(None)
         }
         Err(Trouble::OfService(fault)) => Err(fault),

@@ -22,20 +22,20 @@ const MOST_OCTETS: usize = 8_193;
 const LIMIT: u64 = 10;
 
 /// Answers so many requests for what a database holds, one connection each. Where another program holds the database, the connection
-/// is closed without a reply, and a line says so.
+/// is closed without a reply, and a line to `err` says so.
 ///
 /// # Errors
-/// Any other fault: of the database, of memory, of the listener or of `out`.
+/// Any other fault: of the database, of memory or of the listener.
 pub fn http_on(
     rt: &HostRuntime,
     listener: &TcpListener,
     requests: u64,
     database: &str,
-    out: &mut impl Write,
+    err: &mut impl Write,
 ) -> Result<(), Fault> {
     for _ in 0..requests {
         let stream = accepted(listener)?;
-        settled(serve(rt, stream, database), out)?;
+        settled(serve(rt, stream, database), err)?;
     }
     Ok(())
 }

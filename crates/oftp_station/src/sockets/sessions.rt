@@ -26,8 +26,8 @@ pub struct Station<'a> {
     pub trace: Option<&'a Trace<'a>>,
 }
 
-/// Serves so many sessions of partners who call, one after another, and writes a line for each: how it ended, or the fault that is
-/// this caller's alone.
+/// Serves so many sessions of partners who call, one after another, and writes a line for each: to `out` how it ended, or to `err` the
+/// fault that is this caller's alone.
 ///
 /// # Errors
 /// Any other fault: of the database, of memory, of the listener or of `out`.
@@ -37,11 +37,12 @@ pub fn listen_on(
     sessions: u64,
     station: &Station<'_>,
     out: &mut impl Write,
+    err: &mut impl Write,
 ) -> Result<(), Fault> {
     for _ in 0..sessions {
         let stream = accepted(listener)?;
         let served = serve(rt, stream, Role::Responder, station);
-        if let Some(end) = settled(served, out)? {
+        if let Some(end) = settled(served, err)? {
             write_line(out, &Outcome::Ended(end))?;
         }
     }
