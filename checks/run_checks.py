@@ -3,12 +3,13 @@
 
     checks/run_checks.py [--quick] [--list] [NAME ..]      those of these names, or all of the table below; with `--list` it prints their
                                                            names alone
+    checks/run_checks.py --install                         has apt-get install what some checks want beside the program, where it is missing
 
 Checks that measure time or memory run alone, one after another; all others run beside each other before them, as many as there are
 processors. With `--quick` the program is the checked one, and what only the gate builds is left out. The program is that of
 OFTP_STATION, or else crates/oftp_station/out/oftp_station. A check that fails, or doesn't end within its limit, fails all; the others
-are run nevertheless. The last line is `N passed, M failed`: the rows that passed, or the checks where the rows aren't among them, and
-the checks that failed.
+are run nevertheless. The last lines say what wasn't tried, and for want of what; where CI is `true` that fails too, if apt-get has it. The
+very last is `N passed, M failed`: the rows that passed, or the checks where the rows aren't among them, and the checks that failed.
 """
 
 import argparse
@@ -79,6 +80,42 @@ CHECKS = [
 ]
 
 
+# What some checks want beside the program, under the name by which they say that it is missing: what is looked for, and the packages of apt-get
+# that have it.
+WANTED = {
+    "a C compiler": (["cc"], ["gcc", "libc6-dev"]),
+    "systemd": (["systemd-analyze"], ["systemd"]),
+    "stunnel": (["stunnel", "openssl"], ["stunnel4", "openssl"]),
+}
+# How a check begins the line of what it couldn't try.
+NOT_TRIED = "NOT TRIED for want of "
+
+
+def is_there(name):
+    sought, _ = WANTED[name]
+    return all(shutil.which(it) for it in sought)
+
+
+def has_done(*words):
+    """Whether apt-get has done this."""
+    command = ["apt-get", "-qq", "-o", "Acquire::Retries=0", "-o", "Acquire::http::Timeout=20", *words]
+    environment = {**os.environ, "DEBIAN_FRONTEND": "noninteractive"}
+    try:
+        return subprocess.run(command, capture_output=True, env=environment, timeout=600, check=False).returncode == 0
+    except (OSError, subprocess.TimeoutExpired):
+        return False
+
+
+def install():
+    """Has apt-get install what is missing, and says what it hasn't got."""
+    missing = [name for name in WANTED if not is_there(name)]
+    if missing:
+        has_done("update")
+    for name in missing:
+        if not has_done("install", "-y", "--no-install-recommends", *WANTED[name][1]) or not is_there(name):
+            print(f"apt-get has no {' and no '.join(WANTED[name][1])} here, so {name} is missing")
+
+
 class Running:
     """The processes of the checks that run now, and the folder that they make theirs in, so that all ends when this script does."""
 
@@ -134,7 +171,7 @@ PRINTING = threading.Lock()
 
 
 def run(check, is_quick):
-    """Runs a check and prints what it says. It answers whether it passed, and its last line."""
+    """Runs a check and prints what it says. It answers whether it passed, and its lines."""
     command = check.quick if is_quick and check.quick else check.command
     begin = time.monotonic()
     with tempfile.TemporaryFile("w+", errors="replace") as output:
@@ -150,7 +187,7 @@ def run(check, is_quick):
     why = {0: "passed", None: f"FAILED: it didn't end within {LIMIT} seconds"}.get(status, f"FAILED with status {status}")
     with PRINTING:
         print(f"== {check.name}: {check.tries}\n{said}-- {check.name}: {why}, {time.monotonic() - begin:.0f} s", flush=True)
-    return status == 0, said.splitlines()[-1:]
+    return status == 0, said.splitlines()
 
 
 def run_all(checks, is_quick):
@@ -166,16 +203,23 @@ def run_all(checks, is_quick):
 
 def passed(came):
     """How many rows passed, as the check of the rows tells in its last line, or how many checks where it isn't among them."""
-    for check, (_, last) in came.items():
+    for check, (_, lines) in came.items():
         if check.name == "rows":
-            return int(last[0].split()[0]) if last else 0
+            return int(lines[-1].split()[0]) if lines else 0
     return sum(is_well for is_well, _ in came.values())
 
 
-def tell_left_out(checks):
-    """Says which checks weren't tried."""
-    for it in checks:
-        print(f"NOT TRIED for want of a C compiler: {it.tries}")
+def tell_not_tried(left_out, came):
+    """Says what wasn't tried: the checks that were left out for want of a C compiler, and what the others say of themselves. It answers what
+    of that fails where CI is `true`."""
+    lines = [line for _, said in came.values() for line in said if line.startswith(NOT_TRIED)]
+    lines += [f"{NOT_TRIED}a C compiler: {it.tries}" for it in left_out]
+    print("".join(f"{line}\n" for line in lines), end="")
+    if os.environ.get("CI") != "true":
+        return []
+    names = {line.removeprefix(NOT_TRIED).partition(":")[0] for line in lines} & set(WANTED)
+    had = [name for name in sorted(names) if has_done("install", "-y", "--download-only", *WANTED[name][1])]
+    return [f"what wants {name}, which apt-get has" for name in had]
 
 
 def find_program():
@@ -194,6 +238,7 @@ def main():
     parser = argparse.ArgumentParser(description=__doc__.splitlines()[0])
     parser.add_argument("--quick", action="store_true")
     parser.add_argument("--list", action="store_true")
+    parser.add_argument("--install", action="store_true")
     parser.add_argument("names", nargs="*", metavar="NAME")
     taken = parser.parse_args()
     unknown = set(taken.names) - {it.name for it in CHECKS}
@@ -203,17 +248,20 @@ def main():
     if taken.list:
         print("\n".join(f"{it.name}: {it.tries}" for it in checks))
         return 0
+    if taken.install:
+        install()
+        return 0
     if not find_program():
         print(f"there is no program {os.environ['OFTP_STATION']}\n0 passed, 1 failed")
         return 1
     RUNNING.open_room()
     for number in (signal.SIGINT, signal.SIGTERM, signal.SIGHUP):
         signal.signal(number, stop)
-    left_out = [] if shutil.which("cc") else [it for it in checks if it.wants_cc]
+    left_out = [] if is_there("a C compiler") else [it for it in checks if it.wants_cc]
     came = run_all([it for it in checks if it not in left_out], taken.quick)
     RUNNING.leave_room()
-    tell_left_out(left_out)
     failed = [check.name for check, (is_well, _) in came.items() if not is_well]
+    failed += tell_not_tried(left_out, came)
     if failed:
         print(f"FAILED: {', '.join(failed)}")
     print(f"{passed(came)} passed, {len(failed)} failed")

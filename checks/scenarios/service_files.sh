@@ -1,6 +1,6 @@
 #!/bin/bash
-# Holds the units of examples/service against systemd-analyze, and its stunnel.conf against stunnel, where these are installed. The
-# last line is `N passed, M failed`.
+# Holds the units of examples/service against systemd-analyze, and its stunnel.conf against stunnel, where these are installed. It says what
+# isn't. The last line is `N passed, M failed`.
 set -euo pipefail
 root=$(cd "$(dirname "$0")/../.." && pwd)
 room=$(mktemp -d)
@@ -17,10 +17,14 @@ count() {
     fi
 }
 
-# The unit is verified under a name that systemd starts, with a program and a user that are here.
+# The unit is verified under a name that systemd starts, with a program and a user that are here. Both what is wrong with it and what
+# isn't understood of it fail, which systemd-analyze tells by its status or by words alone.
 verify() {
-    sed -e 's|/usr/local/bin/oftp_station|/bin/true|; s/^User=oftp/User=root/' "$root/examples/service/$1" > "$room/${1/@./@O0177CARMAKER.}"
-    systemd-analyze verify --man=no "$room/${1/@./@O0177CARMAKER.}" && ! grep -q 'Unknown\|Failed to parse\|not executable\|Invalid' "$room/said"
+    local unit=$room/${1/@./@O0177CARMAKER.} status=0
+    sed -e 's|/usr/local/bin/oftp_station|/bin/true|; s/^User=oftp/User=root/' "$root/examples/service/$1" > "$unit" || return
+    systemd-analyze verify --man=no "$unit" > "$room/verified" 2>&1 || status=$?
+    cat "$room/verified"
+    [ "$status" = 0 ] && ! grep -q 'Unknown\|Failed to parse\|not executable\|Invalid' "$room/verified"
 }
 
 # It binds free ports, and goes on until it is ended.
@@ -35,7 +39,7 @@ if command -v systemd-analyze > /dev/null; then
 else
     echo 'NOT TRIED for want of systemd: the units of examples/service'
 fi
-if command -v stunnel > /dev/null; then
+if command -v stunnel > /dev/null && command -v openssl > /dev/null; then
     openssl req -x509 -newkey rsa:2048 -nodes -days 1 -subj /CN=station -keyout "$room/key" -out "$room/cert" 2> /dev/null
     sed -e "s|/etc/oftp/station.key|$room/key|; s|/etc/oftp/.*pem|$room/cert|; s|^setuid.*||; s|^setgid.*||; s|^pid.*|pid = $room/pid|" \
         -e 's/^accept = .*/accept = 127.0.0.1:0/' "$root/examples/service/stunnel.conf" > "$room/conf"
