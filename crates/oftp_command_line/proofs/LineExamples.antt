@@ -24,9 +24,17 @@ abbrev words_of : List ℕ → List (List ℕ)
 words_of [] = [] ∷ []
 words_of (octet ∷ octets) = if octet == 32 then [] ∷ words_of octets else begun octet (words_of octets)
 
--- a line with what it asks for
+-- the words of a line with what they ask for
 abbrev Example : Type 0
 Example = List (List ℕ) × Option Said
+
+-- the line asks for this
+abbrev asks : List ℕ → Said → Example
+asks line said = (words_of line, Some said)
+
+-- the line is no command line
+abbrev bad : List ℕ → Example
+bad line = (words_of line, None)
 
 -- each line asks for this
 abbrev AreRead : List Example → Type 0
@@ -39,11 +47,11 @@ d_and_b = record { database = codes "d"; book = codes "b" }
 -- lines of `init`
 init_lines : AreRead (
     -- `init` takes the database
-    (words_of (codes "init --db d"), Some (said_init (codes "d")))
+    asks (codes "init --db d") (said_init (codes "d"))
     -- it does without none
-    ∷ (words_of (codes "init"), None)
+    ∷ bad (codes "init")
     -- and takes no word
-    ∷ (words_of (codes "init --db=d w"), None)
+    ∷ bad (codes "init --db=d w")
     ∷ [])
 unfolding clap_on_literals line_named taken
 init_lines = refl
@@ -51,9 +59,9 @@ init_lines = refl
 -- lines of `migrate`
 migrate_lines : AreRead (
     -- `migrate` takes the database
-    (words_of (codes "migrate --db=d"), Some (said_migrate (codes "d")))
+    asks (codes "migrate --db=d") (said_migrate (codes "d"))
     -- an option comes once
-    ∷ (words_of (codes "migrate --db=d --db=d"), None)
+    ∷ bad (codes "migrate --db=d --db=d")
     ∷ [])
 unfolding clap_on_literals line_named taken
 migrate_lines = refl
@@ -61,18 +69,18 @@ migrate_lines = refl
 -- lines of `check`
 check_lines : AreRead (
     -- `check` takes the book
-    (words_of (codes "check --book b"), Some (said_check (codes "b")))
+    asks (codes "check --book b") (said_check (codes "b"))
     -- it does without no book
-    ∷ (words_of (codes "check"), None)
+    ∷ bad (codes "check")
     -- and takes no word
-    ∷ (words_of (codes "check --book=b w"), None)
+    ∷ bad (codes "check --book=b w")
     ∷ [])
 unfolding clap_on_literals line_named taken
 check_lines = refl
 
 -- the line of a file that is submitted, with no more than the needed words before these
-abbrev submit_words : List ℕ → List (List ℕ)
-submit_words more = words_of (codes "submit --db=d --book=b --dataset=n --date=20240131 --time=1015300001 --to=p" ++ more)
+abbrev submit_line : List ℕ → List ℕ
+submit_line more = codes "submit --db=d --book=b --dataset=n --date=20240131 --time=1015300001 --to=p" ++ more
 
 -- what it asks for, in this format and of records of such a length
 abbrev submit_asked : Format → ℕ → Said
@@ -91,34 +99,32 @@ submit_asked f longest = said_submit (record {
 -- lines of `submit`
 submit_lines : AreRead (
     -- `submit` is of records of no length and without a description, where no more is said
-    (submit_words (codes " --format=U f"), Some (submit_asked format.Unstructured 0))
+    asks (submit_line (codes " --format=U f")) (submit_asked format.Unstructured 0)
     -- options and words come in any order
-    ∷ (
-      words_of (codes "submit f --description=x --longest=99999 --format=V --to=p --time=t --date=e --dataset=n --book=b --db=d"),
-      Some (said_submit (record {
-        files = d_and_b;
-        dataset = codes "n";
-        date = codes "e";
-        time = codes "t";
-        to = codes "p";
-        format = format.Variable;
-        longest = 99999;
-        description = codes "x";
-        file = codes "f";
-      })),
-    )
+    ∷ asks (codes "submit f --description=x --longest=99999 --format=V --to=p --time=t --date=e --dataset=n --book=b --db=d")
+    (said_submit (record {
+      files = d_and_b;
+      dataset = codes "n";
+      date = codes "e";
+      time = codes "t";
+      to = codes "p";
+      format = format.Variable;
+      longest = 99999;
+      description = codes "x";
+      file = codes "f";
+    }))
     -- a length may have zeros and a plus before it
-    ∷ (submit_words (codes " --format=F f --longest=+007"), Some (submit_asked format.Fixed 7))
+    ∷ asks (submit_line (codes " --format=F f --longest=+007")) (submit_asked format.Fixed 7)
     -- T is a format
-    ∷ (submit_words (codes " --format=T f"), Some (submit_asked format.Text 0))
+    ∷ asks (submit_line (codes " --format=T f")) (submit_asked format.Text 0)
     -- no format has this letter
-    ∷ (submit_words (codes " --format=u f"), None)
+    ∷ bad (submit_line (codes " --format=u f"))
     -- a length has a bound
-    ∷ (submit_words (codes " --format=U f --longest=100000"), None)
+    ∷ bad (submit_line (codes " --format=U f --longest=100000"))
     -- and none is below zero
-    ∷ (submit_words (codes " --format=U f --longest=-1"), None)
+    ∷ bad (submit_line (codes " --format=U f --longest=-1"))
     -- the date has no default
-    ∷ (words_of (codes "submit --db=d --book=b --dataset=n --time=1015300001 --to=p --format=U f"), None)
+    ∷ bad (codes "submit --db=d --book=b --dataset=n --time=1015300001 --to=p --format=U f")
     ∷ [])
 unfolding clap_on_literals submit_app line_named taken
 submit_lines = refl
@@ -126,21 +132,21 @@ submit_lines = refl
 -- lines of `release`
 release_lines : AreRead (
     -- `release` takes a number
-    (words_of (codes "release --db=d --book=b 7"), Some (said_release (record { files = d_and_b; no = 7 })))
+    asks (codes "release --db=d --book=b 7") (said_release (record { files = d_and_b; no = 7 }))
     -- the first number is 1
-    ∷ (words_of (codes "release --db=d --book=b 1"), Some (said_release (record { files = d_and_b; no = 1 })))
+    ∷ asks (codes "release --db=d --book=b 1") (said_release (record { files = d_and_b; no = 1 }))
     -- the last is 9999999
-    ∷ (words_of (codes "release --db=d --book=b 9999999"), Some (said_release (record { files = d_and_b; no = 9999999 })))
+    ∷ asks (codes "release --db=d --book=b 9999999") (said_release (record { files = d_and_b; no = 9999999 }))
     -- there is none before the first
-    ∷ (words_of (codes "release --db=d --book=b 0"), None)
+    ∷ bad (codes "release --db=d --book=b 0")
     -- nor after the last
-    ∷ (words_of (codes "release --db=d --book=b 10000000"), None)
+    ∷ bad (codes "release --db=d --book=b 10000000")
     -- and a number is digits
-    ∷ (words_of (codes "release --db=d --book=b 7a"), None)
+    ∷ bad (codes "release --db=d --book=b 7a")
     -- it does without no number
-    ∷ (words_of (codes "release --db=d --book=b"), None)
+    ∷ bad (codes "release --db=d --book=b")
     -- and without no book
-    ∷ (words_of (codes "release --db=d 7"), None)
+    ∷ bad (codes "release --db=d 7")
     ∷ [])
 unfolding clap_on_literals release_app line_named taken
 release_lines = refl
@@ -148,15 +154,15 @@ release_lines = refl
 -- lines of `refuse`
 refuse_lines : AreRead (
     -- `refuse` takes a number, a reason and a text
-    (words_of (codes "refuse --db=d --book=b 7 99 x"), Some (said_refuse (record { files = d_and_b; no = 7; reason = 99; text = codes "x" })))
+    asks (codes "refuse --db=d --book=b 7 99 x") (said_refuse (record { files = d_and_b; no = 7; reason = 99; text = codes "x" }))
     -- the first reason is 0, and the text may be empty
     ∷ (words_of (codes "refuse --db=d --book=b 7 0") ++ [] ∷ [], Some (said_refuse (record { files = d_and_b; no = 7; reason = 0; text = [] })))
     -- a reason has two digits
-    ∷ (words_of (codes "refuse --db=d --book=b 7 100 x"), None)
+    ∷ bad (codes "refuse --db=d --book=b 7 100 x")
     -- no file has the number 0
-    ∷ (words_of (codes "refuse --db=d --book=b 0 99 x"), None)
+    ∷ bad (codes "refuse --db=d --book=b 0 99 x")
     -- the text is missing
-    ∷ (words_of (codes "refuse --db=d --book=b 7 99"), None)
+    ∷ bad (codes "refuse --db=d --book=b 7 99")
     ∷ [])
 unfolding clap_on_literals refuse_app line_named taken
 refuse_lines = refl
@@ -164,11 +170,11 @@ refuse_lines = refl
 -- lines of `fetch`
 fetch_lines : AreRead (
     -- `fetch` takes a number and a file
-    (words_of (codes "fetch --db=d 7 f"), Some (said_fetch (record { database = codes "d"; no = 7; file = codes "f" })))
+    asks (codes "fetch --db=d 7 f") (said_fetch (record { database = codes "d"; no = 7; file = codes "f" }))
     -- in this order
-    ∷ (words_of (codes "fetch --db=d f 7"), None)
+    ∷ bad (codes "fetch --db=d f 7")
     -- and no book
-    ∷ (words_of (codes "fetch --db=d --book=b 7 f"), None)
+    ∷ bad (codes "fetch --db=d --book=b 7 f")
     ∷ [])
 unfolding clap_on_literals fetch_app line_named taken
 fetch_lines = refl
@@ -176,17 +182,17 @@ fetch_lines = refl
 -- lines of `report`
 report_lines : AreRead (
     -- `report` takes a kind
-    (words_of (codes "report --db=d in"), Some (said_report (record { database = codes "d"; kind = Incoming })))
+    asks (codes "report --db=d in") (said_report (record { database = codes "d"; kind = Incoming }))
     -- so does this one
-    ∷ (words_of (codes "report --db=d out"), Some (said_report (record { database = codes "d"; kind = Outgoing })))
+    ∷ asks (codes "report --db=d out") (said_report (record { database = codes "d"; kind = Outgoing }))
     -- so does this one
-    ∷ (words_of (codes "report --db=d issued"), Some (said_report (record { database = codes "d"; kind = Issued })))
+    ∷ asks (codes "report --db=d issued") (said_report (record { database = codes "d"; kind = Issued }))
     -- so does this one
-    ∷ (words_of (codes "report --db=d received"), Some (said_report (record { database = codes "d"; kind = Received })))
+    ∷ asks (codes "report --db=d received") (said_report (record { database = codes "d"; kind = Received }))
     -- no report has this name
-    ∷ (words_of (codes "report --db=d In"), None)
+    ∷ bad (codes "report --db=d In")
     -- it does without no kind
-    ∷ (words_of (codes "report --db=d"), None)
+    ∷ bad (codes "report --db=d")
     ∷ [])
 unfolding clap_on_literals report_app line_named taken
 report_lines = refl
@@ -194,7 +200,7 @@ report_lines = refl
 -- lines of `show`
 show_lines : AreRead (
     -- `show` takes the file
-    (words_of (codes "show i"), Some (said_show (codes "i")))
+    asks (codes "show i") (said_show (codes "i"))
     ∷ [])
 unfolding clap_on_literals line_named taken
 show_lines = refl
@@ -202,30 +208,24 @@ show_lines = refl
 -- lines of `feed`
 feed_lines : AreRead (
     -- `feed` is a responder's with any partner and a register in memory, where no more is said
-    (
-      words_of (codes "feed --book=b i o"),
-      Some (said_feed (record { database = None; book = codes "b"; role = Responder; partner = None; trace = None; input = codes "i"; output = codes "o" })),
-    )
+    asks (codes "feed --book=b i o")
+    (said_feed (record { database = None; book = codes "b"; role = Responder; partner = None; trace = None; input = codes "i"; output = codes "o" }))
     -- options and words come in any order
-    ∷ (
-      words_of (codes "feed i --role initiator --db=d o --partner=p --trace=t --book b"),
-      Some (said_feed (record { database = Some (codes "d"); book = codes "b"; role = Initiator; partner = Some (codes "p"); trace = Some (codes "t"); input = codes "i"; output = codes "o" })),
-    )
+    ∷ asks (codes "feed i --role initiator --db=d o --partner=p --trace=t --book b")
+    (said_feed (record { database = Some (codes "d"); book = codes "b"; role = Initiator; partner = Some (codes "p"); trace = Some (codes "t"); input = codes "i"; output = codes "o" }))
     -- after `--` a word may begin with a minus
-    ∷ (
-      words_of (codes "feed --book=b -- -i --role"),
-      Some (said_feed (record { database = None; book = codes "b"; role = Responder; partner = None; trace = None; input = codes "-i"; output = codes "--role" })),
-    )
+    ∷ asks (codes "feed --book=b -- -i --role")
+    (said_feed (record { database = None; book = codes "b"; role = Responder; partner = None; trace = None; input = codes "-i"; output = codes "--role" }))
     -- no side has this name
-    ∷ (words_of (codes "feed --book=b --role=listener i o"), None)
+    ∷ bad (codes "feed --book=b --role=listener i o")
     -- an option comes once
-    ∷ (words_of (codes "feed --book=b --book=c i o"), None)
+    ∷ bad (codes "feed --book=b --book=c i o")
     -- a word is missing
-    ∷ (words_of (codes "feed --book=b i"), None)
+    ∷ bad (codes "feed --book=b i")
     -- there is a word too many
-    ∷ (words_of (codes "feed --book=b i o x"), None)
+    ∷ bad (codes "feed --book=b i o x")
     -- help is no command line
-    ∷ (words_of (codes "feed --help"), None)
+    ∷ bad (codes "feed --help")
     ∷ [])
 unfolding clap_on_literals feed_app line_named taken
 feed_lines = refl
@@ -233,29 +233,25 @@ feed_lines = refl
 -- lines of `listen`
 listen_lines : AreRead (
     -- `listen` serves one session on port 3305 of the loopback address, where no more is said
-    (
-      words_of (codes "listen --db=d --book=b"),
-      Some (said_listen (record { files = d_and_b; port = 3305; address = codes "127.0.0.1"; sessions = 1; patience = 300; trace = None })),
-    )
+    asks (codes "listen --db=d --book=b")
+    (said_listen (record { files = d_and_b; port = 3305; address = codes "127.0.0.1"; sessions = 1; patience = 300; trace = None }))
     -- options come in any order
-    ∷ (
-      words_of (codes "listen --patience 0 --sessions=1000000 --trace=t --book=b --address ::1 --db=d --port=65535"),
-      Some (said_listen (record { files = d_and_b; port = 65535; address = codes "::1"; sessions = 1000000; patience = 0; trace = Some (codes "t") })),
-    )
+    ∷ asks (codes "listen --patience 0 --sessions=1000000 --trace=t --book=b --address ::1 --db=d --port=65535")
+    (said_listen (record { files = d_and_b; port = 65535; address = codes "::1"; sessions = 1000000; patience = 0; trace = Some (codes "t") }))
     -- no port is 0
-    ∷ (words_of (codes "listen --db=d --book=b --port=0"), None)
+    ∷ bad (codes "listen --db=d --book=b --port=0")
     -- nor after the last
-    ∷ (words_of (codes "listen --db=d --book=b --port=65536"), None)
+    ∷ bad (codes "listen --db=d --book=b --port=65536")
     -- some session is served
-    ∷ (words_of (codes "listen --db=d --book=b --sessions=0"), None)
+    ∷ bad (codes "listen --db=d --book=b --sessions=0")
     -- and no more than a million
-    ∷ (words_of (codes "listen --db=d --book=b --sessions=1000001"), None)
+    ∷ bad (codes "listen --db=d --book=b --sessions=1000001")
     -- patience ends with a day
-    ∷ (words_of (codes "listen --db=d --book=b --patience=86401"), None)
+    ∷ bad (codes "listen --db=d --book=b --patience=86401")
     -- it takes no word
-    ∷ (words_of (codes "listen --db=d --book=b w"), None)
+    ∷ bad (codes "listen --db=d --book=b w")
     -- and calls no partner
-    ∷ (words_of (codes "listen --db=d --book=b --partner=p"), None)
+    ∷ bad (codes "listen --db=d --book=b --partner=p")
     ∷ [])
 unfolding clap_on_literals listen_app line_named taken
 listen_lines = refl
@@ -263,19 +259,15 @@ listen_lines = refl
 -- lines of `call`
 call_lines : AreRead (
     -- `call` takes a partner
-    (
-      words_of (codes "call --db=d --book=b --partner=p"),
-      Some (said_call (record { files = d_and_b; partner = codes "p"; patience = 300; trace = None })),
-    )
+    asks (codes "call --db=d --book=b --partner=p")
+    (said_call (record { files = d_and_b; partner = codes "p"; patience = 300; trace = None }))
     -- and a patience and a trace
-    ∷ (
-      words_of (codes "call --db=d --book=b --patience 86400 --trace t --partner p"),
-      Some (said_call (record { files = d_and_b; partner = codes "p"; patience = 86400; trace = Some (codes "t") })),
-    )
+    ∷ asks (codes "call --db=d --book=b --patience 86400 --trace t --partner p")
+    (said_call (record { files = d_and_b; partner = codes "p"; patience = 86400; trace = Some (codes "t") }))
     -- it does without no partner
-    ∷ (words_of (codes "call --db=d --book=b"), None)
+    ∷ bad (codes "call --db=d --book=b")
     -- and its port is the book's
-    ∷ (words_of (codes "call --db=d --book=b --partner=p --port=3305"), None)
+    ∷ bad (codes "call --db=d --book=b --partner=p --port=3305")
     ∷ [])
 unfolding clap_on_literals call_app line_named taken
 call_lines = refl
@@ -283,16 +275,14 @@ call_lines = refl
 -- lines of `http`
 http_lines : AreRead (
     -- `http` answers one request on port 8080 of the loopback address, where no more is said
-    (words_of (codes "http --db=d"), Some (said_http (record { database = codes "d"; port = 8080; address = codes "127.0.0.1"; requests = 1 })))
+    asks (codes "http --db=d") (said_http (record { database = codes "d"; port = 8080; address = codes "127.0.0.1"; requests = 1 }))
     -- options come in any order
-    ∷ (
-      words_of (codes "http --requests=1000000 --address=a --db=d --port 1"),
-      Some (said_http (record { database = codes "d"; port = 1; address = codes "a"; requests = 1000000 })),
-    )
+    ∷ asks (codes "http --requests=1000000 --address=a --db=d --port 1")
+    (said_http (record { database = codes "d"; port = 1; address = codes "a"; requests = 1000000 }))
     -- some request is answered
-    ∷ (words_of (codes "http --db=d --requests=0"), None)
+    ∷ bad (codes "http --db=d --requests=0")
     -- it needs no book
-    ∷ (words_of (codes "http --db=d --book=b"), None)
+    ∷ bad (codes "http --db=d --book=b")
     ∷ [])
 unfolding clap_on_literals http_app line_named taken
 http_lines = refl
@@ -300,7 +290,7 @@ http_lines = refl
 -- lines of no command
 no_lines : AreRead (
     -- no command has this name
-    (words_of (codes "feeds --book=b i o"), None)
+    bad (codes "feeds --book=b i o")
     -- and no word names none
     ∷ ([], None)
     ∷ [])

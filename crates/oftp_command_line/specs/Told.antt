@@ -1,5 +1,6 @@
--- What the parser is told of a command: for private clauses alone.
-use Rattle.std.specs.Prelude.{ℕ, Bool, List, Option, None, Some, codes, false, fold, true}
+-- What the parser is told of a command, and the names that the values of its arguments have: for private clauses alone.
+use Rattle.std.specs.Prelude.{ℕ, Bool, List, Option, None, Some, codes, false, fold, map, true}
+use Rattle.std.specs.Borrow.{Bor}
 use Rattle.clap.specs.Words.{App, Rule, Text, new_app, with_rule}
 use Rattle.oftp_command_line.specs.Arguments as spec
 use Rattle.oftp_command_line.specs.declared.line.arguments.Argument.{Argument}
@@ -54,3 +55,7 @@ word_of name.Feed = codes "feed"
 word_of name.Listen = codes "listen"
 word_of name.Call = codes "call"
 word_of name.Http = codes "http"
+
+-- names with what each stands for, as texts
+abbrev pub names_in : {X : Type 0} → List (Bor Text × X) → List (Text × X)
+names_in names = map (λ n. (n.0.now, n.1)) names

@@ -7,8 +7,8 @@ ghost use Rattle.oftp_command_line.specs.declared.line.LineFault.TheVariants.{Me
 
 mod arguments;
 mod commands;
+mod values;
 
-use arguments::matched;
 pub use commands::feed::{Feed, Side};
 pub use commands::files::Files;
 pub use commands::operators::{Refuse, Release, Submit};
@@ -16,6 +16,7 @@ pub use commands::registers::{Fetch, Report};
 pub use commands::services::{Call, Http, Listen};
 use commands::{NAMES, Name};
 use std::alloc::{AllocError, Global};
+use values::matched;
 
 /// A command with its options and words, borrowed from the words of the command line.
 #[derive(Clone, Copy)]
@@ -101,10 +102,7 @@ fn read_command<'a>(alloc: Global, name: Name, words: &'a [String]) -> Result<Li
 {
     let command = name.command(alloc)?;
     let matches = matched(alloc, command, words)?;
-    match name.read(&matches) {
-        Ok(line) => Ok(line),
-        Err(unlisted) => Err(LineFault::Bad(unlisted.text(alloc)?)),
-    }
+    name.read(alloc, &matches)
 }
 
 /// The text for a name that no command has.

@@ -3,6 +3,7 @@ pub mod FaultTexts
 pub mod Finding
 pub mod Heads
 pub mod Hiding
+pub mod InsideListed
 pub mod Names
 pub mod Objects
 pub mod Replies

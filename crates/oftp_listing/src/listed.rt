@@ -1,16 +1,12 @@
 //! What the listing and the reports need of an entry of any kind.
 
-ghost use Rattle.std.specs.Prelude.{◌≡◌, ℕ, List, false, IfErr, IfOk};
-ghost use Rattle.serde_json.specs.Data.{Data};
+ghost use Rattle.std.specs.Prelude.{◌≡◌, false, IfErr, IfOk};
 ghost use Rattle.serde_json.specs.View.{view};
 ghost use Rattle.serde_json.specs.Written.{has_float};
-ghost use Rattle.oftp_register.specs.declared.entries.Side.TheVariants.{Incoming, Outgoing};
-ghost use Rattle.oftp_register.specs.LookUps.{list_in, list_issued, list_out, list_received, look_out, units_of};
 ghost use Rattle.oftp_register.specs.Offices.{LooksUp};
-ghost use Rattle.oftp_register.specs.Register.{Register};
 ghost use Rattle.oftp_listing.specs.declared.fault.ListFault.TheVariants.{Memory};
-ghost use Rattle.oftp_listing.specs.Objects.{incoming_object, issued_object, outgoing_object, received_object};
-ghost use Rattle.oftp_listing.specs.Reports.{incoming_fields, issued_fields, line, outgoing_fields, received_fields};
+ghost use Rattle.oftp_listing.specs.InsideListed.{EntryKind, incoming_files, issued_responses, outgoing_files, received_responses};
+ghost use Rattle.oftp_listing.specs.Reports.{line};
 ghost use Rattle.oftp_listing.specs.Texts.{no_of};
 
 use crate::fault::ListFault;
@@ -28,25 +24,16 @@ use std::alloc::{AllocError, Global};
 /// Entries of one kind. With each a number is shown that it doesn't have itself: how many octets the rows of a file have, or which
 /// file a response answers.
 pub(crate) trait Listed: Sized {
-    // all of a register, in order of number
-    ghost entries: { Register → List Self };
-
-    // the number that is shown with one
-    ghost beside: { Register → Self → ℕ };
-
-    // the object of one with its number
-    ghost object: { Self → ℕ → Data };
-
-    // the fields of its line
-    ghost fields: { Self → ℕ → List (List ℕ) };
+    // which of a register they are, and what is shown of one
+    ghost kind: { EntryKind Self };
 
     /// All of them, in order of number.
     fn list<O: Office>(office: &mut O) -> Result<Vec<Self>, OfficeFault>
-        ensures looks { LooksUp (λ r told. told.items ≡ entries r) (O.view office.old) (O.view office.new) result };
+        ensures looks { LooksUp (λ r told. told.items ≡ kind.entries r) (O.view office.old) (O.view office.new) result };
 
     /// The number that is shown with an entry.
     fn ask_beside<O: Office>(&self, office: &mut O) -> Result<u64, OfficeFault>
-        ensures looks { LooksUp (λ r number. number ≡ beside r self.now) (O.view office.old) (O.view office.new) result };
+        ensures looks { LooksUp (λ r number. number ≡ kind.beside r self.now) (O.view office.old) (O.view office.new) result };
 
     /// Its object in the listing.
     ///
@@ -54,7 +41,7 @@ pub(crate) trait Listed: Sized {
     ///
     /// A growth was refused.
     fn to_object(&self, alloc: Global, number: u64) -> Result<Value, AllocError>
-        ensures object { IfOk result (λ value. view value ≡ object self.now number) }
+        ensures object { IfOk result (λ value. view value ≡ kind.object self.now number) }
         ensures integers { IfOk result (λ value. has_float (view value) ≡ false) };
 
     /// Its line in a report.
@@ -63,18 +50,12 @@ pub(crate) trait Listed: Sized {
     ///
     /// [`ListFault::Memory`]: a growth was refused.
     fn to_line(&self, alloc: Global, number: u64) -> Result<Vec<u8>, ListFault>
-        ensures text { IfOk result (λ text. text.items ≡ line (fields self.now number)) }
+        ensures text { IfOk result (λ text. text.items ≡ line (kind.fields self.now number)) }
         ensures fault { IfErr result (λ fault. fault ≡ Memory) };
 }
 
 impl Listed for IncomingEntry {
-    ghost entries = { list_in };
-
-    ghost beside = { λ r e. units_of r Incoming e.no };
-
-    ghost object = { incoming_object };
-
-    ghost fields = { incoming_fields };
+    ghost kind = { incoming_files };
 
     fn list<O: Office>(office: &mut O) -> Result<Vec<IncomingEntry>, OfficeFault> {
         office.list_in()
@@ -94,13 +75,7 @@ impl Listed for IncomingEntry {
 }
 
 impl Listed for OutgoingEntry {
-    ghost entries = { list_out };
-
-    ghost beside = { λ r e. units_of r Outgoing e.no };
-
-    ghost object = { outgoing_object };
-
-    ghost fields = { outgoing_fields };
+    ghost kind = { outgoing_files };
 
     fn list<O: Office>(office: &mut O) -> Result<Vec<OutgoingEntry>, OfficeFault> {
         office.list_out()
@@ -123,13 +98,7 @@ impl Listed for OutgoingEntry {
 
 // Nothing more is shown with an issued response.
 impl Listed for IssuedEntry {
-    ghost entries = { list_issued };
-
-    ghost beside = { λ _ _. 0 };
-
-    ghost object = { λ e _. issued_object e };
-
-    ghost fields = { λ e _. issued_fields e };
+    ghost kind = { issued_responses };
 
     fn list<O: Office>(office: &mut O) -> Result<Vec<IssuedEntry>, OfficeFault> {
         office.list_issued()
@@ -161,13 +130,7 @@ fn no_of(file: &Option<OutgoingEntry>) -> u64
 }
 
 impl Listed for ReceivedEntry {
-    ghost entries = { list_received };
-
-    ghost beside = { λ r e. no_of (look_out r e.response.identity) };
-
-    ghost object = { received_object };
-
-    ghost fields = { received_fields };
+    ghost kind = { received_responses };
 
     fn list<O: Office>(office: &mut O) -> Result<Vec<ReceivedEntry>, OfficeFault> {
         office.list_received()

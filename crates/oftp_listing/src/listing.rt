@@ -6,6 +6,7 @@ ghost use Rattle.serde_json.specs.View.{view};
 ghost use Rattle.serde_json.specs.Written.{comma_if, compact_text, has_float};
 ghost use Rattle.oftp_listing.specs.Finding.{Finds, IsDataBehind};
 ghost use Rattle.oftp_listing.specs.Heads.{Heard, Hears};
+ghost use Rattle.oftp_listing.specs.InsideListed.{object_in};
 ghost use Rattle.oftp_listing.specs.Texts.{Answers, Asks, IsListFault, Serves, is_asked, list_of, shown, shown_responses};
 
 use crate::fault::ListFault;
@@ -40,7 +41,7 @@ fn add_list<E: Listed + Drop, O: Office>(
     front: Vec<u8>,
     office: &mut O,
 ) -> Result<Vec<u8>, ListFault>
-    ensures finds { Finds (λ r text. text.items ≡ front.items ++ compact_text (list_of (map (λ e. E.object e (E.beside r e)) (E.entries r)))) (O.view office.old) (O.view office.new) result }
+    ensures finds { Finds (λ r text. text.items ≡ front.items ++ compact_text (list_of (map (object_in E.kind r) (E.kind.entries r)))) (O.view office.old) (O.view office.new) result }
     ensures shows { IfOk result (λ text. IsDataBehind front.items text.items) }
 {
     let entries = E::list(office)?;
@@ -76,7 +77,7 @@ fn entry_text<E: Listed + Drop, O: Office>(
     found: Option<E>,
     office: &mut O,
 ) -> Result<Option<Vec<u8>>, ListFault>
-    ensures finds { Finds (λ r shown. option_map (λ text. text.items) shown ≡ option_map (λ e. compact_text (E.object e (E.beside r e))) found) (O.view office.old) (O.view office.new) result }
+    ensures finds { Finds (λ r shown. option_map (λ text. text.items) shown ≡ option_map (λ e. compact_text (object_in E.kind r e)) found) (O.view office.old) (O.view office.new) result }
     ensures shows { IfOk result (λ shown. IfSome shown (λ text. IsDataBehind [] text.items)) }
 {
     let Some(entry) = found else {

@@ -7,6 +7,7 @@ ghost use Rattle.oftp_io.specs.Ports.{Puts};
 ghost use Rattle.oftp_listing.specs.declared.fault.ListFault.TheVariants.{Memory};
 ghost use Rattle.oftp_listing.specs.Details.{text_of};
 ghost use Rattle.oftp_listing.specs.Finding.{Finds};
+ghost use Rattle.oftp_listing.specs.InsideListed.{line_in};
 ghost use Rattle.oftp_listing.specs.Names.{reason_name, refusal_name};
 ghost use Rattle.oftp_listing.specs.Reports.{Reports, TextOut, WriterTold, heading, incoming_fields, issued_fields, line, outgoing_fields, received_fields, report_of};
 ghost use Rattle.oftp_listing.specs.Texts.{Asks};
@@ -163,7 +164,7 @@ fn add_lines<E: Listed + Drop, O: Office>(
     front: Vec<u8>,
     office: &mut O,
 ) -> Result<Vec<u8>, ListFault>
-    ensures finds { Finds (λ r text. text.items ≡ front.items ++ flat_map (λ e. line (E.fields e (E.beside r e))) (E.entries r)) (O.view office.old) (O.view office.new) result }
+    ensures finds { Finds (λ r text. text.items ≡ front.items ++ flat_map (line_in E.kind r) (E.kind.entries r)) (O.view office.old) (O.view office.new) result }
 {
     let entries = E::list(office)?;
     let mut text = front;

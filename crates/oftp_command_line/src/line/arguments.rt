@@ -1,19 +1,12 @@
-//! The arguments of a command, and what the parser makes of the words.
-ghost use Rattle.std.specs.Prelude.{◌≡◌, ◌∷◌, ℕ, [], IfErr, IfOk, IsSome, None, Some, false, map, option_map, true};
-ghost use Rattle.std.specs.String.{string_bytes};
-ghost use Rattle.clap.specs.Words.{app_of, first_of, is_simple_and_free, items_of, kind_of};
-ghost use Rattle.clap.specs.Words.{new_app, rule_of};
+//! The arguments of a command, as the parser is told of them.
+ghost use Rattle.std.specs.Prelude.{◌≡◌, ◌∷◌, [], IfOk, Some, false};
+ghost use Rattle.clap.specs.Words.{app_of, items_of, new_app, rule_of};
 ghost use Rattle.clap.specs.declared.builder.command.Command.TheViews.{out-Command as fields_of};
 ghost use Rattle.oftp_command_line.specs.Arguments as spec;
-ghost use Rattle.oftp_command_line.specs.Arguments.{HasValues, IsNumber, taken, values_in};
-ghost use Rattle.oftp_command_line.specs.Fault.{is_bad};
 ghost use Rattle.oftp_command_line.specs.Told.{app_told, is_required, rule_of_kind, told};
-ghost use Rattle.oftp_command_line.specs.declared.line.arguments.TheConstants.{MOST_PORT};
 
-use super::LineFault;
 use clap::builder::ValueParser;
-use clap::error::ErrorKind;
-use clap::{Arg, ArgAction, ArgMatches, Command, Error};
+use clap::{Arg, ArgAction, Command};
 use std::alloc::{AllocError, Global};
 
 /// The greatest number of an incoming file that can be asked for.
@@ -240,93 +233,4 @@ pub(super) fn own_patience<'a>() -> Argument<'a>
     let help = "How many seconds the partner may keep still, 0 to 86400, 0 for ever";
     let patience = defaulted("patience", "300", "SECONDS", help);
     numbered(patience, 0, MOST_PATIENCE)
-}
-
-/// The fault for an error of the parser.
-fn fault_from(alloc: Global, error: &Error) -> LineFault
-    ensures { is_bad result ≡ true → kind_of error.now ≡ ErrorKind.OutOfMemory → ⊥ }
-{
-    if error.kind() == ErrorKind::OutOfMemory {
-        return LineFault::Memory;
-    }
-    match error.to_string(alloc) {
-        Ok(text) => LineFault::Bad(text),
-        Err(_) => LineFault::Memory,
-    }
-}
-
-/// What the parser makes of the words, of which the first is the command's name.
-pub(super) fn matched<'a>(
-    alloc: Global,
-    command: Command<'a>,
-    words: &'a [String],
-) -> Result<ArgMatches<'a>, LineFault>
-    requires { is_simple_and_free (app_of command) ≡ true }
-    ensures ok { IfOk result (λ m. taken (app_of command.entry) (map string_bytes words.entry.now)
-        ≡ Some (values_in m)) }
-    ensures bad { IfErr result (λ e. is_bad e ≡ true
-        → taken (app_of command.entry) (map string_bytes words.entry.now) ≡ None) }
-    ensures values { IfOk result (λ m. HasValues (app_of command.entry) (values_in m)) }
-{
-    match command.try_get_matches_from(words) {
-        Ok(matches) => Ok(matches),
-        Err(error) => Err(fault_from(alloc, &error)),
-    }
-}
-
-/// The value of an option that may be missing.
-pub(super) fn value_of<'a>(matches: &ArgMatches<'a>, id: &str) -> Option<&'a str>
-    ensures { option_map (λ s. s.now) result ≡ first_of id.now (values_in matches.now) }
-{
-    matches.get_str(id)
-}
-
-/// The value of an argument that must be given or has a default.
-pub(super) fn given<'a>(matches: &ArgMatches<'a>, id: &str) -> &'a str
-    requires { IsSome (first_of id.now (values_in matches.now)) }
-    ensures { result.now ≡ spec.given id.now (values_in matches.now) }
-{
-    value_of(matches, id).unwrap()
-}
-
-/// The number that is the value of an argument which takes numbers, and must be given or has a default.
-pub(super) fn number(matches: &ArgMatches<'_>, id: &str) -> u64
-    requires { (low : ℕ) × ((high : ℕ) × IsNumber low high id.now (values_in matches.now)) }
-    ensures { result ≡ spec.number id.now (values_in matches.now) }
-{
-    matches.get_one::<u64>(id).unwrap()
-}
-
-/// The port that is the value of an argument which takes ports, and must be given or has a default.
-pub(super) fn port(matches: &ArgMatches<'_>, id: &str) -> u16
-    requires { IsNumber 1 MOST_PORT id.now (values_in matches.now) }
-    ensures { result ≡ spec.number id.now (values_in matches.now) }
-{
-    number(matches, id) as u16
-}
-
-/// A value that is none of those that its argument has names for.
-#[derive(Clone, Copy)]
-pub(super) struct Unlisted<'a> {
-    /// The value.
-    pub(super) value: &'a str,
-    /// The argument, as texts show it.
-    pub(super) argument: &'static str,
-    /// The values that it has names for.
-    pub(super) listed: &'static str,
-}
-
-impl Unlisted<'_> {
-    /// The text that says so.
-    pub(super) fn text(&self, alloc: Global) -> Result<String, AllocError> {
-        let Unlisted {
-            value,
-            argument,
-            listed,
-        } = self;
-        let mut text = format!(in alloc; "error: invalid value '{value}' for '{argument}'\n")?;
-        write!(text, "  [possible values: {listed}]\n\n")?;
-        text.push_str("For more information, try '--help'.\n")?;
-        Ok(text)
-    }
 }

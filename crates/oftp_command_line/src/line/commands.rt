@@ -1,8 +1,9 @@
 //! The commands: how the parser is told of each, and what is read from the values that it found.
-ghost use Rattle.std.specs.Prelude.{◌≡◌, IfOk, None, OnErr, Some, codes};
+ghost use Rattle.std.specs.Prelude.{◌≡◌, IfErr, IfOk, None, Some, codes, true};
 ghost use Rattle.clap.specs.Words.{app_of};
 ghost use Rattle.oftp_command_line.specs.Arguments as spec;
 ghost use Rattle.oftp_command_line.specs.Arguments.{HasValues, values_in};
+ghost use Rattle.oftp_command_line.specs.Fault.{is_bad};
 ghost use Rattle.oftp_command_line.specs.Line.{app_named, name_of, said, said_by};
 ghost use Rattle.oftp_command_line.specs.Told.{app_told, told, word_of};
 
@@ -13,15 +14,18 @@ pub(super) mod registers;
 pub(super) mod services;
 mod texts;
 
-use super::Line;
-use super::arguments::{Argument, Unlisted, command, given, own_book, own_database, word};
+use super::arguments::{Argument, command, own_book, own_database, word};
+use super::values::given;
+use super::{Line, LineFault};
 use clap::{ArgMatches, Command};
-use feed::{feed_command, feed_read};
+use feed::{feed_arguments, feed_read};
 use operators::{
-    refuse_command, refuse_read, release_command, release_read, submit_command, submit_read,
+    refuse_arguments, refuse_read, release_arguments, release_read, submit_arguments, submit_read,
 };
-use registers::{fetch_command, fetch_read, report_command, report_read};
-use services::{call_command, call_read, http_command, http_read, listen_command, listen_read};
+use registers::{fetch_arguments, fetch_read, report_arguments, report_read};
+use services::{
+    call_arguments, call_read, http_arguments, http_read, listen_arguments, listen_read,
+};
 use std::alloc::{AllocError, Global};
 
 /// The names of all commands, in the order in which texts have them.
@@ -101,25 +105,29 @@ impl Name {
             Name::Init => self.taking(alloc, &[own_database()]),
             Name::Migrate => self.taking(alloc, &[own_database()]),
             Name::Check => self.taking(alloc, &[own_book()]),
-            Name::Submit => submit_command(alloc),
-            Name::Release => release_command(alloc),
-            Name::Refuse => refuse_command(alloc),
-            Name::Fetch => fetch_command(alloc),
-            Name::Report => report_command(alloc),
+            Name::Submit => self.taking(alloc, &submit_arguments()),
+            Name::Release => self.taking(alloc, &release_arguments()),
+            Name::Refuse => self.taking(alloc, &refuse_arguments()),
+            Name::Fetch => self.taking(alloc, &fetch_arguments()),
+            Name::Report => self.taking(alloc, &report_arguments()),
             Name::Show => self.taking(alloc, &[input()]),
-            Name::Feed => feed_command(alloc),
-            Name::Listen => listen_command(alloc),
-            Name::Call => call_command(alloc),
-            Name::Http => http_command(alloc),
+            Name::Feed => self.taking(alloc, &feed_arguments()),
+            Name::Listen => self.taking(alloc, &listen_arguments()),
+            Name::Call => self.taking(alloc, &call_arguments()),
+            Name::Http => self.taking(alloc, &http_arguments()),
         }
     }
 
     /// What the command of this name is asked for by the values of its options and words.
     #[tactic(auto, using(crate::proofs::Values::has_text))]
-    pub(super) fn read<'a>(self, matches: &ArgMatches<'a>) -> Result<Line<'a>, Unlisted<'a>>
+    pub(super) fn read<'a>(
+        self,
+        alloc: Global,
+        matches: &ArgMatches<'a>,
+    ) -> Result<Line<'a>, LineFault>
         requires { HasValues (app_named self) (values_in matches.now) }
         ensures ok { IfOk result (λ l. said_by self (values_in matches.now) ≡ Some (said l)) }
-        ensures err { OnErr result (said_by self (values_in matches.now) ≡ None) }
+        ensures bad { IfErr result (λ e. is_bad e ≡ true → said_by self (values_in matches.now) ≡ None) }
     {
         match self {
             Name::Init => Ok(Line::Init {
@@ -131,15 +139,15 @@ impl Name {
             Name::Check => Ok(Line::Check {
                 book: given(matches, "book"),
             }),
-            Name::Submit => submit_read(matches).map(Line::Submit),
+            Name::Submit => submit_read(alloc, matches).map(Line::Submit),
             Name::Release => Ok(Line::Release(release_read(matches))),
             Name::Refuse => Ok(Line::Refuse(refuse_read(matches))),
             Name::Fetch => Ok(Line::Fetch(fetch_read(matches))),
-            Name::Report => report_read(matches).map(Line::Report),
+            Name::Report => report_read(alloc, matches).map(Line::Report),
             Name::Show => Ok(Line::Show {
                 input: given(matches, "in"),
             }),
-            Name::Feed => feed_read(matches).map(Line::Feed),
+            Name::Feed => feed_read(alloc, matches).map(Line::Feed),
             Name::Listen => Ok(Line::Listen(listen_read(matches))),
             Name::Call => Ok(Line::Call(call_read(matches))),
             Name::Http => Ok(Line::Http(http_read(matches))),

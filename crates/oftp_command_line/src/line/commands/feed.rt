@@ -1,15 +1,17 @@
 //! The command `feed`.
-ghost use Rattle.std.specs.Prelude.{◌≡◌, IfOk, None, OnErr, Some};
-ghost use Rattle.clap.specs.Words.{app_of};
-ghost use Rattle.oftp_command_line.specs.Arguments.{HasValues, values_in};
-ghost use Rattle.oftp_command_line.specs.FeedLine.{feed_app, feed_in, feed_said, feed_with, side_of};
+#![tactic(auto, using(crate::proofs::Values::has_text), unfolding(crate::specs::FeedLine::feed_app))]
 
-use super::Name;
-use crate::line::arguments::{
-    Unlisted, defaulted, given, optional, own_book, own_trace, value_of, word,
-};
-use clap::{ArgMatches, Command};
-use std::alloc::{AllocError, Global};
+ghost use Rattle.std.specs.Prelude.{◌≡◌, IfErr, IfOk, None, Some, codes, true};
+ghost use Rattle.oftp_command_line.specs.Arguments.{HasValues, values_in};
+ghost use Rattle.oftp_command_line.specs.Fault.{is_bad};
+ghost use Rattle.oftp_command_line.specs.FeedLine.{feed_app, feed_in, feed_said};
+ghost use Rattle.oftp_command_line.specs.Told.{app_told};
+
+use crate::line::LineFault;
+use crate::line::arguments::{Argument, defaulted, optional, own_book, own_trace, word};
+use crate::line::values::{choice, given, trace_of, value_of};
+use clap::ArgMatches;
+use std::alloc::Global;
 
 /// The command `feed`, which plays one session from the octets of a file to another file.
 #[derive(Clone, Copy)]
@@ -39,58 +41,44 @@ pub enum Side {
     Initiator,
 }
 
-/// `feed`, as the parser is told of it.
-#[tactic(auto, unfolding(crate::specs::FeedLine::feed_app))]
-pub(super) fn feed_command<'a>(alloc: Global) -> Result<Command<'a>, AllocError>
-    ensures { IfOk result (λ c. app_of c ≡ feed_app) }
+/// The sides, by the names that `feed` has for them.
+const SIDES: &[(&str, Side)] = &[
+    ("responder", Side::Responder),
+    ("initiator", Side::Initiator),
+];
+
+/// The arguments of `feed`.
+pub(super) fn feed_arguments<'a>() -> [Argument<'a>; 7]
+    ensures { app_told (codes "feed") result ≡ feed_app }
 {
     let role = "The side that the station plays: responder or initiator";
     let partner = "The code of the partner that an initiator calls";
     let input = "The file that holds what the partner sends";
     let output = "The file that is given what the station sends";
-    Name::Feed.taking(
-        alloc,
-        &[
-            optional("db", "DATABASE", "The file that holds the database"),
-            own_book(),
-            defaulted("role", "responder", "ROLE", role),
-            optional("partner", "CODE", partner),
-            own_trace(),
-            word("in", "IN", input),
-            word("out", "OUT", output),
-        ],
-    )
-}
-
-fn side_named(name: &str) -> Option<Side>
-    ensures { result ≡ side_of name.now }
-{
-    match name {
-        "responder" => Some(Side::Responder),
-        "initiator" => Some(Side::Initiator),
-        _ => None,
-    }
+    [
+        optional("db", "DATABASE", "The file that holds the database"),
+        own_book(),
+        defaulted("role", "responder", "ROLE", role),
+        optional("partner", "CODE", partner),
+        own_trace(),
+        word("in", "IN", input),
+        word("out", "OUT", output),
+    ]
 }
 
 /// What `feed` is asked for by the values of its options and words.
-#[tactic(auto, using(crate::proofs::Values::has_text), unfolding(crate::specs::FeedLine::feed_app))]
-pub(super) fn feed_read<'a>(matches: &ArgMatches<'a>) -> Result<Feed<'a>, Unlisted<'a>>
+pub(super) fn feed_read<'a>(alloc: Global, matches: &ArgMatches<'a>) -> Result<Feed<'a>, LineFault>
     requires { HasValues feed_app (values_in matches.now) }
     ensures ok { IfOk result (λ f. feed_in (values_in matches.now) ≡ Some (feed_said f)) }
-    ensures err { OnErr result (feed_in (values_in matches.now) ≡ None) }
+    ensures bad { IfErr result (λ e. is_bad e ≡ true → feed_in (values_in matches.now) ≡ None) }
 {
-    let name = given(matches, "role");
-    let role = side_named(name).ok_or(Unlisted {
-        value: name,
-        argument: "--role <ROLE>",
-        listed: "responder, initiator",
-    })?;
+    let role = choice(alloc, matches, "role", "--role <ROLE>", SIDES)?;
     Ok(Feed {
         database: value_of(matches, "db"),
         book: given(matches, "book"),
         role,
         partner: value_of(matches, "partner"),
-        trace: value_of(matches, "trace"),
+        trace: trace_of(matches),
         input: given(matches, "in"),
         output: given(matches, "out"),
     })

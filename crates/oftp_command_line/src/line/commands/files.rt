@@ -4,7 +4,7 @@ ghost use Rattle.clap.specs.Words.{first_of};
 ghost use Rattle.oftp_command_line.specs.Arguments.{values_in};
 ghost use Rattle.oftp_command_line.specs.Files.{files_said, files_with};
 
-use crate::line::arguments::given;
+use crate::line::values::given;
 use clap::ArgMatches;
 
 /// The files of a command that names both.

@@ -1,14 +1,18 @@
 //! The commands `fetch` and `report`, which take something out of the database.
-ghost use Rattle.std.specs.Prelude.{◌≡◌, IfOk, None, OnErr, Some};
-ghost use Rattle.clap.specs.Words.{app_of};
-ghost use Rattle.oftp_command_line.specs.Arguments.{HasValues, values_in};
-ghost use Rattle.oftp_command_line.specs.RegisterLines.{fetch_app, fetch_said, fetch_with, kind_of, report_app, report_in, report_said, report_with};
+#![tactic(auto, using(crate::proofs::Values::has_text), unfolding(crate::specs::RegisterLines::fetch_app, crate::specs::RegisterLines::report_app))]
 
-use super::Name;
-use crate::line::arguments::{Unlisted, file_number, given, number, own_database, word};
-use clap::{ArgMatches, Command};
+ghost use Rattle.std.specs.Prelude.{◌≡◌, IfErr, IfOk, None, Some, codes, true};
+ghost use Rattle.oftp_command_line.specs.Arguments.{HasValues, values_in};
+ghost use Rattle.oftp_command_line.specs.Fault.{is_bad};
+ghost use Rattle.oftp_command_line.specs.RegisterLines.{fetch_app, fetch_said, fetch_with, report_app, report_in, report_said};
+ghost use Rattle.oftp_command_line.specs.Told.{app_told};
+
+use crate::line::LineFault;
+use crate::line::arguments::{Argument, file_number, own_database, word};
+use crate::line::values::{choice, given, no_of};
+use clap::ArgMatches;
 use oftp_listing::ReportKind;
-use std::alloc::{AllocError, Global};
+use std::alloc::Global;
 
 /// The command `fetch`, which writes an incoming file to a file.
 #[derive(Clone, Copy)]
@@ -21,30 +25,33 @@ pub struct Fetch<'a> {
     pub file: &'a str,
 }
 
-/// `fetch`, as the parser is told of it.
-#[tactic(auto, unfolding(crate::specs::RegisterLines::fetch_app))]
-pub(super) fn fetch_command<'a>(alloc: Global) -> Result<Command<'a>, AllocError>
-    ensures { IfOk result (λ c. app_of c ≡ fetch_app) }
+/// The arguments of `fetch`.
+pub(super) fn fetch_arguments<'a>() -> [Argument<'a>; 3]
+    ensures { app_told (codes "fetch") result ≡ fetch_app }
 {
     let file = "The file that is given its local form";
-    Name::Fetch.taking(
-        alloc,
-        &[own_database(), file_number(), word("file", "FILE", file)],
-    )
+    [own_database(), file_number(), word("file", "FILE", file)]
 }
 
 /// What `fetch` is asked for by the values of its options and words.
-#[tactic(auto, using(crate::proofs::Values::has_text), unfolding(crate::specs::RegisterLines::fetch_app))]
 pub(super) fn fetch_read<'a>(matches: &ArgMatches<'a>) -> Fetch<'a>
     requires { HasValues fetch_app (values_in matches.now) }
     ensures { fetch_said result ≡ fetch_with (values_in matches.now) }
 {
     Fetch {
         database: given(matches, "db"),
-        no: number(matches, "no"),
+        no: no_of(matches),
         file: given(matches, "file"),
     }
 }
+
+/// The kinds of report, by the names that `report` has for them.
+const KINDS: &[(&str, ReportKind)] = &[
+    ("in", ReportKind::Incoming),
+    ("out", ReportKind::Outgoing),
+    ("issued", ReportKind::Issued),
+    ("received", ReportKind::Received),
+];
 
 /// The command `report`, which tells what the database holds.
 #[derive(Clone, Copy)]
@@ -55,42 +62,25 @@ pub struct Report<'a> {
     pub kind: ReportKind,
 }
 
-/// `report`, as the parser is told of it.
-#[tactic(auto, unfolding(crate::specs::RegisterLines::report_app))]
-pub(super) fn report_command<'a>(alloc: Global) -> Result<Command<'a>, AllocError>
-    ensures { IfOk result (λ c. app_of c ≡ report_app) }
+/// The arguments of `report`.
+pub(super) fn report_arguments<'a>() -> [Argument<'a>; 2]
+    ensures { app_told (codes "report") result ≡ report_app }
 {
     let kind = "What is reported: in, out, issued or received";
-    Name::Report.taking(alloc, &[own_database(), word("kind", "KIND", kind)])
-}
-
-fn kind_named(name: &str) -> Option<ReportKind>
-    ensures { result ≡ kind_of name.now }
-{
-    match name {
-        "in" => Some(ReportKind::Incoming),
-        "out" => Some(ReportKind::Outgoing),
-        "issued" => Some(ReportKind::Issued),
-        "received" => Some(ReportKind::Received),
-        _ => None,
-    }
+    [own_database(), word("kind", "KIND", kind)]
 }
 
 /// What `report` is asked for by the values of its options and words.
-#[tactic(auto, using(crate::proofs::Values::has_text), unfolding(crate::specs::RegisterLines::report_app))]
-pub(super) fn report_read<'a>(matches: &ArgMatches<'a>) -> Result<Report<'a>, Unlisted<'a>>
+pub(super) fn report_read<'a>(
+    alloc: Global,
+    matches: &ArgMatches<'a>,
+) -> Result<Report<'a>, LineFault>
     requires { HasValues report_app (values_in matches.now) }
     ensures ok { IfOk result (λ r. report_in (values_in matches.now) ≡ Some (report_said r)) }
-    ensures err { OnErr result (report_in (values_in matches.now) ≡ None) }
+    ensures bad { IfErr result (λ e. is_bad e ≡ true → report_in (values_in matches.now) ≡ None) }
 {
-    let name = given(matches, "kind");
-    let kind = kind_named(name).ok_or(Unlisted {
-        value: name,
-        argument: "<KIND>",
-        listed: "in, out, issued, received",
-    })?;
     Ok(Report {
         database: given(matches, "db"),
-        kind,
+        kind: choice(alloc, matches, "kind", "<KIND>", KINDS)?,
     })
 }

@@ -1,17 +1,18 @@
 //! The commands `listen`, `call` and `http`, which are services over sockets.
-ghost use Rattle.std.specs.Prelude.{◌≡◌, IfOk};
-ghost use Rattle.clap.specs.Words.{app_of};
+#![tactic(auto, using(crate::proofs::Values::has_text), unfolding(crate::specs::ServiceLines::listen_app, crate::specs::ServiceLines::call_app, crate::specs::ServiceLines::http_app))]
+
+ghost use Rattle.std.specs.Prelude.{◌≡◌, codes};
 ghost use Rattle.oftp_command_line.specs.Arguments.{HasValues, values_in};
 ghost use Rattle.oftp_command_line.specs.ServiceLines.{call_app, call_said, call_with, http_app, http_said, http_with, listen_app, listen_said, listen_with};
+ghost use Rattle.oftp_command_line.specs.Told.{app_told};
 
-use super::Name;
 use super::files::{Files, files_read};
 use crate::line::arguments::{
-    callers, given, needed, number, own_address, own_book, own_database, own_patience, own_port,
-    own_trace, port, value_of,
+    Argument, callers, needed, own_address, own_book, own_database, own_patience, own_port,
+    own_trace,
 };
-use clap::{ArgMatches, Command};
-use std::alloc::{AllocError, Global};
+use crate::line::values::{address_of, callers_of, given, patience_of, port_of, trace_of};
+use clap::ArgMatches;
 
 /// The command `listen`, which serves sessions of partners who call.
 #[derive(Debug, Clone, Copy, PartialEq, Eq)]
@@ -30,39 +31,34 @@ pub struct Listen<'a> {
     pub trace: Option<&'a str>,
 }
 
-/// `listen`, as the parser is told of it.
-#[tactic(auto, unfolding(crate::specs::ServiceLines::listen_app))]
-pub(super) fn listen_command<'a>(alloc: Global) -> Result<Command<'a>, AllocError>
-    ensures { IfOk result (λ c. app_of c ≡ listen_app) }
+/// The arguments of `listen`.
+pub(super) fn listen_arguments<'a>() -> [Argument<'a>; 7]
+    ensures { app_told (codes "listen") result ≡ listen_app }
 {
     let sessions = "How many sessions are served, 1 to 1000000";
-    Name::Listen.taking(
-        alloc,
-        &[
-            own_database(),
-            own_book(),
-            own_port("3305"),
-            own_address(),
-            callers("sessions", sessions),
-            own_patience(),
-            own_trace(),
-        ],
-    )
+    [
+        own_database(),
+        own_book(),
+        own_port("3305"),
+        own_address(),
+        callers("sessions", sessions),
+        own_patience(),
+        own_trace(),
+    ]
 }
 
 /// What `listen` is asked for by the values of its options.
-#[tactic(auto, using(crate::proofs::Values::has_text), unfolding(crate::specs::ServiceLines::listen_app))]
 pub(super) fn listen_read<'a>(matches: &ArgMatches<'a>) -> Listen<'a>
     requires { HasValues listen_app (values_in matches.now) }
     ensures { listen_said result ≡ listen_with (values_in matches.now) }
 {
     Listen {
         files: files_read(matches),
-        port: port(matches, "port"),
-        address: given(matches, "address"),
-        sessions: number(matches, "sessions"),
-        patience: number(matches, "patience"),
-        trace: value_of(matches, "trace"),
+        port: port_of(matches),
+        address: address_of(matches),
+        sessions: callers_of(matches, "sessions"),
+        patience: patience_of(matches),
+        trace: trace_of(matches),
     }
 }
 
@@ -79,26 +75,21 @@ pub struct Call<'a> {
     pub trace: Option<&'a str>,
 }
 
-/// `call`, as the parser is told of it.
-#[tactic(auto, unfolding(crate::specs::ServiceLines::call_app))]
-pub(super) fn call_command<'a>(alloc: Global) -> Result<Command<'a>, AllocError>
-    ensures { IfOk result (λ c. app_of c ≡ call_app) }
+/// The arguments of `call`.
+pub(super) fn call_arguments<'a>() -> [Argument<'a>; 5]
+    ensures { app_told (codes "call") result ≡ call_app }
 {
     let partner = "The code of the partner that is called";
-    Name::Call.taking(
-        alloc,
-        &[
-            own_database(),
-            own_book(),
-            needed("partner", "CODE", partner),
-            own_patience(),
-            own_trace(),
-        ],
-    )
+    [
+        own_database(),
+        own_book(),
+        needed("partner", "CODE", partner),
+        own_patience(),
+        own_trace(),
+    ]
 }
 
 /// What `call` is asked for by the values of its options.
-#[tactic(auto, using(crate::proofs::Values::has_text), unfolding(crate::specs::ServiceLines::call_app))]
 pub(super) fn call_read<'a>(matches: &ArgMatches<'a>) -> Call<'a>
     requires { HasValues call_app (values_in matches.now) }
     ensures { call_said result ≡ call_with (values_in matches.now) }
@@ -106,8 +97,8 @@ pub(super) fn call_read<'a>(matches: &ArgMatches<'a>) -> Call<'a>
     Call {
         files: files_read(matches),
         partner: given(matches, "partner"),
-        patience: number(matches, "patience"),
-        trace: value_of(matches, "trace"),
+        patience: patience_of(matches),
+        trace: trace_of(matches),
     }
 }
 
@@ -124,33 +115,28 @@ pub struct Http<'a> {
     pub requests: u64,
 }
 
-/// `http`, as the parser is told of it.
-#[tactic(auto, unfolding(crate::specs::ServiceLines::http_app))]
-pub(super) fn http_command<'a>(alloc: Global) -> Result<Command<'a>, AllocError>
-    ensures { IfOk result (λ c. app_of c ≡ http_app) }
+/// The arguments of `http`.
+pub(super) fn http_arguments<'a>() -> [Argument<'a>; 4]
+    ensures { app_told (codes "http") result ≡ http_app }
 {
     let requests = "How many requests are answered, 1 to 1000000";
-    Name::Http.taking(
-        alloc,
-        &[
-            own_database(),
-            own_port("8080"),
-            own_address(),
-            callers("requests", requests),
-        ],
-    )
+    [
+        own_database(),
+        own_port("8080"),
+        own_address(),
+        callers("requests", requests),
+    ]
 }
 
 /// What `http` is asked for by the values of its options.
-#[tactic(auto, using(crate::proofs::Values::has_text), unfolding(crate::specs::ServiceLines::http_app))]
 pub(super) fn http_read<'a>(matches: &ArgMatches<'a>) -> Http<'a>
     requires { HasValues http_app (values_in matches.now) }
     ensures { http_said result ≡ http_with (values_in matches.now) }
 {
     Http {
         database: given(matches, "db"),
-        port: port(matches, "port"),
-        address: given(matches, "address"),
-        requests: number(matches, "requests"),
+        port: port_of(matches),
+        address: address_of(matches),
+        requests: callers_of(matches, "requests"),
     }
 }

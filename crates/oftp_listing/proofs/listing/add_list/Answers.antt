@@ -6,7 +6,7 @@ pub loop-entry-preserved : goal.loop-entry-preserved
 loop-entry-preserved g c =
     let e = c.entry-item.result in
     rw (take_next _ c.loop-entry.entry-index e c.loop-entry-test.true c.entry-item.is)
-    (listing_on g.E.Listed.entries g.E.Listed.beside g.E.Listed.object _ _ _ _ _ _ _ _ e c.in_ok-beside.beside _ _
+    (listing_on g.E.Listed.kind.entries g.E.Listed.kind.beside g.E.Listed.kind.object _ _ _ _ _ _ _ _ e c.in_ok-beside.beside _ _
     c.loop-entry.invariant c.in_ok-beside.ensures.looks c.in_ok-object.ensures.object c.in_ok-add_object.ensures)
 
 pub returns-clause-finds : goal.returns-clause-finds

@@ -3,6 +3,6 @@ use Rattle.oftp_command_line.specs.ServiceLines.{call_app}
 use Rattle.oftp_command_line.specs.declared.line.arguments.TheConstants.{MOST_PATIENCE}
 use Rattle.oftp_command_line.proofs.line.commands.services.call_read.Goals as goal
 
-pub number-requires : goal.number-requires
+pub patience_of-requires : goal.patience_of-requires
 unfolding call_app
-number-requires c = (0, (MOST_PATIENCE, c.requires.numbers 0 MOST_PATIENCE (codes "patience") refl))
+patience_of-requires c = c.requires.numbers 0 MOST_PATIENCE (codes "patience") refl

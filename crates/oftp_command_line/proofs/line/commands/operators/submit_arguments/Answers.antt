@@ -1,10 +1,9 @@
 use Rattle.std.proofs.Common.{ap, ap₂, codes, ◌∙◌}
-use Rattle.std.proofs.lemmas.Result.{IfOk-weaker}
 use Rattle.clap.specs.Words.{new_app, with_rule}
 use Rattle.oftp_command_line.specs.Arguments.{numbered}
 use Rattle.oftp_command_line.specs.OperatorLines.{submit_app}
 use Rattle.oftp_command_line.specs.declared.line.commands.operators.TheConstants.{MOST_LONGEST}
-use Rattle.oftp_command_line.proofs.line.commands.operators.submit_command.Goals as goal
+use Rattle.oftp_command_line.proofs.line.commands.operators.submit_arguments.Goals as goal
 
 pub returns : goal.returns
 unfolding submit_app
@@ -16,7 +15,6 @@ returns c =
     let time = ap₂ with_rule date c.needed-3.ensures in
     let to = ap₂ with_rule time c.needed-4.ensures in
     let format = ap₂ with_rule to c.needed-5.ensures in
-    let longest = ap₂ with_rule format (c.numbered.ensures ∙ ap (numbered 0 MOST_LONGEST) c.defaulted.ensures) in
-    let description = ap₂ with_rule longest c.defaulted-2.ensures in
-    let file = ap₂ with_rule description c.word.ensures in
-    IfOk-weaker c.taking.result _ _ (λ d h. h ∙ file) c.taking.ensures
+    let longest = ap₂ with_rule format (c.numbered.ensures ∙ ap (numbered 0 MOST_LONGEST) c.defaulted-longest.ensures) in
+    let description = ap₂ with_rule longest c.defaulted.ensures in
+    ap₂ with_rule description c.word.ensures

@@ -4,7 +4,7 @@ use Rattle.std.specs.Str.Parse.{ExplainsUnsignedError, HasUnsignedDigitsIfOk, Is
 use Rattle.clap.specs.Words.{ReadsOne, Text, found_of, rows_of}
 use Rattle.clap.proofs.WalkLemmas.{one_text-rows}
 use Rattle.oftp_command_line.specs.Arguments.{given}
-use Rattle.oftp_command_line.proofs.line.arguments.number.Goals as goal
+use Rattle.oftp_command_line.proofs.line.values.number.Goals as goal
 
 -- a text of digits that fit is read as the number that they are
 read_number : (E : Type 0) (G : Text → Result ℕ E → Type 0) → ((t : Text) (x : Result ℕ E) → G t x → ParsesUnsigned 64 10 t x) → (t : Text) (r : Option ℕ)

@@ -1,6 +1,6 @@
 use Rattle.oftp_command_line.proofs.CertainNumbers.{has_values}
 use Rattle.oftp_command_line.proofs.TakenWords.{taken_some, taken_none}
-use Rattle.oftp_command_line.proofs.line.arguments.matched.Goals as goal
+use Rattle.oftp_command_line.proofs.line.values.matched.Goals as goal
 
 pub returns-in-Ok-clause-ok : goal.returns-in-Ok-clause-ok
 returns-in-Ok-clause-ok c =

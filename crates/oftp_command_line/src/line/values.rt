@@ -1,0 +1,170 @@
+//! What the parser makes of the words, and the values that it found for the arguments.
+ghost use Rattle.std.specs.Prelude.{◌≡◌, ℕ, IfErr, IfOk, IsSome, None, Some, codes, map, option_map, true};
+ghost use Rattle.std.specs.String.{string_bytes};
+ghost use Rattle.clap.specs.Words.{app_of, first_of, is_simple_and_free, kind_of};
+ghost use Rattle.oftp_command_line.specs.Arguments as spec;
+ghost use Rattle.oftp_command_line.specs.Arguments.{HasValues, IsNumber, taken, values_in};
+ghost use Rattle.oftp_command_line.specs.Fault.{is_bad};
+ghost use Rattle.oftp_command_line.specs.Told.{names_in};
+ghost use Rattle.oftp_command_line.specs.declared.line.arguments.TheConstants.{MOST_CALLERS, MOST_NO, MOST_PATIENCE, MOST_PORT};
+
+use super::LineFault;
+use clap::error::ErrorKind;
+use clap::{ArgMatches, Command, Error};
+use std::alloc::{AllocError, Global};
+
+/// The fault for an error of the parser.
+fn fault_from(alloc: Global, error: &Error) -> LineFault
+    ensures { is_bad result ≡ true → kind_of error.now ≡ ErrorKind.OutOfMemory → ⊥ }
+{
+    if error.kind() == ErrorKind::OutOfMemory {
+        return LineFault::Memory;
+    }
+    match error.to_string(alloc) {
+        Ok(text) => LineFault::Bad(text),
+        Err(_) => LineFault::Memory,
+    }
+}
+
+/// What the parser makes of the words, of which the first is the command's name.
+pub(super) fn matched<'a>(
+    alloc: Global,
+    command: Command<'a>,
+    words: &'a [String],
+) -> Result<ArgMatches<'a>, LineFault>
+    requires { is_simple_and_free (app_of command) ≡ true }
+    ensures ok { IfOk result (λ m. taken (app_of command.entry) (map string_bytes words.entry.now)
+        ≡ Some (values_in m)) }
+    ensures bad { IfErr result (λ e. is_bad e ≡ true
+        → taken (app_of command.entry) (map string_bytes words.entry.now) ≡ None) }
+    ensures values { IfOk result (λ m. HasValues (app_of command.entry) (values_in m)) }
+{
+    match command.try_get_matches_from(words) {
+        Ok(matches) => Ok(matches),
+        Err(error) => Err(fault_from(alloc, &error)),
+    }
+}
+
+/// The value of an option that may be missing.
+pub(super) fn value_of<'a>(matches: &ArgMatches<'a>, id: &str) -> Option<&'a str>
+    ensures { option_map (λ s. s.now) result ≡ first_of id.now (values_in matches.now) }
+{
+    matches.get_str(id)
+}
+
+/// The value of an argument that must be given or has a default.
+pub(super) fn given<'a>(matches: &ArgMatches<'a>, id: &str) -> &'a str
+    requires { IsSome (first_of id.now (values_in matches.now)) }
+    ensures { result.now ≡ spec.given id.now (values_in matches.now) }
+{
+    value_of(matches, id).unwrap()
+}
+
+/// The number that is the value of an argument which takes numbers, and must be given or has a default.
+pub(super) fn number(matches: &ArgMatches<'_>, id: &str) -> u64
+    requires { (low : ℕ) × ((high : ℕ) × IsNumber low high id.now (values_in matches.now)) }
+    ensures { result ≡ spec.number id.now (values_in matches.now) }
+{
+    matches.get_one::<u64>(id).unwrap()
+}
+
+/// The incoming file's number.
+pub(super) fn no_of(matches: &ArgMatches<'_>) -> u64
+    requires { IsNumber 1 MOST_NO (codes "no") (values_in matches.now) }
+    ensures { result ≡ spec.number (codes "no") (values_in matches.now) }
+{
+    number(matches, "no")
+}
+
+/// The port where callers are awaited.
+pub(super) fn port_of(matches: &ArgMatches<'_>) -> u16
+    requires { IsNumber 1 MOST_PORT (codes "port") (values_in matches.now) }
+    ensures { result ≡ spec.number (codes "port") (values_in matches.now) }
+{
+    number(matches, "port") as u16
+}
+
+/// The address where callers are awaited.
+pub(super) fn address_of<'a>(matches: &ArgMatches<'a>) -> &'a str
+    requires { IsSome (first_of (codes "address") (values_in matches.now)) }
+    ensures { result.now ≡ spec.given (codes "address") (values_in matches.now) }
+{
+    given(matches, "address")
+}
+
+/// How many callers are served, by the option of this id.
+pub(super) fn callers_of(matches: &ArgMatches<'_>, id: &str) -> u64
+    requires { IsNumber 1 MOST_CALLERS id.now (values_in matches.now) }
+    ensures { result ≡ spec.number id.now (values_in matches.now) }
+{
+    number(matches, id)
+}
+
+/// How many seconds a partner may keep still.
+pub(super) fn patience_of(matches: &ArgMatches<'_>) -> u64
+    requires { IsNumber 0 MOST_PATIENCE (codes "patience") (values_in matches.now) }
+    ensures { result ≡ spec.number (codes "patience") (values_in matches.now) }
+{
+    number(matches, "patience")
+}
+
+/// The file to which a session's commands are appended in words, if one is.
+pub(super) fn trace_of<'a>(matches: &ArgMatches<'a>) -> Option<&'a str>
+    ensures { option_map (λ s. s.now) result ≡ first_of (codes "trace") (values_in matches.now) }
+{
+    value_of(matches, "trace")
+}
+
+/// What a text names among these.
+fn named<T: Copy>(names: &[(&str, T)], text: &str) -> Option<T>
+    ensures { result ≡ spec.named (names_in names.now) text.now }
+{
+    for (name, value) in names {
+        if text == *name {
+            return Some(*value);
+        }
+    }
+    None
+}
+
+/// The text for a value that is none of these names. `argument` is how texts show the argument.
+fn unlisted<T>(
+    alloc: Global,
+    value: &str,
+    argument: &str,
+    names: &[(&str, T)],
+) -> Result<String, AllocError> {
+    let mut text = format!(in alloc; "error: invalid value '{value}' for '{argument}'\n")?;
+    text.push_str("  [possible values: ")?;
+    let mut between = "";
+    for (name, _) in names {
+        write!(text, "{between}{name}")?;
+        between = ", ";
+    }
+    text.push_str("]\n\nFor more information, try '--help'.\n")?;
+    Ok(text)
+}
+
+/// What the value of an argument that must be given or has a default names among these.
+/// `argument` is how texts show the argument.
+///
+/// # Errors
+/// `Bad` where it names nothing, else `Memory`.
+pub(super) fn choice<T: Copy>(
+    alloc: Global,
+    matches: &ArgMatches<'_>,
+    id: &str,
+    argument: &str,
+    names: &[(&str, T)],
+) -> Result<T, LineFault>
+    requires { IsSome (first_of id.now (values_in matches.now)) }
+    ensures ok { IfOk result (λ x. spec.named (names_in names.now) (spec.given id.now (values_in matches.now)) ≡ Some x) }
+    ensures bad { IfErr result (λ e. is_bad e ≡ true
+        → spec.named (names_in names.now) (spec.given id.now (values_in matches.now)) ≡ None) }
+{
+    let value = given(matches, id);
+    match named(names, value) {
+        Some(chosen) => Ok(chosen),
+        None => Err(LineFault::Bad(unlisted(alloc, value, argument, names)?)),
+    }
+}

@@ -1,0 +1,44 @@
+-- Inside: what is listed and reported of each kind of entries, for the trait of src/listed.rt.
+use Rattle.std.specs.Prelude.{ℕ, List}
+use Rattle.serde_json.specs.Data.{Data}
+use Rattle.oftp_register.specs.LookUps.{list_in, list_issued, list_out, list_received, look_out, units_of}
+use Rattle.oftp_register.specs.Register.{Register}
+use Rattle.oftp_register.specs.declared.entries.IncomingEntry.{IncomingEntry}
+use Rattle.oftp_register.specs.declared.entries.IssuedEntry.{IssuedEntry}
+use Rattle.oftp_register.specs.declared.entries.OutgoingEntry.{OutgoingEntry}
+use Rattle.oftp_register.specs.declared.entries.ReceivedEntry.{ReceivedEntry}
+use Rattle.oftp_register.specs.declared.entries.Side.TheVariants.{Incoming, Outgoing}
+use Rattle.oftp_listing.specs.Objects.{incoming_object, issued_object, outgoing_object, received_object}
+use Rattle.oftp_listing.specs.Reports.{incoming_fields, issued_fields, line, outgoing_fields, received_fields}
+use Rattle.oftp_listing.specs.Texts.{no_of}
+
+-- a kind of entries: all of a register in order of number, the number that is shown with one, and with that number its object and the fields of its line
+pub record EntryKind (E : Type 0) : Type 0 where
+  pub entries : Register → List E
+  pub beside : Register → E → ℕ
+  pub object : E → ℕ → Data
+  pub fields : E → ℕ → List (List ℕ)
+
+-- the object of one of a register
+abbrev pub object_in : {E : Type 0} → EntryKind E → Register → E → Data
+object_in kind r e = kind.object e (kind.beside r e)
+
+-- the line of one of a register
+abbrev pub line_in : {E : Type 0} → EntryKind E → Register → E → List ℕ
+line_in kind r e = line (kind.fields e (kind.beside r e))
+
+-- incoming files, each with how many octets its rows have
+abbrev pub incoming_files : EntryKind IncomingEntry
+incoming_files = record { entries = list_in; beside = λ r e. units_of r Incoming e.no; object = incoming_object; fields = incoming_fields }
+
+-- outgoing files, each with how many octets its rows have
+abbrev pub outgoing_files : EntryKind OutgoingEntry
+outgoing_files = record { entries = list_out; beside = λ r e. units_of r Outgoing e.no; object = outgoing_object; fields = outgoing_fields }
+
+-- responses that were issued, with which nothing more is shown
+abbrev pub issued_responses : EntryKind IssuedEntry
+issued_responses = record { entries = list_issued; beside = λ _ _. 0; object = λ e _. issued_object e; fields = λ e _. issued_fields e }
+
+-- responses that came, each with the number of the file that it answers
+abbrev pub received_responses : EntryKind ReceivedEntry
+received_responses = record { entries = list_received; beside = λ r e. no_of (look_out r e.response.identity); object = received_object; fields = received_fields }
