@@ -17,3 +17,4 @@ pub mod PrefixLemmas
 pub mod PlainChanges
 pub mod PlainStarts
 pub mod PlainLists
+pub mod EmptyLemmas

@@ -143,9 +143,9 @@ module _ (changes : List Change) (old now new : View) (gone rest later : List Ch
     refused = λ clean stands fit.
         let so_far = going.so_far (does.clean clean) stands fit in
         refused_by fault so_far.made (does.refused clean so_far.stands);
-    kept = λ clean stands fit new_stands.
+    kept = λ clean stands fit is_open.
         let so_far = going.so_far (does.clean clean) stands fit in
-        subst (λ r. EndsAt fault old.register r changes) (sym (does.same clean so_far.stands new_stands))
+        subst (λ r. EndsAt fault old.register r changes) (sym (does.same clean so_far.stands is_open))
         (ends_at fault so_far.made (refusal_of fault (does.refused clean so_far.stands)));
     left = λ clean stands fit content may.
         let so_far = going.so_far (does.clean clean) stands fit in
@@ -162,7 +162,7 @@ all_made changes old now gone rest x is alone going = record {
       let so_far = going.so_far clean stands fit in
       (ap (apply_all old.register) (sym going.whole ∙ ap (λ ks. gone ++ ks) is ∙ append-nil gone) ∙ so_far.made, so_far.stands);
   refused = λ clean stands fit. tt;
-  kept = λ clean stands fit new_stands. tt;
+  kept = λ clean stands fit is_open. tt;
   left = λ clean stands fit content may.
       let so_far = going.so_far clean stands fit in
       left_at (now.holds content) old.register now.register changes gone rest going.whole so_far.made (alone clean so_far.stands content may);

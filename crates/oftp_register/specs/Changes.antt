@@ -160,20 +160,12 @@ sent file = sent_of file file.response
 -- the file is to be sent
 abbrev pub is_waiting : OutgoingState → Bool
 is_waiting Waiting = true
-is_waiting Closing = false
-is_waiting Handed = false
-is_waiting (Refused reason) = false
-is_waiting Delivered = false
-is_waiting Returned = false
+is_waiting state = false
 
 -- its end was sent, and the answer is awaited
 abbrev pub is_closing : OutgoingState → Bool
-is_closing Waiting = false
 is_closing Closing = true
-is_closing Handed = false
-is_closing (Refused reason) = false
-is_closing Delivered = false
-is_closing Returned = false
+is_closing state = false
 
 -- a change that the state allows or not
 abbrev pub if_allowed : Bool → Outgoing → Result Outgoing Cause

@@ -6,7 +6,7 @@ use Rattle.std.specs.Str.{bytes_eq}
 use Rattle.oftp_vfile.specs.VirtualFile.{IsLongest, units_in}
 use Rattle.oftp_register.specs.declared.entry.Identity.{Identity}
 use Rattle.oftp_register.specs.declared.entry.OutgoingState.{OutgoingState}
-use Rattle.oftp_register.specs.declared.entry.OutgoingState.TheVariants.{Waiting, Closing, Handed, Refused, Delivered, Returned}
+use Rattle.oftp_register.specs.declared.entry.OutgoingState.TheVariants.{Waiting, Closing}
 use Rattle.oftp_register.specs.declared.entry.Dispatch.{Dispatch}
 use Rattle.oftp_register.specs.declared.entry.Dispatch.TheVariants.{Due, Sent}
 use Rattle.oftp_register.specs.declared.entries.Side.{Side}
@@ -111,10 +111,7 @@ is_due Sent = false
 abbrev pub is_on_its_way : OutgoingState → Bool
 is_on_its_way Waiting = true
 is_on_its_way Closing = true
-is_on_its_way Handed = false
-is_on_its_way (Refused reason) = false
-is_on_its_way Delivered = false
-is_on_its_way Returned = false
+is_on_its_way state = false
 
 -- a response is due to a partner and wasn't tried: it goes to the file's originator
 abbrev pub is_next_response : List ℕ → ℕ → IssuedEntry → Bool

@@ -17,8 +17,11 @@ pub record View : Type 1 where
   pub told : ℕ
   -- So far what was read is what was written. It may fall at any call, and then no answer is promised.
   pub clean : Type 0
+  -- the office is open: it can be asked
+  pub is_open : Type 0
   -- the office is open, and what it keeps is the register
   pub stands : Type 0
+  pub opens : stands → is_open
   -- what a stop may leave, and the registers that it stands for
   pub Content : Type 0
   pub may_leave : Content → Type 0
@@ -66,25 +69,25 @@ IsFailure Memory = ⊤
 IsFailure (Refused cause) = ⊥
 
 -- What a look-up does. Where what was read is what was written and the office stood, it tells what it is asked of the register, the
--- office stays, but for a fault, and keeps its register, and a stop leaves that register. Over any store it refuses nothing and
--- counts its faults.
+-- office stands on, but for a fault, and wherever it is open it has its register, and a stop leaves that register. Over any store it
+-- refuses nothing and counts its faults.
 pub record LooksUp {T : Type 0} (Tells : Register → T → Type 0) (old new : View) (result : Result T OfficeFault) : Type 0 where
   pub clean : new.clean → old.clean
   pub answer : new.clean → old.stands → IfOk result (Tells old.register)
   pub stays : new.clean → old.stands → OnOk result new.stands
-  pub register : new.clean → old.stands → new.stands → new.register ≡ old.register
+  pub register : new.clean → old.stands → new.is_open → new.register ≡ old.register
   pub left : new.clean → old.stands → Only old.register new
   pub unrefused : IfErr result IsFailure
   pub counts : Counts old.told new.told result
 
 -- What a change does. Where what was read is what was written and the office stood, a fit change is made, and an office that answers
--- `Ok` stands; it is refused where the register refuses it, and then the office stands; and after any error an office that still
--- stands has its register. A stop within a fit change leaves it made or not made. Over any store it counts its faults.
+-- `Ok` stands; it is refused where the register refuses it, and then the office stands; and after any error an office that is still
+-- open has its register. A stop within a fit change leaves it made or not made. Over any store it counts its faults.
 pub record Commits {T : Type 0} (change : Change) (old new : View) (result : Result T OfficeFault) : Type 0 where
   pub clean : new.clean → old.clean
   pub done : new.clean → old.stands → IsFit old.register change → OnOk result ((apply old.register change ≡ Ok new.register) × new.stands)
   pub refused : new.clean → old.stands → IsRefused (apply old.register change) result new.stands
-  pub same : new.clean → old.stands → OnErr result (new.stands → new.register ≡ old.register)
+  pub same : new.clean → old.stands → OnErr result (new.is_open → new.register ≡ old.register)
   pub left : new.clean → old.stands → IsFit old.register change → WithOrWithout (Some change) old.register new
   pub counts : Counts old.told new.told result
 
@@ -112,6 +115,6 @@ pub record CommitsAll {T : Type 0} (changes : List Change) (old new : View) (res
   pub clean : new.clean → old.clean
   pub done : new.clean → old.stands → AreFit old.register changes → OnOk result ((apply_all old.register changes ≡ Ok new.register) × new.stands)
   pub refused : new.clean → old.stands → AreFit old.register changes → IsRefused (apply_all old.register changes) result new.stands
-  pub kept : new.clean → old.stands → AreFit old.register changes → new.stands → IfErr result (λ fault. EndsAt fault old.register new.register changes)
+  pub kept : new.clean → old.stands → AreFit old.register changes → new.is_open → IfErr result (λ fault. EndsAt fault old.register new.register changes)
   pub left : new.clean → old.stands → AreFit old.register changes → LeavesFirst old.register changes new
   pub counts : Counts old.told new.told result

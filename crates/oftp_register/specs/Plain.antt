@@ -15,13 +15,15 @@ register_of o = register_in o.lists
 abbrev pub faults_of : PlainOffice → ℕ
 faults_of o = o.faults
 
--- what it shows: it always stands, and a stop leaves it its own register
+-- what it shows: it is always open and stands, and a stop leaves it its own register
 abbrev pub view_of : PlainOffice → View
 view_of o = record {
   register = register_of o;
   told = faults_of o;
   clean = ⊤;
+  is_open = ⊤;
   stands = ⊤;
+  opens = λ h. h;
   Content = Register;
   may_leave = λ r. r ≡ register_of o;
   holds = λ c r. c ≡ r;
