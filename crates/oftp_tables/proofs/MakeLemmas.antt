@@ -22,7 +22,8 @@ use Rattle.sqlite.specs.Does.{Does, Tally, lacks_sequence}
 use Rattle.sqlite.specs.State.{State, ExecutesInside, Writes, mode_of}
 use Rattle.sqlite.proofs.Callers.{IsPlain, command_of, statement_of, runs_as}
 use Rattle.oftp_tables.specs.Schema.{about, about_tree, office_schema, schema_at, table_at, text_at}
-use Rattle.oftp_tables.specs.Making.{Creates, HasEmptyTables, HasTables, IsEmpty, IsNew, about_row}
+use Rattle.oftp_tables.specs.Making.{Creates, HasEmptyTables, HasTables, IsEmpty, IsNew}
+use Rattle.oftp_tables.specs.Tables.{about_row}
 use Rattle.oftp_tables.proofs.WriteLemmas.{inserts, same_value, went}
 use Rattle.oftp_tables.proofs.TermLemmas.{no_works, cast_null, cast_int}
 
@@ -117,7 +118,7 @@ readies count old new up h =
     let made = inserts (mode_of old) old.step_limit [] before text 0 about terms 3 source (w.tally, new.now) refl refl (no_works about_tree) does in
     let others = made.1.tables in
     let none = up.empty in
-    let row : (rows : List Row) → put_row (with_rowid Chosen rows (cast_row about source)) [] ≡ about_row 2 ∷ [] = λ rows. simp (cast_null, cast_int) in
+    let row : (rows : List Row) → put_row (with_rowid Chosen rows (cast_row about source)) [] ≡ about_row ∷ [] = λ rows. simp (cast_null, cast_int) in
     record {
       schema = made.0;
       sound = w.sound;

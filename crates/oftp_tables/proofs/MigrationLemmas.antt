@@ -24,10 +24,10 @@ use Rattle.oftp_register.specs.declared.entry.ResponseKind.TheVariants.{EndRespo
 use Rattle.oftp_register.specs.Register.{Received}
 use Rattle.oftp_tables.specs.Schema.{about, about_tree, note_tree, office_schema, received_note}
 use Rattle.oftp_tables.specs.Transactions.{MayLeave}
-use Rattle.oftp_tables.specs.Making.{Creates, about_row}
+use Rattle.oftp_tables.specs.Making.{Creates}
 use Rattle.oftp_tables.proofs.TermLemmas.{cast_int, cast_null, no_works}
 use Rattle.oftp_tables.proofs.WriteLemmas.{inserts}
-use Rattle.oftp_tables.specs.Tables.{HoldIncoming, HoldOutgoing, note_if_negative, notes_from, number_value, received_row, rows_from}
+use Rattle.oftp_tables.specs.Tables.{HoldIncoming, HoldOutgoing, about_row, about_row_of, note_if_negative, notes_from, number_value, received_row, rows_from}
 use Rattle.oftp_tables.proofs.SplitLemmas.{IsBelow, put_between}
 use Rattle.oftp_tables.proofs.StatementLemmas.{by_number_program, updates_row}
 use Rattle.oftp_tables.specs.Migration.{FirstTables, IsMigrated}
@@ -129,7 +129,7 @@ sets_schema old new count has h =
     record {
       schema = it.schema;
       sound = it.store;
-      about = it.made.rows [] [] (about_row 1) (about_row 2) (record { below = tt; above = tt }) refl refl (simp (cast_null, cast_int));
+      about = it.made.rows [] [] (about_row_of 1) about_row (record { below = tt; above = tt }) refl refl (simp (cast_null, cast_int));
       others = it.made.others;
     }
 

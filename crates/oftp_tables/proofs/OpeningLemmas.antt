@@ -9,7 +9,7 @@ use Rattle.sqlite.specs.Effect.{Database, IsDatabase}
 use Rattle.sqlite.specs.State.{State, HasCleanDisk, IsUnchanged}
 use Rattle.sqlite_catalog.specs.Listing.{IsSound as IsSoundStore}
 use Rattle.oftp_vfile.specs.declared.format.Limits.{Limits}
-use Rattle.oftp_register.specs.Register.{Register}
+use Rattle.oftp_register.specs.Register.{Register, empty}
 use Rattle.oftp_register.specs.Soundness.{IsSound}
 use Rattle.oftp_tables.specs.declared.fault.StoreFault.{StoreFault}
 use Rattle.oftp_tables.specs.declared.fault.StoreFault.TheVariants.{WrongSchema}
@@ -23,10 +23,10 @@ use Rattle.oftp_tables.specs.Tables.{AreNumbered, Tables, less_rowids, register_
 use Rattle.oftp_tables.proofs.BackLemmas.{register_of}
 use Rattle.oftp_tables.specs.Migration.{IsMigrated}
 use Rattle.oftp_tables.specs.Stands.{Has, IsContentOf}
-use Rattle.oftp_tables.specs.Opening.{IsAt, IsAtFirst, IsMigratable, IsOpenable, Leaves, Opens, Refuses, SparesUnless, empty_of}
+use Rattle.oftp_tables.specs.Opening.{IsAt, IsAtFirst, IsMigratable, IsOpenable, Leaves, Opens, Refuses, SparesUnless}
 
 -- the new tables stand for the empty register
-new_tables : (limits : Limits) (db : Trees) → AreNew db → Tables (empty_of limits) db
+new_tables : (limits : Limits) (db : Trees) → AreNew db → Tables (empty limits) db
 new_tables limits db new = record {
   about = new.about;
   incoming = record {
@@ -52,7 +52,7 @@ new_tables limits db new = record {
 not_both : (s : State) → s.now.schema ≡ office_schema → s.now.schema ≡ no_schema → ⊥
 not_both s ours none = not_empty (sym none ∙ ours)
 
-empty_at : (r : Register) (s : State) → IsEmpty s.now → IsAt r s → r ≡ empty_of r.limits
+empty_at : (r : Register) (s : State) → IsEmpty s.now → IsAt r s → r ≡ empty r.limits
 empty_at r s none at =
     elim at.content [
       | inl ours ↦ absurd (not_both s (same_schema s.now.schema s.now.trees ours.store at.sound) none)

@@ -1,10 +1,10 @@
--- A schema that is the office's part by part is the office's.
+-- A table that is as it is wanted field by field is the one that is wanted.
 use Rattle.std.proofs.Common.{◌≡◌, [], false, refl, sym, ap, subst, ◌∙◌}
-use Rattle.std.specs.Fmt.{digits}
 use Rattle.sqlite.specs.Table.{Table}
 use Rattle.sqlite_schema.specs.declared.schema.Stamps.{Stamps}
-use Rattle.oftp_tables.specs.Schema.{first_schema, office_schema}
-use Rattle.oftp_tables.specs.Shape.{AreAlike, HasNothingElse, first_shape, our_schema}
+use Rattle.oftp_tables.specs.InsideShape.{AreAlike, HasNothingElse, table_of}
+use Rattle.oftp_tables.specs.declared.wanted.Wanted.{Wanted}
+use Rattle.oftp_tables.specs.declared.wanted.Wanted.TheVariants.{Numbered, Rows}
 
 stamps_same : (s : Stamps) → s.places ≡ [] → s.terms ≡ [] → s.formats ≡ [] → s ≡ record { places = []; terms = []; formats = [] }
 stamps_same s p t f =
@@ -30,20 +30,16 @@ table_same t u a e =
 alike : (t : Table) → HasNothingElse t → AreAlike t t
 alike t e = record { name = refl; tree = refl; columns = refl; key = refl; primary = refl; uniques = refl; orders = refl; references = refl; nothing_else = e }
 
-pub nothing : (t : Table) → t.checks ≡ [] → t.computed ≡ [] → t.stamps ≡ record { places = []; terms = []; formats = [] } → t.is_counted ≡ false → HasNothingElse t
+nothing : (t : Table) → t.checks ≡ [] → t.computed ≡ [] → t.stamps ≡ record { places = []; terms = []; formats = [] } → t.is_counted ≡ false → HasNothingElse t
 nothing t c d s n =
     record { checks = c; computed = d; places = ap (λ (x : Stamps). x.places) s; terms = ap (λ (x : Stamps). x.terms) s; formats = ap (λ (x : Stamps). x.formats) s; counted = n }
+
+pub nothing_else : (wanted : Wanted) → HasNothingElse (table_of wanted)
+nothing_else (Numbered name tree columns unique parent) = nothing _ refl refl refl refl
+nothing_else (Rows name tree parent) = nothing _ refl refl refl refl
 
 pub alike_then : (t u : Table) → HasNothingElse u → AreAlike t u → t ≡ u
 alike_then t u e a = table_same t u a e
 
 pub same_then : (t u : Table) → HasNothingElse u → t ≡ u → AreAlike t u
 same_then t u e is = subst (λ x. AreAlike x u) (sym is) (alike u e)
-
-pub ours_is : our_schema ≡ office_schema
-unfolding digits
-ours_is = refl
-
-pub first_is : first_shape ≡ first_schema
-unfolding digits
-first_is = refl

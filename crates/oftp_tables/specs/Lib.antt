@@ -1,5 +1,5 @@
 pub mod Schema
-pub mod Shape
+pub mod InsideShape
 pub mod Transactions
 pub mod Making
 pub mod Tables

@@ -1,7 +1,7 @@
 -- How the tables are made.
 use Rattle.std.specs.Prelude.{◌≡◌, ◌⊎◌, ◌+◌, ℕ, List, [], ◌∷◌, map, pos}
 use Rattle.std.specs.List.{AllByRecursion}
-use Rattle.sqlite.specs.declared.types.Value.TheVariants.{Null, Int}
+use Rattle.sqlite.specs.declared.types.Value.TheVariants.{Int}
 use Rattle.sqlite.specs.Order.{Row, column}
 use Rattle.sqlite.specs.Table.{Table}
 use Rattle.sqlite.specs.Tree.{Trees}
@@ -10,6 +10,7 @@ use Rattle.sqlite.specs.Change.{next_tree, KeepsRows}
 use Rattle.sqlite.specs.Effect.{Database, IsDatabase}
 use Rattle.sqlite.specs.State.{State}
 use Rattle.oftp_tables.specs.Schema.{about_tree, first_schema, in_file_tree, in_row_tree, issued_tree, no_schema, note_tree, office_schema, out_file_tree, out_row_tree, received_tree, schema_at}
+use Rattle.oftp_tables.specs.Tables.{about_row}
 
 -- so many tables are there
 abbrev pub HasTables : ℕ → Database → Type 0
@@ -27,13 +28,9 @@ pub record HasEmptyTables (n : ℕ) (db : Database) : Type 0 where
   pub has : HasTables n db
   pub empty : AllByRecursion (λ (t : Table). db.trees t.tree ≡ []) (schema_at n).tables
 
--- the row of `about`: the rowid, NULL for the column that is the rowid, and the schema
-abbrev pub about_row : ℕ → Row
-about_row schema = Int (pos 1) ∷ Null ∷ Int (pos schema) ∷ []
-
 -- `about` tells schema 2, and the other tables have no row
 pub record AreNew (db : Trees) : Type 0 where
-  pub about : db about_tree ≡ about_row 2 ∷ []
+  pub about : db about_tree ≡ about_row ∷ []
   pub in_files : db in_file_tree ≡ []
   pub in_rows : db in_row_tree ≡ []
   pub out_files : db out_file_tree ≡ []

@@ -5,12 +5,11 @@ use Rattle.sqlite.specs.Tree.{Trees}
 use Rattle.sqlite.specs.Effect.{Database, IsDatabase}
 use Rattle.oftp_register.specs.Register.{Register, Received}
 use Rattle.oftp_tables.specs.Schema.{about_tree, in_file_tree, in_row_tree, issued_tree, office_schema, out_file_tree, out_row_tree, received_tree}
-use Rattle.oftp_tables.specs.Making.{about_row}
-use Rattle.oftp_tables.specs.Tables.{HoldIncoming, HoldOutgoing, Tables, received_row, rows_from}
+use Rattle.oftp_tables.specs.Tables.{HoldIncoming, HoldOutgoing, Tables, about_row_of, received_row, rows_from}
 
 -- The tables of schema 1 stand for the register. They have no creator and no text of a received response.
 pub record FirstTables (r : Register) (db : Trees) : Type 0 where
-  pub about : db about_tree ≡ about_row 1 ∷ []
+  pub about : db about_tree ≡ about_row_of 1 ∷ []
   pub incoming : HoldIncoming r.incoming (db in_file_tree) (db in_row_tree) (db issued_tree)
   pub outgoing : HoldOutgoing r.outgoing (db out_file_tree) (db out_row_tree)
   pub received : db received_tree ≡ rows_from received_row 1 r.received

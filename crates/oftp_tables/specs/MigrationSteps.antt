@@ -9,8 +9,7 @@ use Rattle.oftp_register.specs.declared.entry.ResponseKind.{ResponseKind}
 use Rattle.oftp_register.specs.declared.entry.ResponseKind.TheVariants.{EndResponse, NegativeEndResponse}
 use Rattle.oftp_register.specs.Register.{Register, Received}
 use Rattle.oftp_tables.specs.Schema.{about_tree, note_tree, office_schema}
-use Rattle.oftp_tables.specs.Making.{about_row}
-use Rattle.oftp_tables.specs.Tables.{Tables, number_value}
+use Rattle.oftp_tables.specs.Tables.{Tables, about_row, about_row_of, number_value}
 use Rattle.oftp_tables.specs.Statements.{Others}
 use Rattle.oftp_tables.specs.Migration.{FirstTables, less_texts}
 
@@ -52,7 +51,7 @@ pub record AddsNotes (numbers : List Row) (old new : Database) : Type 0 where
 pub record SetsSchema (old new : Database) : Type 0 where
   pub schema : new.schema ≡ office_schema
   pub sound : IsDatabase new
-  pub about : old.trees about_tree ≡ about_row 1 ∷ [] → new.trees about_tree ≡ about_row 2 ∷ []
+  pub about : old.trees about_tree ≡ about_row_of 1 ∷ [] → new.trees about_tree ≡ about_row ∷ []
   pub others : Others about_tree old.trees new.trees
 
 -- The tables are those of schema 2, given the numbers of the negative responses.

@@ -1,12 +1,12 @@
 -- What a store stands for when it is opened.
-use Rattle.std.specs.Prelude.{◌≡◌, ◌≤◌, ◌⊎◌, [], false, IsTrue}
+use Rattle.std.specs.Prelude.{◌≡◌, ◌≤◌, ◌⊎◌, false, IsTrue}
 use Rattle.sqlite.specs.Tree.{Trees}
 use Rattle.sqlite.specs.View.{doubt}
 use Rattle.sqlite.specs.Effect.{Database, IsDatabase}
 use Rattle.sqlite.specs.State.{State, HasCleanDisk}
 use Rattle.sqlite_catalog.specs.Listing.{IsSound as IsSoundStore}
 use Rattle.oftp_vfile.specs.declared.format.Limits.{Limits}
-use Rattle.oftp_register.specs.Register.{Register}
+use Rattle.oftp_register.specs.Register.{Register, empty}
 use Rattle.oftp_register.specs.Soundness.{IsSound}
 use Rattle.oftp_tables.specs.declared.fault.StoreFault.{StoreFault}
 use Rattle.oftp_tables.specs.declared.fault.StoreFault.TheVariants.{WrongSchema}
@@ -15,13 +15,9 @@ use Rattle.oftp_tables.specs.Making.{HasFirst, HasOffice, IsAsBefore, IsEmpty}
 use Rattle.oftp_tables.specs.Migration.{FirstTables, less_texts}
 use Rattle.oftp_tables.specs.Stands.{Has, IsContentOf}
 
--- a register with no file and no response
-abbrev pub empty_of : Limits → Register
-empty_of limits = record { limits = limits; incoming = []; outgoing = []; received = [] }
-
 -- The content of a store is that of the register: its tables, or no table at all where it is empty.
 abbrev pub IsStoreOf : Register → Trees → Type 0
-IsStoreOf r db = IsContentOf db r ⊎ (IsSoundStore no_schema db × (r ≡ empty_of r.limits))
+IsStoreOf r db = IsContentOf db r ⊎ (IsSoundStore no_schema db × (r ≡ empty r.limits))
 
 -- an open connection, with nothing that isn't committed, over a store of the register
 pub record IsAt (r : Register) (s : State) : Type 0 where

@@ -72,8 +72,13 @@ sent_number Sent = 1
 abbrev pub number_value : ℕ → Value
 number_value n = Int (pos n)
 
+-- the row of `about`, which tells a schema
+abbrev pub about_row_of : ℕ → Row
+about_row_of schema = number_value 1 ∷ Null ∷ number_value schema ∷ []
+
+-- that of schema 2
 abbrev pub about_row : Row
-about_row = number_value 1 ∷ Null ∷ number_value 2 ∷ []
+about_row = about_row_of 2
 
 abbrev pub identity_values : Identity → Row
 identity_values it = Text it.dataset ∷ Text it.date ∷ Text it.time ∷ Text it.originator ∷ Text it.destination ∷ []

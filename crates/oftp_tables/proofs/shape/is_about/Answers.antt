@@ -1,6 +1,0 @@
-use Rattle.std.proofs.Common.{refl}
-use Rattle.oftp_tables.proofs.ShapeLemmas.{alike_then, same_then, nothing}
-use Rattle.oftp_tables.proofs.shape.is_about.Goals as goal
-
-pub returns : goal.returns
-returns c = (λ h. alike_then _ _ (nothing _ refl refl refl refl) (c.is_alike_about.ensures.0 h), λ e. c.is_alike_about.ensures.1 (same_then _ _ (nothing _ refl refl refl refl) e))
