@@ -1,6 +1,5 @@
 -- What the changes of one file by its number make of a register.
 use Rattle.std.proofs.Common.{◌≡◌, ◌≤◌, ◌+◌, ◌&&◌, ◌||◌, ℕ, zero, suc, nat_le, Bor, Bool, true, false, cond, List, [], ◌∷◌, ◌++◌, length, Option, Some, None, Result, Ok, Err, refl, sym, ap, subst, ◌∙◌, arith}
-use Rattle.std.specs.Bool.{then_some}
 use Rattle.std.specs.Option.{option_map}
 use Rattle.oftp_wire.specs.declared.field.Text.{Text as Words}
 use Rattle.oftp_register.specs.declared.change.Cause.{Cause}
@@ -13,23 +12,21 @@ use Rattle.oftp_register.specs.declared.entry.Dispatch.TheVariants.{Due, Sent}
 use Rattle.oftp_register.specs.declared.entry.IncomingState.{IncomingState}
 use Rattle.oftp_register.specs.declared.entry.IncomingState.TheVariants.{Open, Whole}
 use Rattle.oftp_register.specs.declared.entry.OutgoingState.{OutgoingState}
+use Rattle.oftp_register.specs.declared.entry.OutgoingState.TheVariants.{Closing, Handed, Refused, Waiting}
 use Rattle.oftp_register.specs.declared.entry.ResponseKind.{ResponseKind}
 use Rattle.oftp_register.specs.Register.{Register, Incoming, Issued, Outgoing}
 use Rattle.oftp_register.specs.Changes.{apply, at_number, closed, closing, given_up, handed, if_open, if_unanswered, is_closing, is_waiting, issued, issued_on, kept, mapped, marked, on_incoming, on_outgoing, refused, reopened, sent, sent_as, sent_of}
 use Rattle.oftp_register.specs.LookUps.{entry_at}
 use Rattle.oftp_tables.proofs.SpotLemmas.{Spot, changed_past, changed_there, past, spot, there, zeroth}
-use Rattle.oftp_store.specs.Commits.{NeedsFile}
-use Rattle.oftp_store.specs.Edits.{AreEdited, IsDone, more}
-use Rattle.oftp_store.specs.Fates.{change_of, set_by}
+use Rattle.oftp_store.specs.Edits.{AreEdited, IsDone, more, outgoing_edit}
 use Rattle.oftp_store.specs.FileProgress.{dispatch_of, incoming_progress_of, incoming_told, is_answerable, is_answerable_in, is_due_response, is_open, is_open_file, is_sendable, is_unanswered, outgoing_progress_of, outgoing_told, response_progress_of, response_told}
 use Rattle.oftp_store.specs.Reads.{IsPlaced, IsToldOf}
 use Rattle.oftp_store.specs.declared.changes.edit.Edit.{Edit}
 use Rattle.oftp_store.specs.declared.changes.edit.Deed.{Deed}
-use Rattle.oftp_store.specs.declared.changes.edit.Deed.TheVariants.{AddIssued, AddRows, CutRows, SetOutgoing, SetSent, SetWhole}
-use Rattle.oftp_store.specs.declared.changes.outgoing.Fate.{Fate}
-use Rattle.oftp_store.specs.declared.changes.outgoing.Fate.TheVariants.{BeginClosing, HandOver, Mark, Refuse, Reopen}
+use Rattle.oftp_store.specs.declared.changes.edit.Deed.TheVariants.{AddIssued, AddRows, CutRows, SetSent, SetWhole}
 use Rattle.oftp_store.specs.declared.queries.progress.OutgoingProgress.{OutgoingProgress}
-use Rattle.oftp_store.proofs.CommitLemmas.{IsMadeBy, IsMadeIf, IsOfFile}
+use Rattle.oftp_store.specs.declared.queries.progress.ResponseProgress.{ResponseProgress}
+use Rattle.oftp_store.proofs.CommitLemmas.{IsMadeIf, IsOfFile}
 use Rattle.oftp_store.proofs.NumberLemmas.{entry_placed}
 
 -- ---- the entry with a number
@@ -51,42 +48,54 @@ at_known g k xs before x after placed =
     let number : k ≡ suc (length before) = omega (arith, placed.number) in
     ap (λ m. at_number g m xs) number ∙ ap (at_number g (suc (length before))) placed.here ∙ changed_there g before x after
 
--- ---- the changes of an incoming file
-
-in_placed : (g : Incoming → Result Incoming Cause) (n : ℕ) (r : Register) (before : List Incoming) (f : Incoming) (after : List Incoming) (out : Result Incoming Cause)
-    → IsPlaced r.incoming n before f after → g f ≡ out
-    → on_incoming g n r ≡ mapped (λ files. let s : Register = record r { incoming = files } in s) (mapped (λ y. before ++ y ∷ after) out)
-in_placed g n r before f after out placed is =
-    ap (mapped (λ files. let s : Register = record r { incoming = files } in s)) (at_known g n r.incoming before f after placed ∙ ap (mapped (λ y. before ++ y ∷ after)) is)
+-- ---- the changes of one file by its number
 
 -- a change of one file is made of it by these edits where that is allowed, and is refused else
-record IsMadeOf (g : Incoming → Result Incoming Cause) (allowed : Bool) (edits : List Edit) (r : Register) (before : List Incoming) (f : Incoming) (after : List Incoming) : Type 0 where
-  now : Incoming
+record IsMadeOf {X : Type 0} (with_entries : Register → List X → Register) (g : X → Result X Cause) (allowed : Bool) (edits : List Edit) (r : Register) (before : List X) (f : X)
+    (after : List X) : Type 0 where
+  now : X
   is : g f ≡ cond allowed (Ok now) (Err Unfit)
-  edited : allowed ≡ true → AreEdited edits r (record r { incoming = before ++ now ∷ after })
+  edited : allowed ≡ true → AreEdited edits r (with_entries r (before ++ now ∷ after))
 
 -- so it is the change of the register
-module _ {A : Type 0} (tells : Incoming → A) (g : Incoming → Result Incoming Cause) (fits : A → Bool) (edits : A → List Edit) (n : ℕ) (k : Change)
-    (applies : (r : Register) → apply r k ≡ on_incoming g n r)
-    (makes : (r : Register) (before : List Incoming) (f : Incoming) (after : List Incoming) → IsPlaced r.incoming n before f after
-    → IsMadeOf g (fits (tells f)) (edits (tells f)) r before f after) where
-  made_in : (r : Register) (before : List Incoming) (f : Incoming) (after : List Incoming) → IsPlaced r.incoming n before f after → (allowed : Bool) (edits : List Edit)
-      → IsMadeOf g allowed edits r before f after → IsMadeIf allowed edits r k
-  made_in r before f after placed true edits made =
-      record { now = record r { incoming = before ++ made.now ∷ after }; is = applies r ∙ in_placed g n r before f after (Ok made.now) placed made.is; limits = refl; edited = made.edited }
-  made_in r before f after placed false edits made =
-      record { now = record r { incoming = before ++ made.now ∷ after }; is = applies r ∙ in_placed g n r before f after (Err Unfit) placed made.is; limits = refl; edited = made.edited }
+module _ {X A : Type 0} (entries : Register → List X) (with_entries : Register → List X → Register) (same : (r : Register) (xs : List X) → (with_entries r xs).limits ≡ r.limits)
+    (tells : X → A) (g : X → Result X Cause) (fits : A → Bool) (edits : A → List Edit) (n : ℕ) (k : Change)
+    (applies : (r : Register) → apply r k ≡ mapped (with_entries r) (at_number g n (entries r)))
+    (makes : (r : Register) (before : List X) (f : X) (after : List X) → IsPlaced (entries r) n before f after
+    → IsMadeOf with_entries g (fits (tells f)) (edits (tells f)) r before f after) where
+  made_there : (r : Register) (before : List X) (f : X) (after : List X) (out : Result X Cause) → IsPlaced (entries r) n before f after → g f ≡ out
+      → apply r k ≡ mapped (with_entries r) (mapped (λ y. before ++ y ∷ after) out)
+  made_there r before f after out placed is =
+      applies r ∙ ap (mapped (with_entries r)) (at_known g n (entries r) before f after placed ∙ ap (mapped (λ y. before ++ y ∷ after)) is)
 
-  known_in : (r : Register) (file : A) → IsToldOf tells r.incoming n (Some file) → IsMadeIf (fits file) (edits file) r k
+  made_in : (r : Register) (before : List X) (f : X) (after : List X) → IsPlaced (entries r) n before f after → (allowed : Bool) (edits : List Edit)
+      → IsMadeOf with_entries g allowed edits r before f after → IsMadeIf allowed edits r k
+  made_in r before f after placed true edits made =
+      let now : Register = with_entries r (before ++ made.now ∷ after) in
+      record { now = now; is = made_there r before f after (Ok made.now) placed made.is; limits = same r _; edited = made.edited }
+  made_in r before f after placed false edits made =
+      let now : Register = with_entries r (before ++ made.now ∷ after) in
+      record { now = now; is = made_there r before f after (Err Unfit) placed made.is; limits = same r _; edited = made.edited }
+
+  known_in : (r : Register) (file : A) → IsToldOf tells (entries r) n (Some file) → IsMadeIf (fits file) (edits file) r k
   known_in r file (before, f, after, placed, told) =
       subst (λ (file : A). IsMadeIf (fits file) (edits file) r k) (sym told)
       (made_in r before f after placed (fits (tells f)) (edits (tells f)) (makes r before f after placed))
 
-  is_of_incoming : IsOfFile (λ r n found. IsToldOf tells r.incoming n found) fits edits n k
-  is_of_incoming = record {
-    unknown = λ r none. applies r ∙ ap (mapped (λ files. let s : Register = record r { incoming = files } in s)) (at_unknown g n r.incoming none);
-    known = known_in;
-  }
+  is_of_file : IsOfFile (λ r n found. IsToldOf tells (entries r) n found) fits edits n k
+  is_of_file = record { unknown = λ r sound none. applies r ∙ ap (mapped (with_entries r)) (at_unknown g n (entries r) none); known = λ r file sound. known_in r file }
+
+-- ---- the changes of an incoming file
+
+abbrev with_incoming : Register → List Incoming → Register
+with_incoming r files = record r { incoming = files }
+
+is_of_incoming : {A : Type 0} (tells : Incoming → A) (g : Incoming → Result Incoming Cause) (fits : A → Bool) (edits : A → List Edit) (n : ℕ) (k : Change)
+    → ((r : Register) → apply r k ≡ on_incoming g n r)
+    → ((r : Register) (before : List Incoming) (f : Incoming) (after : List Incoming) → IsPlaced r.incoming n before f after
+    → IsMadeOf with_incoming g (fits (tells f)) (edits (tells f)) r before f after)
+    → IsOfFile (λ r n found. IsToldOf tells r.incoming n found) fits edits n k
+is_of_incoming tells g fits edits n k applies makes = is_of_file (λ r. r.incoming) with_incoming (λ r files. refl) tells g fits edits n k applies makes
 
 -- more of an open file is awaited
 
@@ -156,6 +165,11 @@ give_up_is n =
 
 -- ---- the response to an incoming file
 
+-- what is told of it in a sound register alone
+is_of_answered : (fits : ResponseProgress → Bool) (edits : ResponseProgress → List Edit) (n : ℕ) (k : Change)
+    → IsOfFile (λ r n found. IsToldOf response_progress_of r.incoming n found) fits edits n k → IsOfFile response_told fits edits n k
+is_of_answered fits edits n k is = record { unknown = λ r sound none. is.unknown r sound (none sound); known = λ r file sound told. is.known r file sound (told sound) }
+
 -- it is issued
 abbrev pub issued_of : ℕ → ResponseKind → ℕ → Bor Words → Edit
 issued_of n kind reason text = record { no = n; deed = AddIssued kind reason text }
@@ -164,11 +178,12 @@ pub issue_is : (n : ℕ) (kind : ResponseKind) (reason : ℕ) (text : Bor Words)
     → IsOfFile response_told is_answerable (λ file. issued_of n kind reason text ∷ []) n (change.Issue n kind reason text.now)
 unfolding apply
 issue_is n kind reason text =
-    is_of_incoming response_progress_of (issued x) is_answerable (λ file. issued_of n kind reason text ∷ []) n (change.Issue n kind reason text.now) (λ r. refl) (λ r before f after placed. record {
+    is_of_answered is_answerable (λ file. issued_of n kind reason text ∷ []) n (change.Issue n kind reason text.now)
+    (is_of_incoming response_progress_of (issued x) is_answerable (λ file. issued_of n kind reason text ∷ []) n (change.Issue n kind reason text.now) (λ r. refl) (λ r before f after placed. record {
       now = record f { response = Some x };
       is = answers f f.state;
       edited = λ h. (_, record { before = before; file = f; after = after; here = placed.here; number = placed.number; was = unanswered f.state f.response h; now = refl }, refl);
-    })
+    }))
   where
     x : Issued
     x = record { kind = kind; reason = reason; text = text.now; dispatch = Due }
@@ -194,7 +209,8 @@ sent_edit n = record { no = n; deed = SetSent }
 pub send_is : (n : ℕ) → IsOfFile response_told is_sendable (λ file. sent_edit n ∷ []) n (change.Send n)
 unfolding apply
 send_is n =
-    is_of_incoming response_progress_of sent is_sendable (λ file. sent_edit n ∷ []) n (change.Send n) (λ r. refl) (λ r before f after placed. record {
+    is_of_answered is_sendable (λ file. sent_edit n ∷ []) n (change.Send n)
+    (is_of_incoming response_progress_of sent is_sendable (λ file. sent_edit n ∷ []) n (change.Send n) (λ r. refl) (λ r before f after placed. record {
       now = record f { response = option_map sent_now f.response };
       is = sends f f.response;
       edited = λ h. let x = issued_is f.response h in (
@@ -213,7 +229,7 @@ send_is n =
         ),
         refl,
       );
-    })
+    }))
   where
     sent_now : Issued → Issued
     sent_now x = record x { dispatch = Sent }
@@ -231,70 +247,44 @@ send_is n =
     issued_is None h = absurd (let no_such = h in cc)
     issued_is (Some x) h = (x, refl)
 
--- ---- what becomes of an outgoing file
+-- ---- the changes of an outgoing file
 
-out_placed : (g : Outgoing → Result Outgoing Cause) (n : ℕ) (r : Register) (before : List Outgoing) (f : Outgoing) (after : List Outgoing) (out : Result Outgoing Cause)
-    → IsPlaced r.outgoing n before f after → g f ≡ out
-    → on_outgoing g n r ≡ mapped (λ files. let s : Register = record r { outgoing = files } in s) (mapped (λ y. before ++ y ∷ after) out)
-out_placed g n r before f after out placed is =
-    ap (mapped (λ files. let s : Register = record r { outgoing = files } in s)) (at_known g n r.outgoing before f after placed ∙ ap (mapped (λ y. before ++ y ∷ after)) is)
+abbrev with_outgoing : Register → List Outgoing → Register
+with_outgoing r files = record r { outgoing = files }
 
--- what the register makes of a file
-abbrev made_of : Fate → Outgoing → Result Outgoing Cause
-made_of (Mark rows) = marked rows
-made_of BeginClosing = closing
-made_of HandOver = handed
-made_of (Refuse reason) = refused reason
-made_of Reopen = reopened
-
-applies_to : (fate : Fate) (n : ℕ) (r : Register) → apply r (change_of fate n) ≡ on_outgoing (made_of fate) n r
-unfolding apply
-applies_to (Mark rows) n r = refl
-applies_to BeginClosing n r = refl
-applies_to HandOver n r = refl
-applies_to (Refuse reason) n r = refl
-applies_to Reopen n r = refl
-
--- a file with this mark and this state, or the refusal
-abbrev file_by : Outgoing → Option (ℕ × OutgoingState) → Result Outgoing Cause
-file_by f None = Err Unfit
-file_by f (Some to) = Ok (record f { mark = to.0; state = to.1 })
-
-made_by : (fate : Fate) (f : Outgoing) → made_of fate f ≡ file_by f (set_by (outgoing_progress_of f) fate)
-made_by fate f = go fate
-  where
-    by : (b : Bool) (to : ℕ × OutgoingState) → cond b (Ok (record f { mark = to.0; state = to.1 })) (Err Unfit) ≡ file_by f (then_some b to)
-    by true to = refl
-    by false to = refl
-
-    go : (fate : Fate) → made_of fate f ≡ file_by f (set_by (outgoing_progress_of f) fate)
-    go (Mark rows) = by (is_waiting f.state && nat_le rows (length f.rows)) (rows, f.state)
-    go BeginClosing = by (is_waiting f.state) _
-    go HandOver = by (is_closing f.state) _
-    go (Refuse reason) = by (is_waiting f.state || is_closing f.state) _
-    go Reopen = by (is_closing f.state) _
-
-pub fate_needs : (fate : Fate) (n : ℕ) → NeedsFile outgoing_told n (change_of fate n)
-fate_needs fate n = record {
-  unknown = λ r none. applies_to fate n r ∙ ap (mapped (λ files. let s : Register = record r { outgoing = files } in s)) (at_unknown (made_of fate) n r.outgoing none);
-}
-
-pub fate_refused : (fate : Fate) (n : ℕ) (r : Register) (file : OutgoingProgress) → outgoing_told r n (Some file) → None ≡ set_by file fate → apply r (change_of fate n) ≡ Err Unfit
-fate_refused fate n r file (before, f, after, placed, told) none =
-    applies_to fate n r ∙ out_placed (made_of fate) n r before f after (Err Unfit) placed (made_by fate f ∙ ap (file_by f) (ap (λ file. set_by file fate) (sym told) ∙ sym none))
-
--- mark and state of a file
-abbrev pub set : ℕ → ℕ → OutgoingState → Edit
-set n mark to = record { no = n; deed = SetOutgoing mark to }
-
-pub fate_made : (fate : Fate) (n : ℕ) (r : Register) (file : OutgoingProgress) (mark : ℕ) (to : OutgoingState) → outgoing_told r n (Some file) → Some (mark, to) ≡ set_by file fate
-    → IsMadeBy (set n mark to ∷ []) r (change_of fate n)
-fate_made fate n r file mark to (before, f, after, placed, told) is =
-    let h : Outgoing = record f { mark = mark; state = to } in
-    let s : Register = record r { outgoing = before ++ h ∷ after } in
+-- a change of one that sets its mark and its state, where what is told of it fits
+is_of_outgoing : (g : Outgoing → Result Outgoing Cause) (fits : OutgoingProgress → Bool) (mark : OutgoingProgress → ℕ) (to : OutgoingProgress → OutgoingState) (n : ℕ) (k : Change)
+    → ((r : Register) → apply r k ≡ on_outgoing g n r)
+    → ((f : Outgoing) → (let file = outgoing_progress_of f in g f ≡ cond (fits file) (Ok (record f { mark = mark file; state = to file })) (Err Unfit)))
+    → IsOfFile outgoing_told fits (λ file. outgoing_edit n (mark file) (to file) ∷ []) n k
+is_of_outgoing g fits mark to n k applies makes =
+    is_of_file (λ r. r.outgoing) with_outgoing (λ r files. refl) outgoing_progress_of g fits (λ file. outgoing_edit n (mark file) (to file) ∷ []) n k applies (λ r before f after placed.
+    let file = outgoing_progress_of f in
     record {
-      now = s;
-      is = applies_to fate n r ∙ out_placed (made_of fate) n r before f after (Ok h) placed (made_by fate f ∙ ap (file_by f) (ap (λ file. set_by file fate) (sym told) ∙ sym is));
-      limits = refl;
-      edited = (s, record { before = before; file = f; after = after; here = placed.here; number = placed.number; was = tt; now = refl }, refl);
-    }
+      now = record f { mark = mark file; state = to file };
+      is = makes f;
+      edited = λ h. (_, record { before = before; file = f; after = after; here = placed.here; number = placed.number; was = tt; now = refl }, refl);
+    })
+
+pub mark_is : (n rows : ℕ) → IsOfFile outgoing_told (λ file. is_waiting file.state && nat_le rows file.rows) (λ file. outgoing_edit n rows file.state ∷ []) n (change.Mark n rows)
+unfolding apply
+mark_is n rows =
+    is_of_outgoing (marked rows) (λ file. is_waiting file.state && nat_le rows file.rows) (λ file. rows) (λ file. file.state) n (change.Mark n rows) (λ r. refl) (λ f. refl)
+
+pub begin_closing_is : (n : ℕ) → IsOfFile outgoing_told (λ file. is_waiting file.state) (λ file. outgoing_edit n file.mark Closing ∷ []) n (change.BeginClosing n)
+unfolding apply
+begin_closing_is n = is_of_outgoing closing (λ file. is_waiting file.state) (λ file. file.mark) (λ file. Closing) n (change.BeginClosing n) (λ r. refl) (λ f. refl)
+
+pub hand_over_is : (n : ℕ) → IsOfFile outgoing_told (λ file. is_closing file.state) (λ file. outgoing_edit n file.mark Handed ∷ []) n (change.HandOver n)
+unfolding apply
+hand_over_is n = is_of_outgoing handed (λ file. is_closing file.state) (λ file. file.mark) (λ file. Handed) n (change.HandOver n) (λ r. refl) (λ f. refl)
+
+pub refuse_is : (n reason : ℕ)
+    → IsOfFile outgoing_told (λ file. is_waiting file.state || is_closing file.state) (λ file. outgoing_edit n file.mark (Refused reason) ∷ []) n (change.Refuse n reason)
+unfolding apply
+refuse_is n reason =
+    is_of_outgoing (refused reason) (λ file. is_waiting file.state || is_closing file.state) (λ file. file.mark) (λ file. Refused reason) n (change.Refuse n reason) (λ r. refl) (λ f. refl)
+
+pub reopen_is : (n : ℕ) → IsOfFile outgoing_told (λ file. is_closing file.state) (λ file. outgoing_edit n 0 Waiting ∷ []) n (change.Reopen n)
+unfolding apply
+reopen_is n = is_of_outgoing reopened (λ file. is_closing file.state) (λ file. 0) (λ file. Waiting) n (change.Reopen n) (λ r. refl) (λ f. refl)

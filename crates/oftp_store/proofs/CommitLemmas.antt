@@ -151,7 +151,7 @@ ends_failed limits Needs old new fault looks change needs = commits_failed limit
 
 pub ends_unknown : {A B : Type 0} (limits : Limits) (told : Register → ℕ → Option A → Type 0) (n : ℕ) (old new : State) (x : B) → Looks old new (Ok x)
     → (HasCleanDisk new → Stands limits old → told (register_in limits old.now.trees) n None) → EndsCommit limits (NeedsFile told n) old new (Refused Unknown)
-ends_unknown limits told n old new x looks none change needs = commits_refused limits change old new x Unknown looks (λ k stands. needs.unknown _ (none k stands))
+ends_unknown limits told n old new x looks none change needs = commits_refused limits change old new x Unknown looks (λ k stands. needs.unknown _ stands.holds.sound (none k stands))
 
 -- no file has a number from 2^63 on, and such a change is refused with no look at the database
 pub ends_beyond : {A : Type 0} (limits : Limits) (told : Register → ℕ → Option A → Type 0) (n : ℕ) (s : State)
@@ -160,7 +160,7 @@ ends_beyond limits told n s none change needs = record {
   clean = omega arith;
   mode = λ m. m;
   done = λ clean stands fit. tt;
-  refused = λ clean stands. (needs.unknown _ (none _ s.now.trees stands.holds.tables), stands);
+  refused = λ clean stands. (needs.unknown _ stands.holds.sound (none _ s.now.trees stands.holds.tables), stands);
   same = λ clean stands was_open. refl;
   left = λ clean stands fit db there. inl there;
 }
@@ -169,7 +169,7 @@ ends_beyond limits told n s none change needs = record {
 pub ends_unfit : {A : Type 0} (limits : Limits) (told : Register → ℕ → Option A → Type 0) (fits : A → Bool) (n : ℕ) (old new : State) (file : A) (allowed : Bool) (fault : OfficeFault)
     → Finds told n old new file → allowed ≡ fits file → (allowed ≡ false) × (fault ≡ Refused Unfit) → EndsCommit limits (NeedsFit told fits n) old new fault
 ends_unfit limits told fits n old new file allowed fault finds tested unfit change needs =
-    rw unfit.1 (commits_refused limits change old new (Some file) Unfit finds.looks (λ k stands. needs.unfit _ file (finds.answer k limits stands) (sym tested ∙ unfit.0)))
+    rw unfit.1 (commits_refused limits change old new (Some file) Unfit finds.looks (λ k stands. needs.unfit _ file stands.holds.sound (finds.answer k limits stands) (sym tested ∙ unfit.0)))
 
 pub ends_unfound : {A : Type 0} (limits : Limits) (told : Register → ℕ → Option A → Type 0) (fits : A → Bool) (n : ℕ) (old new : State) (fault : OfficeFault)
     → EndsCommit limits (NeedsFile told n) old new fault → EndsCommit limits (NeedsFit told fits n) old new fault
@@ -301,8 +301,8 @@ commits_by g edits limits change old mid new x result looks by makes = commits_w
 
 -- a change of the file with a number is made by these edits of what is told of it, where that fits, and is refused else
 pub record IsOfFile {A : Type 0} (told : Register → ℕ → Option A → Type 0) (fits : A → Bool) (edits : A → List Edit) (n : ℕ) (change : Change) : Type 0 where
-  pub unknown : (r : Register) → told r n None → apply r change ≡ Err Unknown
-  pub known : (r : Register) (file : A) → told r n (Some file) → IsMadeIf (fits file) (edits file) r change
+  pub unknown : (r : Register) → IsSound r → told r n None → apply r change ≡ Err Unknown
+  pub known : (r : Register) (file : A) → IsSound r → told r n (Some file) → IsMadeIf (fits file) (edits file) r change
 
 pub needs_file : {A : Type 0} (told : Register → ℕ → Option A → Type 0) (fits : A → Bool) (edits : A → List Edit) (n : ℕ) (change : Change) → IsOfFile told fits edits n change
     → NeedsFile told n change
@@ -312,19 +312,36 @@ pub needs_fit : {A : Type 0} (told : Register → ℕ → Option A → Type 0) (
     → NeedsFit told fits n change
 needs_fit told fits edits n change is = record {
   unknown = is.unknown;
-  unfit = λ r file here unfit. let m = is.known r file here in m.is ∙ ap (λ b. cond b (Ok m.now) (Err Unfit)) unfit;
+  unfit = λ r file sound here unfit. let m = is.known r file sound here in m.is ∙ ap (λ b. cond b (Ok m.now) (Err Unfit)) unfit;
 }
-
-pub commits_unfit : {A : Type 0} (limits : Limits) (told : Register → ℕ → Option A → Type 0) (fits : A → Bool) (edits : A → List Edit) (n : ℕ) (change : Change) (old new : State)
-    (file : A) (allowed : Bool) (fault : OfficeFault) → IsOfFile told fits edits n change → Finds told n old new file → allowed ≡ fits file → (allowed ≡ false) × (fault ≡ Refused Unfit)
-    → CommitsOn {T = Unit {0}} limits change old new (Err fault)
-commits_unfit limits told fits edits n change old new file allowed fault is finds tested unfit =
-    ends_unfit limits told fits n old new file allowed fault finds tested unfit change (needs_fit told fits edits n change is)
 
 pub commits_fit : {S A : Type 0} (g : Ghosts S) (told : Register → ℕ → Option A → Type 0) (fits : A → Bool) (edits : A → List Edit) (n : ℕ) (limits : Limits) (change : Change)
     (old mid new : Held S) (file : A) (result : Result (Unit {0}) OfficeFault) → IsOfFile told fits edits n change → Finds told n (state g old) (state g mid) file → fits file ≡ true
     → MakesEdits (edits file) g mid new result → CommitsOn limits change (state g old) (state g new) result
 commits_fit g told fits edits n limits change old mid new file result is finds fit makes =
     commits_by g (edits file) limits change old mid new (Some file) result finds.looks (λ k stands.
-    let m = is.known _ file (finds.answer k limits stands) in
+    let m = is.known _ file stands.holds.sound (finds.answer k limits stands) in
     record { now = m.now; is = m.is ∙ ap (λ b. cond b (Ok m.now) (Err Unfit)) fit; limits = m.limits; edited = m.edited fit }) makes
+
+-- how such a change ends: with the fault of the look-up, or that there is no such file; with that of look-up and test in one; with the refusal of a file that
+-- doesn't fit; with its edits
+
+pub passed_unfound : {A : Type 0} {limits : Limits} {told : Register → ℕ → Option A → Type 0} {fits : A → Bool} {edits : A → List Edit} {n : ℕ} {change : Change} {old new : State}
+    {fault : OfficeFault} {result : Result (Unit {0}) OfficeFault} → IsOfFile told fits edits n change → EndsCommit limits (NeedsFile told n) old new fault
+    → IsErrAnd result (λ (x : OfficeFault). x ≡ fault) → CommitsOn limits change old new result
+passed_unfound {fault = fault} is ends passed = passed_on _ _ _ _ fault _ passed (ends _ (needs_file _ _ _ _ _ is))
+
+pub passed_unopened : {A : Type 0} {limits : Limits} {told : Register → ℕ → Option A → Type 0} {fits : A → Bool} {edits : A → List Edit} {n : ℕ} {change : Change} {old new : State}
+    {fault : OfficeFault} {result : Result (Unit {0}) OfficeFault} → IsOfFile told fits edits n change → EndsCommit limits (NeedsFit told fits n) old new fault
+    → IsErrAnd result (λ (x : OfficeFault). x ≡ fault) → CommitsOn limits change old new result
+passed_unopened {fault = fault} is ends passed = passed_on _ _ _ _ fault _ passed (ends _ (needs_fit _ _ _ _ _ is))
+
+pub passed_unfit : {A : Type 0} {limits : Limits} {told : Register → ℕ → Option A → Type 0} {fits : A → Bool} {edits : A → List Edit} {n : ℕ} {change : Change} {old new : State} {file : A}
+    {allowed : Bool} {fault : OfficeFault} {result : Result (Unit {0}) OfficeFault} → IsOfFile told fits edits n change → Finds told n old new file → allowed ≡ fits file
+    → (allowed ≡ false) × (fault ≡ Refused Unfit) → IsErrAnd result (λ (x : OfficeFault). x ≡ fault) → CommitsOn limits change old new result
+passed_unfit {fault = fault} is finds tested unfit passed = passed_on _ _ _ _ fault _ passed (ends_unfit _ _ _ _ _ _ _ _ fault finds tested unfit _ (needs_fit _ _ _ _ _ is))
+
+pub commits_allowed : {S A : Type 0} {g : Ghosts S} {told : Register → ℕ → Option A → Type 0} {fits : A → Bool} {edits : A → List Edit} {n : ℕ} {limits : Limits} {change : Change}
+    {mid new : Held S} {file : A} {allowed : Bool} {result : Result (Unit {0}) OfficeFault} (old : Held S) → IsOfFile told fits edits n change
+    → Finds told n (state g old) (state g mid) file → allowed ≡ fits file → allowed ≡ true → MakesEdits (edits file) g mid new result → CommitsOn limits change (state g old) (state g new) result
+commits_allowed {g = g} {mid = mid} {new = new} old is finds tested fit makes = commits_fit g _ _ _ _ _ _ old mid new _ _ is finds (sym tested ∙ fit) makes

@@ -22,6 +22,7 @@ mod LoopLemmas
 mod PageLemmas
 mod OfficeLemmas
 mod OpenLemmas
+mod BlankLemmas
 mod AllocationLemmas
 mod SubmissionLemmas
 mod BeginningLemmas

@@ -53,8 +53,8 @@ looks_up says limits m n old new result alone looks tells counts = record {
   clean = λ k. omega (arith, looks.clean, k);
   answer = λ k stands. IfOk-weaker result _ _ (λ x told. told (register_in limits old.now.trees) stands.holds.tables stands.holds.sound) (tells k stands.holds.schema);
   stays = λ k stands. on_ok_weaker result (stands_same limits old new stands) (looks.same k stands.holds.schema);
-  register = λ k stands now. ap (λ (d : Database). register_in limits d.trees) (same_now limits old new result stands (looks.same k stands.holds.schema)
-      (looks.failed k stands.holds.schema) now.is_open);
+  register = λ k stands is_open. ap (λ (d : Database). register_in limits d.trees) (same_now limits old new result stands (looks.same k stands.holds.schema)
+      (looks.failed k stands.holds.schema) is_open);
   left = λ k stands db h. alone stands db (looks.left k stands.holds.schema db h);
   unrefused = looks.unrefused;
   counts = counts;
@@ -80,7 +80,7 @@ looks_nowhere says limits m s x alone told = record {
   clean = λ k. k;
   answer = λ k stands. told stands;
   stays = λ k stands. stands;
-  register = λ k stands now. refl;
+  register = λ k stands is_open. refl;
   left = λ k stands. alone stands;
   unrefused = tt;
   counts = refl;
@@ -93,7 +93,7 @@ commits limits change m n old new result alone made counts = record {
   clean = λ k. omega (arith, made.clean, k);
   done = made.done;
   refused = made.refused;
-  same = λ k stands. on_err_weaker result (λ same (now : Stands limits new). same now.is_open) (made.same k stands);
+  same = made.same;
   left = λ k stands fit db h. elim (made.left k stands fit db h) [ inl before ↦ inl (alone stands db before) | inr after ↦ inr after ];
   counts = counts;
 }

@@ -1,20 +1,33 @@
 -- What the opening of an office makes of the store of a register, in memory or in files.
-use Rattle.std.proofs.Common.{◌≡◌, ◌↔◌, ◌∙◌, IsTrue, Result, Ok, Err, inl, inr, sym, ap, subst, arith}
+use Rattle.std.proofs.Common.{◌≡◌, ◌≤◌, ◌↔◌, ◌∙◌, IsTrue, [], Result, Ok, Err, IfErr, inl, inr, refl, sym, ap, subst, arith}
+use Rattle.std.specs.Result.{IsErrAnd}
+use Rattle.std.proofs.lemmas.Result.{err_from_is_err_and}
 use Rattle.sqlite.specs.Tree.{Trees}
 use Rattle.sqlite.specs.Schema.{Schema}
 use Rattle.sqlite.specs.Effect.{Database, IsDatabase}
+use Rattle.sqlite.specs.Files.{HoldsDatabase}
+use Rattle.sqlite.specs.Recovery.{Image}
 use Rattle.sqlite.specs.State.{State, HasCleanDisk, IsLive}
 use Rattle.sqlite.specs.State as connection
 use Rattle.sqlite_catalog.specs.Listing.{IsSound}
+use Rattle.sqlite_trees.specs.declared.store.Store.{Ghosts}
 use Rattle.oftp_vfile.specs.declared.format.Limits.{Limits}
-use Rattle.oftp_register.specs.Register.{Register}
+use Rattle.oftp_register.specs.declared.fit.TheConstants.{MOST_FILES, MOST_OCTETS}
+use Rattle.oftp_register.specs.Register.{Register, empty}
+use Rattle.oftp_register.specs.Soundness.{IsSound as IsSoundRegister}
+use Rattle.oftp_register.proofs.EmptyLemmas.{sound_empty}
 use Rattle.oftp_tables.specs.declared.fault.StoreFault.{StoreFault}
+use Rattle.oftp_tables.specs.declared.fault.StoreFault.TheVariants.{WrongSchema}
 use Rattle.oftp_tables.specs.Schema.{first_schema, no_schema, office_schema}
-use Rattle.oftp_tables.specs.Making.{about_told}
+use Rattle.oftp_tables.specs.Making.{HasFirst, HasOffice, IsEmpty, about_told}
+use Rattle.oftp_tables.specs.Opening.{IsAt, IsAtFirst, IsFirstOf, IsStoreOf}
+use Rattle.oftp_tables.proofs.AboutLemmas.{not_empty}
 use Rattle.oftp_tables.proofs.SchemaLemmas.{same_first, same_none, same_schema}
-use Rattle.oftp_store.specs.declared.file.PathFault.{PathFault}
-use Rattle.oftp_store.specs.declared.file.PathFault.TheVariants.{Store, Unkept}
-use Rattle.oftp_store.specs.Opens.{Has, HoldsTaken, IsMigratable, IsOpenable, Opens}
+use Rattle.oftp_store.specs.declared.file.PathFault.TheVariants.{Unkept}
+use Rattle.oftp_store.specs.declared.file.PathRefused.{PathRefused}
+use Rattle.oftp_store.specs.declared.file.PathRefused.TheVariants as refusal
+use Rattle.oftp_store.specs.declared.open.OpenRefused.{OpenRefused}
+use Rattle.oftp_store.specs.Opens.{Demand, Has, HoldsNoTable, HoldsTaken, IsMigratable, IsOpenable, IsUnopened, LeavesCommitted, Opens, Refuses, RefusesFiles, RefusesPath, to_migrate, to_open}
 
 -- an office that was opened over the store of a register has the register
 pub has_after : (Takes Changes : Database → Type 0) (IsOf : Register → State → Type 0) (limits : Limits) (old new : State) (r : Register) → Opens Takes Changes IsOf limits old new
@@ -38,44 +51,148 @@ is_read Holds s opened found = record {
   holds = λ db holds. ap (λ (d : Database). d.trees) opened.0.clean ∙ found db holds;
 }
 
--- ---- the kinds of stores that are taken are told by their trees
+-- ---- what the trees of a database tell of it
+
+abbrev pub IsByTrees : (Database → Type 0) → Type 0
+IsByTrees P = (d e : Database) → d.trees ≡ e.trees → IsDatabase d → IsDatabase e → P d → P e
 
 sound_over : (schema : Schema) (d e : Database) → d.schema ≡ schema → d.trees ≡ e.trees → IsDatabase d → IsSound schema e.trees
 sound_over schema d e is trees sound = subst (λ s. IsSound s e.trees) is (subst (IsSound d.schema) trees sound)
 
-pub same_openable : (d e : Database) → d.trees ≡ e.trees → IsDatabase d → IsDatabase e → IsOpenable d → IsOpenable e
-same_openable d e trees ours theirs (inl empty) = inl (same_none e.schema e.trees (sound_over no_schema d e empty trees ours) theirs)
-same_openable d e trees ours theirs (inr office) = inr (record {
-  schema = same_schema e.schema e.trees (sound_over office_schema d e office.schema trees ours) theirs;
-  about = ap about_told (sym trees) ∙ office.about;
-})
+empty_by_trees : IsByTrees IsEmpty
+empty_by_trees d e trees ours theirs is = same_none e.schema e.trees (sound_over no_schema d e is trees ours) theirs
 
-pub same_migratable : (d e : Database) → d.trees ≡ e.trees → IsDatabase d → IsDatabase e → IsMigratable d → IsMigratable e
-same_migratable d e trees ours theirs (inl first) = inl (record {
-  schema = same_first e.schema e.trees (sound_over first_schema d e first.schema trees ours) theirs;
-  about = ap about_told (sym trees) ∙ first.about;
-})
-same_migratable d e trees ours theirs (inr office) = inr (record {
-  schema = same_schema e.schema e.trees (sound_over office_schema d e office.schema trees ours) theirs;
-  about = ap about_told (sym trees) ∙ office.about;
-})
+first_by_trees : IsByTrees (λ d. d.schema ≡ first_schema)
+first_by_trees d e trees ours theirs is = same_first e.schema e.trees (sound_over first_schema d e is trees ours) theirs
+
+office_by_trees : IsByTrees (λ d. d.schema ≡ office_schema)
+office_by_trees d e trees ours theirs is = same_schema e.schema e.trees (sound_over office_schema d e is trees ours) theirs
+
+has_first_by_trees : IsByTrees HasFirst
+has_first_by_trees d e trees ours theirs first = record { schema = first_by_trees d e trees ours theirs first.schema; about = ap about_told (sym trees) ∙ first.about }
+
+has_office_by_trees : IsByTrees HasOffice
+has_office_by_trees d e trees ours theirs office = record { schema = office_by_trees d e trees ours theirs office.schema; about = ap about_told (sym trees) ∙ office.about }
+
+pub same_openable : IsByTrees IsOpenable
+same_openable d e trees ours theirs (inl empty) = inl (empty_by_trees d e trees ours theirs empty)
+same_openable d e trees ours theirs (inr office) = inr (has_office_by_trees d e trees ours theirs office)
+
+pub same_migratable : IsByTrees IsMigratable
+same_migratable d e trees ours theirs (inl first) = inl (has_first_by_trees d e trees ours theirs first)
+same_migratable d e trees ours theirs (inr office) = inr (has_office_by_trees d e trees ours theirs office)
 
 -- files over which an office was opened hold a store that is taken
 pub holds_taken : (Takes Changes : Database → Type 0) (IsOf : Register → State → Type 0) (limits : Limits) (Holds : Trees → Type 0) (old new : State)
-    → ((d e : Database) → d.trees ≡ e.trees → IsDatabase d → IsDatabase e → Takes d → Takes e)
-    → Opens Takes Changes IsOf limits old new → HasCleanDisk new → (HasCleanDisk old → IsReadFrom Holds old) → HoldsTaken Takes Holds
+    → IsByTrees Takes → Opens Takes Changes IsOf limits old new → HasCleanDisk new → (HasCleanDisk old → IsReadFrom Holds old) → HoldsTaken Takes Holds
 holds_taken Takes Changes IsOf limits Holds old new same opens clean so d sound holds =
     let read = so (omega (arith, opens.clean, clean)) in
     same old.now d (read.holds d.trees holds) read.sound sound (opens.known clean)
 
+-- ---- a refusal
+
+-- what an opening asks is told by the trees
+pub record AsksByTrees (demand : Demand) : Type 0 where
+  pub takes : IsByTrees demand.Takes
+  pub changes : IsByTrees demand.Changes
+  pub foreign : IsByTrees demand.IsForeign
+  -- what it changes it takes
+  pub fewer : (d : Database) → demand.Changes d → demand.Takes d
+
+pub asks_to_open : AsksByTrees to_open
+asks_to_open = record {
+  takes = same_openable;
+  changes = empty_by_trees;
+  foreign = λ d e trees ours theirs other. (
+    λ empty. other.0 (empty_by_trees e d (sym trees) theirs ours empty),
+    λ office. other.1 (office_by_trees e d (sym trees) theirs ours office),
+  );
+  fewer = λ d empty. inl empty;
+}
+
+pub asks_to_migrate : AsksByTrees to_migrate
+asks_to_migrate = record {
+  takes = same_migratable;
+  changes = has_first_by_trees;
+  foreign = λ d e trees ours theirs other. (
+    λ first. other.0 (first_by_trees e d (sym trees) theirs ours first),
+    λ office. other.1 (office_by_trees e d (sym trees) theirs ours office),
+  );
+  fewer = λ d first. inl first;
+}
+
+-- What a refusal leaves of files, from what it leaves of the connection that was open over them.
+module _ (demand : Demand) (IsOf : Register → State → Type 0) (image : Image) (fault : StoreFault) (old new : State) (asks : AsksByTrees demand)
+    (refuses : Refuses demand.Takes demand.Changes IsOf fault old new) (clean : HasCleanDisk new) (read : IsReadFrom (HoldsDatabase image) old) (leaves : LeavesCommitted old) where
+  held_before : (db left : Trees) → HoldsDatabase image db → old.may_leave left → left ≡ db
+  held_before db left holds may = leaves read.is_open left may ∙ sym (ap (λ (d : Database). d.trees) read.settled) ∙ read.holds db holds
+
+  spares : (d : Database) → HoldsDatabase image d.trees → ¬ demand.Changes old.now → (left : Trees) → new.may_leave left → left ≡ d.trees
+  spares d holds other left may = held_before d.trees left holds (refuses.spared clean read.is_open other left may)
+
+  pub refuses_files : (demand.IsForeign old.now → fault ≡ WrongSchema) → (HoldsNoTable image → demand.AsEmpty fault) → ((r : Register) → demand.IsOf r old.now.trees → IsOf r old)
+      → RefusesFiles demand image fault new
+  refuses_files foreign bare of = record {
+    foreign = λ d sound holds other. foreign (asks.foreign d old.now (sym (read.holds d.trees holds)) sound read.sound other);
+    bare = bare;
+    wrong = λ is d sound holds.
+        let trees = read.holds d.trees holds in
+        let both = refuses.wrong clean is in (
+          λ takes. both.0 (asks.takes d old.now (sym trees) sound read.sound takes),
+          record {
+            now = ap (λ (x : Database). x.trees) both.1.now ∙ trees;
+            committed = ap (λ (x : Database). x.trees) (both.1.committed ∙ sym read.settled) ∙ trees;
+            left = spares d holds (λ changes. both.0 (asks.fewer old.now changes));
+          },
+        );
+    left = λ r db holds is left may.
+        elim (refuses.left clean r (of r (subst (demand.IsOf r) (sym (read.holds db holds)) is)) left may) [ inl before ↦ inl (held_before db left holds before) | inr made ↦ inr made ];
+    spared = λ d sound holds other. spares d holds (λ changes. other (asks.changes old.now d (read.holds d.trees holds) read.sound sound changes));
+  }
+
+-- ---- the register that a connection stands for when it is opened over files
+
+module _ (Holds : Trees → Type 0) (s : State) (read : IsReadFrom Holds s) where
+  pub is_at : (r : Register) → IsSoundRegister r × IsStoreOf r s.now.trees → IsAt r s
+  is_at r store = record { is_open = read.is_open; settled = read.settled; sound = read.sound; content = store.1; register = store.0 }
+
+  pub is_at_first : (r : Register) → IsFirstOf r s.now.trees → IsAtFirst r s
+  is_at_first r first = record { is_open = read.is_open; settled = read.settled; sound = read.sound; content = first }
+
+  -- over no table, the empty one
+  pub is_at_none : (limits : Limits) → limits.files ≤ MOST_FILES → limits.octets ≤ MOST_OCTETS → IsEmpty s.now → IsAt (empty limits) s
+  is_at_none limits files octets none = is_at (empty limits) (sound_empty limits files octets, inr (subst (λ schema. IsSound schema s.now.trees) none read.sound, refl))
+
+not_first : no_schema ≡ first_schema → ⊥
+not_first e = let tables = ap (λ (s : Schema). s.tables) e in let no_such : [] ≡ first_schema.tables = tables in absurd (cc)
+
+-- a database with no table is foreign to a migration
+pub empty_is_foreign : (d : Database) → IsEmpty d → to_migrate.IsForeign d
+empty_is_foreign d none = (λ first. not_first (sym none ∙ first), λ office. not_empty (sym none ∙ office))
+
 -- ---- paths
 
-pub opened_is_kept : {X : Type 0} (x : X) → Ok x ≡ Err Unkept → ⊥
-opened_is_kept x is = let no = is in cc
+pub opened_is_kept : {X E : Type 0} (x : X) (e : E) → Ok x ≡ Err e → ⊥
+opened_is_kept x e is = let no = is in cc
 
-pub told_is_kept : {X : Type 0} (fault : StoreFault) (result : Result X PathFault) → result ≡ Err (Store fault) → result ≡ Err Unkept → ⊥
-told_is_kept fault result told is = let no = told in let other = is in cc
+pub told_is_kept : {X S : Type 0} (refused : OpenRefused S) (result : Result X (PathRefused S)) → result ≡ Err (refusal.Store refused)
+    → result ≡ Err (refusal.Path Unkept) → ⊥
+told_is_kept refused result told is = let no = told in let other = is in cc
 
 -- where files were opened, their path is kept
-pub after_files : {X Y IsKept : Type 0} (x : X) (result : Result Y PathFault) → (result ≡ Err Unkept → ⊥) → (Ok x ≡ Err Unkept) ↔ ¬ IsKept → (result ≡ Err Unkept) ↔ ¬ IsKept
-after_files x result other files = (λ is. absurd (other is), λ unkept. absurd (opened_is_kept x (files.1 unkept)))
+pub after_files : {X Y E IsKept : Type 0} (e : E) (x : X) (result : Result Y E) → (result ≡ Err e → ⊥) → (Ok x ≡ Err e) ↔ ¬ IsKept → (result ≡ Err e) ↔ ¬ IsKept
+after_files e x result other files = (λ is. absurd (other is), λ unkept. absurd (opened_is_kept x e (files.1 unkept)))
+
+-- files that weren't opened aren't refused for what they hold
+module _ {S : Type 0} (g : Ghosts S) (demand : Demand) (image : Image) where
+  unopened_path : (e : PathRefused S) → IsUnopened e → RefusesPath g demand image e
+  unopened_path (refusal.Path fault) h = h
+  unopened_path (refusal.Store refused) h = absurd h
+
+  pub unopened_refused : {X Y : Type 0} (e : PathRefused S) (r : Result Y (PathRefused S)) → IsErrAnd r (λ x. x ≡ e) → (it : Result X (PathRefused S)) → it ≡ Err e
+      → IfErr it IsUnopened → IfErr r (RefusesPath g demand image)
+  unopened_refused {X} {Y} e r h it was unopened =
+      let told = err_from_is_err_and r h in
+      let is : r ≡ Err e = told.1 ∙ ap (λ (x : PathRefused S). Err x) told.2 in
+      subst (λ (y : Result Y (PathRefused S)). IfErr y (RefusesPath g demand image)) (sym is)
+      (unopened_path e (subst (λ (y : Result X (PathRefused S)). IfErr y IsUnopened) was unopened))

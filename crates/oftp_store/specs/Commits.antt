@@ -12,7 +12,7 @@ use Rattle.oftp_register.specs.declared.office.OfficeFault.{OfficeFault}
 use Rattle.oftp_register.specs.declared.office.OfficeFault.TheVariants.{Store}
 use Rattle.oftp_register.specs.Register.{Register}
 use Rattle.oftp_register.specs.Changes.{apply}
-use Rattle.oftp_register.specs.Soundness.{IsFit}
+use Rattle.oftp_register.specs.Soundness.{IsFit, IsSound}
 use Rattle.oftp_register.specs.Offices.{IsFailure, IsRefused}
 use Rattle.oftp_tables.specs.Transactions.{IsTransactionError, Transacts}
 use Rattle.oftp_tables.specs.Statements.{IsFaultOf, IsOffice, Looks, Moves}
@@ -50,14 +50,14 @@ pub record Finds {A : Type 0} (told : Register → ℕ → Option A → Type 0) 
   pub looks : Looks old new (Ok (Some file))
   pub answer : HasCleanDisk new → (limits : Limits) → Stands limits old → told (register_in limits old.now.trees) n (Some file)
 
--- a change of a file that isn't there is unknown
+-- a change of a file that isn't there is unknown, in a sound register
 pub record NeedsFile {A : Type 0} (told : Register → ℕ → Option A → Type 0) (n : ℕ) (change : Change) : Type 0 where
-  pub unknown : (r : Register) → told r n None → apply r change ≡ Err Unknown
+  pub unknown : (r : Register) → IsSound r → told r n None → apply r change ≡ Err Unknown
 
 -- and where what is told of it doesn't fit, it is refused for the file's state
 pub record NeedsFit {A : Type 0} (told : Register → ℕ → Option A → Type 0) (fits : A → Bool) (n : ℕ) (change : Change) : Type 0 where
-  pub unknown : (r : Register) → told r n None → apply r change ≡ Err Unknown
-  pub unfit : (r : Register) (file : A) → told r n (Some file) → fits file ≡ false → apply r change ≡ Err Unfit
+  pub unknown : (r : Register) → IsSound r → told r n None → apply r change ≡ Err Unknown
+  pub unfit : (r : Register) (file : A) → IsSound r → told r n (Some file) → fits file ≡ false → apply r change ≡ Err Unfit
 
 -- look-ups end the commit of whichever change that needs this by this fault
 abbrev pub EndsCommit : Limits → (Change → Type 0) → State → State → OfficeFault → Type 0

@@ -6,6 +6,7 @@ use Rattle.sqlite.specs.Tree.{Trees}
 use Rattle.oftp_vfile.specs.declared.format.Format.{Format}
 use Rattle.oftp_register.specs.declared.entry.Dispatch.TheVariants.{Due, Sent}
 use Rattle.oftp_register.specs.declared.entry.IncomingState.TheVariants.{Whole}
+use Rattle.oftp_register.specs.declared.entry.OutgoingState.{OutgoingState}
 use Rattle.oftp_register.specs.declared.entries.Side.{Side}
 use Rattle.oftp_register.specs.declared.entries.Side.TheVariants as side
 use Rattle.oftp_register.specs.Register.{Register, Incoming, Issued, Outgoing, Received}
@@ -61,6 +62,10 @@ HasRoom deed = ⊤
 -- more rows of an incoming file that has so many
 abbrev pub more : ℕ → ℕ → Bor (List (List ℕ)) → Edit
 more n from rows = record { no = n; deed = AddRows side.Incoming from rows }
+
+-- mark and state of an outgoing file
+abbrev pub outgoing_edit : ℕ → ℕ → OutgoingState → Edit
+outgoing_edit n mark to = record { no = n; deed = SetOutgoing mark to }
 
 -- the database can hold what an edit makes: its number, and the positions of its rows
 abbrev pub IsStorable : Edit → Type 0

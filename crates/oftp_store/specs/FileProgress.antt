@@ -6,6 +6,7 @@ use Rattle.oftp_register.specs.declared.entry.IncomingState.TheVariants.{Open, W
 use Rattle.std.specs.Option.{option_map}
 use Rattle.oftp_register.specs.declared.entry.Dispatch.{Dispatch}
 use Rattle.oftp_register.specs.Register.{Register, Incoming, Issued, Outgoing}
+use Rattle.oftp_register.specs.Soundness.{IsSound}
 use Rattle.oftp_store.specs.Reads.{IsToldOf}
 use Rattle.oftp_store.specs.declared.queries.progress.IncomingProgress.{IncomingProgress}
 use Rattle.oftp_store.specs.declared.queries.progress.OutgoingProgress.{OutgoingProgress}
@@ -32,7 +33,7 @@ abbrev pub outgoing_told : Register → ℕ → Option OutgoingProgress → Type
 outgoing_told r n found = IsToldOf outgoing_progress_of r.outgoing n found
 
 abbrev pub response_told : Register → ℕ → Option ResponseProgress → Type 0
-response_told r n found = IsToldOf response_progress_of r.incoming n found
+response_told r n found = IsSound r → IsToldOf response_progress_of r.incoming n found
 
 -- more of an incoming file is awaited
 

@@ -4,7 +4,6 @@ pub mod Numbers
 pub mod Reads
 pub mod Commits
 pub mod FileProgress
-pub mod Fates
 pub mod Tells
 pub mod Views
 pub mod Opens

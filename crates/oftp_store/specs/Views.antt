@@ -1,5 +1,5 @@
 -- What an office over a database shows, and what a stop leaves of it.
-use Rattle.std.specs.Prelude.{◌≡◌, ℕ}
+use Rattle.std.specs.Prelude.{◌≡◌, ℕ, IsTrue}
 use Rattle.std.proofs.Common.{◌∙◌, sym, ap, subst}
 use Rattle.sqlite.specs.Tree.{Trees}
 use Rattle.sqlite.specs.Effect.{Database}
@@ -16,7 +16,9 @@ view_of limits faults s = record {
   register = register_in limits s.now.trees;
   told = faults;
   clean = HasCleanDisk s;
+  is_open = IsTrue s.is_open;
   stands = Stands limits s;
+  opens = λ h. h.is_open;
   Content = Trees;
   may_leave = s.may_leave;
   holds = IsContentOf;

@@ -8,7 +8,7 @@ mod office;
 mod open;
 mod queries;
 
-pub use file::{PathFault, migrate_at, open_at};
+pub use file::{PathFault, PathRefused, migrate_at, open_at};
 pub use office::SqlOffice;
 pub use oftp_tables::StoreFault;
 pub use open::OpenRefused;

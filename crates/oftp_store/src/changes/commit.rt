@@ -6,7 +6,7 @@ ghost use Rattle.oftp_store.specs.Commits.{CommitsOn};
 
 use super::incoming::{close, give_up, keep, start};
 use super::means::Means;
-use super::outgoing::{Fate, change_outgoing, submit};
+use super::outgoing::{begin_closing, hand_over, mark, refuse, reopen, submit};
 use super::responses::{file, issue, send};
 use oftp_register::{Change, OfficeFault};
 use sqlite::{Alter, Connection};
@@ -56,11 +56,11 @@ pub(crate) fn commit_change<S: Alter>(
             reason,
             text,
         } => issue(means, conn, *no, *kind, *reason, text),
-        Change::Mark { no, rows } => change_outgoing(means, conn, *no, Fate::Mark(*rows)),
-        Change::BeginClosing { no } => change_outgoing(means, conn, *no, Fate::BeginClosing),
-        Change::HandOver { no } => change_outgoing(means, conn, *no, Fate::HandOver),
-        Change::Refuse { no, reason } => change_outgoing(means, conn, *no, Fate::Refuse(*reason)),
-        Change::Reopen { no } => change_outgoing(means, conn, *no, Fate::Reopen),
+        Change::Mark { no, rows } => mark(means, conn, *no, *rows),
+        Change::BeginClosing { no } => begin_closing(means, conn, *no),
+        Change::HandOver { no } => hand_over(means, conn, *no),
+        Change::Refuse { no, reason } => refuse(means, conn, *no, *reason),
+        Change::Reopen { no } => reopen(means, conn, *no),
         Change::Send { no } => send(means, conn, *no),
     }
 }

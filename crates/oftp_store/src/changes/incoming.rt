@@ -3,37 +3,21 @@
 ghost use Rattle.std.specs.Prelude.{◌≡◌, IfErr, IfOk, false, true};
 ghost use Rattle.sqlite.specs.Held.{state};
 ghost use Rattle.oftp_register.specs.declared.change.Change.TheVariants.{Close, GiveUp, Keep, Start};
-ghost use Rattle.oftp_tables.proofs.SpotLemmas.{entry_far};
 ghost use Rattle.oftp_store.specs.Commits.{CommitsOn, EndsCommit, Finds, NeedsFit};
 ghost use Rattle.oftp_store.specs.Edits.{more};
 ghost use Rattle.oftp_store.specs.FileProgress.{incoming_told, is_open, is_open_file};
 ghost use Rattle.oftp_store.specs.Allocations.{goes_on};
 
 use super::edit::{Deed, Edit};
-use super::known::{Progress, allowed, known};
+use super::known::{allowed, known};
 use super::means::Means;
 use super::transaction::make_edits;
 use crate::queries::allocation::{IncomingAllocation, find_incoming_allocation};
-use crate::queries::progress::{IncomingProgress, find_incoming_progress};
+use crate::queries::progress::IncomingProgress;
 use oftp_register::{Cause, Identity, IncomingState, OfficeFault, Side};
 use oftp_vfile::{Format, Rows};
 use oftp_wire::Text;
 use sqlite::{Alter, Connection};
-use std::alloc::Global;
-
-impl Progress for IncomingProgress {
-    ghost told = { incoming_told };
-
-    fn find<S: Alter>(
-        alloc: Global,
-        conn: &mut Connection<S>,
-        no: u64,
-    ) -> Result<Option<IncomingProgress>, OfficeFault> {
-        find_incoming_progress(alloc, conn, no)
-    }
-
-    ghost beyond = { λ r db n tables far. entry_far n r.incoming tables.incoming.few far };
-}
 
 // Whether a file may go on after so many of its rows.
 fn goes_on(progress: &IncomingProgress, count: u64) -> bool

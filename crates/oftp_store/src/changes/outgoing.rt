@@ -2,39 +2,21 @@
 
 ghost use Rattle.std.specs.Prelude.{◌≡◌, ◌&&◌, ◌||◌, false, nat_le};
 ghost use Rattle.sqlite.specs.Held.{state};
-ghost use Rattle.oftp_register.specs.declared.change.Change.TheVariants.{Submit};
+ghost use Rattle.oftp_register.specs.declared.change.Change.TheVariants.{BeginClosing, HandOver, Mark, Refuse, Reopen, Submit};
 ghost use Rattle.oftp_register.specs.Changes.{is_closing, is_waiting};
-ghost use Rattle.oftp_tables.proofs.SpotLemmas.{entry_far};
 ghost use Rattle.oftp_store.specs.Commits.{CommitsOn};
-ghost use Rattle.oftp_store.specs.Fates.{change_of, set_by};
-ghost use Rattle.oftp_store.specs.FileProgress.{outgoing_told};
+ghost use Rattle.oftp_store.specs.Edits.{outgoing_edit};
 
 use super::edit::{Deed, Edit};
-use super::known::{Progress, known};
+use super::known::{allowed, known};
 use super::means::Means;
 use super::transaction::make_edits;
 use crate::queries::allocation::{Allocation, find_allocation};
-use crate::queries::progress::{OutgoingProgress, find_outgoing_progress};
+use crate::queries::progress::OutgoingProgress;
 use oftp_register::{Cause, Identity, OfficeFault, OutgoingState, Side};
 use oftp_vfile::{Format, Rows};
 use oftp_wire::{Count, Text};
 use sqlite::{Alter, Connection};
-use std::alloc::Global;
-
-/// What becomes of a file that goes.
-#[derive(Drop)]
-pub(crate) enum Fate {
-    /// So many rows of a waiting file are covered by credit.
-    Mark(u64),
-    /// The end of a waiting file is sent next.
-    BeginClosing,
-    /// The partner has a file whose end was sent.
-    HandOver,
-    /// The partner refuses a file that waits, or whose end was sent.
-    Refuse(Count<2>),
-    /// A file whose end was sent waits again, from its first row on.
-    Reopen,
-}
 
 /// Adds a file that goes, with its rows.
 pub(crate) fn submit<S: Alter>(
@@ -68,20 +50,6 @@ pub(crate) fn submit<S: Alter>(
             make_edits(conn, &[Edit { no, deed: header }, Edit { no, deed: all }])
         }
     }
-}
-
-impl Progress for OutgoingProgress {
-    ghost told = { outgoing_told };
-
-    fn find<S: Alter>(
-        alloc: Global,
-        conn: &mut Connection<S>,
-        no: u64,
-    ) -> Result<Option<OutgoingProgress>, OfficeFault> {
-        find_outgoing_progress(alloc, conn, no)
-    }
-
-    ghost beyond = { λ r db n tables far. entry_far n r.outgoing tables.outgoing.few far };
 }
 
 // Whether the file is to be sent.
@@ -118,43 +86,87 @@ fn may_be_covered(file: &OutgoingProgress, rows: u64) -> bool
     is_waiting(&file.state) && rows <= u64::from(file.rows)
 }
 
-// Mark and state of a file after its fate, if its state allows that.
-fn set_by(file: &OutgoingProgress, fate: Fate) -> Option<(u32, OutgoingState)>
-    ensures { result ≡ set_by file.now fate }
+// Mark and state of a file.
+fn outgoing_edit(no: u64, mark: u32, state: OutgoingState) -> Edit<'static>
+    ensures { result ≡ outgoing_edit no mark state }
 {
-    let state = &file.state;
-    let mark = file.mark;
-    match fate {
-        Fate::Mark(rows) => {
-            let covered = rows.min(u64::from(file.rows)) as u32;
-            may_be_covered(file, rows).then_some((covered, file.state))
-        }
-        Fate::BeginClosing => is_waiting(state).then_some((mark, OutgoingState::Closing)),
-        Fate::HandOver => is_closing(state).then_some((mark, OutgoingState::Handed)),
-        Fate::Refuse(reason) => is_on_its_way(state).then_some((
-            mark,
-            OutgoingState::Refused(reason),
-        )),
-        Fate::Reopen => is_closing(state).then_some((0, OutgoingState::Waiting)),
-    }
+    let deed = Deed::SetOutgoing { mark, state };
+    Edit { no, deed }
 }
 
-/// Changes mark and state of a file, if its state allows that.
-pub(crate) fn change_outgoing<S: Alter>(
+/// Has so many rows of a waiting file covered by credit.
+pub(crate) fn mark<S: Alter>(
     means: Means,
     conn: &mut Connection<S>,
     no: u64,
-    fate: Fate,
+    rows: u64,
 ) -> Result<(), OfficeFault>
     requires { conn.old.in_transaction ≡ false }
-    ensures { CommitsOn means.limits (change_of fate no) (state S.Store conn.old) (state S.Store conn.new) result }
+    ensures { CommitsOn means.limits (Mark no rows) (state S.Store conn.old) (state S.Store conn.new) result }
 {
     let file = known::<OutgoingProgress, S>(means, conn, no)?;
-    match set_by(&file, fate) {
-        None => Err(OfficeFault::Refused(Cause::State)),
-        Some((mark, state)) => {
-            let deed = Deed::SetOutgoing { mark, state };
-            make_edits(conn, &[Edit { no, deed }])
-        }
-    }
+    allowed(may_be_covered(&file, rows))?;
+    let edit = outgoing_edit(no, rows as u32, file.state);
+    make_edits(conn, &[edit])
+}
+
+/// Has the end of a waiting file sent next.
+pub(crate) fn begin_closing<S: Alter>(
+    means: Means,
+    conn: &mut Connection<S>,
+    no: u64,
+) -> Result<(), OfficeFault>
+    requires { conn.old.in_transaction ≡ false }
+    ensures { CommitsOn means.limits (BeginClosing no) (state S.Store conn.old) (state S.Store conn.new) result }
+{
+    let file = known::<OutgoingProgress, S>(means, conn, no)?;
+    allowed(is_waiting(&file.state))?;
+    let edit = outgoing_edit(no, file.mark, OutgoingState::Closing);
+    make_edits(conn, &[edit])
+}
+
+/// Sets a file handed over whose end was sent.
+pub(crate) fn hand_over<S: Alter>(
+    means: Means,
+    conn: &mut Connection<S>,
+    no: u64,
+) -> Result<(), OfficeFault>
+    requires { conn.old.in_transaction ≡ false }
+    ensures { CommitsOn means.limits (HandOver no) (state S.Store conn.old) (state S.Store conn.new) result }
+{
+    let file = known::<OutgoingProgress, S>(means, conn, no)?;
+    allowed(is_closing(&file.state))?;
+    let edit = outgoing_edit(no, file.mark, OutgoingState::Handed);
+    make_edits(conn, &[edit])
+}
+
+/// Sets a file refused that waits, or whose end was sent.
+pub(crate) fn refuse<S: Alter>(
+    means: Means,
+    conn: &mut Connection<S>,
+    no: u64,
+    reason: Count<2>,
+) -> Result<(), OfficeFault>
+    requires { conn.old.in_transaction ≡ false }
+    ensures { CommitsOn means.limits (Refuse no reason) (state S.Store conn.old) (state S.Store conn.new) result }
+{
+    let file = known::<OutgoingProgress, S>(means, conn, no)?;
+    allowed(is_on_its_way(&file.state))?;
+    let edit = outgoing_edit(no, file.mark, OutgoingState::Refused(reason));
+    make_edits(conn, &[edit])
+}
+
+/// Has a file whose end was sent wait again, from its first row on.
+pub(crate) fn reopen<S: Alter>(
+    means: Means,
+    conn: &mut Connection<S>,
+    no: u64,
+) -> Result<(), OfficeFault>
+    requires { conn.old.in_transaction ≡ false }
+    ensures { CommitsOn means.limits (Reopen no) (state S.Store conn.old) (state S.Store conn.new) result }
+{
+    let state = known::<OutgoingProgress, S>(means, conn, no)?.state;
+    allowed(is_closing(&state))?;
+    let edit = outgoing_edit(no, 0, OutgoingState::Waiting);
+    make_edits(conn, &[edit])
 }

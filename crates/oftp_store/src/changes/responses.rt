@@ -4,22 +4,20 @@ ghost use Rattle.std.specs.Prelude.{◌≡◌, false};
 ghost use Rattle.sqlite.specs.Held.{state};
 ghost use Rattle.oftp_register.specs.declared.change.Change.TheVariants.{File, Issue, Send};
 ghost use Rattle.oftp_register.specs.Changes.{answered_as};
-ghost use Rattle.oftp_tables.proofs.SpotLemmas.{entry_far};
 ghost use Rattle.oftp_store.specs.Commits.{CommitsOn};
-ghost use Rattle.oftp_store.specs.FileProgress.{is_answerable, is_sendable, response_told};
+ghost use Rattle.oftp_store.specs.FileProgress.{is_answerable, is_sendable};
 
 use super::edit::{Deed, Edit};
-use super::known::{Progress, allowed, known};
+use super::known::{allowed, known};
 use super::means::Means;
 use super::transaction::make_edits;
-use crate::queries::progress::{ResponseProgress, find_response_progress};
+use crate::queries::progress::ResponseProgress;
 use crate::queries::response_match::{ResponseMatch, find_response_match};
 use oftp_register::{
     Cause, Dispatch, Identity, IncomingState, Name, OfficeFault, OutgoingState, ResponseKind,
 };
 use oftp_wire::{Count, Text};
 use sqlite::{Alter, Connection};
-use std::alloc::Global;
 
 // Where a response leaves the file that it settles.
 fn answered_as(kind: ResponseKind) -> OutgoingState
@@ -74,20 +72,6 @@ pub(crate) fn file<'x, S: Alter>(
             make_edits(conn, &[settled, Edit { no, deed }])
         }
     }
-}
-
-impl Progress for ResponseProgress {
-    ghost told = { response_told };
-
-    fn find<S: Alter>(
-        alloc: Global,
-        conn: &mut Connection<S>,
-        no: u64,
-    ) -> Result<Option<ResponseProgress>, OfficeFault> {
-        find_response_progress(alloc, conn, no)
-    }
-
-    ghost beyond = { λ r db n tables far. entry_far n r.incoming tables.incoming.few far };
 }
 
 // Whether a file may be answered: it is whole and wasn't.

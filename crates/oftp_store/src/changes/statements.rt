@@ -1,11 +1,10 @@
 //! The statements of the changes, each in a transaction. A number is below 2^63.
 
-ghost use Rattle.std.specs.Prelude.{◌≡◌, ◌+◌, ◌<◌, ◌^◌, [], ◌∷◌, ℕ, length};
+ghost use Rattle.std.specs.Prelude.{◌≡◌, ◌+◌, ◌<◌, ◌^◌, [], ◌∷◌, length};
 ghost use Rattle.sqlite.specs.Values.{bound};
 ghost use Rattle.oftp_wire.specs.Octets.{decimal};
 ghost use Rattle.oftp_tables.specs.Statements.{Performs, uncounted};
 ghost use Rattle.oftp_tables.specs.Tables.{HasRefusal, format_text, kind_text, out_state_text, reason_text, refusal_text};
-ghost use Rattle.oftp_register.specs.declared.entry.OutgoingState.{OutgoingState};
 ghost use Rattle.oftp_store.specs.Edits.{Makes, MakesNote, MakesNoteless, MakesRows, header_params};
 ghost use Rattle.oftp_store.specs.Texts.{add_file_text, add_row_text};
 ghost use Rattle.oftp_store.specs.declared.changes.edit.Deed.TheVariants.{AddFile, AddIssued, AddReceived, AddRows, CutRows, SetHeader, SetOutgoing, SetSent, SetWhole};
@@ -99,30 +98,6 @@ fn kind_text(kind: ResponseKind) -> &'static str
     }
 }
 
-// Sets mark, state and reason of an outgoing file by their texts.
-fn set_outgoing_texts<'x, S: Alter>(
-    tx: &mut Transaction<'_, S>,
-    no: u64,
-    mark: u32,
-    progress: &'x [u8],
-    reason: &'x [u8],
-) -> Result<(), Error>
-    requires { no < 2 ^ 63 }
-    ensures same_reference { tx.new.conn.ghost_name ≡ tx.old.conn.ghost_name }
-    ensures performs { (to : OutgoingState) → progress.now ≡ out_state_text to → reason.now ≡ refusal_text to → HasRefusal to
-        → Performs (Makes no (SetOutgoing mark to)) S.Store tx.old.conn.now tx.new.conn.now result }
-{
-    done(tx.execute(
-        "UPDATE out_file SET mark = ?2, state = ?3, reason = ?4 WHERE no = ?1",
-        &[
-            ValueRef::Int(number(no)),
-            ValueRef::Int(i64::from(mark)),
-            ValueRef::Text(progress),
-            ValueRef::Text(reason),
-        ],
-    ))
-}
-
 /// Sets mark and state of an outgoing file.
 pub(crate) fn set_outgoing<S: Alter>(
     tx: &mut Transaction<'_, S>,
@@ -134,9 +109,16 @@ pub(crate) fn set_outgoing<S: Alter>(
     ensures same_reference { tx.new.conn.ghost_name ≡ tx.old.conn.ghost_name }
     ensures performs { Performs (Makes no (SetOutgoing mark progress)) S.Store tx.old.conn.now tx.new.conn.now result }
 {
-    let text = state_text(&progress);
     let reason = refusal_text(progress);
-    set_outgoing_texts(tx, no, mark, text.as_bytes(), reason.as_slice())
+    done(tx.execute(
+        "UPDATE out_file SET mark = ?2, state = ?3, reason = ?4 WHERE no = ?1",
+        &[
+            ValueRef::Int(number(no)),
+            ValueRef::Int(i64::from(mark)),
+            ValueRef::Text(state_text(&progress).as_bytes()),
+            ValueRef::Text(reason.as_slice()),
+        ],
+    ))
 }
 
 /// Sets the header of an incoming file, but for its identity.
@@ -239,30 +221,6 @@ pub(crate) fn add_file<'x, S: Alter>(
     ))
 }
 
-// Adds the response to an incoming file by the text of its reason.
-fn add_issued_texts<'x, S: Alter>(
-    tx: &mut Transaction<'_, S>,
-    no: u64,
-    kind: ResponseKind,
-    reason: &'x [u8],
-    text: &'x Text<'x>,
-) -> Result<(), Error>
-    requires { no < 2 ^ 63 }
-    ensures same_reference { tx.new.conn.ghost_name ≡ tx.old.conn.ghost_name }
-    ensures performs { (number : ℕ) → number < 100 → reason.now ≡ reason_text kind number
-        → Performs (Makes no (AddIssued kind number text.entry)) S.Store tx.old.conn.now tx.new.conn.now result }
-{
-    done(tx.execute(
-        "INSERT INTO issued (no, kind, reason, note, sent) VALUES (?1, ?2, ?3, ?4, 0)",
-        &[
-            ValueRef::Int(number(no)),
-            ValueRef::Text(kind_text(kind).as_bytes()),
-            ValueRef::Text(reason),
-            ValueRef::Text(text.text().as_bytes()),
-        ],
-    ))
-}
-
 /// Adds the response to an incoming file, which is due.
 pub(crate) fn add_issued<S: Alter>(
     tx: &mut Transaction<'_, S>,
@@ -276,33 +234,13 @@ pub(crate) fn add_issued<S: Alter>(
     ensures performs { Performs (Makes no (AddIssued kind reason text.entry)) S.Store tx.old.conn.now tx.new.conn.now result }
 {
     let digits = reason_text(kind, reason);
-    add_issued_texts(tx, no, kind, digits.as_slice(), text)
-}
-
-// Adds a response that came, without its note, by the text of its reason.
-fn add_received_texts<'x, S: Alter>(
-    tx: &mut Transaction<'_, S>,
-    no: u64,
-    kind: ResponseKind,
-    identity: &'x Identity,
-    reason: &'x [u8],
-) -> Result<(), Error>
-    requires { no < 2 ^ 63 }
-    ensures same_reference { tx.new.conn.ghost_name ≡ tx.old.conn.ghost_name }
-    ensures performs { (number : ℕ) → number < 100 → reason.now ≡ reason_text kind number
-        → Performs (MakesNoteless no kind identity.now number) S.Store tx.old.conn.now tx.new.conn.now result }
-{
     done(tx.execute(
-        "INSERT INTO received (no, kind, dataset, date, time, originator, destination, reason) VALUES (?1, ?2, ?3, ?4, ?5, ?6, ?7, ?8)",
+        "INSERT INTO issued (no, kind, reason, note, sent) VALUES (?1, ?2, ?3, ?4, 0)",
         &[
             ValueRef::Int(number(no)),
             ValueRef::Text(kind_text(kind).as_bytes()),
-            ValueRef::Text(identity.dataset.octets()),
-            ValueRef::Text(identity.date.octets()),
-            ValueRef::Text(identity.time.octets()),
-            ValueRef::Text(identity.originator.octets()),
-            ValueRef::Text(identity.destination.octets()),
-            ValueRef::Text(reason),
+            ValueRef::Text(digits.as_slice()),
+            ValueRef::Text(text.text().as_bytes()),
         ],
     ))
 }
@@ -320,7 +258,19 @@ fn add_noteless<S: Alter>(
     ensures performs { Performs (MakesNoteless no kind identity.now reason) S.Store tx.old.conn.now tx.new.conn.now result }
 {
     let digits = reason_text(kind, reason);
-    add_received_texts(tx, no, kind, identity, digits.as_slice())
+    done(tx.execute(
+        "INSERT INTO received (no, kind, dataset, date, time, originator, destination, reason) VALUES (?1, ?2, ?3, ?4, ?5, ?6, ?7, ?8)",
+        &[
+            ValueRef::Int(number(no)),
+            ValueRef::Text(kind_text(kind).as_bytes()),
+            ValueRef::Text(identity.dataset.octets()),
+            ValueRef::Text(identity.date.octets()),
+            ValueRef::Text(identity.time.octets()),
+            ValueRef::Text(identity.originator.octets()),
+            ValueRef::Text(identity.destination.octets()),
+            ValueRef::Text(digits.as_slice()),
+        ],
+    ))
 }
 
 // Adds the note of a negative response.

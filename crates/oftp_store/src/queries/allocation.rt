@@ -9,7 +9,7 @@ ghost use Rattle.oftp_store.specs.Tells.{TellsLimited};
 
 use super::identity::file_number;
 use super::last_number::{last_number, number_after, table_of};
-use super::progress::{IncomingProgress, find_incoming_progress};
+use super::progress::{IncomingProgress, Progress};
 use oftp_register::{Identity, OfficeFault, Side};
 use oftp_vfile::Limits;
 use sqlite::{Alter, Connection};
@@ -89,7 +89,7 @@ pub(crate) fn find_incoming_allocation<S: Alter>(
         Allocation::Full => Ok(IncomingAllocation::Full),
         Allocation::New(no) => Ok(IncomingAllocation::New(no)),
         Allocation::Existing(no) => {
-            let progress = find_incoming_progress(alloc, conn, no)?.ok_or(OfficeFault::Store)?;
+            let progress = IncomingProgress::find(alloc, conn, no)?.ok_or(OfficeFault::Store)?;
             Ok(IncomingAllocation::Known { no, progress })
         }
     }

@@ -1,13 +1,15 @@
 //! What changes ask of the file with a number.
 
-ghost use Rattle.std.specs.Prelude.{◌≡◌, ◌≤◌, ◌<◌, ◌^◌, IfOk, IfSome};
+ghost use Rattle.std.specs.Prelude.{◌≤◌, ◌<◌, ◌^◌, ℕ, ⊤, Option, None, IfOk, IfSome};
+ghost use Rattle.sqlite.specs.Tree.{Trees};
 ghost use Rattle.sqlite.specs.Held.{state};
-ghost use Rattle.oftp_register.specs.Soundness.{IsSound};
 ghost use Rattle.oftp_vfile.specs.declared.format.TheConstants.{MOST_ROWS};
+ghost use Rattle.oftp_register.specs.Register.{Register};
 ghost use Rattle.oftp_tables.specs.Statements.{Looks};
-ghost use Rattle.oftp_store.specs.Reads.{IsToldOf};
-ghost use Rattle.oftp_store.specs.FileProgress.{response_progress_of, incoming_progress_of, outgoing_progress_of};
-ghost use Rattle.oftp_store.specs.Tells.{Tells, TellsStored};
+ghost use Rattle.oftp_tables.specs.Tables.{Tables};
+ghost use Rattle.oftp_tables.proofs.SpotLemmas.{entry_far};
+ghost use Rattle.oftp_store.specs.FileProgress.{incoming_told, outgoing_told, response_told};
+ghost use Rattle.oftp_store.specs.Tells.{TellsStored};
 
 use super::by_number::find;
 use super::header::{IncomingHeader, OutgoingHeader};
@@ -15,6 +17,28 @@ use super::rows::count_rows;
 use oftp_register::{Dispatch, IncomingState, IssuedResponse, OfficeFault, OutgoingState, Side};
 use sqlite::{Alter, Connection};
 use std::alloc::Global;
+
+/// What changes ask of the file with a number.
+pub(crate) trait Progress: Sized {
+    // what is told of the file of a register with a number
+    ghost told: { Register → ℕ → Option Self → Type 0 };
+
+    // what holds of it whatever the register
+    ghost is_within: { Self → Type 0 };
+
+    /// That of the file with a number, if there is one.
+    fn find<S: Alter>(
+        alloc: Global,
+        conn: &mut Connection<S>,
+        no: u64,
+    ) -> Result<Option<Self>, OfficeFault>
+        requires { no < 2 ^ 63 }
+        ensures looks { Looks (state S.Store conn.old) (state S.Store conn.new) result }
+        ensures answer { TellsStored (λ r found. told r no found) (state S.Store conn.old) (state S.Store conn.new) result }
+        ensures within { IfOk result (λ found. IfSome found is_within) };
+
+    ghost beyond: { (r : Register) (db : Trees) (n : ℕ) → Tables r db → 2 ^ 63 ≤ n → told r n None };
+}
 
 /// How far an incoming file has come.
 #[derive(Drop)]
@@ -40,65 +64,72 @@ pub(crate) struct ResponseProgress {
     pub response: Option<Dispatch>,
 }
 
-/// How far the incoming file with a number has come.
-pub(crate) fn find_incoming_progress<S: Alter>(
-    alloc: Global,
-    conn: &mut Connection<S>,
-    no: u64,
-) -> Result<Option<IncomingProgress>, OfficeFault>
-    requires { no < 2 ^ 63 }
-    ensures looks { Looks (state S.Store conn.old) (state S.Store conn.new) result }
-    ensures answer { TellsStored (λ r found. IsToldOf incoming_progress_of r.incoming no found) (state S.Store conn.old) (state S.Store conn.new) result }
-    ensures few { IfOk result (λ found. IfSome found (λ progress. progress.rows ≤ MOST_ROWS)) }
-{
-    let Some(header) = find::<IncomingHeader, S>(alloc, conn, no)? else {
-        return Ok(None);
-    };
-    let rows = count_rows(conn, Side::Incoming, no)?;
-    Ok(Some(IncomingProgress {
-        state: header.state,
-        rows,
-    }))
+impl Progress for IncomingProgress {
+    ghost told = { incoming_told };
+
+    ghost is_within = { λ progress. progress.rows ≤ MOST_ROWS };
+
+    fn find<S: Alter>(
+        alloc: Global,
+        conn: &mut Connection<S>,
+        no: u64,
+    ) -> Result<Option<IncomingProgress>, OfficeFault> {
+        let Some(header) = find::<IncomingHeader, S>(alloc, conn, no)? else {
+            return Ok(None);
+        };
+        let rows = count_rows(conn, Side::Incoming, no)?;
+        Ok(Some(IncomingProgress {
+            state: header.state,
+            rows,
+        }))
+    }
+
+    ghost beyond = { λ r db n tables far. entry_far n r.incoming tables.incoming.few far };
 }
 
-/// How far the outgoing file with a number has come.
-pub(crate) fn find_outgoing_progress<S: Alter>(
-    alloc: Global,
-    conn: &mut Connection<S>,
-    no: u64,
-) -> Result<Option<OutgoingProgress>, OfficeFault>
-    requires { no < 2 ^ 63 }
-    ensures looks { Looks (state S.Store conn.old) (state S.Store conn.new) result }
-    ensures answer { TellsStored (λ r found. IsToldOf outgoing_progress_of r.outgoing no found) (state S.Store conn.old) (state S.Store conn.new) result }
-    ensures few { IfOk result (λ found. IfSome found (λ progress. progress.rows ≤ MOST_ROWS)) }
-{
-    let Some(header) = find::<OutgoingHeader, S>(alloc, conn, no)? else {
-        return Ok(None);
-    };
-    let rows = count_rows(conn, Side::Outgoing, no)?;
-    Ok(Some(OutgoingProgress {
-        mark: header.mark,
-        state: header.state,
-        rows,
-    }))
+impl Progress for OutgoingProgress {
+    ghost told = { outgoing_told };
+
+    ghost is_within = { λ progress. progress.rows ≤ MOST_ROWS };
+
+    fn find<S: Alter>(
+        alloc: Global,
+        conn: &mut Connection<S>,
+        no: u64,
+    ) -> Result<Option<OutgoingProgress>, OfficeFault> {
+        let Some(header) = find::<OutgoingHeader, S>(alloc, conn, no)? else {
+            return Ok(None);
+        };
+        let rows = count_rows(conn, Side::Outgoing, no)?;
+        Ok(Some(OutgoingProgress {
+            mark: header.mark,
+            state: header.state,
+            rows,
+        }))
+    }
+
+    ghost beyond = { λ r db n tables far. entry_far n r.outgoing tables.outgoing.few far };
 }
 
-/// Whether the incoming file with a number is whole and was answered.
-pub(crate) fn find_response_progress<S: Alter>(
-    alloc: Global,
-    conn: &mut Connection<S>,
-    no: u64,
-) -> Result<Option<ResponseProgress>, OfficeFault>
-    requires { no < 2 ^ 63 }
-    ensures looks { Looks (state S.Store conn.old) (state S.Store conn.new) result }
-    ensures answer { Tells (λ r found. IsToldOf response_progress_of r.incoming no found) (state S.Store conn.old) (state S.Store conn.new) result }
-{
-    let Some(header) = find::<IncomingHeader, S>(alloc, conn, no)? else {
-        return Ok(None);
-    };
-    let response = find::<IssuedResponse, S>(alloc, conn, no)?;
-    Ok(Some(ResponseProgress {
-        state: header.state,
-        response: response.map(|response| response.dispatch),
-    }))
+impl Progress for ResponseProgress {
+    ghost told = { response_told };
+
+    ghost is_within = { λ _. ⊤ };
+
+    fn find<S: Alter>(
+        alloc: Global,
+        conn: &mut Connection<S>,
+        no: u64,
+    ) -> Result<Option<ResponseProgress>, OfficeFault> {
+        let Some(header) = find::<IncomingHeader, S>(alloc, conn, no)? else {
+            return Ok(None);
+        };
+        let response = find::<IssuedResponse, S>(alloc, conn, no)?;
+        Ok(Some(ResponseProgress {
+            state: header.state,
+            response: response.map(|response| response.dispatch),
+        }))
+    }
+
+    ghost beyond = { λ r db n tables far sound. entry_far n r.incoming tables.incoming.few far };
 }

@@ -8,7 +8,7 @@ ghost use Rattle.oftp_store.specs.ResponseMatches.{IsResponseMatchOf, Settles, i
 
 use super::identity::{file_number, has_filed};
 use super::last_number::{Table, new_number};
-use super::progress::find_outgoing_progress;
+use super::progress::{OutgoingProgress, Progress};
 use oftp_register::{Identity, OfficeFault, OutgoingState, ResponseKind, Side};
 use sqlite::{Alter, Connection};
 use std::alloc::Global;
@@ -54,7 +54,7 @@ pub(crate) fn find_settled_file<S: Alter>(
     let Some(no) = file_number(conn, Side::Outgoing, identity)? else {
         return Ok(None);
     };
-    let progress = find_outgoing_progress(alloc, conn, no)?.ok_or(OfficeFault::Store)?;
+    let progress = OutgoingProgress::find(alloc, conn, no)?.ok_or(OfficeFault::Store)?;
     if !is_awaiting(&progress.state) {
         return Ok(None);
     }

@@ -7,10 +7,10 @@ returns-then-no-ge-FIRST_FAR-clause-ends g c = ends_beyond c.args.means.limits g
 pub returns-in-None-clause-ends : goal.returns-in-None-clause-ends
 returns-in-None-clause-ends g c =
     ends_unknown c.args.means.limits g.P.Progress.told c.args.no _ _ _ c.in_ok-find.ensures.looks
-    (λ k stands. (rw c.in-None.is at c.in_ok-find.ensures.answer) k stands.holds.schema _ stands.holds.tables stands.holds.sound)
+    (λ k stands. (rw c.in-None.is at c.in_ok-find.ensures.answer) k stands.holds.schema _ stands.holds.tables)
 
 pub returns-in-Some-clause-found : goal.returns-in-Some-clause-found
 returns-in-Some-clause-found g c = record {
   looks = rw c.in-Some.is at c.in_ok-find.ensures.looks;
-  answer = λ k limits stands. (rw c.in-Some.is at c.in_ok-find.ensures.answer) k stands.holds.schema _ stands.holds.tables stands.holds.sound;
+  answer = λ k limits stands. (rw c.in-Some.is at c.in_ok-find.ensures.answer) k stands.holds.schema _ stands.holds.tables;
 }

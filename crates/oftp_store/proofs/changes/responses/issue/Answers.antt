@@ -1,21 +1,14 @@
-use Rattle.std.proofs.Common.{sym, ◌∙◌}
 use Rattle.oftp_store.proofs.ChangeLemmas.{issue_is}
-use Rattle.oftp_store.proofs.CommitLemmas.{commits_fit, commits_unfit, needs_file, passed_on}
+use Rattle.oftp_store.proofs.CommitLemmas.{commits_allowed, passed_unfit, passed_unfound}
 use Rattle.oftp_store.proofs.changes.responses.issue.Goals as goal
 
 pub returns-in_err-progress : goal.returns-in_err-progress
-returns-in_err-progress g c =
-    let is = issue_is c.args.no c.args.kind c.args.reason c.args.text in
-    passed_on _ _ _ _ c.in_err-progress.field-0.0 _ c.from_residual.ensures.1 (c.in_err-progress.ensures.ends _ (needs_file _ _ _ _ _ is))
+returns-in_err-progress g c = passed_unfound (issue_is c.args.no c.args.kind c.args.reason c.args.text) c.in_err-progress.ensures.ends c.from_residual.ensures.1
 
 pub returns-in_err-allowed : goal.returns-in_err-allowed
 returns-in_err-allowed g c =
-    let is = issue_is c.args.no c.args.kind c.args.reason c.args.text in
-    passed_on _ _ _ _ c.in_err-allowed.field-0.0 _ c.from_residual-in_err-allowed.ensures.1
-    (commits_unfit _ _ _ _ _ _ _ _ c.in_ok-progress.progress _ _ is c.in_ok-progress.ensures.found c.is_answerable.ensures c.in_err-allowed.ensures.err)
+    passed_unfit (issue_is c.args.no c.args.kind c.args.reason c.args.text) c.in_ok-progress.ensures.found c.is_answerable.ensures c.in_err-allowed.ensures.err c.from_residual-in_err-allowed.ensures.1
 
 pub returns : goal.returns
 returns g c =
-    let is = issue_is c.args.no c.args.kind c.args.reason c.args.text in
-    commits_fit g.S.Store _ _ _ _ _ _ c.args.conn.now c.known.new.conn c.make_edits.new.conn _ _ is c.in_ok-progress.ensures.found
-    (sym c.is_answerable.ensures ∙ c.in_ok-allowed.ensures.ok) c.make_edits.ensures
+    commits_allowed c.args.conn.now (issue_is c.args.no c.args.kind c.args.reason c.args.text) c.in_ok-progress.ensures.found c.is_answerable.ensures c.in_ok-allowed.ensures.ok c.make_edits.ensures

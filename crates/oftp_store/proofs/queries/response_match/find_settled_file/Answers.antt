@@ -8,12 +8,12 @@ returns-in_default-clause-answer g c clean has r kept sound = settles_none r c.a
 
 pub returns-then-not-is_awaiting-clause-answer : goal.returns-then-not-is_awaiting-clause-answer
 returns-then-not-is_awaiting-clause-answer g c clean has r kept sound =
-    let mid = left_by r _ _ _ _ _ c.in_ok-no.ensures.looks c.in_ok-find_outgoing_progress.ensures.looks clean has kept in
+    let mid = left_by r _ _ _ _ _ c.in_ok-no.ensures.looks c.in_ok-find.ensures.looks clean has kept in
     settles_nothing r c.args.identity.now c.in-Some.no c.in_ok-progress.progress sound (sym (rw c.in-Some.is at (c.in_ok-no.ensures.answer mid.clean has r kept)))
-    (rw c.in_ok-progress.ensures.ok_part at (c.in_ok-find_outgoing_progress.ensures.answer clean mid.schema r mid.tables)) (sym c.is_awaiting.ensures ∙ c.if-not-is_awaiting.true)
+    (rw c.in_ok-progress.ensures.ok_part at (c.in_ok-find.ensures.answer clean mid.schema r mid.tables)) (sym c.is_awaiting.ensures ∙ c.if-not-is_awaiting.true)
 
 pub returns-clause-answer : goal.returns-clause-answer
 returns-clause-answer g c clean has r kept sound =
-    let mid = left_by r _ _ _ _ _ c.in_ok-no.ensures.looks c.in_ok-find_outgoing_progress.ensures.looks clean has kept in
+    let mid = left_by r _ _ _ _ _ c.in_ok-no.ensures.looks c.in_ok-find.ensures.looks clean has kept in
     settles_it r c.args.identity.now c.in-Some.no c.in_ok-progress.progress sound (sym (rw c.in-Some.is at (c.in_ok-no.ensures.answer mid.clean has r kept)))
-    (rw c.in_ok-progress.ensures.ok_part at (c.in_ok-find_outgoing_progress.ensures.answer clean mid.schema r mid.tables)) (sym c.is_awaiting.ensures ∙ c.if-not-is_awaiting.false)
+    (rw c.in_ok-progress.ensures.ok_part at (c.in_ok-find.ensures.answer clean mid.schema r mid.tables)) (sym c.is_awaiting.ensures ∙ c.if-not-is_awaiting.false)

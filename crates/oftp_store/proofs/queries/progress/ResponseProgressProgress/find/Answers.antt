@@ -2,7 +2,7 @@ use Rattle.std.proofs.Common.{◌≡◌, option_map, rules}
 use Rattle.oftp_register.specs.declared.entries.IssuedResponse.{IssuedResponse}
 use Rattle.oftp_store.proofs.LookLemmas.{left_by}
 use Rattle.oftp_store.proofs.ProgressLemmas.{response_progress_told}
-use Rattle.oftp_store.proofs.queries.progress.find_response_progress.Goals as goal
+use Rattle.oftp_store.proofs.queries.progress.ResponseProgressProgress.find.Goals as goal
 
 pub returns-clause-answer : goal.returns-clause-answer
 returns-clause-answer g c clean has r kept sound =

@@ -1,6 +1,0 @@
-use Rattle.std.proofs.lemmas.Result.{IfOk-weaker}
-use Rattle.oftp_store.proofs.changes.incoming.IncomingProgressProgress.find.Goals as goal
-
-pub returns-clause-answer : goal.returns-clause-answer
-returns-clause-answer g c clean has =
-    IfOk-weaker c.find_incoming_progress.result _ _ (λ found told r kept sound. told r kept) (c.find_incoming_progress.ensures.answer clean has)
