@@ -21,5 +21,7 @@ pub mod Shipping
 pub mod Crediting
 pub mod Replying
 pub mod Speaking
+pub mod Turns
 pub mod Proceeding
+pub mod Outputs
 pub mod Resources

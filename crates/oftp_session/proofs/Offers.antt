@@ -1,5 +1,5 @@
 -- What the session does at SFID, as a step.
-use Rattle.std.proofs.Common.{◌≡◌, ℕ, ◌-◌, ◌%◌, max, [], length, None, Some, Result, Ok, Err, IfErr, List, is_ok, refl, sym, ap, ◌∙◌, subst, arith}
+use Rattle.std.proofs.Common.{◌≡◌, ℕ, ◌-◌, ◌%◌, max, [], length, Bool, Option, None, Some, Result, Ok, Err, IfErr, List, is_ok, refl, sym, ap, ◌∙◌, subst, arith}
 use Rattle.oftp_wire.specs.declared.command.Sfid.{Sfid}
 use Rattle.oftp_vfile.specs.declared.format.Format.{Format}
 use Rattle.oftp_vfile.specs.declared.format.Limits.{Limits}
@@ -14,12 +14,12 @@ use Rattle.oftp_register.specs.declared.entry.Identity.{Identity}
 use Rattle.oftp_register.specs.declared.verdicts.StartVerdict.TheVariants as start
 use Rattle.oftp_register.specs.Register.{Register, Incoming}
 use Rattle.oftp_register.specs.Changes.{apply}
-use Rattle.oftp_register.specs.LookUps.{entry_at, incoming_entry, look_in, units_of}
-use Rattle.oftp_register.specs.Verdicts.{format_of, longest_of}
+use Rattle.oftp_register.specs.LookUps.{entry_at, files_full, incoming_entry, look_in, units_of}
+use Rattle.oftp_register.specs.Verdicts.{format_of, longest_of, start_verdict}
 use Rattle.oftp_register.specs.Soundness.{IsFit, IsSound}
 use Rattle.oftp_register.specs.Offices.{LooksUp, View}
 use Rattle.oftp_register.proofs.EntryLemmas.{rows_of_incoming}
-use Rattle.oftp_session.specs.declared.link.Link.{Link}
+use Rattle.oftp_session.specs.Links.{LinkData}
 use Rattle.oftp_session.specs.declared.receiving.Reception.{Reception}
 use Rattle.oftp_session.specs.declared.session.SessionFault.{SessionFault}
 use Rattle.oftp_session.specs.declared.session.SessionFault.TheVariants as fault
@@ -27,7 +27,7 @@ use Rattle.oftp_session.specs.declared.state.Contact.{Contact}
 use Rattle.oftp_session.specs.declared.state.State.TheVariants as state
 use Rattle.oftp_session.specs.Settings.{Setting}
 use Rattle.oftp_session.specs.Phases.{Receipt, Step, frame_of}
-use Rattle.oftp_session.specs.Receiving.{carried_by, kept_of, offer_step, offered_identity, on_start_verdict, receipt_of, sfpa_of, start_of, verdict_on, window}
+use Rattle.oftp_session.specs.Receiving.{carried_by, kept_of, offer_step, offered_identity, on_start_verdict, receipt_of, sfpa_of, start_of, terms_within, verdict_on, window}
 use Rattle.oftp_session.specs.Steps.{IsReceived}
 use Rattle.oftp_session.specs.Standings.{Tracks}
 use Rattle.oftp_session.specs.Starting.{IsFound, MayBegin, Starts, reception_of}
@@ -41,8 +41,24 @@ use Rattle.oftp_session.proofs.Views.{after_fails, made_then, then_fails, then_m
 units_at : (r : Register) (number : ℕ) (file : Incoming) → entry_at number r.incoming ≡ Some file → units_of r side.Incoming number ≡ units_in file.rows
 units_at r number file e = ap units_in (rows_of_incoming r number file e)
 
+-- the verdict on an offer is made of what is looked up
+pub verdict_finds : (setting : Setting) (contact : Contact) (sfid : Sfid) (identity : Identity) (old mid new : View) (found : Option IncomingEntry) (full : Bool) (limits : Limits)
+    → LooksUp (λ r found. found ≡ look_in r identity) old mid (Ok found) → LooksUp (λ r full. full ≡ files_full r side.Incoming) mid new (Ok full)
+    → limits ≡ new.register.limits → identity ≡ offered_identity sfid → new.clean → old.stands
+    → (start_verdict sfid found full (terms_within setting contact limits) ≡ verdict_on setting contact old.register sfid) × IsMade None None old new []
+verdict_finds setting contact sfid identity old mid new found full limits first second bound is clean stands =
+    let before = second.clean clean in
+    let stood = first.stays before stands in
+    let same : mid.register ≡ old.register = first.register before stands (mid.opens stood) in
+    let stays = second.stays clean stood in
+    let again : new.register ≡ mid.register = second.register clean stood (new.opens stays) in
+    let known : found ≡ look_in old.register (offered_identity sfid) = first.answer before stands ∙ ap (look_in old.register) is in
+    let all : full ≡ files_full old.register side.Incoming = second.answer clean stood ∙ ap (λ (r : Register). files_full r side.Incoming) same in
+    let limit : limits ≡ old.register.limits = bound ∙ ap (λ (r : Register). r.limits) (again ∙ same) in
+    (rw (known, all, limit) refl, record { said = refl; register = again ∙ same; stands = stays; faults = second.counts ∙ first.counts })
+
 -- what receives the file is made of what is looked up
-pub begun_finds : (link : Link) (identity : Identity) (number : ℕ) (file : Incoming) (old mid new : View) (entry : IncomingEntry) (units : ℕ) (limits : Limits)
+pub begun_finds : (link : LinkData) (identity : Identity) (number : ℕ) (file : Incoming) (old mid new : View) (entry : IncomingEntry) (units : ℕ) (limits : Limits)
     → LooksUp (λ r found. found ≡ look_in r identity) old mid (Ok (Some entry)) → LooksUp (λ r n. n ≡ units_of r side.Incoming entry.no) mid new (Ok units)
     → limits ≡ new.register.limits → new.clean → old.stands → IsFound old.register identity number file
     → (let s : Reception = record { number = entry.no; credit = link.credit; taker = new_taking entry.format entry.longest entry.rows units limits.octets } in s)
@@ -51,9 +67,9 @@ pub begun_finds : (link : Link) (identity : Identity) (number : ℕ) (file : Inc
 begun_finds link identity number file old mid new entry units limits first second bound clean stands found =
     let before = second.clean clean in
     let stood = first.stays before stands in
-    let same : mid.register ≡ old.register = first.register before stands stood in
+    let same : mid.register ≡ old.register = first.register before stands (mid.opens stood) in
     let stays = second.stays clean stood in
-    let again : new.register ≡ mid.register = second.register clean stood stays in
+    let again : new.register ≡ mid.register = second.register clean stood (new.opens stays) in
     let there : Some entry ≡ Some (incoming_entry number file) = first.answer before stands ∙ found.look in
     let e : entry ≡ incoming_entry number file = cc in
     let n : units ≡ units_in file.rows =
@@ -103,7 +119,7 @@ begun_found sfid count identity old mid is may made =
     let found : IsFound may.after (offered_identity sfid) f.number f.file = record { look = may.found; entry = may.received.entry } in
     (at, subst (λ (r : Register). IsFound r identity f.number f.file) (sym at) (subst (λ (i : Identity). IsFound may.after i f.number f.file) (sym is) found))
 
-pub begin_starts : (link : Link) (sfid : Sfid) (count : ℕ) (identity : Identity) (old mid new : View) (result : Result Reception SessionFault) → identity ≡ offered_identity sfid
+pub begin_starts : (link : LinkData) (sfid : Sfid) (count : ℕ) (identity : Identity) (old mid new : View) (result : Result Reception SessionFault) → identity ≡ offered_identity sfid
     → MayBegin old.register sfid count → IsMade (Some (start_of sfid count)) None old mid []
     → ((number : ℕ) (file : Incoming) → IsFound mid.register identity number file → Finds (λ r. reception_of link number file r.limits.octets) mid new result)
     → IfErr result (λ told. told ≡ fault.Office) → Starts link sfid count old new result

@@ -40,6 +40,7 @@ use Rattle.oftp_session.proofs.Filing.{files_new, files_fit}
 use Rattle.oftp_session.proofs.Receipts.{carried_next, keep_accepted, keep_after, keep_fits, payload_holds}
 use Rattle.oftp_session.proofs.Continuing.{end_answer_proceeds, rtr_proceeds, sending_proceeds, sends_proceeds, speaks_proceeds, start_answer_proceeds}
 use Rattle.oftp_session.proofs.Starts.{accepted_begins}
+use Rattle.oftp_session.proofs.Turns.{each_turn}
 
 -- a response is filed where it is new
 new_proceeds : (contact : Contact) (r : Register) (response : Received) → IsSound r → IsSoundReceived response
@@ -187,17 +188,10 @@ came_proceeds setting (EndedThere reason) r c suits = same_proceeds r _ _ suits.
 
 -- an own turn
 pub turned_proceeds : (setting : Setting) (p : Phase) (r : Register) → Suits p r → Proceeds r (turned setting p r)
-unfolding turned
-turned_proceeds setting ResponderOpening r suits = same_proceeds r _ _ suits.sound tt
-turned_proceeds setting InitiatorOpening r suits = same_proceeds r _ _ suits.sound tt
-turned_proceeds setting AwaitingSsid r suits = same_proceeds r _ _ suits.sound tt
-turned_proceeds setting (ListenerIdle contact) r suits = same_proceeds r _ _ suits.sound tt
-turned_proceeds setting (Receiving contact f) r suits = same_proceeds r _ _ suits.sound suits.holds
-turned_proceeds setting (SpeakerIdle contact done) r suits = speaks_proceeds setting contact done r suits.sound
-turned_proceeds setting (GivingWay contact) r suits = same_proceeds r _ _ suits.sound tt
-turned_proceeds setting (AwaitingRtr contact number) r suits = same_proceeds r _ _ suits.sound suits.holds
-turned_proceeds setting (AwaitingStart contact offer) r suits = same_proceeds r _ _ suits.sound suits.holds
-turned_proceeds setting (Sending contact t) r suits = sends_proceeds contact t r suits.sound suits.holds
-turned_proceeds setting (AwaitingEnd contact t) r suits = same_proceeds r _ _ suits.sound suits.holds
-turned_proceeds setting (EndedHere reason) r suits = same_proceeds r _ _ suits.sound tt
-turned_proceeds setting (EndedThere reason) r suits = same_proceeds r _ _ suits.sound tt
+turned_proceeds setting p r = each_turn (λ q step. Suits q r → Proceeds r step) setting r (record {
+  greeting = λ suits. same_proceeds r _ _ suits.sound tt;
+  speaking = λ contact done suits. speaks_proceeds setting contact done r suits.sound;
+  giving_way = λ contact suits. same_proceeds r _ _ suits.sound tt;
+  sending = λ contact t suits. sends_proceeds contact t r suits.sound suits.holds;
+  waiting = λ q suits. same_proceeds r _ _ suits.sound suits.holds;
+}) p

@@ -18,7 +18,7 @@ use Rattle.oftp_session.specs.declared.state.Contact.{Contact}
 use Rattle.oftp_session.specs.declared.state.State.{State}
 use Rattle.oftp_session.specs.declared.state.State.TheVariants as state
 use Rattle.oftp_session.specs.Settings.{Setting}
-use Rattle.oftp_session.specs.Phases.{Phase, Step, ResponderOpening, InitiatorOpening, AwaitingSsid, ListenerIdle, Receiving, SpeakerIdle, GivingWay, AwaitingRtr, AwaitingStart, Sending, AwaitingEnd, EndedHere, EndedThere, frame_of, quiet}
+use Rattle.oftp_session.specs.Phases.{Phase, Step, Transfer, AwaitingStart, Sending, frame_of, quiet}
 use Rattle.oftp_session.specs.Speaker.{having_tried_file, offer_of, offered_from, offers, on_item, sfid_of, speaks}
 use Rattle.oftp_session.specs.Sending.{credit_left, sends_next, turned_sending, payloads_in}
 use Rattle.oftp_session.specs.Steps.{turned}
@@ -27,6 +27,7 @@ use Rattle.oftp_session.specs.Calls.{IsMade}
 use Rattle.oftp_session.specs.Inside.{Goes, Takes}
 use Rattle.oftp_session.proofs.Items.{item_goes, units_are}
 use Rattle.oftp_session.proofs.Saying.{step_same}
+use Rattle.oftp_session.proofs.Turns.{each_turn}
 use Rattle.oftp_session.proofs.Views.{then_fails, then_made}
 
 -- what is held of a file with this entry
@@ -74,23 +75,21 @@ speak_file setting contact done e old mid new frame result sound next was does =
     subst (λ (x : Step). Takes x old new frame result) (sym step) (then_takes (offers contact done e.no (Some found.0)) old mid new frame result was (does done found.0 found.1 found.2.entry))
 
 -- no command is due: nothing is said
-idle_step : (setting : Setting) (p : Phase) (s : Standing) (r : Register) → StandsIn p s → is_due s ≡ false → turned setting p r ≡ quiet p
-unfolding turned turned_sending
-idle_step setting ResponderOpening s r h none = absurd (false≢true (sym none ∙ ap is_due h))
-idle_step setting InitiatorOpening s r h none = refl
-idle_step setting AwaitingSsid s r h none = refl
-idle_step setting (ListenerIdle contact) s r h none = refl
-idle_step setting (Receiving contact f) s r h none = refl
-idle_step setting (SpeakerIdle contact done) s r h none = absurd (false≢true (sym none ∙ ap is_due h))
-idle_step setting (GivingWay contact) s r h none = absurd (false≢true (sym none ∙ ap is_due h))
-idle_step setting (AwaitingRtr contact number) s r h none = refl
-idle_step setting (AwaitingStart contact offer) s r h none = refl
-idle_step setting (Sending contact t) s r h none =
+
+idle_sending : (contact : Contact) (t : Transfer) (s : Standing) → StandsIn (Sending contact t) s → is_due s ≡ false → turned_sending contact t ≡ quiet (Sending contact t)
+unfolding turned_sending
+idle_sending contact t s h none =
     let spent : nat_lt 0 (credit_left contact t) ≡ false = ap (nat_lt 0) (sym h.2.credit) ∙ sym (ap is_due h.1) ∙ none in
     ap (λ b. cond b (sends_next contact t (slice_get (payloads_in contact t) t.sent)) (quiet (Sending contact t))) spent
-idle_step setting (AwaitingEnd contact t) s r h none = refl
-idle_step setting (EndedHere reason) s r h none = refl
-idle_step setting (EndedThere reason) s r h none = refl
+
+idle_step : (setting : Setting) (p : Phase) (s : Standing) (r : Register) → StandsIn p s → is_due s ≡ false → turned setting p r ≡ quiet p
+idle_step setting p s r = each_turn (λ q step. StandsIn q s → is_due s ≡ false → step ≡ quiet q) setting r (record {
+  greeting = λ h none. absurd (false≢true (sym none ∙ ap is_due h));
+  speaking = λ contact done h none. absurd (false≢true (sym none ∙ ap is_due h));
+  giving_way = λ contact h none. absurd (false≢true (sym none ∙ ap is_due h));
+  sending = λ contact t. idle_sending contact t s;
+  waiting = λ q h none. refl;
+}) p
 
 pub none_left : (n : ℕ) → n ≤ 0 → nat_lt 0 n ≡ false
 none_left zero h = refl

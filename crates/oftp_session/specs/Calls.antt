@@ -63,16 +63,16 @@ Begins (Some (change.Start identity format longest description count)) = ⊤
 Begins _ = ⊥
 
 -- the office told a fault: before the change was made, or in a look-up after it, where the change begins a file. Its register is known
--- where it still stands
+-- wherever it is open
 pub record IsBefore (change : Option Change) (old new : View) : Type 0 where
-  pub register : new.stands → new.register ≡ old.register
+  pub register : new.is_open → new.register ≡ old.register
   pub left : WithOrWithout change old.register new
 
 pub record IsAfter (change : Option Change) (old new : View) : Type 0 where
   pub begins : Begins change
   pub after : Register
   pub made : Makes change old.register after
-  pub register : new.stands → new.register ≡ after
+  pub register : new.is_open → new.register ≡ after
   pub left : Only after new
 
 pub record IsBroken (change : Option Change) (old new : View) : Type 0 where

@@ -58,3 +58,8 @@ Finds look old new (Err fault) = DoesNot None old new fault
 abbrev pub Takes : Step → View → View → List ℕ → Result State SessionFault → Type 0
 Takes step old new frame (Ok state) = IsMade step.change step.output old new frame × StandsIn step.phase (standing_of state)
 Takes step old new frame (Err fault) = DoesNot step.change old new fault
+
+-- the same over a disk that was clean all along: whatever phase the register has and the code stands in, its step is made
+abbrev pub StepsFrom : {P : Type 0} → (Register → P → Type 0) → (P → Type 0) → (Register → P → Step) → View → View → List ℕ → Result State SessionFault → Type 0
+StepsFrom {P = P} Has Stands step old new frame result =
+    new.clean → old.stands → (at : P) → Has old.register at → Stands at → Takes (step old.register at) old new frame result

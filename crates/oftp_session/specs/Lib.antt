@@ -1,3 +1,4 @@
+pub mod Links
 pub mod Settings
 pub mod Phases
 pub mod Opening

@@ -10,34 +10,33 @@ use Rattle.oftp_wire.specs.declared.reason.SessionReason.{SessionReason}
 use Rattle.oftp_wire.specs.declared.reason.SessionReason.TheVariants.{ProtocolViolation, UserCodeNotKnown, InvalidPassword, InvalidData, ModeIncompatible, AuthenticationIncompatible}
 use Rattle.oftp_partners.specs.Book.{BookData, partner_at}
 use Rattle.oftp_partners.specs.declared.partner.Partner.{Partner}
-use Rattle.oftp_session.specs.declared.link.Link.{Link}
+use Rattle.oftp_session.specs.Links.{LinkData}
 use Rattle.oftp_session.specs.declared.link.WhenDone.TheVariants.{ChangeDirection}
 use Rattle.oftp_session.specs.declared.state.Contact.{Contact}
 use Rattle.oftp_session.specs.Settings.{Setting}
 use Rattle.oftp_session.specs.Phases.{AwaitingSsid, ListenerIdle, SpeakerIdle, Step, quiet, says, fails, unexpected}
 
+-- whether a station in this mode sends files, and whether it receives any
+abbrev pub may_send : Mode → Bool
+may_send Send = true
+may_send Receive = false
+may_send Both = true
+
+abbrev pub may_receive : Mode → Bool
+may_receive Send = false
+may_receive Receive = true
+may_receive Both = true
+
 -- whether a station in one mode sends what the other receives
 abbrev pub flows : Mode → Mode → Bool
-flows Send Send = false
-flows Send Receive = true
-flows Send Both = true
-flows Receive letter = false
-flows Both Send = false
-flows Both Receive = true
-flows Both Both = true
+flows from to = may_send from && may_receive to
 
--- two stations that both only send, or both only receive
+-- two stations that both only send, or both only receive: no file can go either way
 abbrev pub is_opposed : Mode → Mode → Bool
-is_opposed Send Send = true
-is_opposed Send Receive = false
-is_opposed Send Both = false
-is_opposed Receive Send = false
-is_opposed Receive Receive = true
-is_opposed Receive Both = false
-is_opposed Both letter = false
+is_opposed own letter = not (flows own letter) && not (flows letter own)
 
 -- what two stations agree: the smaller buffer and credit, restart where both want it, and who sends files
-abbrev pub agreed : BookData → Partner → Ssid → Link
+abbrev pub agreed : BookData → Partner → Ssid → LinkData
 agreed book partner ssid = record {
   buffer = min book.station.buffer ssid.buffer;
   credit = min book.station.credit ssid.credit;
@@ -60,7 +59,7 @@ is_initiator setting = is_some setting.called
 -- the partner of a session and what is agreed with it
 pub record Agreement : Type 0 where
   pub partner : Partner
-  pub link : Link
+  pub link : LinkData
 
 -- what is agreed once the code is looked up: the tests after the code, in their order
 abbrev pub agreement : Setting → Ssid → Option Partner → Result Agreement SessionReason

@@ -9,7 +9,7 @@ use Rattle.oftp_register.specs.Changes.{apply}
 use Rattle.oftp_register.specs.LookUps.{entry_at, incoming_entry, look_in}
 use Rattle.oftp_register.specs.Soundness.{IsFit}
 use Rattle.oftp_register.specs.Offices.{View}
-use Rattle.oftp_session.specs.declared.link.Link.{Link}
+use Rattle.oftp_session.specs.Links.{LinkData}
 use Rattle.oftp_session.specs.declared.receiving.Reception.{Reception}
 use Rattle.oftp_session.specs.declared.session.SessionFault.{SessionFault}
 use Rattle.oftp_session.specs.Receiving.{offered_identity, receipt_of, start_of}
@@ -30,7 +30,7 @@ pub record MayBegin (r : Register) (sfid : Sfid) (count : ℕ) : Type 0 where
   pub found : look_in after (offered_identity sfid) ≡ Some (incoming_entry (receipt_of r sfid count).number (receipt_of r sfid count).file)
 
 -- what receives a file of which no payload came
-abbrev pub reception_of : Link → ℕ → Incoming → ℕ → Reception
+abbrev pub reception_of : LinkData → ℕ → Incoming → ℕ → Reception
 reception_of link number file limit = record {
   number = number;
   credit = link.credit;
@@ -38,7 +38,7 @@ reception_of link number file limit = record {
 }
 
 -- the change is made, and what receives the file is made for it
-abbrev pub Starts : Link → Sfid → ℕ → View → View → Result Reception SessionFault → Type 0
+abbrev pub Starts : LinkData → Sfid → ℕ → View → View → Result Reception SessionFault → Type 0
 Starts link sfid count old new (Ok reception) =
     let f = receipt_of old.register sfid count in
     IsMade (Some (start_of sfid count)) None old new [] × (reception ≡ reception_of link f.number f.file f.limit)

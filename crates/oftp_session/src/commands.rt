@@ -1,6 +1,6 @@
 //! The commands that a station says.
 
-ghost use Rattle.std.specs.Prelude.{◌≡◌, ◌≤◌, ℕ, take, length, min, [], false, if◌then◌else◌};
+ghost use Rattle.std.specs.Prelude.{◌≡◌, ◌≤◌, take, [], false, if◌then◌else◌};
 ghost use Rattle.oftp_vfile.specs.VirtualFile.{IsLongest, is_stream, units_in};
 ghost use Rattle.oftp_vfile.specs.declared.format.TheConstants.{MOST_ROWS};
 ghost use Rattle.oftp_register.specs.declared.fit.TheConstants.{MOST_UNITS};

@@ -1,6 +1,6 @@
 //! The frame that a session says.
 
-ghost use Rattle.std.specs.Prelude.{◌≡◌, ◌∷◌, ◌++◌, ◌+◌, ◌<◌, ◌≤◌, [], ℕ, List, length, take, All, IfErr, true, false};
+ghost use Rattle.std.specs.Prelude.{◌≡◌, ◌∷◌, ◌++◌, ◌+◌, ◌<◌, ◌≤◌, [], ℕ, List, length, All, true, false};
 ghost use Rattle.oftp_wire.specs.Header.{header_of};
 ghost use Rattle.oftp_wire.specs.Spelling.{is_data};
 ghost use Rattle.oftp_vfile.specs.declared.format.TheConstants.{MOST_ROWS};

@@ -1,7 +1,7 @@
 //! What the station does where it listens and no file comes (RFC 5024, sections 5.3.3 and 5.3.12 to 5.3.15).
 
 ghost use Rattle.std.specs.Prelude.{◌≡◌, ◌+◌, ◌<◌, ◌≤◌, ◌^◌, ℕ, IfErr};
-ghost use Rattle.oftp_register.specs.declared.change.Change.TheVariants.{Close, GiveUp, Keep};
+ghost use Rattle.oftp_register.specs.declared.change.Change.TheVariants.{Keep};
 ghost use Rattle.oftp_register.specs.Register.{Incoming};
 ghost use Rattle.oftp_register.specs.Soundness.{IsFit, IsSoundReceived};
 ghost use Rattle.oftp_vfile.specs.Taking.{new_taking};
@@ -11,7 +11,7 @@ ghost use Rattle.oftp_session.specs.Listener.{came_listener_idle, filing, is_bet
 ghost use Rattle.oftp_session.specs.Receiving.{asks_to_speak, keeping, offer_step, offered_identity, terms_within, verdict_on};
 ghost use Rattle.oftp_session.specs.Responses.{as_received};
 ghost use Rattle.oftp_session.specs.Starting.{IsFound, MayBegin, Starts, reception_of};
-ghost use Rattle.oftp_session.specs.Inside.{Files, FilesFit, Finds, IsAccepted, Takes};
+ghost use Rattle.oftp_session.specs.Inside.{Files, Finds, IsAccepted, Takes};
 
 use crate::change::make;
 use crate::commands::{sfna, sfpa};
@@ -79,18 +79,6 @@ pub(crate) trait ListenerPart: Office {
         ensures clean { (Self.view self.new).clean → (Self.view self.old).clean }
         ensures finds { (Self.view self.new).clean → (Self.view self.old).stands
             → Finds (asks_to_speak contact.now) (Self.view self.old) (Self.view self.new) result }
-        ensures err { IfErr result (λ fault. fault ≡ SessionFault.Office) };
-
-    /// Closes a file with its last rows.
-    fn close(&mut self, no: u64, rows: Rows) -> Result<(), SessionFault>
-        ensures clean { (Self.view self.new).clean → (Self.view self.old).clean }
-        ensures does { FilesFit (Close no rows) (Self.view self.old) (Self.view self.new) result }
-        ensures err { IfErr result (λ fault. fault ≡ SessionFault.Office) };
-
-    /// Gives up the rows of a file.
-    fn give_up(&mut self, no: u64) -> Result<(), SessionFault>
-        ensures clean { (Self.view self.new).clean → (Self.view self.old).clean }
-        ensures does { FilesFit (GiveUp no) (Self.view self.old) (Self.view self.new) result }
         ensures err { IfErr result (λ fault. fault ≡ SessionFault.Office) };
 }
 
@@ -167,14 +155,6 @@ impl<O: Office> ListenerPart for O {
             Ok(item) => Ok(item.is_some()),
             Err(_) => Err(SessionFault::Office),
         }
-    }
-
-    fn close(&mut self, no: u64, rows: Rows) -> Result<(), SessionFault> {
-        make(self, Change::Close { no, rows })
-    }
-
-    fn give_up(&mut self, no: u64) -> Result<(), SessionFault> {
-        make(self, Change::GiveUp { no })
     }
 }
 

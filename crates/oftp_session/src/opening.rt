@@ -1,8 +1,8 @@
 //! How a session opens (RFC 5024, sections 4.2, 5.3.1 and 5.3.2).
 
-ghost use Rattle.std.specs.Prelude.{◌≡◌, ◌≤◌, ℕ, min, option_map};
+ghost use Rattle.std.specs.Prelude.{◌≡◌, ◌≤◌, min, option_map};
 ghost use Rattle.oftp_session.specs.Settings.{setting_of};
-ghost use Rattle.oftp_session.specs.Opening.{agreed, answered_mode, called_as, calling_step, came_awaiting_ssid, came_initiator_opening, contact_of, flows, is_opposed, open_step, opened_step, ssid_verdict};
+ghost use Rattle.oftp_session.specs.Opening.{agreed, answered_mode, called_as, calling_step, came_awaiting_ssid, came_initiator_opening, contact_of, flows, is_opposed, may_receive, may_send, open_step, opened_step, ssid_verdict};
 ghost use Rattle.oftp_session.specs.Agreements.{agreement_of, shown};
 ghost use Rattle.oftp_session.specs.Inside.{Goes};
 
@@ -47,34 +47,38 @@ impl<'b> Agreement<'b> {
     }
 }
 
+/// Whether a station in this mode sends files.
+fn may_send(mode: Mode) -> bool
+    ensures { result ≡ may_send mode }
+{
+    match mode {
+        Mode::Send | Mode::Both => true,
+        Mode::Receive => false,
+    }
+}
+
+/// Whether a station in this mode receives files.
+fn may_receive(mode: Mode) -> bool
+    ensures { result ≡ may_receive mode }
+{
+    match mode {
+        Mode::Receive | Mode::Both => true,
+        Mode::Send => false,
+    }
+}
+
 /// Whether a station in one mode sends what the other receives.
 fn flows(from: Mode, to: Mode) -> bool
     ensures { result ≡ flows from to }
 {
-    match from {
-        Mode::Receive => false,
-        Mode::Send | Mode::Both => match to {
-            Mode::Send => false,
-            Mode::Receive | Mode::Both => true,
-        },
-    }
+    may_send(from) && may_receive(to)
 }
 
-/// Whether both stations only send, or both only receive.
+/// Whether both stations only send, or both only receive: no file can go either way.
 fn is_opposed(own: Mode, letter: Mode) -> bool
     ensures { result ≡ is_opposed own letter }
 {
-    match own {
-        Mode::Send => match letter {
-            Mode::Send => true,
-            Mode::Receive | Mode::Both => false,
-        },
-        Mode::Receive => match letter {
-            Mode::Receive => true,
-            Mode::Send | Mode::Both => false,
-        },
-        Mode::Both => false,
-    }
+    !flows(own, letter) && !flows(letter, own)
 }
 
 /// The mode letter that answers the partner's.
@@ -90,6 +94,8 @@ pub(crate) fn answered_mode(own: Mode, letter: Mode) -> Mode
 
 /// What is agreed with a partner who sends this SSID.
 fn agreed(book: &Book, partner: &Partner, ssid: &Ssid<'_>) -> Link
+    requires buffer { 128 ≤ ssid.now.buffer }
+    requires credit { 1 ≤ ssid.now.credit }
     ensures { result ≡ agreed book.now partner.now ssid.now }
 {
     let station = book.station();

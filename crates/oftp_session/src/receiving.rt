@@ -1,21 +1,22 @@
 //! A file that comes: DATA and EFID (RFC 5024, sections 5.3.6 to 5.3.10).
 
-ghost use Rattle.std.specs.Prelude.{◌≡◌, ◌≢◌, ◌+◌, ◌≤◌, false, nat_lt, length, IfErr};
+ghost use Rattle.std.specs.Prelude.{◌≡◌, ◌≢◌, ◌+◌, false, nat_lt, length, IfErr};
 ghost use Rattle.oftp_vfile.specs.Carries.{is_open};
 ghost use Rattle.oftp_session.specs.Phases.{Receipt};
 ghost use Rattle.oftp_session.specs.Receiving.{came_receiving, carried_by, data_step, end_step, on_end_verdict, reason_of, rows_to_keep, window_step};
 ghost use Rattle.oftp_session.specs.Steps.{IsReceived};
 ghost use Rattle.oftp_session.specs.Standings.{Tracks};
 ghost use Rattle.oftp_session.specs.Calls.{IsFailure, takes_memory};
-ghost use Rattle.oftp_session.specs.Inside.{HasTaken, Refuses, Takes};
+ghost use Rattle.oftp_session.specs.Inside.{HasTaken, Refuses, StepsFrom, Takes};
 
+use crate::change::make;
 use crate::commands::{efna, efpa};
 use crate::frame::Frame;
 use crate::link::Link;
 use crate::listener::ListenerPart;
 use crate::session::SessionFault;
 use crate::state::{Contact, State};
-use oftp_register::{EndVerdict, Office, end_verdict};
+use oftp_register::{Change, EndVerdict, Office, end_verdict};
 use oftp_vfile::{TakeFault, Taker};
 use oftp_wire::{Command, Efid, SessionReason};
 
@@ -58,28 +59,8 @@ fn refuse(fault: TakeFault, frame: &mut Frame) -> Result<State, SessionFault>
     }
 }
 
-/// Keeps the finished rows where the partner's credit is used up, and gives it credit (RFC 5024, section 5.3.7).
-fn give_credit<O: Office>(
-    contact: Contact,
-    mut reception: Reception,
-    office: &mut O,
-    frame: &mut Frame,
-) -> Result<State, SessionFault>
-    ensures clean { (O.view office.new).clean → (O.view office.old).clean }
-    ensures takes { (O.view office.new).clean → (O.view office.old).stands
-        → (f : Receipt) → IsReceived (O.view office.old).register f → HasTaken contact f reception → reception.credit ≤ 1
-        → Takes (window_step contact f (rows_to_keep f (carried_by f))) (O.view office.old) (O.view office.new) frame.new result }
-    ensures err { IfErr result (λ fault. fault ≡ SessionFault.Office) }
-{
-    let link = contact.link;
-    frame.say(&Command::Cdt);
-    let rows = reception.taker.take_rows();
-    office.keep(reception.number, rows)?;
-    reception.credit = link.credit.get();
-    Ok(State::Receiving(contact, reception))
-}
-
-/// What a payload that was taken leaves: CDT where the partner's credit is used up.
+/// What a payload that was taken leaves: where the partner's credit is used up, the finished rows are kept, and CDT gives it credit
+/// (RFC 5024, section 5.3.7).
 fn pass_window<O: Office>(
     contact: Contact,
     mut reception: Reception,
@@ -87,16 +68,19 @@ fn pass_window<O: Office>(
     frame: &mut Frame,
 ) -> Result<State, SessionFault>
     ensures clean { (O.view office.new).clean → (O.view office.old).clean }
-    ensures takes { (O.view office.new).clean → (O.view office.old).stands
-        → (f : Receipt) → IsReceived (O.view office.old).register f → HasTaken contact f reception
-        → Takes (window_step contact f (rows_to_keep f (carried_by f))) (O.view office.old) (O.view office.new) frame.new result }
+    ensures takes { StepsFrom IsReceived (λ f. HasTaken contact f reception) (λ r f. window_step contact f (rows_to_keep f (carried_by f)))
+        (O.view office.old) (O.view office.new) frame.new result }
     ensures err { IfErr result (λ fault. fault ≡ SessionFault.Office) }
 {
-    if reception.credit <= 1 {
-        return give_credit(contact, reception, office, frame);
+    if reception.credit > 1 {
+        reception.credit -= 1;
+        frame.hush();
+        return Ok(State::Receiving(contact, reception));
     }
-    reception.credit -= 1;
-    frame.hush();
+    frame.say(&Command::Cdt);
+    let rows = reception.taker.take_rows();
+    office.keep(reception.number, rows)?;
+    reception.credit = contact.link.window();
     Ok(State::Receiving(contact, reception))
 }
 
@@ -109,9 +93,8 @@ fn take_data<O: Office>(
     frame: &mut Frame,
 ) -> Result<State, SessionFault>
     ensures clean { (O.view office.new).clean → (O.view office.old).clean }
-    ensures takes { (O.view office.new).clean → (O.view office.old).stands
-        → (f : Receipt) → IsReceived (O.view office.old).register f → Tracks contact f reception
-        → Takes (data_step contact f payload.now) (O.view office.old) (O.view office.new) frame.new result }
+    ensures takes { StepsFrom IsReceived (λ f. Tracks contact f reception) (λ r f. data_step contact f payload.now)
+        (O.view office.old) (O.view office.new) frame.new result }
     ensures err { IfErr result IsFailure }
 {
     if is_too_long(&contact.link, payload) {
@@ -144,7 +127,7 @@ fn close<O: Office>(
     let speaks = office.asks_to_speak(&contact)?;
     // The answer stands spelled before the commit, so that only the writer can fail between the two.
     frame.say(&efpa(speaks));
-    office.close(number, rows)?;
+    make(office, Change::Close { no: number, rows })?;
     Ok(State::ListenerIdle(contact))
 }
 
@@ -157,9 +140,7 @@ fn take_end<O: Office>(
     frame: &mut Frame,
 ) -> Result<State, SessionFault>
     ensures clean { (O.view office.new).clean → (O.view office.old).clean }
-    ensures takes { (O.view office.new).clean → (O.view office.old).stands
-        → (f : Receipt) → IsReceived (O.view office.old).register f → Tracks contact f reception
-        → Takes (end_step contact (O.view office.old).register f efid.now)
+    ensures takes { StepsFrom IsReceived (λ f. Tracks contact f reception) (λ r f. end_step contact r f efid.now)
         (O.view office.old) (O.view office.new) frame.new result }
     ensures err { IfErr result IsFailure }
 {
@@ -170,7 +151,8 @@ fn take_end<O: Office>(
     match end_verdict(efid, records, units) {
         EndVerdict::Refuse(reason) => {
             frame.say(&efna(reason));
-            office.give_up(reception.number)?;
+            let no = reception.number;
+            make(office, Change::GiveUp { no })?;
             Ok(State::ListenerIdle(contact))
         }
         EndVerdict::Accept => close(contact, reception, office, frame),
@@ -187,9 +169,7 @@ pub(crate) fn in_receiving<O: Office>(
     frame: &mut Frame,
 ) -> Result<State, SessionFault>
     ensures clean { (O.view office.new).clean → (O.view office.old).clean }
-    ensures takes { (O.view office.new).clean → (O.view office.old).stands
-        → (f : Receipt) → IsReceived (O.view office.old).register f → Tracks contact f reception
-        → Takes (came_receiving contact (O.view office.old).register f command.now)
+    ensures takes { StepsFrom IsReceived (λ f. Tracks contact f reception) (λ r f. came_receiving contact r f command.now)
         (O.view office.old) (O.view office.new) frame.new result }
     ensures err { IfErr result IsFailure }
     ensures light { takes_memory command.now ≡ false → IfErr result (λ fault. fault ≢ SessionFault.Memory) }

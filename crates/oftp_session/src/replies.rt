@@ -1,19 +1,19 @@
 //! What the partner answers to a file: to SFID and to EFID (RFC 5024, sections 5.3.4, 5.3.5, 5.3.9 and 5.3.10).
 
-ghost use Rattle.std.specs.Prelude.{◌≡◌, ◌≤◌, IfErr};
-ghost use Rattle.oftp_session.specs.Phases.{Offer, Transfer};
+ghost use Rattle.std.specs.Prelude.{◌≡◌, IfErr};
+ghost use Rattle.oftp_session.specs.Phases.{Offer};
 ghost use Rattle.oftp_session.specs.Sending.{came_awaiting_end, came_awaiting_start, after_file, refusal, reopening, start_step, transfer_of};
 ghost use Rattle.oftp_session.specs.Steps.{IsEnded, IsOffered};
 ghost use Rattle.oftp_session.specs.Standings.{At, Ships, offering_of, standing_of};
-ghost use Rattle.oftp_session.specs.Inside.{Files, Takes};
+ghost use Rattle.oftp_session.specs.Inside.{Files, StepsFrom};
 
+use crate::change::make;
 use crate::frame::Frame;
 use crate::link::{Link, WhenDone};
 use crate::sending::{Offering, Shipment};
 use crate::session::SessionFault;
-use crate::speaker::SpeakerPart;
 use crate::state::{Contact, State};
-use oftp_register::Office;
+use oftp_register::{Change, Office};
 use oftp_vfile::Filler;
 use oftp_wire::{Command, SessionReason, Sfna, StartReason};
 
@@ -46,8 +46,9 @@ fn reopen<O: Office>(offering: &Offering, office: &mut O) -> Result<(), SessionF
         → Files (reopening offer) (O.view office.old) (O.view office.new) result }
     ensures err { IfErr result (λ fault. fault ≡ SessionFault.Office) }
 {
+    let no = offering.number;
     if offering.is_closing {
-        office.reopen(offering.number)
+        make(office, Change::Reopen { no })
     } else {
         Ok(())
     }
@@ -62,9 +63,8 @@ fn start<O: Office>(
     frame: &mut Frame,
 ) -> Result<State, SessionFault>
     ensures clean { (O.view office.new).clean → (O.view office.old).clean }
-    ensures takes { (O.view office.new).clean → (O.view office.old).stands
-        → (offer : Offer) → IsOffered (O.view office.old).register offer → offering ≡ offering_of offer
-        → Takes (start_step contact offer from) (O.view office.old) (O.view office.new) frame.new result }
+    ensures takes { StepsFrom IsOffered (λ offer. offering ≡ offering_of offer) (λ r offer. start_step contact offer from)
+        (O.view office.old) (O.view office.new) frame.new result }
     ensures err { IfErr result (λ fault. fault ≡ SessionFault.Office) }
 {
     if from > offering.from {
@@ -88,13 +88,15 @@ fn settle<O: Office>(
         → Files (refusal offer sfna.now) (O.view office.old) (O.view office.new) result }
     ensures err { IfErr result (λ fault. fault ≡ SessionFault.Office) }
 {
+    let no = offering.number;
     if sfna.reason == StartReason::DuplicateFile.number() && offering.is_closing {
-        return office.hand_over(offering.number);
+        return make(office, Change::HandOver { no });
     }
     if sfna.retry {
         return Ok(());
     }
-    office.refuse(offering.number, sfna.reason)
+    let reason = sfna.reason;
+    make(office, Change::Refuse { no, reason })
 }
 
 /// Takes a command that comes while the answer to SFID is awaited.
@@ -107,9 +109,8 @@ pub(crate) fn in_awaiting_start<O: Office>(
     frame: &mut Frame,
 ) -> Result<State, SessionFault>
     ensures clean { (O.view office.new).clean → (O.view office.old).clean }
-    ensures takes { (O.view office.new).clean → (O.view office.old).stands
-        → (offer : Offer) → IsOffered (O.view office.old).register offer → offering ≡ offering_of offer
-        → Takes (came_awaiting_start contact offer command.now) (O.view office.old) (O.view office.new) frame.new result }
+    ensures takes { StepsFrom IsOffered (λ offer. offering ≡ offering_of offer) (λ r offer. came_awaiting_start contact offer command.now)
+        (O.view office.old) (O.view office.new) frame.new result }
     ensures err { IfErr result (λ fault. fault ≡ SessionFault.Office) }
 {
     match command {
@@ -144,20 +145,19 @@ pub(crate) fn in_awaiting_end<O: Office>(
     frame: &mut Frame,
 ) -> Result<State, SessionFault>
     ensures clean { (O.view office.new).clean → (O.view office.old).clean }
-    ensures takes { (O.view office.new).clean → (O.view office.old).stands
-        → (t : Transfer) → IsEnded (O.view office.old).register t → t.number ≡ number
-        → Takes (came_awaiting_end contact t command.now) (O.view office.old) (O.view office.new) frame.new result }
+    ensures takes { StepsFrom IsEnded (λ t. t.number ≡ number) (λ r t. came_awaiting_end contact t command.now)
+        (O.view office.old) (O.view office.new) frame.new result }
     ensures err { IfErr result (λ fault. fault ≡ SessionFault.Office) }
 {
     match command {
         Command::Efpa(efpa) => {
             frame.hush();
-            office.hand_over(number)?;
+            make(office, Change::HandOver { no: number })?;
             Ok(after_file(contact, efpa.change_direction))
         }
         Command::Efna(_) => {
             frame.hush();
-            office.reopen(number)?;
+            make(office, Change::Reopen { no: number })?;
             Ok(State::SpeakerIdle(contact, WhenDone::ChangeDirection))
         }
         _ => Ok(State::unexpected(command, frame)),

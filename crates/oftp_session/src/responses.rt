@@ -1,7 +1,6 @@
 //! The responses that come from a partner.
 
 ghost use Rattle.std.specs.Prelude.{◌≡◌};
-ghost use Rattle.oftp_register.specs.Soundness.{IsSoundReceived};
 ghost use Rattle.oftp_session.specs.Listener.{end_response, negative_end_response};
 ghost use Rattle.oftp_session.specs.Responses.{as_received};
 

@@ -8,17 +8,17 @@ ghost use Rattle.oftp_session.specs.Sending.{came_sending, credited, marking, ne
 ghost use Rattle.oftp_session.specs.Steps.{IsSent};
 ghost use Rattle.oftp_session.specs.Standings.{Ships, at_hand, standing_of, turns_left};
 ghost use Rattle.oftp_session.specs.Calls.{IsFailure, IsMade};
-ghost use Rattle.oftp_session.specs.Inside.{Files, Finds, Takes};
+ghost use Rattle.oftp_session.specs.Inside.{Files, Finds, StepsFrom, Takes};
 ghost use Rattle.oftp_session.specs.Payloads.{FillsFrom, IsSameShipment, MayLend, SaysNext, next_row, without};
 ghost use Rattle.oftp_session.specs.declared.sending.TheConstants.{FIRST_ROWS};
 
+use crate::change::make;
 use crate::commands::efid;
 use crate::frame::Frame;
 use crate::link::Link;
 use crate::session::SessionFault;
-use crate::speaker::SpeakerPart;
 use crate::state::{Contact, State};
-use oftp_register::{Office, Side, are_rows};
+use oftp_register::{Change, Office, Side, are_rows};
 use oftp_vfile::{Filled, Filler, Format, MOST_ROWS, Row, Rows};
 use oftp_wire::{Command, Count, SessionReason};
 
@@ -57,9 +57,10 @@ const FIRST_ROWS: usize = 64;
 /// The most octets of a payload: a DATA is its command octet and a payload (RFC 5024, section 5.3.6).
 pub(crate) fn payload_size(link: &Link) -> usize
     ensures value { result ≡ link.now.buffer - 1 }
+    ensures least { 2 ≤ result }
     ensures most { result ≤ 99998 }
 {
-    link.buffer.get().saturating_sub(1) as usize
+    link.buffer.get() as usize - 1
 }
 
 /// The rows that were looked up and aren't wholly sent.
@@ -226,8 +227,9 @@ fn send_end<O: Office>(
 {
     // The command stands spelled before the commit, so that only the writer can fail between the two.
     frame.say(&efid(shipment.filler.format(), shipment.rows, shipment.units));
-    office.begin_closing(shipment.number)?;
-    Ok(State::AwaitingEnd(contact, shipment.number))
+    let no = shipment.number;
+    make(office, Change::BeginClosing { no })?;
+    Ok(State::AwaitingEnd(contact, no))
 }
 
 /// Sends the next payload, or the end of the file, where credit is left (RFC 5024, sections 5.3.6 and 5.3.8).
@@ -239,18 +241,13 @@ pub(crate) fn send_next<O: Office>(
 ) -> Result<State, SessionFault>
     requires { 0 < shipment.credit }
     ensures clean { (O.view office.new).clean → (O.view office.old).clean }
-    ensures takes { (O.view office.new).clean → (O.view office.old).stands
-        → (t : Transfer) → IsSent (O.view office.old).register t → Ships contact t shipment
-        → Takes (turned_sending contact t) (O.view office.old) (O.view office.new) frame.new result }
+    ensures takes { StepsFrom IsSent (λ t. Ships contact t shipment) (λ r t. turned_sending contact t)
+        (O.view office.old) (O.view office.new) frame.new result }
     ensures err { IfErr result IsFailure }
     // Also without the clean-disk premise.
     ensures fewer { IfOk result (λ state. turns_left (standing_of state) < shipment.credit) }
 {
     let size = payload_size(&contact.link);
-    // No agreed buffer is so short.
-    if size < 2 {
-        return Err(SessionFault::Memory);
-    }
     if say_payload(&mut shipment, size, office, frame)? {
         shipment.credit -= 1;
         return Ok(State::Sending(contact, shipment));
@@ -271,7 +268,8 @@ fn cover<O: Office>(shipment: &mut Shipment, office: &mut O) -> Result<(), Sessi
 {
     let mark = shipment.filler.mark() as u64;
     if mark != shipment.mark {
-        office.mark(shipment.number, mark)?;
+        let no = shipment.number;
+        make(office, Change::Mark { no, rows: mark })?;
         shipment.mark = mark;
     }
     Ok(())
@@ -286,15 +284,13 @@ fn take_credit<O: Office>(
 ) -> Result<State, SessionFault>
     requires { shipment.credit ≡ 0 }
     ensures clean { (O.view office.new).clean → (O.view office.old).clean }
-    ensures takes { (O.view office.new).clean → (O.view office.old).stands
-        → (t : Transfer) → IsSent (O.view office.old).register t → Ships contact t shipment
-        → Takes (credited contact t (new_mark contact t)) (O.view office.old) (O.view office.new) frame.new result }
+    ensures takes { StepsFrom IsSent (λ t. Ships contact t shipment) (λ r t. credited contact t (new_mark contact t))
+        (O.view office.old) (O.view office.new) frame.new result }
     ensures err { IfErr result (λ fault. fault ≡ SessionFault.Office) }
 {
-    let link = contact.link;
     frame.hush();
     cover(&mut shipment, office)?;
-    shipment.credit = link.credit.get().max(1);
+    shipment.credit = contact.link.window();
     Ok(State::Sending(contact, shipment))
 }
 
@@ -308,9 +304,8 @@ pub(crate) fn in_sending<O: Office>(
     frame: &mut Frame,
 ) -> Result<State, SessionFault>
     ensures clean { (O.view office.new).clean → (O.view office.old).clean }
-    ensures takes { (O.view office.new).clean → (O.view office.old).stands
-        → (t : Transfer) → IsSent (O.view office.old).register t → Ships contact t shipment
-        → Takes (came_sending contact t command.now) (O.view office.old) (O.view office.new) frame.new result }
+    ensures takes { StepsFrom IsSent (λ t. Ships contact t shipment) (λ r t. came_sending contact t command.now)
+        (O.view office.old) (O.view office.new) frame.new result }
     ensures err { IfErr result (λ fault. fault ≡ SessionFault.Office) }
 {
     match command {

@@ -1,13 +1,12 @@
 //! A session: each call is one step.
 
-ghost use Rattle.std.specs.Prelude.{◌≡◌, ◌≢◌, ◌<◌, ℕ, [], true, false, None, Some, Ok, Err, OnOk, OnErr, IfErr, IfOk, IsSome};
-ghost use Rattle.oftp_register.specs.Register.{Register};
+ghost use Rattle.std.specs.Prelude.{◌≡◌, ◌≢◌, ◌<◌, [], true, false, None, Some, Ok, Err, IfErr, IfOk, IsSome};
 ghost use Rattle.oftp_session.specs.Settings.{setting_of};
-ghost use Rattle.oftp_session.specs.Phases.{Phase, ending_of, esid_of, frame_of, is_over};
+ghost use Rattle.oftp_session.specs.Phases.{Phase, ending_of, esid_of, frame_of};
 ghost use Rattle.oftp_session.specs.Steps.{came, has_turn, turned, Holds};
-ghost use Rattle.oftp_session.specs.Standings.{Broken, StandsIn, ended_as, is_closed, is_due, is_receiving, is_sending, standing_of, turns_left};
+ghost use Rattle.oftp_session.specs.Standings.{StandsIn, ended_as, is_closed, is_due, is_receiving, is_sending, standing_of, turns_left};
 ghost use Rattle.oftp_session.specs.Calls.{Does, IsFailure, IsFull, Seen, Stands, heard, takes_memory};
-ghost use Rattle.oftp_session.specs.Inside.{Goes, Takes};
+ghost use Rattle.oftp_session.specs.Inside.{Takes};
 
 use crate::frame::Frame;
 use crate::listener::in_listener_idle;
@@ -153,15 +152,7 @@ fn turned<O: Office>(
             frame.hush();
             Ok(State::Sending(contact, shipment))
         }
-        State::InitiatorOpening
-        | State::AwaitingSsid
-        | State::ListenerIdle(_)
-        | State::Receiving(_, _)
-        | State::AwaitingRtr(_, _)
-        | State::AwaitingStart(_, _)
-        | State::AwaitingEnd(_, _)
-        | State::EndedHere(_)
-        | State::EndedThere(_) => {
+        _ => {
             frame.hush();
             Ok(state)
         }

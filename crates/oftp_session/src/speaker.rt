@@ -1,8 +1,6 @@
 //! What the station says where it speaks (RFC 5024, sections 5.3.3 and 5.3.11 to 5.3.15).
 
-ghost use Rattle.std.specs.Prelude.{◌≡◌, ◌≤◌, ℕ, true, false, if◌then◌else◌, Some, IfErr, IfOk, IfSome};
-ghost use Rattle.oftp_vfile.specs.declared.format.TheConstants.{MOST_ROWS};
-ghost use Rattle.oftp_register.specs.declared.change.Change.TheVariants.{BeginClosing, HandOver, Mark, Refuse, Reopen, Send};
+ghost use Rattle.std.specs.Prelude.{◌≡◌, ◌≤◌, true, false, if◌then◌else◌, Some, IfErr, IfOk, IfSome};
 ghost use Rattle.oftp_register.specs.declared.fit.TheConstants.{MOST_UNITS};
 ghost use Rattle.oftp_register.specs.Changes.{is_closing};
 ghost use Rattle.oftp_register.specs.LookUps.{IsItemWithin, IsOutgoingWithin, entry_at, next_item, outgoing_entry, units_of};
@@ -11,7 +9,7 @@ ghost use Rattle.oftp_session.specs.Settings.{setting_of};
 ghost use Rattle.oftp_session.specs.Speaker.{came_awaiting_rtr, nothing_next, offers, responds, speaks};
 ghost use Rattle.oftp_session.specs.Steps.{IsResponding};
 ghost use Rattle.oftp_session.specs.Standings.{standing_of, turns_left};
-ghost use Rattle.oftp_session.specs.Inside.{FilesFit, Finds, Goes, Takes};
+ghost use Rattle.oftp_session.specs.Inside.{Finds, Goes, Takes};
 
 use crate::change::make;
 use crate::commands::{response, sfid};
@@ -44,42 +42,6 @@ pub(crate) trait SpeakerPart: Office {
         // Also without the clean-disk premise.
         ensures within { IfOk result (λ units. units ≤ MOST_UNITS) }
         ensures err { IfErr result (λ fault. fault ≡ SessionFault.Office) };
-
-    /// So many rows of a file are covered by credit.
-    fn mark(&mut self, no: u64, rows: u64) -> Result<(), SessionFault>
-        ensures clean { (Self.view self.new).clean → (Self.view self.old).clean }
-        ensures does { FilesFit (Mark no rows) (Self.view self.old) (Self.view self.new) result }
-        ensures err { IfErr result (λ fault. fault ≡ SessionFault.Office) };
-
-    /// The end of a file is about to be sent.
-    fn begin_closing(&mut self, no: u64) -> Result<(), SessionFault>
-        ensures clean { (Self.view self.new).clean → (Self.view self.old).clean }
-        ensures does { FilesFit (BeginClosing no) (Self.view self.old) (Self.view self.new) result }
-        ensures err { IfErr result (λ fault. fault ≡ SessionFault.Office) };
-
-    /// The partner has a file.
-    fn hand_over(&mut self, no: u64) -> Result<(), SessionFault>
-        ensures clean { (Self.view self.new).clean → (Self.view self.old).clean }
-        ensures does { FilesFit (HandOver no) (Self.view self.old) (Self.view self.new) result }
-        ensures err { IfErr result (λ fault. fault ≡ SessionFault.Office) };
-
-    /// The partner doesn't take a file, for this reason.
-    fn refuse(&mut self, no: u64, reason: Count<2>) -> Result<(), SessionFault>
-        ensures clean { (Self.view self.new).clean → (Self.view self.old).clean }
-        ensures does { FilesFit (Refuse no reason) (Self.view self.old) (Self.view self.new) result }
-        ensures err { IfErr result (λ fault. fault ≡ SessionFault.Office) };
-
-    /// A file is to be sent again.
-    fn reopen(&mut self, no: u64) -> Result<(), SessionFault>
-        ensures clean { (Self.view self.new).clean → (Self.view self.old).clean }
-        ensures does { FilesFit (Reopen no) (Self.view self.old) (Self.view self.new) result }
-        ensures err { IfErr result (λ fault. fault ≡ SessionFault.Office) };
-
-    /// The response to a file was sent.
-    fn sent(&mut self, no: u64) -> Result<(), SessionFault>
-        ensures clean { (Self.view self.new).clean → (Self.view self.old).clean }
-        ensures does { FilesFit (Send no) (Self.view self.old) (Self.view self.new) result }
-        ensures err { IfErr result (λ fault. fault ≡ SessionFault.Office) };
 }
 
 impl<O: Office> SpeakerPart for O {
@@ -95,30 +57,6 @@ impl<O: Office> SpeakerPart for O {
             Ok(units) => Ok(units),
             Err(_) => Err(SessionFault::Office),
         }
-    }
-
-    fn mark(&mut self, no: u64, rows: u64) -> Result<(), SessionFault> {
-        make(self, Change::Mark { no, rows })
-    }
-
-    fn begin_closing(&mut self, no: u64) -> Result<(), SessionFault> {
-        make(self, Change::BeginClosing { no })
-    }
-
-    fn hand_over(&mut self, no: u64) -> Result<(), SessionFault> {
-        make(self, Change::HandOver { no })
-    }
-
-    fn refuse(&mut self, no: u64, reason: Count<2>) -> Result<(), SessionFault> {
-        make(self, Change::Refuse { no, reason })
-    }
-
-    fn reopen(&mut self, no: u64) -> Result<(), SessionFault> {
-        make(self, Change::Reopen { no })
-    }
-
-    fn sent(&mut self, no: u64) -> Result<(), SessionFault> {
-        make(self, Change::Send { no })
     }
 }
 
@@ -267,7 +205,7 @@ pub(crate) fn in_awaiting_rtr<O: Office>(
     match command {
         Command::Rtr => {
             frame.hush();
-            office.sent(number)?;
+            make(office, Change::Send { no: number })?;
             Ok(State::SpeakerIdle(contact, WhenDone::ChangeDirection))
         }
         _ => Ok(State::unexpected(command, frame)),

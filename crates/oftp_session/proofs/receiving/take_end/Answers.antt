@@ -16,25 +16,25 @@ returns-then-is_open-clause-takes g c = λ clean stands f holds at.
     let is = open_fails c.args.contact old.register f c.args.reception c.args.efid.now at (sym c.is_open.ensures ∙ c.if-is_open.true) in
     step_same _ _ old c.ended_here.result c.ended_here.new.frame stands is c.ended_here.ensures
 
-pub returns-in_err-give_up-in-Refuse-clause-takes : goal.returns-in_err-give_up-in-Refuse-clause-takes
-returns-in_err-give_up-in-Refuse-clause-takes g c = λ clean stands f holds at.
+pub returns-in_err-make-in-Refuse-clause-takes : goal.returns-in_err-make-in-Refuse-clause-takes
+returns-in_err-make-in-Refuse-clause-takes g c = λ clean stands f holds at.
     let old = g.O.Office.view c.args.office.now in
-    let new = g.O.Office.view c.give_up.new.self in
+    let new = g.O.Office.view c.make.new.office in
     let s = c.args.reception in
     let v = told_verdict c.args.efid.now s.taker c.counts-records.result _ c.counts-records.ensures (sym c.end_verdict.ensures ∙ c.in-Refuse.is) in
     by_verdict c.args.contact old.register f s c.args.efid.now _ old new c.say.new.self c.from_residual.result holds at (sym c.is_open.ensures ∙ c.if-is_open.false) v
-    (passed_on (on_end_verdict c.args.contact old.register f (carried_by f) («end».Refuse c.in-Refuse.reason)) old new _ c.in_err-give_up-in-Refuse.field-0.0 _ c.from_residual.ensures.1
-    (give_up_err c.args.contact f s c.in-Refuse.reason old new _ holds at (c.in_err-give_up-in-Refuse.ensures.does clean stands)))
+    (passed_on (on_end_verdict c.args.contact old.register f (carried_by f) («end».Refuse c.in-Refuse.reason)) old new _ c.in_err-make-in-Refuse.field-0.0 _ c.from_residual.ensures.1
+    (give_up_err c.args.contact f s c.in-Refuse.reason old new _ holds at (c.in_err-make-in-Refuse.ensures.does clean stands)))
 
-pub returns-in_ok-give_up-in-Refuse-clause-takes : goal.returns-in_ok-give_up-in-Refuse-clause-takes
-returns-in_ok-give_up-in-Refuse-clause-takes g c = λ clean stands f holds at.
+pub returns-in_ok-make-in-Refuse-clause-takes : goal.returns-in_ok-make-in-Refuse-clause-takes
+returns-in_ok-make-in-Refuse-clause-takes g c = λ clean stands f holds at.
     let old = g.O.Office.view c.args.office.now in
-    let new = g.O.Office.view c.give_up.new.self in
+    let new = g.O.Office.view c.make.new.office in
     let to : Result State SessionFault = Ok (state.ListenerIdle c.args.contact) in
     let s = c.args.reception in
     let v = told_verdict c.args.efid.now s.taker c.counts-records.result _ c.counts-records.ensures (sym c.end_verdict.ensures ∙ c.in-Refuse.is) in
     by_verdict c.args.contact old.register f s c.args.efid.now _ old new c.say.new.self to holds at (sym c.is_open.ensures ∙ c.if-is_open.false) v
-    (give_up_ok c.args.contact f s c.in-Refuse.reason old new c.say.new.self holds at (c.say.ensures ∙ ap frame_of c.efna.ensures) (c.in_ok-give_up-in-Refuse.ensures.does clean stands))
+    (give_up_ok c.args.contact f s c.in-Refuse.reason old new c.say.new.self holds at (c.say.ensures ∙ ap frame_of c.efna.ensures) (c.in_ok-make-in-Refuse.ensures.does clean stands))
 
 pub returns-in-Accept-clause-takes : goal.returns-in-Accept-clause-takes
 returns-in-Accept-clause-takes g c = λ clean stands f holds at.

@@ -10,36 +10,36 @@ use Rattle.oftp_session.proofs.Replying.{efna_err, efna_ok, efpa_err, efpa_ok}
 use Rattle.oftp_session.proofs.Saying.{passed_on}
 use Rattle.oftp_session.proofs.replies.in_awaiting_end.Goals as goal
 
-pub returns-in_err-hand_over-in-Efpa-clause-takes : goal.returns-in_err-hand_over-in-Efpa-clause-takes
-returns-in_err-hand_over-in-Efpa-clause-takes g c = λ clean stands t holds is.
+pub returns-in_err-make-in-Efpa-clause-takes : goal.returns-in_err-make-in-Efpa-clause-takes
+returns-in_err-make-in-Efpa-clause-takes g c = λ clean stands t holds is.
     let old = g.O.Office.view c.args.office.now in
-    let new = g.O.Office.view c.hand_over.new.self in
+    let new = g.O.Office.view c.make.new.office in
     subst (λ (x : Command). Takes (came_awaiting_end c.args.contact t x) old new c.hush.new.self c.from_residual.result) (sym c.in-Efpa.is)
-    (passed_on _ old new _ c.in_err-hand_over-in-Efpa.field-0.0 _ c.from_residual.ensures.1
-    (efpa_err c.args.contact c.args.number t c.in-Efpa.efpa old new _ holds is (c.in_err-hand_over-in-Efpa.ensures.does clean stands)))
+    (passed_on _ old new _ c.in_err-make-in-Efpa.field-0.0 _ c.from_residual.ensures.1
+    (efpa_err c.args.contact c.args.number t c.in-Efpa.efpa old new _ holds is (c.in_err-make-in-Efpa.ensures.does clean stands)))
 
-pub returns-in_ok-hand_over-in-Efpa-clause-takes : goal.returns-in_ok-hand_over-in-Efpa-clause-takes
-returns-in_ok-hand_over-in-Efpa-clause-takes g c = λ clean stands t holds is.
+pub returns-in_ok-make-in-Efpa-clause-takes : goal.returns-in_ok-make-in-Efpa-clause-takes
+returns-in_ok-make-in-Efpa-clause-takes g c = λ clean stands t holds is.
     let old = g.O.Office.view c.args.office.now in
-    let new = g.O.Office.view c.hand_over.new.self in
+    let new = g.O.Office.view c.make.new.office in
     let to : Result State SessionFault = Ok c.after_file.result in
     subst (λ (x : Command). Takes (came_awaiting_end c.args.contact t x) old new c.hush.new.self to) (sym c.in-Efpa.is)
     (efpa_ok c.args.contact c.args.number t c.in-Efpa.efpa old new c.hush.new.self c.after_file.result holds is c.hush.ensures
-    (c.in_ok-hand_over-in-Efpa.ensures.does clean stands) c.after_file.ensures)
+    (c.in_ok-make-in-Efpa.ensures.does clean stands) c.after_file.ensures)
 
-pub returns-in_err-reopen-in-Efna-clause-takes : goal.returns-in_err-reopen-in-Efna-clause-takes
-returns-in_err-reopen-in-Efna-clause-takes g c = λ clean stands t holds is.
+pub returns-in_err-make-in-Efna-clause-takes : goal.returns-in_err-make-in-Efna-clause-takes
+returns-in_err-make-in-Efna-clause-takes g c = λ clean stands t holds is.
     let old = g.O.Office.view c.args.office.now in
-    let new = g.O.Office.view c.reopen.new.self in
-    subst (λ (x : Command). Takes (came_awaiting_end c.args.contact t x) old new c.hush-in-Efna.new.self c.from_residual-in_err-reopen-in-Efna.result) (sym c.in-Efna.is)
-    (passed_on _ old new _ c.in_err-reopen-in-Efna.field-0.0 _ c.from_residual-in_err-reopen-in-Efna.ensures.1
-    (efna_err c.args.contact c.args.number t c.in-Efna.field-0 old new _ holds is (c.in_err-reopen-in-Efna.ensures.does clean stands)))
+    let new = g.O.Office.view c.make-in-Efna.new.office in
+    subst (λ (x : Command). Takes (came_awaiting_end c.args.contact t x) old new c.hush-in-Efna.new.self c.from_residual-in_err-make-in-Efna.result) (sym c.in-Efna.is)
+    (passed_on _ old new _ c.in_err-make-in-Efna.field-0.0 _ c.from_residual-in_err-make-in-Efna.ensures.1
+    (efna_err c.args.contact c.args.number t c.in-Efna.field-0 old new _ holds is (c.in_err-make-in-Efna.ensures.does clean stands)))
 
-pub returns-in_ok-reopen-in-Efna-clause-takes : goal.returns-in_ok-reopen-in-Efna-clause-takes
-returns-in_ok-reopen-in-Efna-clause-takes g c = λ clean stands t holds is.
+pub returns-in_ok-make-in-Efna-clause-takes : goal.returns-in_ok-make-in-Efna-clause-takes
+returns-in_ok-make-in-Efna-clause-takes g c = λ clean stands t holds is.
     let old = g.O.Office.view c.args.office.now in
-    let new = g.O.Office.view c.reopen.new.self in
+    let new = g.O.Office.view c.make-in-Efna.new.office in
     let to : Result State SessionFault = Ok (state.SpeakerIdle c.args.contact ChangeDirection) in
     subst (λ (x : Command). Takes (came_awaiting_end c.args.contact t x) old new c.hush-in-Efna.new.self to) (sym c.in-Efna.is)
     (efna_ok c.args.contact c.args.number t c.in-Efna.field-0 old new c.hush-in-Efna.new.self holds is c.hush-in-Efna.ensures
-    (c.in_ok-reopen-in-Efna.ensures.does clean stands))
+    (c.in_ok-make-in-Efna.ensures.does clean stands))

@@ -6,7 +6,7 @@ use Rattle.oftp_session.proofs.replies.settle.Goals as goal
 pub returns-then-offering-clause-does : goal.returns-then-offering-clause-does
 returns-then-offering-clause-does g c = λ clean stands offer holds is.
     let reason : (c.args.sfna.now.reason == 13) ≡ true = ap (λ (n : ℕ). c.args.sfna.now.reason == n) (sym c.number.ensures) ∙ sym c.eq.ensures ∙ c.if-eq.true in
-    duplicate_given c.args.offering.now offer c.args.sfna.now _ _ c.hand_over.result holds is reason c.if-offering.true (c.hand_over.ensures.does clean stands)
+    duplicate_given c.args.offering.now offer c.args.sfna.now _ _ c.make.result holds is reason c.if-offering.true (c.make.ensures.does clean stands)
 
 pub returns-clause-does : goal.returns-clause-does
 returns-clause-does g c = λ clean stands offer holds is.
@@ -16,4 +16,4 @@ returns-clause-does g c = λ clean stands offer holds is.
       | else-eq-via-then-eq+else-offering w ↦ ap (λ (b : Bool). b && c.args.offering.now.is_closing) (sym test ∙ w.if-eq.true) ∙ w.if-offering.false
       | else-eq-via-else-eq w ↦ ap (λ (b : Bool). b && c.args.offering.now.is_closing) (sym test ∙ w.if-eq.false)
     ] in
-    given_up c.args.offering.now offer c.args.sfna.now _ _ c.refuse.result holds is other c.if-sfna.false (c.refuse.ensures.does clean stands)
+    given_up c.args.offering.now offer c.args.sfna.now _ _ c.make-2.result holds is other c.if-sfna.false (c.make-2.ensures.does clean stands)

@@ -8,7 +8,7 @@ returns-then-branch-clause-takes g c = λ clean stands t holds at.
     let says = c.in_ok-say_payload.ensures.says clean stands c.args.contact t holds at c.payload_size-size.ensures.value in
     let said = rw c.if-branch.true at says in
     sent_takes c.args.contact t c.args.shipment c.say_payload.new.shipment (view c.args.office.now) (view c.say_payload.new.office) c.say_payload.new.frame at c.requires
-    (omega (arith, c.if-size-lt2.false, c.payload_size-size.ensures.value)) c.in_ok-say_payload.ensures.same said.0 said.1
+    (omega (arith, c.payload_size-size.ensures.least, c.payload_size-size.ensures.value)) c.in_ok-say_payload.ensures.same said.0 said.1
 
 pub returns-clause-takes : goal.returns-clause-takes
 returns-clause-takes g c = λ clean stands t holds at.

@@ -13,5 +13,5 @@ returns-in_err-cover-clause-takes g c = λ clean stands t holds at.
 pub returns-clause-takes : goal.returns-clause-takes
 returns-clause-takes g c = λ clean stands t holds at.
     let sound = g.met.O.Office.sound c.args.office.now (c.cover.ensures.clean clean) stands in
-    credit_ok c.args.contact t c.args.shipment c.cover.new.shipment c.max.result _ _ _ sound holds at c.requires c.in_ok-cover.ensures.covered
-    (omega (arith, c.max.ensures, c.get.ensures.value)) c.hush.ensures (λ k. c.in_ok-cover.ensures.does clean stands t k.0 k.1 k.2 k.3)
+    credit_ok c.args.contact t c.args.shipment c.cover.new.shipment c.window.result _ _ _ sound holds at c.requires c.in_ok-cover.ensures.covered
+    (omega (arith, c.window.ensures.value, c.window.ensures.some)) c.hush.ensures (λ k. c.in_ok-cover.ensures.does clean stands t k.0 k.1 k.2 k.3)
