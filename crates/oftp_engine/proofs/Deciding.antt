@@ -37,7 +37,7 @@ left_by verb n change r now (Err cause) e left = λ content may.
 
 -- a change that the office told a fault of is made or not
 module _ (verb : List ℕ) (n : ℕ) (change : Change) (old new : View) where
-  leaves_open : (new.stands → new.register ≡ old.register) → WithOrWithout (Some change) old.register new → new.told ≡ next_count old.told
+  leaves_open : (new.is_open → new.register ≡ old.register) → WithOrWithout (Some change) old.register new → new.told ≡ next_count old.told
       → AttemptsErr (λ deed. deed ≡ makes verb n change old.register) old new fault.Office
   leaves_open same left counts = (
     makes verb n change old.register,
@@ -73,7 +73,7 @@ module _ {T : Type 0} (verb : List ℕ) (n : ℕ) (change : Change) (old new : V
         record {
           told = sym (ap (λ (deed : Deed). deed.told) same);
           line = sym (ap (λ (deed : Deed). deed.line) same);
-          register = subst (λ (deed : Deed). Makes deed.change old.register new.register) (sym same) (c.same clean stood refused.1);
+          register = subst (λ (deed : Deed). Makes deed.change old.register new.register) (sym same) (c.same clean stood (new.opens refused.1));
           stands = refused.1;
           faults = c.counts;
         },

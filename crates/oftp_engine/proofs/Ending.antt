@@ -1,5 +1,5 @@
 -- What a served session leaves, from how far it came.
-use Rattle.std.proofs.Common.{◌≡◌, ℕ, zero, suc, ◌+◌, ◌-◌, ◌≤◌, ◌<◌, true, false, List, [], ◌∷◌, ◌++◌, length, take, drop, Option, None, Some, Ok, refl, sym, ap, ◌∙◌, subst, arith, length-append, inl, inr}
+use Rattle.std.proofs.Common.{◌≡◌, ℕ, zero, suc, ◌+◌, ◌-◌, ◌≤◌, ◌<◌, true, false, List, [], ◌∷◌, ◌++◌, length, take, drop, Option, None, Some, Ok, refl, sym, ap, ◌∙◌, ◌⊎◌, subst, arith, length-append, inl, inr}
 use Rattle.std.proofs.Math.Seq.{take-add}
 use Rattle.std.proofs.lemmas.List.{append-nil, take_at, drop_at}
 use Rattle.std.proofs.lemmas.Bool.{le-ltb, lt-ltb}
@@ -20,7 +20,7 @@ use Rattle.oftp_engine.specs.declared.serving.RunFault.TheVariants as fault
 use Rattle.oftp_engine.specs.Runs.{Course, Output, run, started, octets_of, answered, advance, is_stopped, with_change}
 use Rattle.oftp_engine.specs.Serving.{Scene, Took, last_frame}
 use Rattle.oftp_engine.specs.InsideServing.{Grows, Leads, Reaches, BreaksOff, OfficeFails, IsShort, Fails, Comes, IsOver, Sound, Counted}
-use Rattle.oftp_engine.specs.Served.{whole, broken_off, IsPrefix, OfficeLeaves, IsWhole, IsBrokenOff, IsOfficeFault, IsOutOfMemory, ServesErr}
+use Rattle.oftp_engine.specs.Served.{whole, broken_off, IsPrefix, OfficeLeaves, IsWhole, IsBrokenOff, IsOfficeFault, IsOutOfMemory, ServesErr, StopsWithin}
 use Rattle.oftp_engine.proofs.Courses.{grows_none, grows_on, grows_step, run_grows, run_over, run_waits, run_stopped, sound_start}
 use Rattle.oftp_engine.proofs.Phases.{over_from}
 use Rattle.oftp_engine.proofs.Progress.{octets_step}
@@ -205,6 +205,23 @@ goes_within setting given r d step reaches =
     let h = reaches.same [] None refl in
     (h.0, ap (λ (x : List ℕ). run None x (started setting r)) (sym (append-nil given)) ∙ h.1)
 
+-- where the session stopped, with so many changes
+abbrev stops_within : (setting : Setting) (given : List ℕ) (r : Register) (d : Course) (step : Step) (made : ℕ) → Sound r d → Grows d (whole setting given r)
+    → Reaches (started setting r) given d (advance d step) → (made ≡ length d.changes) ⊎ (made ≡ length (advance d step).changes)
+    → StopsWithin setting given r d.outputs made
+stops_within setting given r d step made sound grows reaches within =
+    let goes = goes_within setting given r d step reaches in
+    record {
+      at = d;
+      step = step;
+      rest = goes.0;
+      goes_on = goes.1;
+      outputs = refl;
+      changes = sym (front_changes d (whole setting given r) grows);
+      register = sound.replay;
+      within = within;
+    }
+
 pub is_office_fault : (setting : Setting) (given : List ℕ) (old new : Scene)
     → IsSound old.office.register → OfficeFails (started setting old.office.register) given old new → IsOfficeFault setting given old new
 is_office_fault setting given old new sound h =
@@ -219,7 +236,6 @@ is_office_fault setting given old new sound h =
     let kept : answered h.at.outputs (length (octets_of h.at.outputs)) ≤ length h.at.changes = answered_most h.at.outputs (length (octets_of h.at.outputs)) (length h.at.changes) sd.counted in
     let more : length h.at.changes ≤ length (advance h.at h.step).changes = few h.at (advance h.at h.step) step in
     let none : Grows (advance h.at h.step) (advance h.at h.step) = grows_none (advance h.at h.step) in
-    let goes = goes_within setting given r h.at h.step h.reaches in
     elim h.cases [
       | inl x ↦ record {
         outs = h.at.outputs;
@@ -231,16 +247,7 @@ is_office_fault setting given old new sound h =
         made = length h.at.changes;
         kept = kept;
         few = few h.at w g;
-        stopped = record {
-          at = h.at;
-          step = h.step;
-          rest = goes.0;
-          goes_on = goes.1;
-          outputs = refl;
-          changes = sym (front_changes h.at w g);
-          register = sd.replay;
-          within = inl refl;
-        };
+        stopped = stops_within setting given r h.at h.step (length h.at.changes) sd g h.reaches (inl refl);
         register = λ s. replayed r h.at w g sd ∙ ap Ok (sym (x.same s));
         left = leaves_prefix r h.at w h.step h.step.change (answered h.at.outputs (length (octets_of h.at.outputs))) new.office refl g ge sd se kept x.left;
         within = leaves_prefix r h.at (advance h.at h.step) h.step h.step.change (answered h.at.outputs (length (octets_of h.at.outputs))) new.office refl step none sd se kept x.left;
@@ -256,16 +263,7 @@ is_office_fault setting given old new sound h =
         made = length (advance h.at h.step).changes;
         kept = omega arith;
         few = few (advance h.at h.step) w ge;
-        stopped = record {
-          at = h.at;
-          step = h.step;
-          rest = goes.0;
-          goes_on = goes.1;
-          outputs = refl;
-          changes = sym (front_changes h.at w g);
-          register = sd.replay;
-          within = inr refl;
-        };
+        stopped = stops_within setting given r h.at h.step (length (advance h.at h.step).changes) sd g h.reaches (inr refl);
         register = λ s. replayed r (advance h.at h.step) w ge se ∙ ap Ok (sym (x.same s));
         left = λ k l. prefix_at r (advance h.at h.step) w _ new.office.holds k ge se (omega arith) (x.left k l);
         within = λ k l. prefix_at r (advance h.at h.step) (advance h.at h.step) _ new.office.holds k none se (omega arith) (x.left k l);

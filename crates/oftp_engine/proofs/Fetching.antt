@@ -54,9 +54,9 @@ unanswered_on e old mid new p clean q = record {
   fault = λ h stood has.
       let was = p.stays (clean h) stood in
       q.fault h was.0 (subst (λ (r : Register). HasFile r e) (sym was.1) has) ∙ ap next_count p.told;
-  register = λ h stood stands.
+  register = λ h stood is_open.
       let was = p.stays (clean h) stood in
-      q.register h was.0 stands ∙ was.1;
+      q.register h was.0 is_open ∙ was.1;
   left = λ h stood.
       let was = p.stays (clean h) stood in
       subst (λ (r : Register). Only r new) was.1 (q.left h was.0);

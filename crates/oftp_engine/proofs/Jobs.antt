@@ -7,7 +7,7 @@ use Rattle.oftp_register.specs.declared.change.Cause.{Cause}
 use Rattle.oftp_register.specs.declared.change.Change.{Change}
 use Rattle.oftp_register.specs.Register.{Register}
 use Rattle.oftp_register.specs.Changes.{apply_all, go_on_by}
-use Rattle.oftp_register.specs.Offices.{Only, View, next_count}
+use Rattle.oftp_register.specs.Offices.{Only, View}
 use Rattle.oftp_session.specs.Calls.{IsBefore, Makes}
 use Rattle.oftp_session.specs.Phases.{register_after}
 use Rattle.oftp_session.specs.Settings.{Setting}
@@ -22,8 +22,9 @@ use Rattle.oftp_engine.specs.declared.serving.RunFault.TheVariants as fault
 use Rattle.oftp_engine.specs.Runs.{Course, run, started, Output, answered, octets_of, with_change}
 use Rattle.oftp_engine.specs.Serving.{scene}
 use Rattle.oftp_engine.specs.Served.{Gave, InputEnded, IsWhole, ReaderTold, Serves, setting_of, whole}
-use Rattle.oftp_engine.specs.Operated.{Operates}
-use Rattle.oftp_engine.specs.Jobs.{IsOut, SessionCut, Stop, EndsWith, Entry, SessionEntry, SessionEnds, CallEntry, IsRun, IsStopped, JobDone, JobStops, JobsDone, LeavesSome, after_jobs, changes_of, share_of}
+use Rattle.oftp_engine.specs.Operated.{IsUndecided, Operates}
+use Rattle.oftp_engine.specs.Operating.{Deed, IsDeed}
+use Rattle.oftp_engine.specs.Jobs.{CallRefused, IsOut, SessionCut, Stop, EndsWith, Entry, SessionEntry, SessionEnds, CallEntry, IsRun, IsStopped, JobDone, JobStops, JobsDone, LeavesSome, after_jobs, changes_of, share_of}
 use Rattle.oftp_engine.specs.InsideRunning.{DoesJob, IsGoneOn, IsJobDone, IsJobStopped}
 use Rattle.oftp_engine.proofs.JobsSoFar.{IsRunning}
 use Rattle.oftp_engine.proofs.Ending.{take_past}
@@ -148,11 +149,11 @@ made_one : (change : Option Change) (r s : Register) → Makes change r s → Ma
 made_one change r s made = subst (Makes change r) (made_register change r s made) made
 
 -- what a stop leaves within a call: the change is made or not
-pub left_before : (change : Option Change) (old new : View) → IsBefore change old new → LeavesSome (with_change [] change) 0 0 old new
+pub left_before : (change : Option Change) (old new : View) → IsBefore change old new → LeavesSome (with_change [] change) 0 0 old.register new
 left_before None old new h = record {
   kept = omega arith;
   few = omega arith;
-  register = λ stood. ap Ok (sym (h.register stood));
+  register = λ is_open. ap Ok (sym (h.register is_open));
   left = λ content may. record {
     count = 0;
     least = omega arith;
@@ -166,7 +167,7 @@ left_before None old new h = record {
 left_before (Some k) old new h = record {
   kept = omega arith;
   few = omega arith;
-  register = λ stood. ap Ok (sym (h.register stood));
+  register = λ is_open. ap Ok (sym (h.register is_open));
   left = λ content may.
       elim (h.left content may) [
         | inl same ↦ record {
@@ -192,13 +193,13 @@ left_before (Some k) old new h = record {
 
 -- all of the changes are made
 pub left_all : (changes : List Change) (least : ℕ) (old new : View) (after : Register) → least ≤ length changes → apply_all old.register changes ≡ Ok after
-    → (new.stands → new.register ≡ after) → Only after new → LeavesSome changes least (length changes) old new
+    → (new.is_open → new.register ≡ after) → Only after new → LeavesSome changes least (length changes) old.register new
 left_all changes least old new after le made same left =
     let replay : apply_all old.register (take (length changes) changes) ≡ Ok after = ap (apply_all old.register) (take_all (length changes) changes (omega arith)) ∙ made in
     record {
       kept = le;
       few = omega arith;
-      register = λ stood. replay ∙ ap Ok (sym (same stood));
+      register = λ is_open. replay ∙ ap Ok (sym (same is_open));
       left = λ content may. record {
         count = length changes;
         least = le;
@@ -212,6 +213,21 @@ left_all changes least old new after le made same left =
 
 -- an operator's call that was carried out is a job that is done or broken off
 module _ {R W : Type 0} (remaining : R → Option (List ℕ)) (contents : W → Option (List ℕ)) (book : BookData) (x y : View) (a b : CallJob W) where
+  -- the office told a fault within the call, with so many changes made
+  refused_call : (deed : Deed) (made : ℕ) → b.call ≡ a.call → b.result ≡ Some (Err fault.Office) → IsDeed book x.register a.call deed
+      → IsUndecided deed (scene contents x a.writer) (scene contents y b.writer)
+      → CallRefused contents book x.register a b (record { changes = with_change [] deed.change; answered = 0; made = made })
+  refused_call deed made call left is h = record {
+    deed = deed;
+    is = is;
+    call = call;
+    out = record { contents = h.out.contents; moved = h.out.taken };
+    unfailed = h.unfailed;
+    changes = refl;
+    least = refl;
+    result = left;
+  }
+
   pub does_call : {T : Type 0} (answer : Result Told RunFault) (result : Result T RunFault) → IsGoneOn answer result → b.call ≡ a.call → b.result ≡ Some answer
       → Operates book a.call (scene contents x a.writer) (scene contents y b.writer) answer
       → DoesJob remaining contents book x y (job.Call a) (job.Call b) result
@@ -256,31 +272,13 @@ module _ {R W : Type 0} (remaining : R → Option (List ℕ)) (contents : W → 
       (elim h.2.cases [
         | inl before ↦ record {
           stop = record { changes = with_change [] h.0.change; answered = 0; made = 0 };
-          stops = record {
-            deed = h.0;
-            is = h.1;
-            call = call;
-            out = record { contents = h.2.out.contents; moved = h.2.out.taken };
-            unfailed = h.2.unfailed;
-            changes = refl;
-            least = refl;
-            result = left;
-          };
+          stops = refused_call h.0 0 call left h.1 h.2;
           leaves = left_before h.0.change x y before;
           ends = record { faults = h.2.faults };
         }
         | inr made ↦ record {
           stop = record { changes = with_change [] h.0.change; answered = 0; made = length (with_change [] h.0.change) };
-          stops = record {
-            deed = h.0;
-            is = h.1;
-            call = call;
-            out = record { contents = h.2.out.contents; moved = h.2.out.taken };
-            unfailed = h.2.unfailed;
-            changes = refl;
-            least = refl;
-            result = left;
-          };
+          stops = refused_call h.0 (length (with_change [] h.0.change)) call left h.1 h.2;
           leaves = left_all (with_change [] h.0.change) 0 x y made.after (omega arith) (replay_one h.0.change x.register made.after made.made) made.register made.left;
           ends = record { faults = h.2.faults };
         }
@@ -344,11 +342,11 @@ module _ {R W : Type 0} (remaining : R → Option (List ℕ)) (contents : W → 
 
   -- what a job leaves, seen from the first register
   leaves_from : (first old new : View) (before changes : List Change) (least made : ℕ) → apply_all first.register before ≡ Ok old.register
-      → LeavesSome changes least made old new → LeavesSome (before ++ changes) (length before + least) (length before + made) first new
+      → LeavesSome changes least made old.register new → LeavesSome (before ++ changes) (length before + least) (length before + made) first.register new
   leaves_from first old new before changes least made replay h = record {
     kept = let k = h.kept in omega arith;
     few = few_of before changes made h.few;
-    register = λ stood. from_first first.register old.register new.register before changes made replay (h.register stood);
+    register = λ is_open. from_first first.register old.register new.register before changes made replay (h.register is_open);
     left = λ content may.
         let p = h.left content may in
         let le = p.least in
@@ -375,12 +373,6 @@ module _ {R W : Type 0} (remaining : R → Option (List ℕ)) (contents : W → 
 
   split_at : (jobs : Jobs) (i : ℕ) (d : Job R W) → i < length jobs → jobs ≡ take i jobs ++ get_or jobs i d ∷ drop (i + 1) jobs
   split_at jobs i d lt = sym (take-append-drop i jobs) ∙ ap (λ (back : Jobs). take i jobs ++ back) (drop_more jobs i d lt)
-
-  ends_from : (first old new : View) (f : RunFault) → old.told ≡ first.told → EndsWith old new f → EndsWith first new f
-  ends_from first old new fault.Read same h = h
-  ends_from first old new fault.Write same h = h
-  ends_from first old new fault.Office same h = record { faults = h.faults ∙ ap next_count same }
-  ends_from first old new fault.Memory same h = record { faults = h.faults ∙ same; stands = h.stands; left = h.left }
 
   module _ (first old new : View) (olds news : Jobs) (i : ℕ) (d b : Job R W) (lt : i < length olds) (h : IsRunning remaining contents book first old olds news i) where
     abbrev here : Job R W
@@ -417,7 +409,7 @@ module _ {R W : Type 0} (remaining : R → Option (List ℕ)) (contents : W → 
         }
 
     -- a job is broken off, and the list ends
-    pub running_stops : (f : RunFault) → IsJobStopped remaining contents book old new here b f → IsStopped remaining contents book first new olds (set news i b) f
+    pub running_stops : (f : RunFault) → IsJobStopped remaining contents book old new here b f → IsStopped remaining contents book first.register first.told new olds (set news i b) f
     running_stops f job = record {
       entries = h.entries;
       before = take i olds;
@@ -434,11 +426,11 @@ module _ {R W : Type 0} (remaining : R → Option (List ℕ)) (contents : W → 
       stop = job.stop;
       stops = subst (λ (r : Register). JobStops remaining contents book r here b job.stop f) h.register job.stops;
       leaves = leaves_from first old new (changes_of first.register h.entries) job.stop.changes job.stop.answered job.stop.made h.replay job.leaves;
-      ends = ends_from first old new f h.faults job.ends;
+      ends = subst (λ (n : ℕ). EndsWith n new f) h.faults job.ends;
     }
 
   pub running_all : (first new : View) (olds news : Jobs) (i : ℕ) → (new.stands → Only new.register new) → length olds ≤ i → IsRunning remaining contents book first new olds news i
-      → IsRun remaining contents book first new olds news
+      → IsRun remaining contents book first.register first.told new olds news
   running_all first new olds news i alone le h = record {
     entries = h.entries;
     done = subst (λ (x : Jobs). JobsDone remaining contents book first.register h.entries x news) (take_all i olds le)

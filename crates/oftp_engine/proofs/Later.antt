@@ -1,5 +1,5 @@
 -- What a station's register keeps for ever, so that what is on its way to the other one stays true.
-use Rattle.std.proofs.Common.{◌≡◌, ℕ, Bool, true, false, cond, ◌||◌, ◌&&◌, nat_le, List, [], ◌++◌, length, Option, None, Some, Result, Ok, refl, ap, sym, ◌∙◌, subst}
+use Rattle.std.proofs.Common.{◌≡◌, ℕ, Bool, true, false, cond, ◌||◌, ◌&&◌, nat_le, List, [], ◌++◌, length, map, Option, None, Some, Result, Ok, refl, ap, sym, ◌∙◌, subst}
 use Rattle.std.specs.Option.{option_map}
 use Rattle.oftp_register.specs.declared.change.Cause.{Cause}
 use Rattle.oftp_register.specs.declared.change.Change.{Change}
@@ -12,11 +12,11 @@ use Rattle.oftp_register.specs.declared.entry.ResponseKind.{ResponseKind}
 use Rattle.oftp_register.specs.declared.entry.Dispatch.TheVariants.{Due}
 use Rattle.oftp_register.specs.Register.{Register, Incoming, Outgoing, Issued, Received, same_identity}
 use Rattle.oftp_register.specs.Changes.{apply, at_number, on_incoming, on_outgoing, started, started_in, if_open, kept, closed, given_up, answered, settled, issued, sent, is_waiting, is_closing, if_allowed, marked, closing, handed, refused, reopened}
-use Rattle.oftp_register.specs.Soundness.{IsSound}
+use Rattle.oftp_register.specs.Soundness.{AreNamedOnce, IsSound}
 use Rattle.oftp_register.proofs.NumberLemmas.{mapped_ok}
 use Rattle.oftp_register.proofs.IncomingLemmas.{kept_same, closed_same, given_up_same, issued_same, sent_same, if_open_ok, issued_on_ok, sent_of_ok}
 use Rattle.oftp_register.proofs.OutgoingLemmas.{marked_same, closing_same, handed_same, refused_same, reopened_same, allowed_ok}
-use Rattle.oftp_register.specs.ByIdentity.{out_at, in_at, incoming_name, outgoing_name, WasStarted, or_else}
+use Rattle.oftp_register.specs.ByIdentity.{out_at, in_at, incoming_name, named, outgoing_name, WasStarted, or_else}
 use Rattle.oftp_engine.specs.TwoStations.{IsAnsweredBy}
 use Rattle.oftp_register.proofs.AdditionLemmas.{filed_ok, submitted_ok}
 use Rattle.oftp_register.proofs.ByIdentityLemmas.{changed_named, started_named, named_push, named_map, settled_name}
@@ -63,14 +63,20 @@ step_in : (o : Option Incoming) (x y : Incoming) → IsLaterFile x y → Stays I
 step_in None x y h k = tt
 step_in (Some e) x y h k = record { whole = λ w. h.whole (k.whole w); answered = λ kind a. h.answered kind (k.answered kind a) }
 
+-- one entry is changed to a later one: each entry stays or is later
+changed_stays : {A : Type 0} (R : A → A → Type 0) (name : A → Identity) (f : A → Result A Cause) → ((o : Option A) → Stays R o o)
+    → ((o : Option A) (x y : A) → R x y → Stays R o (Some x) → Stays R o (Some y)) → ((x y : A) → f x ≡ Ok y → name y ≡ name x) → ((x y : A) → f x ≡ Ok y → R x y)
+    → (n : ℕ) (xs ys : List A) → AreNamedOnce (map name xs) → at_number f n xs ≡ Ok ys → (i : Identity) → Stays R (named name i xs) (named name i ys)
+changed_stays R name f stays later same step n xs ys once h =
+    changed_named name f same (λ i e. Stays R (named name i xs) e) n xs ys once h (λ x y e d was. later (named name (name x) xs) x y (step x y d) was) (λ i. stays (named name i xs))
+
 on_incoming_later : (f : Incoming → Result Incoming Cause) → ((x y : Incoming) → f x ≡ Ok y → y.identity ≡ x.identity) → (n : ℕ) (r s : Register) → IsSound r → on_incoming f n r ≡ Ok s
     → ((x y : Incoming) → f x ≡ Ok y → IsLaterFile x y) → IsLater r s
 on_incoming_later f same n r s sound h step =
     let part = mapped_ok (λ files. record r { incoming = files }) (at_number f n r.incoming) s h in
     subst (IsLater r) part.2 (record {
       outgoing = λ i. stays_out (out_at r i);
-      incoming = changed_named incoming_name f same (λ i e. Stays IsLaterFile (in_at r i) e) n r.incoming part.0 sound.incoming_once part.1
-          (λ x y e d was. step_in (in_at r x.identity) x y (step x y d) was) (λ i. stays_in (in_at r i));
+      incoming = changed_stays IsLaterFile incoming_name f stays_in step_in same step n r.incoming part.0 sound.incoming_once part.1;
     })
 
 on_outgoing_later : (f : Outgoing → Result Outgoing Cause) → ((x y : Outgoing) → f x ≡ Ok y → y.identity ≡ x.identity) → (n : ℕ) (r s : Register) → IsSound r → on_outgoing f n r ≡ Ok s
@@ -79,8 +85,7 @@ on_outgoing_later f same n r s sound h step =
     let part = mapped_ok (λ files. record r { outgoing = files }) (at_number f n r.outgoing) s h in
     subst (IsLater r) part.2 (record {
       incoming = λ i. stays_in (in_at r i);
-      outgoing = changed_named outgoing_name f same (λ i e. Stays IsSameContent (out_at r i) e) n r.outgoing part.0 sound.outgoing_once part.1
-          (λ x y e d was. step_out (out_at r x.identity) x y (step x y d) was) (λ i. stays_out (out_at r i));
+      outgoing = changed_stays IsSameContent outgoing_name f stays_out step_out same step n r.outgoing part.0 sound.outgoing_once part.1;
     })
 
 open_later : (x : Incoming) (rows : List (List ℕ)) (next : IncomingState) (y : Incoming) → if_open x rows next x.state ≡ Ok y → IsLaterFile x y

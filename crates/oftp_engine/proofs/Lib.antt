@@ -1,4 +1,5 @@
 pub mod Courses
+pub mod EachStep
 pub mod Ending
 pub mod Folding
 pub mod Sayable

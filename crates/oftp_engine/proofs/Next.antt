@@ -35,6 +35,7 @@ use Rattle.oftp_session.specs.Receiving.{offer_step, on_start_verdict, offered_i
 use Rattle.oftp_session.specs.Speaker.{came_awaiting_rtr, on_item, offers, speaks}
 use Rattle.oftp_session.specs.Sending.{came_awaiting_start, came_sending, came_awaiting_end, transfer_of, reopening, credited, new_mark, credit_left, turned_sending, sends_next, payloads_in, after_file}
 use Rattle.oftp_session.specs.Steps.{came, turned}
+use Rattle.oftp_session.proofs.Turns.{each_turn}
 use Rattle.oftp_engine.proofs.Standing.{IsQuiet, IsOfferOf, IsBeginning, MayTake, MayHear, MayAnswerStart, MayCredit, MayAnswerEnd, MayAnswerResponse, MayOpen, MayCome}
 
 -- where nothing comes but an end of the session, it may come in each phase in which no file comes
@@ -252,18 +253,15 @@ item_next setting contact done r there (Some (item.File e)) coming h = by done e
 item_next setting contact ChangeDirection r there None coming h = quiet_hear there coming h
 item_next setting contact EndSession r there None coming h = tt
 
-pub turned_next : (setting : Setting) (p : Phase) (r there : Register) (coming : List Command) → MayCome there p coming → MayCome there (turned setting p r).phase coming
-unfolding turned speaks turned_sending
-turned_next setting ResponderOpening r there coming h = h
-turned_next setting InitiatorOpening r there coming h = h
-turned_next setting AwaitingSsid r there coming h = h
-turned_next setting (ListenerIdle contact) r there coming h = h
-turned_next setting (Receiving contact f) r there coming h = h
-turned_next setting (SpeakerIdle contact done) r there coming h = item_next setting contact done r there (next_item r contact.code contact.tried contact.link.sends) coming h
-turned_next setting (GivingWay contact) r there coming h = quiet_hear there coming h
-turned_next setting (AwaitingRtr contact number) r there coming h = h
-turned_next setting (AwaitingStart contact offer) r there coming h = h
-turned_next setting (Sending contact t) r there coming h = by_credit (nat_lt 0 (credit_left contact t))
+speaks_next : (setting : Setting) (contact : Contact) (done : WhenDone) (r there : Register) (coming : List Command) → IsQuiet coming
+    → MayCome there (speaks setting contact done r).phase coming
+unfolding speaks
+speaks_next setting contact done r there coming h = item_next setting contact done r there (next_item r contact.code contact.tried contact.link.sends) coming h
+
+payload_next : (contact : Contact) (t : Transfer) (there : Register) (coming : List Command) → MayCome there (Sending contact t) coming
+    → MayCome there (turned_sending contact t).phase coming
+unfolding turned_sending
+payload_next contact t there coming h = by_credit (nat_lt 0 (credit_left contact t))
   where
     by_next : (payload : Option (List ℕ)) → MayCome there (sends_next contact t payload).phase coming
     by_next (Some payload) = h
@@ -272,6 +270,12 @@ turned_next setting (Sending contact t) r there coming h = by_credit (nat_lt 0 (
     by_credit : (b : Bool) → MayCome there (let s : Step = cond b (sends_next contact t (slice_get (payloads_in contact t) t.sent)) (quiet (Sending contact t)) in s).phase coming
     by_credit true = by_next (slice_get (payloads_in contact t) t.sent)
     by_credit false = h
-turned_next setting (AwaitingEnd contact t) r there coming h = h
-turned_next setting (EndedHere reason) r there coming h = tt
-turned_next setting (EndedThere reason) r there coming h = tt
+
+pub turned_next : (setting : Setting) (p : Phase) (r there : Register) (coming : List Command) → MayCome there p coming → MayCome there (turned setting p r).phase coming
+turned_next setting p r there coming = each_turn (λ q s. MayCome there q coming → MayCome there s.phase coming) setting r (record {
+  greeting = λ h. h;
+  speaking = λ contact done h. speaks_next setting contact done r there coming h;
+  giving_way = λ contact h. quiet_hear there coming h;
+  sending = λ contact t h. payload_next contact t there coming h;
+  waiting = λ q h. h;
+}) p

@@ -125,7 +125,7 @@ pub refuses_now : (verb : List ℕ) (P : Deed → Type 0) (now : View) (reason :
 refuses_now verb P now reason stood is = (refuses reason, is, record { told = refl; line = refl; register = refl; stands = stood; faults = refl })
 
 -- the office told a fault in a call that changes nothing
-faults_unchanged : (verb : List ℕ) (deed : Deed) (old new : View) → deed.change ≡ None → (new.stands → new.register ≡ old.register) → Only old.register new
+faults_unchanged : (verb : List ℕ) (deed : Deed) (old new : View) → deed.change ≡ None → (new.is_open → new.register ≡ old.register) → Only old.register new
     → new.told ≡ next_count old.told → Attempts verb (λ (d : Deed). d ≡ deed) old new (let r : Result Outcome RunFault = Err fault.Office in r)
 faults_unchanged verb deed old new none same left counts = (
   deed,
@@ -155,14 +155,14 @@ module _ (identity : Identity) (old new : View) where
       let stands = l.stays clean stood in (
         refuses refusal.Limit,
         sym (cond-false there (refuses refusal.Duplicate) (refuses refusal.Limit) none),
-        record { told = refl; line = refl; register = l.register clean stood stands; stands = stands; faults = l.counts },
+        record { told = refl; line = refl; register = l.register clean stood (new.opens stands); stands = stands; faults = l.counts },
       )
   decides_big (Ok (Some found)) l clean stood =
       let some : there ≡ true = sym (found_out identity 1 old.register.outgoing) ∙ ap is_some (sym (l.answer clean stood)) in
       let stands = l.stays clean stood in (
         refuses refusal.Duplicate,
         sym (cond-true there (refuses refusal.Duplicate) (refuses refusal.Limit) some),
-        record { told = refl; line = refl; register = l.register clean stood stands; stands = stands; faults = l.counts },
+        record { told = refl; line = refl; register = l.register clean stood (new.opens stands); stands = stands; faults = l.counts },
       )
   decides_big (Err office.Store) l clean stood = faults_unchanged (codes "done: submit ") big old new (unchanged there) (l.register clean stood) (l.left clean stood) l.counts
   decides_big (Err office.Memory) l clean stood = faults_unchanged (codes "done: submit ") big old new (unchanged there) (l.register clean stood) (l.left clean stood) l.counts
@@ -180,7 +180,7 @@ module _ (identity : Identity) (s : Submission) (rows : List (List ℕ)) (old mi
   verb' = codes "done: submit "
 
   -- the office told a fault in the look-up
-  faults_made : apply old.register change' ≡ Ok mid.register → (new.stands → new.register ≡ mid.register) → Only mid.register new → new.told ≡ next_count old.told
+  faults_made : apply old.register change' ≡ Ok mid.register → (new.is_open → new.register ≡ mid.register) → Only mid.register new → new.told ≡ next_count old.told
       → Attempts verb' (λ (deed : Deed). deed ≡ registered identity s rows old.register) old new (let r : Result Outcome RunFault = Err fault.Office in r)
   faults_made made same left counts =
       let is : registered identity s rows old.register ≡ decided verb' number change' (Ok mid.register) = ap (decided verb' number change') made in (
@@ -215,7 +215,7 @@ module _ (identity : Identity) (s : Submission) (rows : List (List ℕ)) (old mi
         record {
           told = sym (ap (λ (deed : Deed). deed.told) is);
           line = ap (λ (e : OutgoingEntry). done_line verb' e.no) entry ∙ sym (ap (λ (deed : Deed). deed.line) is);
-          register = subst (λ (deed : Deed). Makes deed.change old.register new.register) (sym is) (made ∙ ap Ok (sym (l.register clean stood stands)));
+          register = subst (λ (deed : Deed). Makes deed.change old.register new.register) (sym is) (made ∙ ap Ok (sym (l.register clean stood (new.opens stands))));
           stands = stands;
           faults = l.counts ∙ counts;
         },

@@ -58,6 +58,7 @@ use Rattle.oftp_session.specs.Speaker.{came_awaiting_rtr, nothing_next, offers, 
 use Rattle.oftp_session.specs.Sending.{after_file, came_awaiting_end, came_awaiting_start, came_sending, credit_left, credited, new_mark, payloads_in, refusal, reopening, sends_next, transfer_of, turned_sending}
 use Rattle.oftp_session.specs.Steps.{IsReceived, Suits, came, turned}
 use Rattle.oftp_session.proofs.Receipts.{carried_next, carried_same, payload_holds}
+use Rattle.oftp_session.proofs.Turns.{each_turn}
 use Rattle.oftp_engine.specs.Parts.{CarriesPart, File, IsPartCommand, IsSoFar, IsUnbroken}
 use Rattle.oftp_engine.proofs.PartChanges.{PartGrounds}
 use Rattle.oftp_engine.proofs.PartRows.{close_whole, keep_begins}
@@ -182,24 +183,25 @@ module _ (file : File) (identity : Identity) (r : Register) where
   sends_part contact t (Some payload) = record { grounds = tt; phase = tt }
   sends_part contact t None = record { grounds = tt; phase = tt }
 
+  speaks_part : (setting : Setting) (contact : Contact) (done : WhenDone) → IsPartStep file identity r (speaks setting contact done r)
+  unfolding speaks
+  speaks_part setting contact done = item_part setting contact done (next_item r contact.code contact.tried contact.link.sends)
+
+  payload_part : (contact : Contact) (t : Transfer) → IsPartStep file identity r (turned_sending contact t)
+  unfolding turned_sending
+  payload_part contact t =
+      let payload = slice_get (payloads_in contact t) t.sent in
+      either_step (nat_lt 0 (credit_left contact t)) (sends_next contact t payload) (quiet (Sending contact t)) (sends_part contact t payload) (record { grounds = tt; phase = tt })
+
   -- the own turn
   pub turned_part : (setting : Setting) (p : Phase) → IsPartPhase file identity p → IsPartStep file identity r (turned setting p r)
-  unfolding turned speaks turned_sending
-  turned_part setting ResponderOpening h = record { grounds = tt; phase = tt }
-  turned_part setting InitiatorOpening h = record { grounds = tt; phase = tt }
-  turned_part setting AwaitingSsid h = record { grounds = tt; phase = tt }
-  turned_part setting (ListenerIdle contact) h = record { grounds = tt; phase = tt }
-  turned_part setting (Receiving contact f) h = record { grounds = tt; phase = h }
-  turned_part setting (SpeakerIdle contact done) h = item_part setting contact done (next_item r contact.code contact.tried contact.link.sends)
-  turned_part setting (GivingWay contact) h = record { grounds = tt; phase = tt }
-  turned_part setting (AwaitingRtr contact number) h = record { grounds = tt; phase = tt }
-  turned_part setting (AwaitingStart contact offer) h = record { grounds = tt; phase = tt }
-  turned_part setting (Sending contact t) h =
-      either_step (nat_lt 0 (credit_left contact t)) (sends_next contact t (slice_get (payloads_in contact t) t.sent)) (quiet (Sending contact t))
-      (sends_part contact t (slice_get (payloads_in contact t) t.sent)) (record { grounds = tt; phase = tt })
-  turned_part setting (AwaitingEnd contact t) h = record { grounds = tt; phase = tt }
-  turned_part setting (EndedHere reason) h = record { grounds = tt; phase = tt }
-  turned_part setting (EndedThere reason) h = record { grounds = tt; phase = tt }
+  turned_part setting p = each_turn (λ q s. IsPartPhase file identity q → IsPartStep file identity r s) setting r (record {
+    greeting = λ h. record { grounds = tt; phase = tt };
+    speaking = λ contact done h. speaks_part setting contact done;
+    giving_way = λ contact h. record { grounds = tt; phase = tt };
+    sending = λ contact t h. payload_part contact t;
+    waiting = λ q h. record { grounds = tt; phase = h };
+  }) p
 
   -- a listener
 

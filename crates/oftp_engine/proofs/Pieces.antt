@@ -86,7 +86,7 @@ piece_fits r e from most sound has few =
 -- an office that was asked once
 module _ {T : Type 0} (Tells : Register → T → Type 0) (old new : View) where
   pub answered_once : (x : T) → LooksUp Tells old new (Ok x) → OfficeAnswered old new
-  answered_once x looked = record { told = looked.counts; stays = λ clean stood. let now = looked.stays clean stood in (now, looked.register clean stood now) }
+  answered_once x looked = record { told = looked.counts; stays = λ clean stood. let now = looked.stays clean stood in (now, looked.register clean stood (new.opens now)) }
 
   pub unanswered_once : (e : IncomingEntry) (fault : OfficeFault) → LooksUp Tells old new (Err fault) → OfficeUnanswered e old new
   unanswered_once e fault looked =
@@ -107,6 +107,6 @@ misfits old new e from most rows sound looked few none = record {
   fault = λ clean stood has.
       let fits = piece_fits old.register e from most (sound (looked.clean clean) stood) has few in
       absurd (none (subst (IsPiece e from most) (sym (looked.answer clean stood)) fits));
-  register = λ clean stood stands. looked.register clean stood stands;
+  register = looked.register;
   left = λ clean stood. looked.left clean stood;
 }

@@ -1,14 +1,13 @@
 -- The promise follows from the invariant, and the invariant holds at first.
-use Rattle.std.proofs.Common.{◌≡◌, ◌≤◌, List, [], ◌∷◌, Option, None, Some, refl, sym, ◌∙◌, subst}
+use Rattle.std.proofs.Common.{◌≡◌, List, [], ◌∷◌, Option, None, Some, refl, sym, ◌∙◌, subst}
 use Rattle.std.proofs.lemmas.Bool.{false≢true}
-use Rattle.std.proofs.lemmas.List.Elements.{All-nil}
 use Rattle.oftp_partners.specs.Book.{BookData}
 use Rattle.oftp_partners.specs.declared.partner.Partner.{Partner}
 use Rattle.oftp_vfile.specs.declared.format.Limits.{Limits}
 use Rattle.oftp_register.specs.declared.entry.IncomingState.TheVariants.{Whole}
 use Rattle.oftp_register.specs.Register.{Register, Incoming, Outgoing, empty}
-use Rattle.oftp_register.specs.declared.fit.TheConstants.{MOST_FILES, MOST_OCTETS}
-use Rattle.oftp_register.specs.Soundness.{IsSound, IsSoundIncoming, IsSoundOutgoing, IsSoundReceived}
+use Rattle.oftp_register.specs.Soundness.{IsSound}
+use Rattle.oftp_register.proofs.EmptyLemmas.{sound_empty}
 use Rattle.oftp_engine.specs.Runs.{Course}
 use Rattle.oftp_engine.specs.World.{Station, World, Event, register_in, register_of, after_event, after_events}
 use Rattle.oftp_register.specs.ByIdentity.{out_at, in_at}
@@ -55,18 +54,6 @@ stands_promise w h =
     ((fit_content r s to_other, fit_content s r to_one), (fit_answered r s to_other, fit_answered s r to_one))
 
 -- at first
-sound_empty : (limits : Limits) → limits.files ≤ MOST_FILES → limits.octets ≤ MOST_OCTETS → IsSound (empty limits)
-sound_empty limits files octets = record {
-  few = files;
-  small = octets;
-  incoming = All-nil IsSoundIncoming;
-  outgoing = All-nil IsSoundOutgoing;
-  received = All-nil IsSoundReceived;
-  incoming_once = tt;
-  outgoing_once = tt;
-  received_once = tt;
-}
-
 new_sound : (book : BookData) (partner : Partner) (limits : Limits) (other : Station) → IsLawful book limits → IsSoundStation (new_station book partner limits) other
 new_sound book partner limits other lawful = record {
   registers = λ r e. subst IsSound (sym e) (sound_empty limits lawful.files lawful.octets);

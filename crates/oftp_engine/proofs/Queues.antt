@@ -1,5 +1,5 @@
 -- What is out of a queue of commands is read as those whose frames are whole.
-use Rattle.std.proofs.Common.{◌≡◌, ℕ, zero, suc, ◌+◌, ◌*◌, ◌≤◌, ◌<◌, Bool, true, false, cond, ltb, ◌||◌, ◌&&◌, ◌==◌, not, List, [], ◌∷◌, ◌++◌, length, take, drop, map, fold, Option, None, Some, Result, Ok, Err, refl, sym, ap, ◌∙◌, subst, arith, append_assoc}
+use Rattle.std.proofs.Common.{◌≡◌, ℕ, zero, suc, ◌+◌, ◌*◌, ◌≤◌, ◌<◌, Bool, true, false, cond, ltb, ◌||◌, ◌==◌, List, [], ◌∷◌, ◌++◌, length, take, drop, map, fold, Option, None, Some, Result, Ok, Err, refl, sym, ap, ◌∙◌, subst, arith, append_assoc}
 use Rattle.std.proofs.lemmas.List.{append-nil, drop-append-le, drop_at, take-append-drop, take-append-le, take_at}
 use Rattle.std.proofs.lemmas.Bool.{ltb-false, ltb-true, lt-ltb}
 use Rattle.std.proofs.lemmas.Grind.{flat_map-append}
@@ -14,7 +14,7 @@ use Rattle.oftp_wire.specs.Header.{frame, IsCommand}
 use Rattle.oftp_wire.specs.Kinds.{command_of}
 use Rattle.oftp_wire.specs.Reasons.{reason_of}
 use Rattle.oftp_wire.specs.Spelling.{Canon}
-use Rattle.oftp_wire.specs.Stream.{Head, Whole, Waits, Bad, Front, NoFrame, command_in, front, length_fault, rest_fault, sized}
+use Rattle.oftp_wire.specs.Stream.{Head, Whole, Waits, Bad, Front, NoFrame, front, length_fault, rest_fault, sized}
 use Rattle.oftp_wire.proofs.Fronts.{front_frame, one_front}
 use Rattle.oftp_wire.proofs.Room.{canon_some}
 use Rattle.oftp_wire.proofs.SpellingLaws.{canon_spells, reads_spelled}
@@ -24,20 +24,21 @@ use Rattle.oftp_register.specs.declared.change.Cause.{Cause}
 use Rattle.oftp_register.specs.declared.change.Change.{Change}
 use Rattle.oftp_register.specs.Register.{Register}
 use Rattle.oftp_register.specs.Changes.{apply, apply_all, go_on_by}
-use Rattle.oftp_session.specs.Phases.{Phase, Step, esid_of, fails, frame_of, is_over}
+use Rattle.oftp_session.specs.Phases.{Phase, Step, esid_of, frame_of, is_over}
 use Rattle.oftp_session.specs.Settings.{Setting}
-use Rattle.oftp_session.specs.Steps.{has_turn, opening, turns_due}
+use Rattle.oftp_session.specs.Steps.{opening}
 use Rattle.oftp_session.proofs.Phases.{opening_suits}
 use Rattle.oftp_engine.specs.Frames.{over_commands}
 use Rattle.oftp_engine.specs.Queues.{AreHeard, IsQueue, IsSayable, QueuesAreHeard, RunsAreHeard, RunsSayCommands, RunsSayQueues, SaysQueues, as_read, in_frames, over_queue}
 use Rattle.oftp_engine.specs.Ranges.{IsSpellable, RangesAreKept, StartsInRange}
-use Rattle.oftp_engine.specs.Runs.{Course, Output, advance, came_in, is_stopped, next_in, octets_of, on_front, refusal, run, run_by, settled, started, step_on, turned_in, turns, with_change, with_output}
+use Rattle.oftp_engine.specs.Runs.{Course, Output, advance, came_in, is_stopped, octets_of, refusal, run, settled, started, step_on, with_change, with_output}
 use Rattle.oftp_engine.specs.Serving.{last_frame}
 use Rattle.oftp_engine.proofs.Folding.{folds, frame_length}
 use Rattle.oftp_engine.proofs.Sayable.{esid_sayable, spelled_fits}
 use Rattle.oftp_engine.proofs.Spellable.{IsSpellableChange, apply_spellable, calls_keep, empty_spellable}
 use Rattle.oftp_engine.proofs.Spells.{GoesOnInRange, IsInRange, came_in_range, fails_in_range, turned_in_range}
 use Rattle.oftp_engine.proofs.Standing.{OfBuffer}
+use Rattle.oftp_engine.proofs.EachStep.{run_keeps}
 
 -- a beginning of a frame stands for no fault
 
@@ -195,40 +196,6 @@ one_said [] c all say = (say, tt)
 one_said (m ∷ ms) c all say = (all.0, one_said ms c all.1 say)
 
 -- what a session says
-
--- what each step of a run keeps, a run keeps
-module _ (P : Course → Type 0) (turn : (c : Course) → P c → P (turned_in c)) (come : (c : Course) (octets : List ℕ) → P c → P (came_in c octets))
-    (fail : (c : Course) → P c → P (advance c (fails ProtocolViolation))) where
-  either : (b : Bool) (c d : Course) → P c → P d → P (cond b c d)
-  either true c d h k = h
-  either false c d h k = k
-
-  turns_keep : (n : ℕ) (limit : Option ℕ) (c : Course) → P c → P (turns n limit c)
-  unfolding turns
-  turns_keep zero limit c h = h
-  turns_keep (suc n) limit c h = either (has_turn c.phase && not (is_stopped limit c)) (turns n limit (turned_in c)) c (turns_keep n limit (turned_in c) (turn c h)) h
-
-  settled_keeps : (limit : Option ℕ) (c : Course) → P c → P (settled limit c)
-  unfolding settled
-  settled_keeps limit c h = turns_keep (turns_due c.phase) limit c h
-
-  front_keeps : (go_on : List ℕ → Course → Course) (s : List ℕ) (d : Course) (f : Head) → ((t : List ℕ) (e : Course) → P e → P (go_on t e)) → P d → P (on_front go_on s d f)
-  unfolding on_front
-  front_keeps go_on s d (Whole n) more h = more (drop n s) (came_in d (command_in n s)) (come d (command_in n s) h)
-  front_keeps go_on s d Waits more h = h
-  front_keeps go_on s d (Bad fault) more h = fail d h
-
-  run_by_keeps : (n : ℕ) (limit : Option ℕ) (s : List ℕ) (c : Course) → P c → P (run_by n limit s c)
-  unfolding run_by next_in
-  run_by_keeps zero limit s c h = h
-  run_by_keeps (suc n) limit s c h =
-      let d = settled limit c in
-      let at = settled_keeps limit c h in
-      either (is_over d.phase || is_stopped limit d) d (on_front (run_by n limit) s d (front 100003 s)) at (front_keeps (run_by n limit) s d (front 100003 s) (run_by_keeps n limit) at)
-
-  pub run_keeps : (limit : Option ℕ) (s : List ℕ) (c : Course) → P c → P (run limit s c)
-  unfolding run
-  run_keeps limit s c h = run_by_keeps (suc (length s)) limit s c h
 
 -- an output is the frame of a command, which under a premise a frame can say
 record IsFrame (Premise : Type 0) (o : Output) : Type 0 where

@@ -36,7 +36,8 @@ use Rattle.oftp_session.specs.Receiving.{came_receiving, carried_by, data_step, 
 use Rattle.oftp_session.specs.Speaker.{came_awaiting_rtr, nothing_next, offers, on_item, speaks}
 use Rattle.oftp_session.specs.Sending.{after_file, came_awaiting_end, came_awaiting_start, came_sending, credit_left, credited, new_mark, payloads_in, reopening, sends_next, transfer_of, turned_sending}
 use Rattle.oftp_session.specs.Steps.{came, turned}
-use Rattle.oftp_session.specs.declared.link.Link.{Link}
+use Rattle.oftp_session.specs.Links.{LinkData}
+use Rattle.oftp_session.proofs.Turns.{each_turn}
 use Rattle.oftp_engine.proofs.Standing.{HasRoom, OfBuffer}
 
 -- a step leaves the fact of the buffer
@@ -79,7 +80,7 @@ agreed_so setting ssid a h =
 
 module _ (P : ℕ → Type 0) where
   agreed_size : (setting : Setting) (ssid : Ssid) (a : Agreement) → SizesOf P setting → ssid_verdict setting ssid ≡ Ok a → P a.link.buffer
-  agreed_size setting ssid a sizes h = let it = agreed_so setting ssid a h in subst P (ap (λ (link : Link). link.buffer) it.link) (sizes ssid.buffer it.theirs)
+  agreed_size setting ssid a sizes h = let it = agreed_so setting ssid a h in subst P (ap (λ (link : LinkData). link.buffer) it.link) (sizes ssid.buffer it.theirs)
 
   either : (b : Bool) (x y : Step) → StepHasBuffer P x → StepHasBuffer P y → StepHasBuffer P (cond b x y)
   either true x y h k = h
@@ -130,6 +131,10 @@ module _ (P : ℕ → Type 0) where
     item_room setting done r (Some (item.File e)) = offers_room done e.no (entry_at e.no r.outgoing)
     item_room setting done r None = nothing_room done
 
+    speaks_room : (setting : Setting) (done : WhenDone) (r : Register) → StepHasBuffer P (speaks setting contact done r)
+    unfolding speaks
+    speaks_room setting done r = item_room setting done r (next_item r contact.code contact.tried contact.link.sends)
+
     rtr_room : (n : ℕ) (c : Command) → StepHasBuffer P (came_awaiting_rtr contact n c)
     unfolding came_awaiting_rtr
     rtr_room n command.Rtr = room
@@ -160,6 +165,12 @@ module _ (P : ℕ → Type 0) where
     sends_room : (t : Transfer) (payload : Option (List ℕ)) → StepHasBuffer P (sends_next contact t payload)
     sends_room t (Some payload) = room
     sends_room t None = room
+
+    sending_room : (t : Transfer) → StepHasBuffer P (turned_sending contact t)
+    unfolding turned_sending
+    sending_room t =
+        let payload = slice_get (payloads_in contact t) t.sent in
+        either (nat_lt 0 (credit_left contact t)) (sends_next contact t payload) (quiet (Sending contact t)) (sends_room t payload) room
 
     response_room : (setting : Setting) (r : Register) (response : Received) → StepHasBuffer P (response_step setting contact r response)
     unfolding response_step
@@ -221,22 +232,13 @@ module _ (P : ℕ → Type 0) where
   came_buffer setting (EndedThere reason) r c buffer room = tt
 
   pub turned_buffer : (setting : Setting) (p : Phase) (r : Register) → OfBuffer P p → OfBuffer P (turned setting p r).phase
-  unfolding turned speaks turned_sending
-  turned_buffer setting ResponderOpening r room = tt
-  turned_buffer setting InitiatorOpening r room = tt
-  turned_buffer setting AwaitingSsid r room = tt
-  turned_buffer setting (ListenerIdle contact) r room = room
-  turned_buffer setting (Receiving contact f) r room = room
-  turned_buffer setting (SpeakerIdle contact done) r room = item_room contact room setting done r (next_item r contact.code contact.tried contact.link.sends)
-  turned_buffer setting (GivingWay contact) r room = room
-  turned_buffer setting (AwaitingRtr contact number) r room = room
-  turned_buffer setting (AwaitingStart contact offer) r room = room
-  turned_buffer setting (Sending contact t) r room =
-      let payload = slice_get (payloads_in contact t) t.sent in
-      either (nat_lt 0 (credit_left contact t)) (sends_next contact t payload) (quiet (Sending contact t)) (sends_room contact room t payload) room
-  turned_buffer setting (AwaitingEnd contact t) r room = room
-  turned_buffer setting (EndedHere reason) r room = tt
-  turned_buffer setting (EndedThere reason) r room = tt
+  turned_buffer setting p r = each_turn (λ q s. OfBuffer P q → OfBuffer P s.phase) setting r (record {
+    greeting = λ room. tt;
+    speaking = λ contact done room. speaks_room contact room setting done r;
+    giving_way = λ contact room. room;
+    sending = λ contact t room. sending_room contact room t;
+    waiting = λ q room. room;
+  }) p
 
 -- room
 

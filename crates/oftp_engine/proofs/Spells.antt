@@ -40,7 +40,7 @@ use Rattle.oftp_register.specs.Soundness.{IsSound, IsSoundIncoming, IsSoundOutgo
 use Rattle.oftp_register.specs.Verdicts.{end_verdict}
 use Rattle.oftp_register.proofs.EntryLemmas.{all_at}
 use Rattle.oftp_register.proofs.KeepLemmas.{apply_keeps}
-use Rattle.oftp_session.specs.declared.link.Link.{Link}
+use Rattle.oftp_session.specs.Links.{LinkData}
 use Rattle.oftp_session.specs.declared.link.WhenDone.{WhenDone}
 use Rattle.oftp_session.specs.declared.link.WhenDone.TheVariants.{ChangeDirection, EndSession}
 use Rattle.oftp_session.specs.declared.state.Contact.{Contact}
@@ -57,6 +57,7 @@ use Rattle.oftp_session.specs.Calls.{Proceeds}
 use Rattle.oftp_session.proofs.Items.{a_response}
 use Rattle.oftp_session.proofs.Proceeding.{came_proceeds, turned_proceeds}
 use Rattle.oftp_session.proofs.Starts.{accepted_begins}
+use Rattle.oftp_session.proofs.Turns.{each_turn}
 use Rattle.oftp_engine.specs.Queues.{IsSayable}
 use Rattle.oftp_engine.specs.Ranges.{AreWords, IsIdentity, IsSpellable, IsSpellableAnswer, IsSpellableIncoming, IsSpellableOutgoing}
 use Rattle.oftp_engine.proofs.Phases.{fails_proceed}
@@ -127,8 +128,8 @@ module _ (setting : Setting) (book : IsBook setting.book) (called : IfSome setti
   open_spells ssid a None h =
       let it = agreed_so setting ssid a h in
       let own = book.station in
-      let small : a.link.buffer ≤ 16384 = subst (λ (link : Link). link.buffer ≤ 16384) it.link (omega (arith, own.buffer.1)) in
-      let few : a.link.credit ≤ 99 = subst (λ (link : Link). link.credit ≤ 99) it.link (omega (arith, own.credit.1)) in
+      let small : a.link.buffer ≤ 16384 = subst (λ (link : LinkData). link.buffer ≤ 16384) it.link (omega (arith, own.buffer.1)) in
+      let few : a.link.credit ≤ 99 = subst (λ (link : LinkData). link.credit ≤ 99) it.link (omega (arith, own.credit.1)) in
       says_spells (ListenerIdle _) _
       (ssid_sayable setting.book a.partner a.link.buffer a.link.credit a.link.restart (answered_mode a.partner.mode ssid.mode) own
       (called_is setting ssid.code setting.called a.partner book called it.partner) small few)
@@ -335,20 +336,13 @@ came_spells setting (EndedHere reason) r c it fit = quiet_spells (EndedHere reas
 came_spells setting (EndedThere reason) r c it fit = quiet_spells (EndedThere reason)
 
 turned_spells : (setting : Setting) (p : Phase) (r : Register) → IsInRange setting p r → StepSpells (turned setting p r)
-unfolding turned
-turned_spells setting ResponderOpening r it = says_spells AwaitingSsid command.Ssrm ssrm_sayable
-turned_spells setting InitiatorOpening r it = quiet_spells InitiatorOpening
-turned_spells setting AwaitingSsid r it = quiet_spells AwaitingSsid
-turned_spells setting (ListenerIdle contact) r it = quiet_spells (ListenerIdle contact)
-turned_spells setting (Receiving contact f) r it = quiet_spells (Receiving contact f)
-turned_spells setting (SpeakerIdle contact done) r it = speaks_spells setting contact done r it.book.station.code.1 it.suits.sound it.spellable
-turned_spells setting (GivingWay contact) r it = says_spells (ListenerIdle contact) command.Cd cd_sayable
-turned_spells setting (AwaitingRtr contact number) r it = quiet_spells (AwaitingRtr contact number)
-turned_spells setting (AwaitingStart contact offer) r it = quiet_spells (AwaitingStart contact offer)
-turned_spells setting (Sending contact t) r it = sends_spells contact r t it.suits.sound it.suits.holds it.buffer
-turned_spells setting (AwaitingEnd contact t) r it = quiet_spells (AwaitingEnd contact t)
-turned_spells setting (EndedHere reason) r it = quiet_spells (EndedHere reason)
-turned_spells setting (EndedThere reason) r it = quiet_spells (EndedThere reason)
+turned_spells setting p r = each_turn (λ q s. IsInRange setting q r → StepSpells s) setting r (record {
+  greeting = λ it. says_spells AwaitingSsid command.Ssrm ssrm_sayable;
+  speaking = λ contact done it. speaks_spells setting contact done r it.book.station.code.1 it.suits.sound it.spellable;
+  giving_way = λ contact it. says_spells (ListenerIdle contact) command.Cd cd_sayable;
+  sending = λ contact t it. sends_spells contact r t it.suits.sound it.suits.holds it.buffer;
+  waiting = λ q it. quiet_spells q;
+}) p
 
 -- and the session stays in its ranges
 pub record GoesOnInRange (setting : Setting) (r : Register) (step : Step) : Type 0 where

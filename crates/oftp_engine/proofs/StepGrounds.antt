@@ -45,6 +45,7 @@ use Rattle.oftp_register.specs.declared.entries.Item.TheVariants as item
 use Rattle.oftp_session.specs.Sending.{came_awaiting_start, came_sending, came_awaiting_end, refusal, reopening, transfer_of, credited, new_mark, credit_left, turned_sending, sends_next, payloads_in}
 use Rattle.oftp_session.specs.Steps.{came, turned, Holds, IsReceived, IsOffered, IsEnded}
 use Rattle.oftp_session.proofs.Receipts.{carried_next, carried_same, payload_holds}
+use Rattle.oftp_session.proofs.Turns.{each_turn}
 use Rattle.oftp_engine.proofs.PartRows.{keep_begins, close_whole}
 use Rattle.oftp_vfile.proofs.PartLemmas.{carried_begins}
 use Rattle.oftp_register.specs.ByIdentity.{out_at, in_at, incoming_name, outgoing_name}
@@ -337,18 +338,13 @@ item_grounds setting contact done r there (Some (item.File e)) = offers_grounds 
 item_grounds setting contact ChangeDirection r there None = tt
 item_grounds setting contact EndSession r there None = tt
 
-pub turned_grounds : (setting : Setting) (p : Phase) (r there : Register) → IfAny (turned setting p r).change (Grounds r there)
-unfolding turned speaks turned_sending
-turned_grounds setting ResponderOpening r there = tt
-turned_grounds setting InitiatorOpening r there = tt
-turned_grounds setting AwaitingSsid r there = tt
-turned_grounds setting (ListenerIdle contact) r there = tt
-turned_grounds setting (Receiving contact f) r there = tt
-turned_grounds setting (SpeakerIdle contact done) r there = item_grounds setting contact done r there (next_item r contact.code contact.tried contact.link.sends)
-turned_grounds setting (GivingWay contact) r there = tt
-turned_grounds setting (AwaitingRtr contact number) r there = tt
-turned_grounds setting (AwaitingStart contact offer) r there = tt
-turned_grounds setting (Sending contact t) r there = by_credit (nat_lt 0 (credit_left contact t))
+speaks_grounds : (setting : Setting) (contact : Contact) (done : WhenDone) (r there : Register) → IfAny (speaks setting contact done r).change (Grounds r there)
+unfolding speaks
+speaks_grounds setting contact done r there = item_grounds setting contact done r there (next_item r contact.code contact.tried contact.link.sends)
+
+sends_grounds : (contact : Contact) (t : Transfer) (r there : Register) → IfAny (turned_sending contact t).change (Grounds r there)
+unfolding turned_sending
+sends_grounds contact t r there = by_credit (nat_lt 0 (credit_left contact t))
   where
     by_next : (payload : Option (List ℕ)) → IfAny (sends_next contact t payload).change (Grounds r there)
     by_next (Some payload) = tt
@@ -357,6 +353,12 @@ turned_grounds setting (Sending contact t) r there = by_credit (nat_lt 0 (credit
     by_credit : (b : Bool) → IfAny (let s : Step = cond b (sends_next contact t (slice_get (payloads_in contact t) t.sent)) (quiet (Sending contact t)) in s).change (Grounds r there)
     by_credit true = by_next (slice_get (payloads_in contact t) t.sent)
     by_credit false = tt
-turned_grounds setting (AwaitingEnd contact t) r there = tt
-turned_grounds setting (EndedHere reason) r there = tt
-turned_grounds setting (EndedThere reason) r there = tt
+
+pub turned_grounds : (setting : Setting) (p : Phase) (r there : Register) → IfAny (turned setting p r).change (Grounds r there)
+turned_grounds setting p r there = each_turn (λ q s. IfAny s.change (Grounds r there)) setting r (record {
+  greeting = tt;
+  speaking = λ contact done. speaks_grounds setting contact done r there;
+  giving_way = λ contact. tt;
+  sending = λ contact t. sends_grounds contact t r there;
+  waiting = λ q. tt;
+}) p

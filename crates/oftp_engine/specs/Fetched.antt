@@ -43,7 +43,7 @@ pub record OfficeAnswered (old new : View) : Type 0 where
 pub record OfficeUnanswered (e : IncomingEntry) (old new : View) : Type 0 where
   pub told : (new.told ≡ old.told) ⊎ (new.told ≡ next_count old.told)
   pub fault : new.clean → old.stands → HasFile old.register e → new.told ≡ next_count old.told
-  pub register : new.clean → old.stands → new.stands → new.register ≡ old.register
+  pub register : new.clean → old.stands → new.is_open → new.register ≡ old.register
   pub left : new.clean → old.stands → Only old.register new
 
 -- what the office of a file told, by what was answered

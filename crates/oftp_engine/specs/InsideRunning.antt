@@ -35,8 +35,8 @@ module _ {R W : Type 0} (remaining : R → Option (List ℕ)) (contents : W → 
   pub record IsJobStopped (old new : View) (before after : Job R W) (fault : RunFault) : Type 0 where
     pub stop : Stop
     pub stops : JobStops remaining contents book old.register before after stop fault
-    pub leaves : LeavesSome stop.changes stop.answered stop.made old new
-    pub ends : EndsWith old new fault
+    pub leaves : LeavesSome stop.changes stop.answered stop.made old.register new
+    pub ends : EndsWith old.told new fault
 
   abbrev pub DoesJob : {T : Type 0} → View → View → Job R W → Job R W → Result T RunFault → Type 0
   DoesJob old new before after (Ok x) = IsJobDone old new before after

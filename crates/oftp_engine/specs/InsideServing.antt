@@ -84,11 +84,11 @@ pub record BreaksOff (c : Course) (s : List ℕ) (old new : Scene) : Type 0 wher
 -- the office told a fault within a step: the register is the one before it, and a stop may leave either; or it is the one
 -- after it, and nothing else is left
 pub record StaysBefore (at : Course) (step : Step) (now : View) : Type 0 where
-  pub same : now.stands → now.register ≡ at.register
+  pub same : now.is_open → now.register ≡ at.register
   pub left : WithOrWithout step.change at.register now
 
 pub record StaysAfter (at : Course) (step : Step) (now : View) : Type 0 where
-  pub same : now.stands → now.register ≡ (advance at step).register
+  pub same : now.is_open → now.register ≡ (advance at step).register
   pub left : Only (advance at step).register now
 
 -- the office told a fault within a step

@@ -162,26 +162,26 @@ pub record CallShort {W : Type 0} (contents : W → Option (List ℕ)) (old new 
   pub result : new.result ≡ Some (Err fault.Memory)
 
 -- the office told a fault in this call, or it stands, a stop leaves its register and memory ran out
-pub record OfficeTold (old new : View) : Type 0 where
-  pub faults : new.told ≡ next_count old.told
+pub record OfficeTold (told : ℕ) (new : View) : Type 0 where
+  pub faults : new.told ≡ next_count told
 
-pub record OfficeStands (old new : View) : Type 0 where
-  pub faults : new.told ≡ old.told
+pub record OfficeStands (told : ℕ) (new : View) : Type 0 where
+  pub faults : new.told ≡ told
   pub stands : new.stands
   pub left : Only new.register new
 
-abbrev pub EndsWith : View → View → RunFault → Type 0
-EndsWith old new fault.Read = ⊥
-EndsWith old new fault.Write = ⊥
-EndsWith old new fault.Office = OfficeTold old new
-EndsWith old new fault.Memory = OfficeStands old new
+abbrev pub EndsWith : ℕ → View → RunFault → Type 0
+EndsWith told new fault.Read = ⊥
+EndsWith told new fault.Write = ⊥
+EndsWith told new fault.Office = OfficeTold told new
+EndsWith told new fault.Memory = OfficeStands told new
 
 -- a stop leaves the register after some of these changes, from so many on, and so many or one fewer are made in the office
-pub record LeavesSome (changes : List Change) (least made : ℕ) (old new : View) : Type 0 where
+pub record LeavesSome (changes : List Change) (least made : ℕ) (r : Register) (new : View) : Type 0 where
   pub kept : least ≤ made
   pub few : made ≤ length changes
-  pub register : new.stands → apply_all old.register (take made changes) ≡ Ok new.register
-  pub left : (content : new.Content) → new.may_leave content → IsPrefix new.holds changes old.register least made content
+  pub register : new.is_open → apply_all r (take made changes) ≡ Ok new.register
+  pub left : (content : new.Content) → new.may_leave content → IsPrefix new.holds changes r least made content
 
 module _ {R W : Type 0} (remaining : R → Option (List ℕ)) (contents : W → Option (List ℕ)) (book : BookData) where
   -- a job is done, as its entry says
@@ -222,18 +222,18 @@ module _ {R W : Type 0} (remaining : R → Option (List ℕ)) (contents : W → 
   JobStops r (job.Call old) (job.Call new) stop fault = CallStops r old new stop fault
 
   -- all jobs are done, and the register is the one after all of them
-  pub record IsRun (old new : View) (olds news : List (Job R W)) : Type 0 where
+  pub record IsRun (r : Register) (told : ℕ) (new : View) (olds news : List (Job R W)) : Type 0 where
     pub entries : List Entry
-    pub done : JobsDone old.register entries olds news
-    pub register : new.register ≡ after_jobs old.register entries
-    pub replay : apply_all old.register (changes_of old.register entries) ≡ Ok new.register
+    pub done : JobsDone r entries olds news
+    pub register : new.register ≡ after_jobs r entries
+    pub replay : apply_all r (changes_of r entries) ≡ Ok new.register
     pub stands : new.stands
     pub left : Only new.register new
-    pub faults : new.told ≡ old.told
+    pub faults : new.told ≡ told
 
   -- The list ended within a job: those before it are done, and those behind it as they were. Of all the changes, those of the jobs before
   -- it and its own, those are made that were answered, at least.
-  pub record IsStopped (old new : View) (olds news : List (Job R W)) (fault : RunFault) : Type 0 where
+  pub record IsStopped (r : Register) (told : ℕ) (new : View) (olds news : List (Job R W)) (fault : RunFault) : Type 0 where
     pub entries : List Entry
     pub before : List (Job R W)
     pub after : List (Job R W)
@@ -242,14 +242,13 @@ module _ {R W : Type 0} (remaining : R → Option (List ℕ)) (contents : W → 
     pub behind : List (Job R W)
     pub olds_are : olds ≡ before ++ was ∷ behind
     pub news_are : news ≡ after ++ now ∷ behind
-    pub done : JobsDone old.register entries before after
+    pub done : JobsDone r entries before after
     pub stop : Stop
-    pub stops : JobStops (after_jobs old.register entries) was now stop fault
-    pub leaves : LeavesSome (changes_of old.register entries ++ stop.changes) (length (changes_of old.register entries) + stop.answered)
-        (length (changes_of old.register entries) + stop.made) old new
-    pub ends : EndsWith old new fault
+    pub stops : JobStops (after_jobs r entries) was now stop fault
+    pub leaves : LeavesSome (changes_of r entries ++ stop.changes) (length (changes_of r entries) + stop.answered) (length (changes_of r entries) + stop.made) r new
+    pub ends : EndsWith told new fault
 
   -- what a list of jobs that answers this has done
   abbrev pub Runs : {T : Type 0} → View → View → List (Job R W) → List (Job R W) → Result T RunFault → Type 0
-  Runs old new olds news (Ok x) = IsRun old new olds news
-  Runs old new olds news (Err fault) = IsStopped old new olds news fault
+  Runs old new olds news (Ok x) = IsRun old.register old.told new olds news
+  Runs old new olds news (Err fault) = IsStopped old.register old.told new olds news fault

@@ -23,7 +23,7 @@ pub record IsMadeBefore (change : Option Change) (old new : View) : Type 0 where
   pub registers : Registers change
   pub after : Register
   pub made : Makes change old.register after
-  pub register : new.stands → new.register ≡ after
+  pub register : new.is_open → new.register ≡ after
   pub left : Only after new
 
 -- the line is out, and the change is made

@@ -128,7 +128,7 @@ module _ (setting : Setting) (given : List ℕ) (old new : Scene) where
     pub kept : answered outs (length (octets_of outs)) ≤ made
     pub few : made ≤ length course.changes
     pub stopped : StopsWithin setting given old.office.register outs made
-    pub register : new.office.stands → apply_all old.office.register (take made course.changes) ≡ Ok new.office.register
+    pub register : new.office.is_open → apply_all old.office.register (take made course.changes) ≡ Ok new.office.register
     pub left : OfficeLeaves course old.office.register (answered outs (length (octets_of outs))) made new.office
     pub within : OfficeLeaves (advance stopped.at stopped.step) old.office.register (answered outs (length (octets_of outs))) made new.office
     pub faults : new.office.told ≡ next_count old.office.told
