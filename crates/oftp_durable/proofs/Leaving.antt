@@ -72,7 +72,7 @@ module _ (x : View) (limits : Limits) (faults : ℕ) (s : State) where
   abbrev y : View
   y = view_of limits faults s
 
-  pub prefix_of : (changes : List Change) (least made : ℕ) → LeavesSome changes least made x y → LeavesPrefix limits s x.register changes least
+  pub prefix_of : (changes : List Change) (least made : ℕ) → LeavesSome changes least made x.register y → LeavesPrefix limits s x.register changes least
   prefix_of changes least made h = record { made = made; left = h.left; register = h.register }
 
   -- all changes are made, and a stop leaves what the office has

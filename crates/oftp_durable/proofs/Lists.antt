@@ -18,7 +18,7 @@ use Rattle.oftp_engine.specs.declared.running.Job.{Job}
 use Rattle.oftp_engine.specs.declared.running.Job.TheVariants as job
 use Rattle.oftp_engine.specs.declared.serving.RunFault.{RunFault}
 use Rattle.oftp_engine.specs.declared.serving.RunFault.TheVariants as fault
-use Rattle.oftp_engine.specs.Jobs.{CallEntry, EndsWith, Entry, JobStops, JobsDone, Runs, SessionEntry, Stop, after_jobs, changes_of, share_of}
+use Rattle.oftp_engine.specs.Jobs.{CallEntry, Entry, JobStops, JobsDone, Runs, SessionEntry, Stop, after_jobs, changes_of, share_of}
 use Rattle.oftp_engine.specs.Parts.{BringsParts, File, IsLeft, JobLeaves, OfCall, OfSession, course_of}
 use Rattle.oftp_engine.specs.Runs.{run, started}
 use Rattle.oftp_engine.specs.declared.serving.Role.{Role}
@@ -30,39 +30,11 @@ use Rattle.oftp_durable.specs.Headline.{ButForOffice, LeavesAlone, session_of}
 use Rattle.oftp_durable.specs.Lists.{BringAll, BringsLast, ListLeaves, beginning}
 use Rattle.oftp_durable.proofs.Leaving.{none_or_one, prefix_all, prefix_of}
 
-ends_from : (old new : View) (f : RunFault) → EndsWith old new f → EndsWith (beginning old.register old.told) new f
-ends_from old new fault.Read h = h
-ends_from old new fault.Write h = h
-ends_from old new fault.Office h = record { faults = h.faults }
-ends_from old new fault.Memory h = record { faults = h.faults; stands = h.stands; left = h.left }
-
--- the first register counts alone, of what an office shows before a list
+-- the first register and what was told count alone, of what an office shows before a list
 runs_from : {R W T : Type 0} (remaining : R → Option (List ℕ)) (contents : W → Option (List ℕ)) (book : BookData) (old new : View) (olds news : List (Job R W))
     (result : Result T RunFault) → Runs remaining contents book old new olds news result → Runs remaining contents book (beginning old.register old.told) new olds news result
-runs_from remaining contents book old new olds news (Ok x) h = record {
-  entries = h.entries;
-  done = h.done;
-  register = h.register;
-  replay = h.replay;
-  stands = h.stands;
-  left = h.left;
-  faults = h.faults;
-}
-runs_from remaining contents book old new olds news (Err f) h = record {
-  entries = h.entries;
-  before = h.before;
-  after = h.after;
-  was = h.was;
-  now = h.now;
-  behind = h.behind;
-  olds_are = h.olds_are;
-  news_are = h.news_are;
-  done = h.done;
-  stop = h.stop;
-  stops = h.stops;
-  leaves = record { kept = h.leaves.kept; few = h.leaves.few; register = h.leaves.register; left = h.leaves.left };
-  ends = ends_from old new f h.ends;
-}
+runs_from remaining contents book old new olds news (Ok x) h = h
+runs_from remaining contents book old new olds news (Err f) h = h
 
 -- the changes up to here are made, and the file is as it may be
 record IsSoAfter (file : File) (identity : Identity) (r : Register) (changes : List Change) (after : Register) : Type 0 where

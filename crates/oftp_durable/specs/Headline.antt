@@ -1,5 +1,5 @@
 -- The headline: what a stop leaves of a database, as the register after the first of the changes that were accepted.
-use Rattle.std.specs.Prelude.{◌≡◌, ℕ, ⊤, true, List, [], ◌++◌, take, Option, None, is_some, Result, Ok, Err}
+use Rattle.std.specs.Prelude.{◌≡◌, ℕ, ⊤, true, List, [], ◌++◌, take, Option, None, is_some, IsTrue, Result, Ok, Err}
 use Rattle.sqlite.specs.Tree.{Trees}
 use Rattle.sqlite.specs.State.{State}
 use Rattle.oftp_vfile.specs.declared.format.Limits.{Limits}
@@ -11,7 +11,7 @@ use Rattle.oftp_register.specs.Changes.{apply_all}
 use Rattle.oftp_register.specs.Register.{Register}
 use Rattle.oftp_session.specs.Settings.{Setting}
 use Rattle.oftp_tables.specs.Tables.{register_in}
-use Rattle.oftp_tables.specs.Stands.{IsContentOf, Stands}
+use Rattle.oftp_tables.specs.Stands.{IsContentOf}
 use Rattle.oftp_store.specs.Opens.{Has}
 use Rattle.oftp_engine.specs.declared.operating.Operator.{Operator}
 use Rattle.oftp_engine.specs.declared.operating.Told.{Told}
@@ -29,11 +29,11 @@ use Rattle.oftp_engine.specs.Serving.{last_frame}
 use Rattle.oftp_durable.specs.Counts.{AnswersAreKept}
 
 -- each content that a stop now may leave is the tables of r after the first n of these changes, all of them made, n from `least` on. The
--- register of the office, where it still stands, is the one after n or n - 1 of them
+-- register of the office, wherever it is open, is the one after n or n - 1 of them
 pub record LeavesPrefix (limits : Limits) (s : State) (r : Register) (changes : List Change) (least : ℕ) : Type 0 where
   pub made : ℕ
   pub left : (db : Trees) → s.may_leave db → IsPrefix IsContentOf changes r least made db
-  pub register : Stands limits s → apply_all r (take made changes) ≡ Ok (register_in limits s.now.trees)
+  pub register : IsTrue s.is_open → apply_all r (take made changes) ≡ Ok (register_in limits s.now.trees)
 
 -- the office stands with this register, and a stop leaves its tables alone
 pub record LeavesAlone (limits : Limits) (s : State) (r : Register) : Type 0 where

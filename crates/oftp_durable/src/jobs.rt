@@ -1,16 +1,16 @@
 //! A list of jobs over a database.
 
-ghost use Rattle.std.specs.Prelude.{◌≡◌, ◌≤◌, ◌↔◌, IfOk, OnErr};
+ghost use Rattle.std.specs.Prelude.{◌≡◌, ◌≤◌, ◌↔◌, IfErr, IfOk, OnErr};
 ghost use Rattle.sqlite.specs.Files.{HoldsDatabase, over_files};
 ghost use Rattle.sqlite.specs.State.{HasCleanDisk};
 ghost use Rattle.sqlite.specs.Tree.{Trees};
 ghost use Rattle.sqlite.specs.WalFiles.{image_at};
 ghost use Rattle.oftp_register.specs.declared.fit.TheConstants.{MOST_FILES, MOST_OCTETS};
-ghost use Rattle.oftp_register.specs.Register.{Register};
+ghost use Rattle.oftp_register.specs.Register.{Register, empty};
 ghost use Rattle.oftp_register.specs.Soundness.{IsSound};
 ghost use Rattle.oftp_tables.specs.Tables.{register_in};
 ghost use Rattle.oftp_tables.specs.Opening.{IsStoreOf};
-ghost use Rattle.oftp_store.specs.Opens.{Has, HoldsTaken, IsKept, IsOpenable};
+ghost use Rattle.oftp_store.specs.Opens.{Has, HoldsNoTable, HoldsTaken, IsKept, IsOpenable, RefusesPath, to_open};
 ghost use Rattle.oftp_store.specs.Shown.{database_of, faults_of, limits_of, shown};
 ghost use Rattle.oftp_durable.specs.Headline.{ButForOffice, LeavesAlone};
 ghost use Rattle.oftp_durable.specs.Lists.{ListLeaves};
@@ -18,7 +18,7 @@ ghost use Rattle.oftp_durable.specs.Lists.{ListLeaves};
 use crate::opening::open_durable;
 use oftp_engine::{Job, RunFault, run};
 use oftp_partners::Book;
-use oftp_store::{PathFault, SqlOffice};
+use oftp_store::{PathFault, PathRefused, SqlOffice};
 use oftp_vfile::Limits;
 use sqlite::{Alter, FileFrom, FileStore, Start};
 use std::alloc::Global;
@@ -72,10 +72,10 @@ pub fn run_at<S: Start, R: Read, W: Write>(
     start: S,
     book: &Book,
     jobs: &mut [Job<'_, R, W>],
-) -> Result<Ran<FileStore<FileFrom<S>>>, PathFault>
+) -> Result<Ran<FileStore<FileFrom<S>>>, PathRefused<FileStore<FileFrom<S>>>>
     requires files { limits.files ≤ MOST_FILES }
     requires octets { limits.octets ≤ MOST_OCTETS }
-    ensures unkept { (result ≡ Err PathFault.Unkept) ↔ ¬ IsKept path.now }
+    ensures unkept { (result ≡ Err (PathRefused.Path PathFault.Unkept)) ↔ ¬ IsKept path.now }
     ensures idle { OnErr result (jobs.new ≡ jobs.old) }
     // The files hold no table, or the office's.
     ensures known { IfOk result (λ ran. HasCleanDisk (database_of over_files ran.office) → HoldsTaken IsOpenable (HoldsDatabase (image_at S.Start))) }
@@ -88,6 +88,12 @@ pub fn run_at<S: Start, R: Read, W: Write>(
         → HoldsDatabase (image_at S.Start) db → IsStoreOf r db
         → ButForOffice ran.result (LeavesAlone (limits_of ran.office) (database_of over_files ran.office)
         (register_in (limits_of ran.office) (database_of over_files ran.office).now.trees))) }
+    // The headline of a first run, from files that hold no table.
+    ensures fresh { IfOk result (λ ran. HasCleanDisk (database_of over_files ran.office) → HoldsNoTable (image_at S.Start)
+        → ListLeaves R.remaining W.contents book.now (empty limits) 0 (shown over_files ran.office) jobs.old jobs.new
+        (limits_of ran.office) (database_of over_files ran.office) ran.result) }
+    // Another database is a wrong schema, and then as it was. After another fault the files hold what they held, or the new tables.
+    ensures refused { IfErr result (RefusesPath over_files to_open (image_at S.Start)) }
 {
     let mut office = open_durable(rt, path, limits, start)?;
     let result = run_durable(rt.alloc(), &mut office, book, jobs);

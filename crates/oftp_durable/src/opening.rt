@@ -1,23 +1,23 @@
 //! The opening of the office that the files at a path hold.
 
-ghost use Rattle.std.specs.Prelude.{◌≡◌, ◌≤◌, ◌↔◌, ℕ, IfOk, List};
+ghost use Rattle.std.specs.Prelude.{◌≡◌, ◌≤◌, ◌↔◌, ℕ, IfErr, IfOk, List};
 ghost use Rattle.sqlite.specs.Files.{HoldsDatabase, over_files};
 ghost use Rattle.sqlite.specs.State.{HasCleanDisk};
 ghost use Rattle.sqlite.specs.Tree.{Trees};
 ghost use Rattle.sqlite.specs.WalFiles.{image_at};
 ghost use Rattle.oftp_register.specs.declared.change.Change.{Change};
 ghost use Rattle.oftp_register.specs.declared.fit.TheConstants.{MOST_FILES, MOST_OCTETS};
-ghost use Rattle.oftp_register.specs.Register.{Register};
+ghost use Rattle.oftp_register.specs.Register.{Register, empty};
 ghost use Rattle.oftp_register.specs.Soundness.{IsSound};
 ghost use Rattle.oftp_tables.specs.Opening.{IsStoreOf};
 ghost use Rattle.oftp_tables.specs.Stands.{IsContentOf};
-ghost use Rattle.oftp_store.specs.Opens.{Has, HoldsTaken, IsKept, IsOpenable};
+ghost use Rattle.oftp_store.specs.Opens.{Has, HoldsNoTable, HoldsTaken, IsKept, IsOpenable, RefusesPath, to_open};
 ghost use Rattle.oftp_store.specs.Shown.{database_of, faults_of, limits_of};
 ghost use Rattle.oftp_engine.specs.Served.{IsPrefix};
 ghost use Rattle.oftp_durable.specs.Headline.{LeavesAlone};
 ghost use Rattle.oftp_durable.specs.Reopening.{IsReopened};
 
-use oftp_store::{PathFault, SqlOffice, open_at};
+use oftp_store::{PathFault, PathRefused, SqlOffice, open_at};
 use oftp_vfile::Limits;
 use sqlite::{Alter, FileFrom, FileStore, Start};
 
@@ -42,10 +42,10 @@ pub fn open_durable<S: Start>(
     path: &str,
     limits: Limits,
     start: S,
-) -> Result<SqlOffice<FileStore<FileFrom<S>>>, PathFault>
+) -> Result<SqlOffice<FileStore<FileFrom<S>>>, PathRefused<FileStore<FileFrom<S>>>>
     requires files { limits.files ≤ MOST_FILES }
     requires octets { limits.octets ≤ MOST_OCTETS }
-    ensures unkept { (result ≡ Err PathFault.Unkept) ↔ ¬ IsKept path.now }
+    ensures unkept { (result ≡ Err (PathRefused.Path PathFault.Unkept)) ↔ ¬ IsKept path.now }
     ensures limits { IfOk result (λ o. limits_of o ≡ limits) }
     ensures faults { IfOk result (λ o. faults_of o ≡ 0) }
     // The files hold no table, or the office's.
@@ -57,6 +57,10 @@ pub fn open_durable<S: Start>(
     ensures reopened { IfOk result (λ o. HasCleanDisk (database_of over_files o) → (r : Register) (changes : List Change) (least made : ℕ) (db : Trees)
         → r.limits ≡ limits → IsPrefix IsContentOf changes r least made db
         → HoldsDatabase (image_at S.Start) db → IsReopened limits (database_of over_files o) r changes least) }
+    // It has the empty register where they hold no table.
+    ensures fresh { IfOk result (λ o. HasCleanDisk (database_of over_files o) → HoldsNoTable (image_at S.Start) → LeavesAlone limits (database_of over_files o) (empty limits)) }
+    // Another database is a wrong schema, and then as it was. After another fault the files hold what they held, or the new tables.
+    ensures refused { IfErr result (RefusesPath over_files to_open (image_at S.Start)) }
 {
     let office = open_at(rt, path, limits, start)?;
     leaves_alone(&office);

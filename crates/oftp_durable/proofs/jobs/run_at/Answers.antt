@@ -3,18 +3,18 @@ use Rattle.std.specs.Result.{IsErrAnd}
 use Rattle.std.proofs.lemmas.Result.{err_from_is_err_and}
 use Rattle.sqlite.specs.Files.{over_files}
 use Rattle.oftp_vfile.specs.declared.format.Limits.{Limits}
-use Rattle.oftp_store.specs.declared.file.PathFault.{PathFault}
+use Rattle.oftp_register.specs.Register.{empty}
 use Rattle.oftp_store.specs.Opens.{Has}
 use Rattle.oftp_store.specs.Shown.{database_of, limits_of, shown}
 use Rattle.oftp_durable.specs.Lists.{ListLeaves}
 use Rattle.oftp_durable.proofs.jobs.run_at.Goals as goal
 
 -- the fault that `?` hands on
-handed_on : {X Y IsKept : Type 0} (fault other : PathFault) (r : Result X PathFault) → IsErrAnd r (λ x. x ≡ fault) → (it : Result Y PathFault) → it ≡ Err fault
+handed_on : {X Y E IsKept : Type 0} (fault other : E) (r : Result X E) → IsErrAnd r (λ x. x ≡ fault) → (it : Result Y E) → it ≡ Err fault
     → (it ≡ Err other) ↔ ¬ IsKept → (r ≡ Err other) ↔ ¬ IsKept
-handed_on fault other r h it was files =
+handed_on {X} {Y} {E} fault other r h it was files =
     let e = err_from_is_err_and r h in
-    let told : r ≡ Err fault = e.1 ∙ ap (λ (x : PathFault). Err x) e.2 in
+    let told : r ≡ Err fault = e.1 ∙ ap (λ (x : E). Err x) e.2 in
     (λ is. files.0 cc, λ unkept. let so = files.1 unkept in cc)
 
 pub returns-clause-leaves : goal.returns-clause-leaves
@@ -36,6 +36,18 @@ returns-clause-alone g c = λ clean r db is sound holds stands.
     let found = opened.found early r db is sound holds stands in
     let has = subst (λ (x : Limits). Has x r (database_of over_files c.in_ok-office.office)) (sym opened.limits) found.has in
     c.run_durable-result.ensures.alone clean r has
+
+pub returns-clause-fresh : goal.returns-clause-fresh
+returns-clause-fresh g c = λ clean none.
+    let opened = c.in_ok-office.ensures in
+    let new = c.run_durable-result.new.office in
+    let register = empty c.args.limits in
+    let found = opened.fresh (c.run_durable-result.ensures.clean clean) none in
+    let has = subst (λ (x : Limits). Has x register (database_of over_files c.in_ok-office.office)) (sym opened.limits) found.has in
+    subst
+    (λ (faults : ℕ). ListLeaves g.R.Read.remaining g.W.Write.contents c.args.book.now register faults (shown over_files new) c.args.jobs.now c.run_durable-result.new.jobs
+    (limits_of new) (database_of over_files new) c.run_durable-result.result)
+    opened.faults (c.run_durable-result.ensures.leaves clean register has)
 
 pub returns-clause-unkept : goal.returns-clause-unkept
 returns-clause-unkept g c =

@@ -1,6 +1,7 @@
 use Rattle.std.proofs.Common.{◌∙◌, inl, subst, sym, take}
 use Rattle.sqlite.specs.Files.{over_files}
 use Rattle.oftp_vfile.specs.declared.format.Limits.{Limits}
+use Rattle.oftp_register.specs.Register.{empty}
 use Rattle.oftp_store.specs.Opens.{Has}
 use Rattle.oftp_store.specs.Shown.{database_of}
 use Rattle.oftp_durable.specs.Headline.{LeavesAlone}
@@ -26,3 +27,12 @@ returns-clause-reopened g c = λ clean r changes least made db is prefix holds.
       replay = prefix.replay;
       left = returns-clause-found g c clean prefix.register db same prefix.holds.sound holds (inl prefix.holds);
     }
+
+pub returns-clause-fresh : goal.returns-clause-fresh
+returns-clause-fresh g c = λ clean none.
+    let office = c.in_ok-office.office in
+    let database = database_of over_files office in
+    let limits = c.in_ok-office.ensures.limits in
+    let register = empty c.args.limits in
+    let has = subst (λ (x : Limits). Has x register database) (sym limits) (c.in_ok-office.ensures.fresh clean none) in
+    subst (λ (x : Limits). LeavesAlone x database register) limits (c.leaves_alone.ensures register has)
