@@ -14,7 +14,7 @@ next_differs n e = omega (arith, e)
 pub asks_nothing : (v : View) → (v.clean → v.stands → Only v.register v) → Asks v v
 asks_nothing v alone = record {
   clean = λ k. k;
-  register = λ k s t. refl;
+  register = λ k s is_open. refl;
   left = alone;
   stays = λ same k s. s;
   counts = inl refl;
@@ -49,12 +49,12 @@ asks_once old new (Err (Refused cause)) looks = absurd looks.unrefused
 pub asks_on : (old now new : View) → Asks old now → now.told ≡ old.told → Asks now new → Asks old new
 asks_on old now new first untold next = record {
   clean = λ k. first.clean (next.clean k);
-  register = λ k s t.
+  register = λ k s is_open.
       let stood = first.stays untold (next.clean k) s in
-      next.register k stood t ∙ first.register (next.clean k) s stood;
+      next.register k stood is_open ∙ first.register (next.clean k) s (now.opens stood);
   left = λ k s.
       let stood = first.stays untold (next.clean k) s in
-      subst (λ r. Only r new) (first.register (next.clean k) s stood) (next.left k stood);
+      subst (λ r. Only r new) (first.register (next.clean k) s (now.opens stood)) (next.left k stood);
   stays = λ same k s. next.stays (same ∙ sym untold) k (first.stays untold (next.clean k) s);
   counts = subst (λ (n : ℕ). (new.told ≡ n) ⊎ (new.told ≡ next_count n)) untold next.counts;
 }

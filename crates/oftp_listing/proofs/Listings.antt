@@ -84,7 +84,7 @@ pub told_first : {T : Type 0} {Tells : Register → T → Type 0} (old now new :
 told_first {Tells = Tells} old now new x asks untold looks k s =
     let before = looks.clean k in
     let stood = asks.stays untold before s in
-    subst (λ r. Tells r x) (asks.register before s stood) (looks.answer k stood)
+    subst (λ r. Tells r x) (asks.register before s (now.opens stood)) (looks.answer k stood)
 
 -- one entry more, beside which the office told a number
 pub listing_on : {E : Type 0} (all : Register → List E) (beside : Register → E → ℕ) (made : E → ℕ → Data) (old now new : View) (told entries : List E)
@@ -141,6 +141,6 @@ finds_both {TellsB = TellsB} TellsC old now new a b c first next made = record {
   answer = λ k s.
       let before = next.asks.clean k in
       let stood = first.asks.stays first.counts before s in
-      made old.register (first.answer before s) (subst (λ r. TellsB r b) (first.asks.register before s stood) (next.answer k stood));
+      made old.register (first.answer before s) (subst (λ r. TellsB r b) (first.asks.register before s (now.opens stood)) (next.answer k stood));
   counts = next.counts ∙ first.counts;
 }

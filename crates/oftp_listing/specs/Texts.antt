@@ -76,10 +76,10 @@ is_asked is_get (Some (OutgoingFile n)) = true
 is_asked is_get (Some Responses) = is_get
 
 -- The office was asked by look-ups alone, and of these none but the last told a fault. Where what was read is what was written, an
--- office that stood keeps its register, and a stop leaves that register; it still stands, where it told no fault.
+-- office that stood has its register wherever it is open, and a stop leaves that register; it still stands, where it told no fault.
 pub record Asks (old new : View) : Type 0 where
   pub clean : new.clean → old.clean
-  pub register : new.clean → old.stands → new.stands → new.register ≡ old.register
+  pub register : new.clean → old.stands → new.is_open → new.register ≡ old.register
   pub left : new.clean → old.stands → Only old.register new
   pub stays : new.told ≡ old.told → new.clean → old.stands → new.stands
   pub counts : (new.told ≡ old.told) ⊎ (new.told ≡ next_count old.told)
