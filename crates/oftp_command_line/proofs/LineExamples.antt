@@ -1,7 +1,6 @@
 -- Command lines that are written out, in a table for each command: a line, and what it asks for.
 use Rattle.std.proofs.Common.{◌≡◌, ◌==◌, ◌++◌, ℕ, List, Option, refl, [], ◌∷◌, Some, None, codes, if◌then◌else◌, map}
 use Rattle.clap.proofs.OnLiterals.{clap_on_literals}
-use Rattle.oftp_listing.specs.declared.reports.ReportKind.{ReportKind}
 use Rattle.oftp_listing.specs.declared.reports.ReportKind.TheVariants.{Incoming, Issued, Outgoing, Received}
 use Rattle.oftp_vfile.specs.declared.format.Format.{Format}
 use Rattle.oftp_vfile.specs.declared.format.Format.TheVariants as format
@@ -234,10 +233,19 @@ feed_lines = refl
 listen_lines : AreRead (
     -- `listen` serves one session on port 3305 of the loopback address, where no more is said
     asks (codes "listen --db=d --book=b")
-    (said_listen (record { files = d_and_b; port = 3305; address = codes "127.0.0.1"; sessions = 1; patience = 300; trace = None }))
+    (said_listen (record { files = d_and_b; port = 3305; address = codes "127.0.0.1"; sessions = 1; admission = 30; patience = 300; longest = 86400; trace = None }))
     -- options come in any order
-    ∷ asks (codes "listen --patience 0 --sessions=1000000 --trace=t --book=b --address ::1 --db=d --port=65535")
-    (said_listen (record { files = d_and_b; port = 65535; address = codes "::1"; sessions = 1000000; patience = 0; trace = Some (codes "t") }))
+    ∷ asks (codes "listen --patience 0 --longest=1 --sessions=1000000 --trace=t --book=b --address ::1 --admission 86400 --db=d --port=65535")
+    (said_listen (record {
+      files = d_and_b;
+      port = 65535;
+      address = codes "::1";
+      sessions = 1000000;
+      admission = 86400;
+      patience = 0;
+      longest = 1;
+      trace = Some (codes "t");
+    }))
     -- no port is 0
     ∷ bad (codes "listen --db=d --book=b --port=0")
     -- nor after the last
@@ -248,6 +256,14 @@ listen_lines : AreRead (
     ∷ bad (codes "listen --db=d --book=b --sessions=1000001")
     -- patience ends with a day
     ∷ bad (codes "listen --db=d --book=b --patience=86401")
+    -- some time is left to be let in
+    ∷ bad (codes "listen --db=d --book=b --admission=0")
+    -- and a day at most
+    ∷ bad (codes "listen --db=d --book=b --admission=86401")
+    -- a session takes some time
+    ∷ bad (codes "listen --db=d --book=b --longest=0")
+    -- and ends with a day
+    ∷ bad (codes "listen --db=d --book=b --longest=86401")
     -- it takes no word
     ∷ bad (codes "listen --db=d --book=b w")
     -- and calls no partner
@@ -260,12 +276,16 @@ listen_lines = refl
 call_lines : AreRead (
     -- `call` takes a partner
     asks (codes "call --db=d --book=b --partner=p")
-    (said_call (record { files = d_and_b; partner = codes "p"; patience = 300; trace = None }))
-    -- and a patience and a trace
-    ∷ asks (codes "call --db=d --book=b --patience 86400 --trace t --partner p")
-    (said_call (record { files = d_and_b; partner = codes "p"; patience = 86400; trace = Some (codes "t") }))
+    (said_call (record { files = d_and_b; partner = codes "p"; patience = 300; longest = 86400; trace = None }))
+    -- and a patience, a longest session and a trace
+    ∷ asks (codes "call --db=d --book=b --longest 1 --patience 86400 --trace t --partner p")
+    (said_call (record { files = d_and_b; partner = codes "p"; patience = 86400; longest = 1; trace = Some (codes "t") }))
     -- it does without no partner
     ∷ bad (codes "call --db=d --book=b")
+    -- it lets nobody in
+    ∷ bad (codes "call --db=d --book=b --partner=p --admission=30")
+    -- its session takes some time
+    ∷ bad (codes "call --db=d --book=b --partner=p --longest=0")
     -- and its port is the book's
     ∷ bad (codes "call --db=d --book=b --partner=p --port=3305")
     ∷ [])

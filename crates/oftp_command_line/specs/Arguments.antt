@@ -10,7 +10,7 @@ use Rattle.clap.specs.declared.builder.ArgAction.TheVariants.{Set}
 use Rattle.clap.specs.declared.builder.value_parser.ValueParser.{ValueParser}
 use Rattle.clap.specs.declared.builder.value_parser.ValueParser.TheVariants.{Unsigned}
 use Rattle.clap.specs.declared.parser.matches.ArgMatches.{ArgMatches}
-use Rattle.oftp_command_line.specs.declared.line.arguments.TheConstants.{MOST_CALLERS, MOST_NO, MOST_PATIENCE, MOST_PORT}
+use Rattle.oftp_command_line.specs.declared.line.arguments.TheConstants.{MOST_ADMISSION, MOST_CALLERS, MOST_DURATION, MOST_NO, MOST_PATIENCE, MOST_PORT}
 
 -- ---- the kinds of argument
 
@@ -61,6 +61,14 @@ callers id = numbered 1 MOST_CALLERS (defaulted id (codes "1"))
 -- the option for how many seconds a partner may keep still
 abbrev pub own_patience : Rule
 own_patience = numbered 0 MOST_PATIENCE (defaulted (codes "patience") (codes "300"))
+
+-- the option for how many seconds a caller has to be let in
+abbrev pub own_admission : Rule
+own_admission = numbered 1 MOST_ADMISSION (defaulted (codes "admission") (codes "30"))
+
+-- the option for how many seconds a session may take
+abbrev pub own_duration : Rule
+own_duration = numbered 1 MOST_DURATION (defaulted (codes "longest") (codes "86400"))
 
 -- the option for the file to which a session's commands are appended in words
 abbrev pub own_trace : Rule

@@ -1,7 +1,7 @@
 -- The command lines of `listen`, `call` and `http`, which are services over sockets.
 use Rattle.std.specs.Prelude.{ℕ, List, [], ◌∷◌, Option, codes, option_map}
 use Rattle.clap.specs.Words.{App, Row, Text, first_of}
-use Rattle.oftp_command_line.specs.Arguments.{app_with, callers, given, needed, number, own_address, own_book, own_database, own_patience, own_port, own_trace}
+use Rattle.oftp_command_line.specs.Arguments.{app_with, callers, given, needed, number, own_address, own_admission, own_book, own_database, own_duration, own_patience, own_port, own_trace}
 use Rattle.oftp_command_line.specs.Files.{FilesSaid, files_said, files_with}
 use Rattle.oftp_command_line.specs.declared.line.commands.services.Call.{Call}
 use Rattle.oftp_command_line.specs.declared.line.commands.services.Http.{Http}
@@ -13,7 +13,9 @@ pub record ListenSaid : Type 0 where
   pub port : ℕ
   pub address : Text
   pub sessions : ℕ
+  pub admission : ℕ
   pub patience : ℕ
+  pub longest : ℕ
   pub trace : Option Text
 
 -- the same, of the command that was read
@@ -23,14 +25,16 @@ listen_said l = record {
   port = l.port;
   address = l.address.now;
   sessions = l.sessions;
+  admission = l.admission;
   patience = l.patience;
+  longest = l.longest;
   trace = option_map (λ s. s.now) l.trace;
 }
 
 -- `listen`, as the parser is told of it
 unfoldable pub listen_app : App
 listen_app = app_with (codes "listen") (own_database ∷ own_book ∷ own_port (codes "3305") ∷ own_address
-    ∷ callers (codes "sessions") ∷ own_patience ∷ own_trace ∷ [])
+    ∷ callers (codes "sessions") ∷ own_admission ∷ own_patience ∷ own_duration ∷ own_trace ∷ [])
 
 -- what `listen` is asked for by these values
 abbrev pub listen_with : List Row → ListenSaid
@@ -39,7 +43,9 @@ listen_with rows = record {
   port = number (codes "port") rows;
   address = given (codes "address") rows;
   sessions = number (codes "sessions") rows;
+  admission = number (codes "admission") rows;
   patience = number (codes "patience") rows;
+  longest = number (codes "longest") rows;
   trace = first_of (codes "trace") rows;
 }
 
@@ -48,6 +54,7 @@ pub record CallSaid : Type 0 where
   pub files : FilesSaid
   pub partner : Text
   pub patience : ℕ
+  pub longest : ℕ
   pub trace : Option Text
 
 -- the same, of the command that was read
@@ -56,12 +63,14 @@ call_said c = record {
   files = files_said c.files;
   partner = c.partner.now;
   patience = c.patience;
+  longest = c.longest;
   trace = option_map (λ s. s.now) c.trace;
 }
 
 -- `call`, as the parser is told of it
 unfoldable pub call_app : App
-call_app = app_with (codes "call") (own_database ∷ own_book ∷ needed (codes "partner") ∷ own_patience ∷ own_trace ∷ [])
+call_app = app_with (codes "call") (own_database ∷ own_book ∷ needed (codes "partner") ∷ own_patience ∷ own_duration
+    ∷ own_trace ∷ [])
 
 -- what `call` is asked for by these values
 abbrev pub call_with : List Row → CallSaid
@@ -69,6 +78,7 @@ call_with rows = record {
   files = files_with rows;
   partner = given (codes "partner") rows;
   patience = number (codes "patience") rows;
+  longest = number (codes "longest") rows;
   trace = first_of (codes "trace") rows;
 }
 

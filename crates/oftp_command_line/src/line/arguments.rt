@@ -21,6 +21,12 @@ const MOST_CALLERS: u64 = 1_000_000;
 /// The greatest patience with a partner that can be asked for, in seconds: a day.
 const MOST_PATIENCE: u64 = 86_400;
 
+/// The longest admission of a caller that can be asked for, in seconds: a day.
+const MOST_ADMISSION: u64 = 86_400;
+
+/// The longest session that can be asked for, in seconds: a day.
+const MOST_DURATION: u64 = 86_400;
+
 /// An argument of a command, which takes one value.
 #[derive(Clone, Copy)]
 pub(super) struct Argument<'a> {
@@ -233,4 +239,22 @@ pub(super) fn own_patience<'a>() -> Argument<'a>
     let help = "How many seconds the partner may keep still, 0 to 86400, 0 for ever";
     let patience = defaulted("patience", "300", "SECONDS", help);
     numbered(patience, 0, MOST_PATIENCE)
+}
+
+/// The option for how many seconds a caller has to be let in.
+pub(super) fn own_admission<'a>() -> Argument<'a>
+    ensures { told result ≡ spec.own_admission }
+{
+    let help = "How many seconds a caller has in all to be let in, 1 to 86400";
+    let admission = defaulted("admission", "30", "SECONDS", help);
+    numbered(admission, 1, MOST_ADMISSION)
+}
+
+/// The option for how many seconds a session may take.
+pub(super) fn own_duration<'a>() -> Argument<'a>
+    ensures { told result ≡ spec.own_duration }
+{
+    let help = "How many seconds a session may take in all, 1 to 86400";
+    let duration = defaulted("longest", "86400", "SECONDS", help);
+    numbered(duration, 1, MOST_DURATION)
 }

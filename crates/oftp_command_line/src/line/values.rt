@@ -6,7 +6,7 @@ ghost use Rattle.oftp_command_line.specs.Arguments as spec;
 ghost use Rattle.oftp_command_line.specs.Arguments.{HasValues, IsNumber, taken, values_in};
 ghost use Rattle.oftp_command_line.specs.Fault.{is_bad};
 ghost use Rattle.oftp_command_line.specs.Told.{names_in};
-ghost use Rattle.oftp_command_line.specs.declared.line.arguments.TheConstants.{MOST_CALLERS, MOST_NO, MOST_PATIENCE, MOST_PORT};
+ghost use Rattle.oftp_command_line.specs.declared.line.arguments.TheConstants.{MOST_ADMISSION, MOST_CALLERS, MOST_DURATION, MOST_NO, MOST_PATIENCE, MOST_PORT};
 
 use super::LineFault;
 use clap::error::ErrorKind;
@@ -106,6 +106,22 @@ pub(super) fn patience_of(matches: &ArgMatches<'_>) -> u64
     ensures { result ≡ spec.number (codes "patience") (values_in matches.now) }
 {
     number(matches, "patience")
+}
+
+/// How many seconds a caller has to be let in.
+pub(super) fn admission_of(matches: &ArgMatches<'_>) -> u64
+    requires { IsNumber 1 MOST_ADMISSION (codes "admission") (values_in matches.now) }
+    ensures { result ≡ spec.number (codes "admission") (values_in matches.now) }
+{
+    number(matches, "admission")
+}
+
+/// How many seconds a session may take.
+pub(super) fn duration_of(matches: &ArgMatches<'_>) -> u64
+    requires { IsNumber 1 MOST_DURATION (codes "longest") (values_in matches.now) }
+    ensures { result ≡ spec.number (codes "longest") (values_in matches.now) }
+{
+    number(matches, "longest")
 }
 
 /// The file to which a session's commands are appended in words, if one is.

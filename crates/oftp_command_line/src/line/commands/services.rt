@@ -8,10 +8,12 @@ ghost use Rattle.oftp_command_line.specs.Told.{app_told};
 
 use super::files::{Files, files_read};
 use crate::line::arguments::{
-    Argument, callers, needed, own_address, own_book, own_database, own_patience, own_port,
-    own_trace,
+    Argument, callers, needed, own_address, own_admission, own_book, own_database, own_duration,
+    own_patience, own_port, own_trace,
 };
-use crate::line::values::{address_of, callers_of, given, patience_of, port_of, trace_of};
+use crate::line::values::{
+    address_of, admission_of, callers_of, duration_of, given, patience_of, port_of, trace_of,
+};
 use clap::ArgMatches;
 
 /// The command `listen`, which serves sessions of partners who call.
@@ -25,14 +27,18 @@ pub struct Listen<'a> {
     pub address: &'a str,
     /// How many sessions are served, 1 to 1,000,000.
     pub sessions: u64,
+    /// How many seconds a caller has in all to be let in, 1 to 86,400.
+    pub admission: u64,
     /// How many seconds a partner may keep still, 0 to 86,400; 0 is for ever.
     pub patience: u64,
+    /// How many seconds a session may take in all, 1 to 86,400.
+    pub longest: u64,
     /// The file to which what goes over the connection is appended in words, if one is.
     pub trace: Option<&'a str>,
 }
 
 /// The arguments of `listen`.
-pub(super) fn listen_arguments<'a>() -> [Argument<'a>; 7]
+pub(super) fn listen_arguments<'a>() -> [Argument<'a>; 9]
     ensures { app_told (codes "listen") result ≡ listen_app }
 {
     let sessions = "How many sessions are served, 1 to 1000000";
@@ -42,7 +48,9 @@ pub(super) fn listen_arguments<'a>() -> [Argument<'a>; 7]
         own_port("3305"),
         own_address(),
         callers("sessions", sessions),
+        own_admission(),
         own_patience(),
+        own_duration(),
         own_trace(),
     ]
 }
@@ -57,7 +65,9 @@ pub(super) fn listen_read<'a>(matches: &ArgMatches<'a>) -> Listen<'a>
         port: port_of(matches),
         address: address_of(matches),
         sessions: callers_of(matches, "sessions"),
+        admission: admission_of(matches),
         patience: patience_of(matches),
+        longest: duration_of(matches),
         trace: trace_of(matches),
     }
 }
@@ -71,12 +81,14 @@ pub struct Call<'a> {
     pub partner: &'a str,
     /// How many seconds the partner may keep still, 0 to 86,400; 0 is for ever.
     pub patience: u64,
+    /// How many seconds the session may take in all, 1 to 86,400.
+    pub longest: u64,
     /// The file to which what goes over the connection is appended in words, if one is.
     pub trace: Option<&'a str>,
 }
 
 /// The arguments of `call`.
-pub(super) fn call_arguments<'a>() -> [Argument<'a>; 5]
+pub(super) fn call_arguments<'a>() -> [Argument<'a>; 6]
     ensures { app_told (codes "call") result ≡ call_app }
 {
     let partner = "The code of the partner that is called";
@@ -85,6 +97,7 @@ pub(super) fn call_arguments<'a>() -> [Argument<'a>; 5]
         own_book(),
         needed("partner", "CODE", partner),
         own_patience(),
+        own_duration(),
         own_trace(),
     ]
 }
@@ -98,6 +111,7 @@ pub(super) fn call_read<'a>(matches: &ArgMatches<'a>) -> Call<'a>
         files: files_read(matches),
         partner: given(matches, "partner"),
         patience: patience_of(matches),
+        longest: duration_of(matches),
         trace: trace_of(matches),
     }
 }

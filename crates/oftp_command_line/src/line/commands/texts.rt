@@ -43,9 +43,10 @@ impl Name {
             Name::Feed =>
                 "oftp_station feed [--db <DATABASE>] --book <BOOK> [--role <ROLE>] [--partner <CODE>] [--trace <FILE>] <IN> <OUT>",
             Name::Listen =>
-                "oftp_station listen --db <DATABASE> --book <BOOK> [--port <PORT>] [--address <ADDRESS>] [--sessions <COUNT>] [--patience <SECONDS>] [--trace <FILE>]",
+                "oftp_station listen --db <DATABASE> --book <BOOK> [--port <PORT>] [--address <ADDRESS>] [--sessions <COUNT>] \
+                 [--admission <SECONDS>] [--patience <SECONDS>] [--longest <SECONDS>] [--trace <FILE>]",
             Name::Call =>
-                "oftp_station call --db <DATABASE> --book <BOOK> --partner <CODE> [--patience <SECONDS>] [--trace <FILE>]",
+                "oftp_station call --db <DATABASE> --book <BOOK> --partner <CODE> [--patience <SECONDS>] [--longest <SECONDS>] [--trace <FILE>]",
             Name::Http =>
                 "oftp_station http --db <DATABASE> [--port <PORT>] [--address <ADDRESS>] [--requests <COUNT>]",
         }
