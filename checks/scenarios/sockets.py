@@ -10,6 +10,7 @@ all run at once, so it takes some twenty seconds. The last line is `N passed, M 
 import contextlib
 import fcntl
 import re
+import resource
 import socket
 import struct
 import subprocess
@@ -268,6 +269,22 @@ def traced(room):
     expect("< fault at octet 0: no stream header begins so" in sessions[2], True, "the fault is told")
 
 
+def no_descriptor_for_a_caller(room):
+    """A caller for whom the service has no descriptor waits until there is one."""
+    steps, end = steps_of("opening/wrong_password")
+    with Service(room, "listen", "--sessions", "2") as service:
+        caller = service.caller()
+        expect(receive(caller, len(steps[0][1])), steps[0][1], "the greeting")
+        before = resource.prlimit(service.program.pid, resource.RLIMIT_NOFILE)
+        resource.prlimit(service.program.pid, resource.RLIMIT_NOFILE, (0, before[1]))
+        converse(caller, steps[1:])
+        expect(service.line() + "\n", end, "the line")
+        time.sleep(1)
+        resource.prlimit(service.program.pid, resource.RLIMIT_NOFILE, before)
+        play(service, "receiving/one_octet")
+        service.ends()
+
+
 def nothing_to_print_to(room):
     """A service whose line can't be written ends, and what was answered stands."""
     steps, _ = steps_of("receiving/one_octet")
@@ -305,13 +322,15 @@ def held(database):
 
 
 def database_held(room):
-    """A caller is sent away while another program holds the database, and the next one is served."""
+    """A partner is sent away while another program holds the database, and the next one is served."""
     with Service(room, "listen", "--sessions", "3") as service:
         play(service, "opening/wrong_password")
         with held(service.database):
             begin = time.monotonic()
+            greeting, ssid = (octets for _, octets in steps_of("receiving/one_octet")[0][:2])
             with service.caller() as caller:
-                expect(rest_of(caller), b"", "the station sent")
+                caller.sendall(ssid)
+                expect(rest_of(caller), greeting, "the station sent")
             expect(service.fault(), "fault: 6 store 1", "the line")
             if not 9 <= time.monotonic() - begin <= 10 + SOON:
                 raise Wrong(f"it waited {time.monotonic() - begin:.1f} s")
@@ -477,7 +496,7 @@ def ask(service, *pieces):
 def expect_reply(reply, status, body):
     head, _, rest = reply.partition(b"\r\n\r\n")
     lines = head.split(b"\r\n")
-    expect(lines[0].split()[1], status, "the status")
+    expect(lines[0].split()[1:2], [status], "the status")
     if b"Connection: close" not in lines or f"Content-Length: {len(rest)}".encode() not in lines:
         raise Wrong(f"the head {head!r}")
     if body is not None:
@@ -536,6 +555,21 @@ def listing_of_a_held_database(room):
         service.ends()
 
 
+def requests_that_ask_no_database(room):
+    """Octets that are no request, a target that nothing fits and another method for a list are answered though another program holds the
+    database, and so without it."""
+    with Service(room, "http", "--requests", "8") as service:
+        expect_reply(ask(service, b"GET /out/1 HTTP/1.1\r\n\r\n"), b"404", None)
+        with held(service.database):
+            expect_reply(ask(service, b"GET /in HTTP/2.0\r\n\r\n"), b"400", None)
+            expect_reply(ask(service, b"GET /in HTTP/1.1\r\nX: " + b"a" * 9000), b"400", None)
+            for target in (b"/", b"/inn", b"/in/01"):
+                expect_reply(ask(service, b"GET " + target + b" HTTP/1.1\r\n\r\n"), b"404", None)
+            expect_reply(ask(service, b"POST /responses HTTP/1.1\r\n\r\n"), b"405", None)
+        expect_reply(ask(service, b"POST /in/1 HTTP/1.1\r\n\r\n"), b"404", None)
+        service.ends()
+
+
 def listing_while_it_listens(room):
     """Both services share one database."""
     with Service(room, "listen", "--sessions", "1") as listener, Service(room, "http", "--requests", "1") as lister:
@@ -560,6 +594,7 @@ CASES = [
     partner_who_stays_after_the_end,
     stopped_within_a_session,
     traced,
+    no_descriptor_for_a_caller,
     nothing_to_print_to,
     nothing_to_print_faults_to,
     operator_while_it_listens,
@@ -574,6 +609,7 @@ CASES = [
     requests,
     slow_request,
     listing_of_a_held_database,
+    requests_that_ask_no_database,
     listing_while_it_listens,
 ]
 

@@ -1,7 +1,9 @@
 //! The office over the database that a line names.
 
+mod file;
 mod office;
 
+use file::make_file;
 pub use office::{DatabaseOffice, Errand};
 use oftp_command_line::Fault;
 use oftp_durable::open_durable;
@@ -51,6 +53,7 @@ pub fn open_if_free(
     path: &str,
     patience: u32,
 ) -> Result<DatabaseOffice, PathFault> {
+    make_file(rt, path);
     patiently(rt, path, Opening::Open, patience)
 }
 
@@ -88,7 +91,7 @@ fn attempt(rt: &HostRuntime, path: &str, how: Opening) -> Result<DatabaseOffice,
     };
     match opened {
         Ok(office) => Ok(DatabaseOffice::new(office)),
-        Err(fault) => Err(fault),
+        Err(refused) => Err(refused.into_fault()),
     }
 }
 

@@ -1,6 +1,7 @@
 //! A station of the ODETTE File Transfer Protocol 2 (RFC 5024).
 #![tactic(auto)]
 
+mod access;
 mod database;
 mod perform;
 mod ports;

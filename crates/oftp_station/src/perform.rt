@@ -1,5 +1,7 @@
 //! The commands.
 
+mod content;
+mod drafts;
 mod fetching;
 mod files;
 mod operators;

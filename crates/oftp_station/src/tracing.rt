@@ -1,12 +1,13 @@
 //! Traces: what goes over a connection, appended to a file in words. No session knows of them.
 
+use crate::access::make_private;
 use crate::transcript::Transcript;
 use jiff::Timestamp;
 use oftp_command_line::{Fault, Outcome};
 use oftp_engine::End;
 use std::fmt;
 use std::fs::{File, OpenOptions};
-use std::io::{self, Read, Write};
+use std::io::{self, ErrorKind, Read, Write};
 
 /// A file to which lines are appended, each behind the time. A line that can't be written is lost, and nothing else.
 #[derive(Drop)]
@@ -16,15 +17,18 @@ pub struct Trace<'a> {
 }
 
 impl<'a> Trace<'a> {
-    /// The trace in a file, which is made where it isn't there.
+    /// The trace in a file, which is made where it isn't there, so that nobody else may read it.
     ///
     /// # Errors
     /// The file can't be made or written.
-    pub fn open(rt: &'a HostRuntime, path: &str) -> Result<Trace<'a>, Fault> {
-        match OpenOptions::new().append(true).create(true).open(rt, path) {
-            Ok(file) => Ok(Trace { rt, file }),
-            Err(_) => Err(Fault::File),
-        }
+    pub fn open(rt: &'a HostRuntime, path: &str) -> io::Result<Trace<'a>> {
+        let file = match make_private(rt, path) {
+            Err(error) if error.kind() == ErrorKind::AlreadyExists => {
+                OpenOptions::new().append(true).open(rt, path)?
+            }
+            made => made?,
+        };
+        Ok(Trace { rt, file })
     }
 
     /// Appends the line of a session's end.
@@ -92,27 +96,29 @@ impl<'a, S> Traced<'a, S> {
         Traced { stream, way }
     }
 
-    /// Tells the trace what went through.
+    /// Tells the trace what went through. Where that couldn't be told, nothing of this direction is told any more, since it isn't known
+    /// where its next command begins.
     fn tell(&mut self, piece: &[u8]) {
-        if let Some(way) = &mut self.way {
-            way.tell(piece);
+        let is_told = match &mut self.way {
+            Some(way) => way.tell(piece).is_some(),
+            None => true,
+        };
+        if !is_told {
+            self.way = None;
         }
     }
 }
 
 impl Way<'_> {
-    /// Appends the lines of a piece. Where memory runs out they are lost.
-    fn tell(&mut self, piece: &[u8]) {
+    /// Appends the lines of a piece. There is nothing where no clock tells the time, or memory runs out.
+    fn tell(&mut self, piece: &[u8]) -> Option<()> {
         let alloc = self.trace.rt.alloc();
-        let Some(time) = self.trace.time() else {
-            return;
-        };
-        let Ok(head) = format!(in alloc; "{time} {} ", self.mark) else {
-            return;
-        };
+        let time = self.trace.time()?;
+        let head = format!(in alloc; "{time} {} ", self.mark).ok()?;
         let mut lines = String::new(alloc);
-        let _ = self.transcript.take(piece, head.as_str(), &mut lines);
+        self.transcript.take(piece, head.as_str(), &mut lines).ok()?;
         self.trace.put(lines.as_str());
+        Some(())
     }
 }
 

@@ -12,6 +12,7 @@ const HEADER: u64 = 4;
 /// A stream that is told as it comes.
 #[derive(Drop)]
 pub struct Transcript {
+    alloc: Global,
     deframer: Deframer,
     /// How many octets came.
     came: u64,
@@ -25,6 +26,7 @@ impl Transcript {
     /// A stream of which nothing came.
     pub fn new(alloc: Global) -> Transcript {
         Transcript {
+            alloc,
             deframer: Deframer::new(alloc, LONGEST_FRAME),
             came: 0,
             offset: 0,
@@ -89,7 +91,10 @@ impl Transcript {
         };
         self.offset = at.saturating_add(HEADER).saturating_add(frame.len() as u64);
         match parse(frame) {
-            Ok(command) => write!(lines, "{head}{command}\n")?,
+            Ok(command) => {
+                let told = format!(in self.alloc; "{command}")?;
+                add_line(head, told.as_str(), lines)?;
+            }
             Err(fault) => {
                 self.is_faulty = true;
                 write!(lines, "{head}fault in the command at octet {at}: {fault}\n")?;
@@ -97,4 +102,26 @@ impl Transcript {
         }
         Ok(!self.is_faulty)
     }
+}
+
+/// Adds the line of a command, whose texts are the partner's. A control of writing direction in them is shown as `?`, so that each line
+/// reads in the order of its characters.
+fn add_line(head: &str, told: &str, lines: &mut String) -> Result<(), AllocError> {
+    lines.push_str(head)?;
+    for character in told.chars() {
+        lines.push(if turns_writing(character) {
+            '?'
+        } else {
+            character
+        })?;
+    }
+    lines.push('\n')
+}
+
+/// Whether a character controls the direction of writing (Unicode's Bidi_Control).
+fn turns_writing(character: char) -> bool {
+    matches!(
+        character,
+        '\u{61c}' | '\u{200e}' | '\u{200f}' | '\u{202a}'..='\u{202e}' | '\u{2066}'..='\u{2069}'
+    )
 }

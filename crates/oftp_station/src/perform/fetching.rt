@@ -7,7 +7,6 @@ use oftp_engine::{Port, RunFault, write_content};
 use oftp_register::{IncomingEntry, IncomingState, Office};
 use std::alloc::Global;
 use std::io::Write;
-use std::rt::Files;
 
 /// Any fault of a look-up is one of the office.
 const OFFICE: Fault = Fault::Run(RunFault::Office);
@@ -19,12 +18,12 @@ pub(super) fn fetch(rt: &HostRuntime, line: &Fetch<'_>) -> Result<Outcome, Fault
 }
 
 /// A file that is fetched.
-struct Fetching<'a, R> {
-    rt: &'a R,
+struct Fetching<'a> {
+    rt: &'a HostRuntime,
     line: &'a Fetch<'a>,
 }
 
-impl<R: Files + AllocGlobal> Errand for Fetching<'_, R> {
+impl Errand for Fetching<'_> {
     type Outcome = Result<Outcome, Fault>;
 
     fn run<O: Office>(self, office: &mut O) -> Result<Outcome, Fault> {
@@ -34,8 +33,8 @@ impl<R: Files + AllocGlobal> Errand for Fetching<'_, R> {
 }
 
 /// Writes a whole incoming file of an office to a file.
-fn fetch_from<R: Files + AllocGlobal, O: Office>(
-    rt: &R,
+fn fetch_from<O: Office>(
+    rt: &HostRuntime,
     line: &Fetch<'_>,
     office: &mut O,
 ) -> Result<Outcome, Fault> {
@@ -52,8 +51,8 @@ fn fetch_from<R: Files + AllocGlobal, O: Office>(
 }
 
 /// Makes the file that the line names.
-fn make_file<R: Files + AllocGlobal, O: Office>(
-    rt: &R,
+fn make_file<O: Office>(
+    rt: &HostRuntime,
     line: &Fetch<'_>,
     office: &mut O,
     entry: &IncomingEntry,

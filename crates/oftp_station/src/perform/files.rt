@@ -3,7 +3,7 @@
 use oftp_command_line::Fault;
 use oftp_partners::{self as partners, Book, BookFault};
 use std::fs::{self, Metadata, OpenFile};
-use std::io::{self, ErrorKind, Read};
+use std::io::{self, ErrorKind};
 use std::os::unix::fs::MetadataExt;
 use std::rt::Files;
 
@@ -41,20 +41,6 @@ pub(super) fn open_input<R: Files>(rt: &R, path: &str) -> Result<R::File, Fault>
         return Err(Fault::File);
     }
     Ok(file)
-}
-
-/// The first octets of a file, at most so many.
-pub(super) fn read_beginning<R: Files + AllocGlobal>(
-    rt: &R,
-    path: &str,
-    most: u64,
-) -> Result<Vec<u8>, Fault> {
-    let mut octets = Vec::new(rt.alloc());
-    let mut beginning = open_input(rt, path)?.take(most);
-    match beginning.read_to_end(&mut octets) {
-        Ok(_) => Ok(octets),
-        Err(error) => Err(file_fault(&error)),
-    }
 }
 
 /// Whether these are of one file, by whatever names it was found.

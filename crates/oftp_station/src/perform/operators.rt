@@ -1,15 +1,12 @@
 //! The commands `submit`, `release` and `refuse`, which are calls of the operator.
 
-use crate::database::{self, DatabaseOffice, LIMITS, PATIENCE};
-use crate::perform::files::{read_beginning, read_book};
+use crate::database::{self, DatabaseOffice, PATIENCE};
+use crate::perform::content::read_content;
+use crate::perform::files::read_book;
 use oftp_command_line::{Fault, Files, Refuse, Release, Submit};
 use oftp_engine::{Operator, Port, Submission, Told};
 use oftp_partners::Book;
-use oftp_vfile::{Format, MOST_ROWS};
 use std::io::Write;
-
-/// How many octets the local form of a file that is kept has at most: the file's, and five digits for each of its records.
-const MOST_CONTENT: u64 = LIMITS.octets + 5 * MOST_ROWS as u64;
 
 /// The book, and the office over the database.
 fn opened(rt: &HostRuntime, files: &Files<'_>) -> Result<(Book, DatabaseOffice), Fault> {
@@ -43,16 +40,6 @@ fn operate(
     call(rt, office, &book, operator, out)
 }
 
-/// The format and the longest record of content. Content that is longer than any that is kept was read as far as that shows, and no
-/// more than its length counts.
-fn layout_of(submit: &Submit<'_>, content: &[u8]) -> (Format, u32) {
-    if content.len() as u64 > MOST_CONTENT && submit.format.allows_longest(submit.longest) {
-        (Format::Unstructured, 0)
-    } else {
-        (submit.format, submit.longest)
-    }
-}
-
 /// Registers a file that is to be sent to a partner.
 pub(super) fn submit(
     rt: &HostRuntime,
@@ -60,15 +47,14 @@ pub(super) fn submit(
     out: &mut impl Write,
 ) -> Result<Told, Fault> {
     let (book, office) = opened(rt, &submit.files)?;
-    let content = read_beginning(rt, submit.file, MOST_CONTENT + 1)?;
-    let (format, longest) = layout_of(submit, content.as_slice());
+    let content = read_content(rt, submit)?;
     let operator = Operator::Submit(Submission {
         dataset: submit.dataset,
         date: submit.date,
         time: submit.time,
         to: submit.to,
-        format,
-        longest,
+        format: submit.format,
+        longest: submit.longest,
         description: submit.description,
         content: content.as_slice(),
     });

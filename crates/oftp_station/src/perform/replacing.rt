@@ -1,21 +1,18 @@
 //! A file that is made: no half of it ever bears its name, and what bore the name before is there until it is whole.
 
+use crate::access::Access;
+use crate::perform::drafts::{Draft, folder_of, new_draft, usual_mode};
 use crate::perform::files::{file_fault, is_of_database};
 use oftp_command_line::Fault;
-use std::fs::{self, OpenFile, OpenOptions, Permissions};
-use std::io::ErrorKind;
-use std::os::unix::fs::PermissionsExt;
-use std::path::{Path, PathBuf};
-use std::rt::Files;
-
-/// How many names are tried for a draft.
-const MOST_DRAFTS: u32 = 1_000;
+use std::fs::{self, File, OpenOptions};
+use std::io::{self, ErrorKind};
+use std::path::PathBuf;
 
 /// Where a file goes.
 #[derive(Drop)]
-pub(super) enum Place<F> {
+pub(super) enum Place {
     /// To what can't be replaced, as a device or a pipe.
-    Device(F),
+    Device(File),
     /// To a name.
     Name(Name),
 }
@@ -24,41 +21,33 @@ pub(super) enum Place<F> {
 #[derive(Drop)]
 pub(super) struct Name {
     path: PathBuf,
-    // The permissions of the file that bears it now.
-    mode: Option<u32>,
-}
-
-/// A file that is written beside its place.
-#[derive(Drop)]
-pub(super) struct Draft<F> {
-    /// The file.
-    pub(super) file: F,
-    path: PathBuf,
+    // That of the file which bears it now, or else what a new one has.
+    access: Access,
 }
 
 /// The place of a path where a file may be written: no folder, and no file of the database.
-pub(super) fn place_of<R: Files + AllocGlobal>(
-    rt: &R,
-    path: &str,
-    database: &str,
-) -> Result<Place<R::File>, Fault> {
+pub(super) fn place_of(rt: &HostRuntime, path: &str, database: &str) -> Result<Place, Fault> {
     match OpenOptions::new().write(true).open(rt, path) {
         Ok(file) => place_of_file(rt, file, path, database),
-        Err(error) if error.kind() == ErrorKind::NotFound => {
-            let path = PathBuf::from_str(rt.alloc(), path).map_err(|_| Fault::MEMORY)?;
-            Ok(Place::Name(Name { path, mode: None }))
-        }
+        Err(error) if error.kind() == ErrorKind::NotFound => new_place(rt, path),
         Err(error) => Err(file_fault(&error)),
     }
 }
 
+/// The place of a name that no file bears. A link that leads nowhere isn't replaced.
+fn new_place(rt: &HostRuntime, path: &str) -> Result<Place, Fault> {
+    match fs::symlink_metadata(rt, path) {
+        Ok(_) => return Err(Fault::File),
+        Err(error) if error.kind() == ErrorKind::NotFound => {}
+        Err(error) => return Err(file_fault(&error)),
+    }
+    let path = PathBuf::from_str(rt.alloc(), path).map_err(|_| Fault::MEMORY)?;
+    let access = Access::of_mode(usual_mode(rt, path.as_path())?);
+    Ok(Place::Name(Name { path, access }))
+}
+
 /// The place of a file that is there. Where links led to it, it is replaced and they stay.
-fn place_of_file<R: Files + AllocGlobal>(
-    rt: &R,
-    file: R::File,
-    path: &str,
-    database: &str,
-) -> Result<Place<R::File>, Fault> {
+fn place_of_file(rt: &HostRuntime, file: File, path: &str, database: &str) -> Result<Place, Fault> {
     let about = file.metadata().map_err(|error| file_fault(&error))?;
     if !about.is_file() {
         return Ok(Place::Device(file));
@@ -67,65 +56,57 @@ fn place_of_file<R: Files + AllocGlobal>(
         return Err(Fault::File);
     }
     let path = fs::canonicalize(rt, path).map_err(|error| file_fault(&error))?;
-    Ok(Place::Name(Name {
-        path,
-        mode: Some(about.permissions().mode()),
-    }))
+    let access = Access::of_file(&about);
+    Ok(Place::Name(Name { path, access }))
 }
 
-/// An empty draft beside the file that it is to be.
-pub(super) fn draft_of<R: Files + AllocGlobal>(
-    rt: &R,
-    name: &Name,
-) -> Result<Draft<R::File>, Fault> {
-    let draft = new_draft(rt, name.path.as_path())?;
-    let Some(mode) = name.mode else {
-        return Ok(draft);
-    };
-    match draft.file.set_permissions(Permissions::from_mode(mode)) {
-        Ok(()) => Ok(draft),
-        Err(error) => {
-            let _ = fs::remove_file(rt, draft.path.as_str());
-            Err(file_fault(&error))
-        }
-    }
-}
-
-/// A new file in the folder of a path, under a name that nothing bears.
-fn new_draft<R: Files + AllocGlobal>(rt: &R, path: Path<'_>) -> Result<Draft<R::File>, Fault> {
-    for number in 0..MOST_DRAFTS {
-        let name = format!(in rt.alloc(); ".oftp_station_{number}").map_err(|_| Fault::MEMORY)?;
-        let path = path
-            .with_file_name(rt.alloc(), name.as_str())
-            .map_err(|_| Fault::MEMORY)?;
-        match fs::File::create_new(rt, path.as_str()) {
-            Ok(file) => return Ok(Draft { file, path }),
-            Err(error) if error.kind() == ErrorKind::AlreadyExists => {}
-            Err(error) => return Err(file_fault(&error)),
-        }
-    }
-    Err(Fault::File)
+/// An empty draft beside the file that it is to be. Until it is that, nobody else may read it.
+pub(super) fn draft_of(rt: &HostRuntime, name: &Name) -> Result<Draft, Fault> {
+    new_draft(rt, name.path.as_path())
 }
 
 /// A draft that was written takes its name; one that wasn't is removed.
-pub(super) fn settle<R: Files>(
-    rt: &R,
-    draft: Draft<R::File>,
+pub(super) fn settle(
+    rt: &HostRuntime,
+    draft: Draft,
     name: &Name,
     written: Result<(), Fault>,
 ) -> Result<(), Fault> {
-    let settled = match written {
-        Ok(()) => take_name(rt, &draft, name),
+    let named = match written {
+        Ok(()) => take_name(rt, &draft, name).map_err(|error| file_fault(&error)),
         Err(fault) => Err(fault),
     };
-    if settled.is_err() {
-        let _ = fs::remove_file(rt, draft.path.as_str());
+    match named {
+        Ok(()) => keep_name(rt, name),
+        Err(fault) => {
+            let _ = fs::remove_file(rt, draft.path.as_str());
+            Err(fault)
+        }
     }
-    settled
 }
 
 /// Gives a draft its name, once the disk has it.
-fn take_name<R: Files>(rt: &R, draft: &Draft<R::File>, name: &Name) -> Result<(), Fault> {
-    draft.file.sync_all().map_err(|error| file_fault(&error))?;
-    fs::rename(rt, draft.path.as_str(), name.path.as_str()).map_err(|error| file_fault(&error))
+fn take_name(rt: &HostRuntime, draft: &Draft, name: &Name) -> io::Result<()> {
+    name.access.give_to(&draft.file)?;
+    draft.file.sync_all()?;
+    fs::rename(rt, draft.path.as_str(), name.path.as_str())
+}
+
+/// Waits until the disk has the name too. In a folder that may be written and not read nothing can be waited for, nor where folders
+/// aren't synced.
+fn keep_name(rt: &HostRuntime, name: &Name) -> Result<(), Fault> {
+    match sync_folder(rt, folder_of(name.path.as_path())) {
+        Ok(()) => Ok(()),
+        Err(error) => match error.kind() {
+            ErrorKind::PermissionDenied | ErrorKind::InvalidInput | ErrorKind::Unsupported => Ok(
+                (),
+            ),
+            _ => Err(file_fault(&error)),
+        },
+    }
+}
+
+/// Syncs a folder.
+fn sync_folder(rt: &HostRuntime, folder: &str) -> io::Result<()> {
+    fs::open(rt, folder)?.sync_all()
 }

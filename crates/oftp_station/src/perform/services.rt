@@ -3,7 +3,7 @@
 use crate::database;
 use crate::perform::files::read_book;
 use crate::perform::traces::open_trace;
-use crate::sockets::{Station, bound, connected, dial, http_on, listen_on};
+use crate::sockets::{Reception, Station, bound, connected, dial, http_on, listen_on};
 use oftp_command_line::{Call, Fault, Http, Listen, Outcome};
 use std::io::Write;
 use std::time::Duration;
@@ -36,9 +36,16 @@ pub(super) fn listen(
         book: &book,
         database: line.files.database,
         patience: patience_of(line.patience),
+        longest: Duration::from_secs(line.longest),
         trace: trace.as_ref(),
     };
-    listen_on(rt, &listener, line.sessions, &station, out, err)
+    let reception = Reception {
+        listener: &listener,
+        sessions: line.sessions,
+        // Who isn't let in takes no longer than a session may.
+        admission: Duration::from_secs(line.admission.min(line.longest)),
+    };
+    listen_on(rt, &reception, &station, out, err)
 }
 
 /// Calls a partner for one session.
@@ -60,6 +67,7 @@ pub(super) fn call(rt: &HostRuntime, line: &Call<'_>) -> Result<Outcome, Fault> 
         book: &book,
         database: line.files.database,
         patience,
+        longest: Duration::from_secs(line.longest),
         trace: trace.as_ref(),
     };
     dial(rt, stream, partner, &station).map(Outcome::Ended)

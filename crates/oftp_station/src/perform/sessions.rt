@@ -35,8 +35,9 @@ fn feed_durable(
     role: Role<'_>,
     mut office: DatabaseOffice,
 ) -> Result<Outcome, Fault> {
+    let input = open_input(rt, line.input)?;
     let trace = trace_of(rt, line)?;
-    let (mut reader, mut writer) = ports(rt, line, trace.as_ref())?;
+    let (mut reader, mut writer) = ports(rt, line, input, trace.as_ref())?;
     let alloc = rt.alloc();
     let ended = office.serve(alloc, book, role, &mut reader, &mut writer);
     outcome_of(ended, trace.as_ref())
@@ -49,8 +50,9 @@ fn feed_in_memory(
     book: &Book,
     role: Role<'_>,
 ) -> Result<Outcome, Fault> {
+    let input = open_input(rt, line.input)?;
     let trace = trace_of(rt, line)?;
-    let (mut reader, mut writer) = ports(rt, line, trace.as_ref())?;
+    let (mut reader, mut writer) = ports(rt, line, input, trace.as_ref())?;
     let alloc = rt.alloc();
     let mut office = PlainOffice::new(alloc, LIMITS);
     let ended = serve_in_memory(alloc, &mut office, book, role, &mut reader, &mut writer);
@@ -92,9 +94,9 @@ fn role_with<'b>(side: Side, named: Option<&'b Partner>) -> Option<Role<'b>> {
 fn ports<'a>(
     rt: &HostRuntime,
     line: &Feed<'_>,
+    input: File,
     trace: Option<&'a Trace<'a>>,
 ) -> Result<(Port<Traced<'a, File>>, Port<Traced<'a, File>>), Fault> {
-    let input = open_input(rt, line.input)?;
     check_output(rt, line, &input)?;
     let output = fs::create(rt, line.output).map_err(|error| file_fault(&error))?;
     Ok(ports_of(Traced::reader(input, trace), Traced::writer(output, trace)))

@@ -24,7 +24,8 @@ pub(super) fn open_trace<'a>(
         Err(error) if error.kind() != ErrorKind::NotFound => return Err(file_fault(&error)),
         _ => {}
     }
-    Trace::open(rt, path).map(Some)
+    let trace = Trace::open(rt, path).map_err(|error| file_fault(&error))?;
+    Ok(Some(trace))
 }
 
 /// Whether this is of one of the files, or of a file of the database.

@@ -36,6 +36,11 @@ impl Connection {
         self.stream.set_write_timeout(limit)
     }
 
+    /// Whether each read and each write waits from now on.
+    pub(super) fn set_waiting(&self, waits: bool) -> io::Result<()> {
+        self.stream.set_nonblocking(!waits)
+    }
+
     /// Says that all is written, and drops what the partner still sends, so that no reset takes away what it hasn't read yet.
     pub(super) fn part(&self, rt: &HostRuntime) -> io::Result<()> {
         self.stream.shutdown(Shutdown::Write)?;

@@ -4,13 +4,53 @@ use crate::sockets::connection::Connection;
 use std::io::{self, ErrorKind, Read, Write};
 use std::time::{Duration, Instant};
 
-/// A connection that is read and written for so long in all, and then fails.
-#[derive(Drop)]
-pub(super) struct Timed<'a> {
+/// How long a connection is waited for: so long in all, and no longer than the patience at each read and each write.
+#[derive(Clone, Copy)]
+pub(super) struct Term<'a> {
     rt: &'a HostRuntime,
     connection: &'a Connection,
     begun: Instant,
     length: Duration,
+    patience: Option<Duration>,
+}
+
+impl<'a> Term<'a> {
+    /// The term of a connection that began at a moment. Without a patience it has its length alone.
+    pub(super) fn new(
+        rt: &'a HostRuntime,
+        connection: &'a Connection,
+        begun: Instant,
+        length: Duration,
+        patience: Option<Duration>,
+    ) -> Term<'a> {
+        Term {
+            rt,
+            connection,
+            begun,
+            length,
+            patience,
+        }
+    }
+
+    /// The connection, which waits no longer than what is left.
+    fn hurried(&self) -> io::Result<&'a Connection> {
+        let left = self.length.saturating_sub(self.begun.elapsed(self.rt)?);
+        if left.is_zero() {
+            return Err(io::Error::from(ErrorKind::TimedOut));
+        }
+        let limit = match self.patience {
+            Some(patience) if patience < left => patience,
+            _ => left,
+        };
+        self.connection.set_limit(Some(limit))?;
+        Ok(self.connection)
+    }
+}
+
+/// A connection that is read and written within its term, and then fails.
+#[derive(Drop)]
+pub(super) struct Timed<'a> {
+    term: Term<'a>,
 }
 
 impl<'a> Timed<'a> {
@@ -20,37 +60,49 @@ impl<'a> Timed<'a> {
         connection: &'a Connection,
         length: Duration,
     ) -> io::Result<Timed<'a>> {
-        Ok(Timed {
-            rt,
-            connection,
-            begun: Instant::now(rt)?,
-            length,
-        })
+        let begun = Instant::now(rt)?;
+        Ok(Timed::of(Term::new(rt, connection, begun, length, None)))
     }
 
-    /// The connection, which waits no longer than what is left.
-    fn hurried(&self) -> io::Result<&'a Connection> {
-        let left = self.length.saturating_sub(self.begun.elapsed(self.rt)?);
-        if left.is_zero() {
-            return Err(io::Error::from(ErrorKind::TimedOut));
-        }
-        self.connection.set_limit(Some(left))?;
-        Ok(self.connection)
+    /// The connection for as long as its term.
+    pub(super) fn of(term: Term<'a>) -> Timed<'a> {
+        Timed { term }
     }
 }
 
 impl Read for Timed<'_> {
     fn read(&mut self, piece: &mut [u8]) -> io::Result<usize> {
-        self.hurried()?.read(piece)
+        self.term.hurried()?.read(piece)
     }
 }
 
 impl Write for Timed<'_> {
     fn write(&mut self, piece: &[u8]) -> io::Result<usize> {
-        self.hurried()?.write(piece)
+        self.term.hurried()?.write(piece)
     }
 
     fn flush(&mut self) -> io::Result<()> {
         Ok(())
+    }
+}
+
+/// A reader over a connection, which fails behind the connection's term.
+#[derive(Drop)]
+pub(super) struct Within<'a, R> {
+    reader: R,
+    term: Term<'a>,
+}
+
+impl<'a, R> Within<'a, R> {
+    /// The reader within a term.
+    pub(super) fn new(reader: R, term: Term<'a>) -> Within<'a, R> {
+        Within { reader, term }
+    }
+}
+
+impl<R: Read> Read for Within<'_, R> {
+    fn read(&mut self, piece: &mut [u8]) -> io::Result<usize> {
+        self.term.hurried()?;
+        self.reader.read(piece)
     }
 }

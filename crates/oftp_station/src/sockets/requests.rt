@@ -34,7 +34,7 @@ pub fn http_on(
     err: &mut impl Write,
 ) -> Result<(), Fault> {
     for _ in 0..requests {
-        let stream = accepted(listener)?;
+        let stream = accepted(rt, listener)?;
         settled(serve(rt, stream, database), err)?;
     }
     Ok(())
@@ -87,12 +87,55 @@ fn is_whole(alloc: Global, request: &[u8]) -> Result<bool, Fault> {
     }
 }
 
-/// The reply to a request from what the database holds, which is opened for this alone.
+/// The reply to a request from what the database holds. It is opened for this alone, and only where it matters what it holds.
 fn reply_to(rt: &HostRuntime, request: &[u8], database: &str) -> Result<Reply, Trouble> {
+    if let Some(reply) = reply_of_any(rt.alloc(), request)? {
+        return Ok(reply);
+    }
     let mut office = database::open_if_free(rt, database, PATIENCE)?;
     office
         .answer(rt.alloc(), request)
         .map_err(|fault| Trouble::from(Fault::from(fault)))
+}
+
+/// The reply that is the same whatever a register holds, if there is one: to octets that are no request, to a target that nothing fits,
+/// and to another method than GET for a list.
+fn reply_of_any(alloc: Global, request: &[u8]) -> Result<Option<Reply>, Fault> {
+    let reply = answer(alloc, request, &mut PlainOffice::new(alloc, LIMITS))?;
+    if is_of_any(reply.octets(), request) {
+        Ok(Some(reply))
+    } else {
+        Ok(None)
+    }
+}
+
+/// Whether the reply from an empty register is that from any. It says of a list alone that the method isn't allowed.
+fn is_of_any(reply: &[u8], request: &[u8]) -> bool {
+    reply.starts_with(b"HTTP/1.1 400")
+        || reply.starts_with(b"HTTP/1.1 405")
+        || reply.starts_with(b"HTTP/1.1 404") && !may_name_entry(request)
+}
+
+/// Whether a request may ask for one entry. No method has a slash, so the first one begins the target, if any does.
+fn may_name_entry(request: &[u8]) -> bool {
+    for at in 0..request.len() {
+        if request[at] == b'/' {
+            let target = &request[at..];
+            return is_of_number(target, b"/in/") || is_of_number(target, b"/out/");
+        }
+    }
+    false
+}
+
+/// Whether a text begins so, with the first digit of a number behind it.
+fn is_of_number(text: &[u8], beginning: &[u8]) -> bool {
+    let Some(rest) = text.strip_prefix(beginning) else {
+        return false;
+    };
+    match rest.first() {
+        Some(octet) => *octet != b'0' && octet.is_ascii_digit(),
+        None => false,
+    }
 }
 
 /// The connection for as long as a request may take to come, or its reply to go.

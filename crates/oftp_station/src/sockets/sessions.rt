@@ -2,16 +2,18 @@
 
 use crate::database::{self, PATIENCE};
 use crate::ports::ports_of;
-use crate::sockets::addresses::accepted;
+use crate::sockets::admission::{Admission, Opening, Skipping, admit};
 use crate::sockets::callers::{Trouble, settled};
 use crate::sockets::connection::Connection;
+use crate::sockets::moments::{Term, Timed, Within};
+use crate::sockets::waiting::{Caller, Waiting};
 use crate::tracing::{Trace, Traced};
 use oftp_command_line::{Fault, Outcome, write_line};
 use oftp_engine::{End, Role, RunFault};
 use oftp_partners::{Book, Partner};
-use std::io::Write;
+use std::io::{Read, Write};
 use std::net::{TcpListener, TcpStream};
-use std::time::Duration;
+use std::time::{Duration, Instant};
 
 /// What sessions are served from.
 #[derive(Clone, Copy)]
@@ -22,31 +24,61 @@ pub struct Station<'a> {
     pub database: &'a str,
     /// How long a partner may keep still before its session is given up. Without a limit it is waited for as long as it takes.
     pub patience: Option<Duration>,
+    /// How long a session may take in all.
+    pub longest: Duration,
     /// Where what goes over its connections is told, if it is.
     pub trace: Option<&'a Trace<'a>>,
 }
 
+/// Where callers are received.
+#[derive(Clone, Copy)]
+pub struct Reception<'a> {
+    /// Where they call.
+    pub listener: &'a TcpListener,
+    /// How many of them are served.
+    pub sessions: u64,
+    /// How long each has to be let in, from the greeting on.
+    pub admission: Duration,
+}
+
 /// Serves so many sessions of partners who call, one after another, and writes a line for each: to `out` how it ended, or to `err` the
-/// fault that is this caller's alone.
+/// fault that is this caller's alone. Who isn't let in keeps nobody waiting but by the words that send it away.
 ///
 /// # Errors
 /// Any other fault: of the database, of memory, of the listener or of `out`.
 pub fn listen_on(
     rt: &HostRuntime,
-    listener: &TcpListener,
-    sessions: u64,
+    reception: &Reception<'_>,
     station: &Station<'_>,
     out: &mut impl Write,
     err: &mut impl Write,
 ) -> Result<(), Fault> {
-    for _ in 0..sessions {
-        let stream = accepted(listener)?;
-        let served = serve(rt, stream, Role::Responder, station);
+    let mut waiting = Waiting::new(rt, reception.listener, reception.admission);
+    for served in 0..reception.sessions {
+        let most = reception.sessions - served;
+        let served = serve_next(rt, &mut waiting, most, station);
         if let Some(end) = settled(served, err)? {
             write_line(out, &Outcome::Ended(end))?;
         }
     }
     Ok(())
+}
+
+/// The session of the next caller, where so many more are served.
+fn serve_next(
+    rt: &HostRuntime,
+    waiting: &mut Waiting<'_>,
+    most: u64,
+    station: &Station<'_>,
+) -> Result<End, Trouble> {
+    let caller = waiting.next_caller(most, station)?;
+    let begun = Instant::now(rt);
+    let served = serve_caller(rt, &caller, station);
+    part(rt, &caller.connection, station, &served);
+    if let Ok(begun) = begun {
+        waiting.stand_still(begun);
+    }
+    served
 }
 
 /// One session with a partner who was called over this stream.
@@ -59,38 +91,27 @@ pub fn dial(
     partner: &Partner,
     station: &Station<'_>,
 ) -> Result<End, Fault> {
-    serve(rt, stream, Role::Initiator(partner), station).map_err(Trouble::fault)
+    let Ok(connection) = Connection::new(stream, station.patience) else {
+        return Err(Fault::Run(RunFault::Read));
+    };
+    let served = serve_called(rt, &connection, partner, station);
+    part(rt, &connection, station, &served);
+    served.map_err(Trouble::fault)
 }
 
-/// One session over a stream, which is then closed. Where the station had the last word, the partner is left the time to read it.
-fn serve(
+/// Appends how a session ended to its trace. Where the station had the last word, the partner is left the time to read it.
+fn part(
     rt: &HostRuntime,
-    stream: TcpStream,
-    role: Role<'_>,
+    connection: &Connection,
     station: &Station<'_>,
-) -> Result<End, Trouble> {
-    let Ok(connection) = Connection::new(stream, station.patience) else {
-        return Err(Trouble::from(RunFault::Read));
-    };
-    let served = serve_over(rt, &connection, role, station);
+    served: &Result<End, Trouble>,
+) {
+    if let Some(trace) = station.trace {
+        tell_end(trace, served);
+    }
     if let Ok(End::Own(_)) | Err(Trouble::OfService(Fault::Run(RunFault::Office))) = served {
         let _ = connection.part(rt);
     }
-    served
-}
-
-/// One session over a connection, whose end is the last line of its trace.
-fn serve_over(
-    rt: &HostRuntime,
-    connection: &Connection,
-    role: Role<'_>,
-    station: &Station<'_>,
-) -> Result<End, Trouble> {
-    let served = serve_commands(rt, connection, role, station);
-    if let Some(trace) = station.trace {
-        tell_end(trace, &served);
-    }
-    served
 }
 
 /// Appends how a session ended to its trace.
@@ -104,19 +125,72 @@ fn tell_end(trace: &Trace<'_>, served: &Result<End, Trouble>) {
     }
 }
 
-/// One session over a connection.
-fn serve_commands(
+/// One session with a partner who was called.
+fn serve_called(
     rt: &HostRuntime,
     connection: &Connection,
-    role: Role<'_>,
+    partner: &Partner,
     station: &Station<'_>,
 ) -> Result<End, Trouble> {
-    let mut office = database::open_if_free(rt, station.database, PATIENCE)?;
-    let (mut reader, mut writer) = ports_of(
-        Traced::reader(connection, station.trace),
-        Traced::writer(connection, station.trace),
+    let Ok(begun) = Instant::now(rt) else {
+        return Err(Trouble::from(RunFault::Read));
+    };
+    let term = Term::new(rt, connection, begun, station.longest, station.patience);
+    serve(
+        rt,
+        Role::Initiator(partner),
+        station,
+        Traced::reader(Timed::of(term), station.trace),
+        Traced::writer(Timed::of(term), station.trace),
+    )
+}
+
+/// One session with a caller, for which the database is opened once the caller is to be let in.
+fn serve_caller(rt: &HostRuntime, caller: &Caller, station: &Station<'_>) -> Result<End, Trouble> {
+    let connection = &caller.connection;
+    let whole = Term::new(
+        rt,
+        connection,
+        caller.begun,
+        station.longest,
+        station.patience,
     );
-    let book = station.book;
-    let end = office.serve(rt.alloc(), book, role, &mut reader, &mut writer)?;
+    let mut reader = Traced::reader(caller.spoken(), station.trace);
+    let said = Skipping::new(Timed::of(whole), caller.greeting);
+    let mut writer = Traced::writer(said, station.trace);
+    let admission = Term::new(
+        rt,
+        connection,
+        caller.begun,
+        caller.length,
+        station.patience,
+    );
+    let first = Within::new(&mut reader, admission);
+    match admit(rt.alloc(), station.book, first, &mut writer)? {
+        Admission::Ended(end) => Ok(end),
+        Admission::LetIn(opening) => {
+            let Opening { heard, said } = opening;
+            serve(
+                rt,
+                Role::Responder,
+                station,
+                heard.as_slice().chain(Within::new(&mut reader, whole)),
+                Skipping::new(&mut writer, said),
+            )
+        }
+    }
+}
+
+/// One session over the database, which is opened for it.
+fn serve<R: Read + Drop, W: Write + Drop>(
+    rt: &HostRuntime,
+    role: Role<'_>,
+    station: &Station<'_>,
+    reader: R,
+    writer: W,
+) -> Result<End, Trouble> {
+    let mut office = database::open_if_free(rt, station.database, PATIENCE)?;
+    let (mut reader, mut writer) = ports_of(reader, writer);
+    let end = office.serve(rt.alloc(), station.book, role, &mut reader, &mut writer)?;
     Ok(end)
 }

@@ -1,0 +1,121 @@
+#!/usr/bin/env python3
+"""Has calls of the program for sockets and for a trace fail, and looks at what it does when it gives a file its name.
+
+    checks/faults/edge_calls.py
+
+Want of memory is told as that, wherever the machine has none, and any other fault as before. A caller who is gone before it is accepted, or
+for whom there is nothing now, ends no service. A file that is fetched is on the disk before it has its name, and the name before the line
+is out. It wants a C compiler. The last line is `N passed, M failed`.
+"""
+
+import errno
+import os
+import socket
+import subprocess
+import sys
+import tempfile
+from pathlib import Path
+
+sys.path.insert(0, str(Path(__file__).resolve().parents[1] / "lib"))
+
+from program import PROGRAM
+from row_files import ROWS, Row
+from services import BOOK, CARMAKER, LONG, Service, Wrong, expect, rest_of
+from shims import compile_library
+
+MEMORY, SOCKET, FILE = "fault: 4 memory\n", "fault: 8 socket\n", "fault: 7 file\n"
+
+
+def failing(library, call, number, times=1, path=""):
+    named = {"FAIL_CALL": call, "FAIL_NUMBER": str(number), "FAIL_TIMES": str(times), "FAIL_PATH": path}
+    return {"LD_PRELOAD": str(library), **named}
+
+
+def run(room, environment, *words):
+    environment = {**os.environ, **environment}
+    done = subprocess.run([PROGRAM, *words], cwd=room, env=environment, capture_output=True, timeout=LONG, check=False)
+    return done.returncode, done.stdout.decode(), done.stderr.decode()
+
+
+def sockets_without_memory(room, library):
+    for call, number, line in (
+        ("socket", errno.ENOMEM, MEMORY),
+        ("socket", errno.ENOBUFS, MEMORY),
+        ("socket", errno.EMFILE, SOCKET),
+        ("bind", errno.ENOMEM, MEMORY),
+        ("bind", errno.EADDRINUSE, SOCKET),
+    ):
+        told = run(room, failing(library, call, number, 9), "listen", "--db", "db", "--book", BOOK, "--port", "20999")
+        expect(told, (1, "", line), f"{call} of listen that fails by {number}")
+    with socket.create_server(("127.0.0.1", 0)) as partner:
+        book = room / "book"
+        book.write_text(BOOK.read_text().replace("127.0.0.1:3305", f"127.0.0.1:{partner.getsockname()[1]}"))
+        words = ["call", "--db", "db", "--book", book, "--partner", CARMAKER]
+        for patience in ("0", "5"):
+            for number, line in ((errno.ENOMEM, MEMORY), (errno.ENOBUFS, MEMORY), (errno.ECONNREFUSED, SOCKET)):
+                told = run(room, failing(library, "connect", number, 9), *words, "--patience", patience)
+                expect(told, (1, "", line), f"connect that fails by {number}, with patience {patience}")
+
+
+def trace_without_memory(room, library):
+    given = room / "given"
+    given.write_bytes(Row(ROWS / "listening/one_end_response.row").sessions()[0].joined("in"))
+    words = ["feed", "--book", BOOK, "--trace", "trace", "given", "/dev/null"]
+    for number, line in ((errno.ENOMEM, MEMORY), (errno.EACCES, FILE)):
+        told = run(room, failing(library, "open", number, 9, "trace"), *words)
+        expect(told, (1, "", line), f"a trace whose open fails by {number}")
+
+
+def callers_that_pass(room, library):
+    """Each of these ends no service, and the next caller is served."""
+    greeting = Row(ROWS / "opening/wrong_password.row").sessions()[0].steps[0][1]
+    passing = ("EPERM", "ENOMEM", "ENFILE", "EMFILE", "EPROTO", "ENOPROTOOPT", "ENETDOWN", "ENETUNREACH", "ECONNABORTED", "ENOBUFS", "EHOSTUNREACH")
+    for name in passing:
+        folder = room / name
+        folder.mkdir()
+        with Service(folder, "listen", environment=failing(library, "accept4", getattr(errno, name), 3)) as service:
+            with service.caller() as caller:
+                caller.shutdown(socket.SHUT_WR)
+                expect(rest_of(caller), greeting, f"{name}: the station sent")
+            expect(service.line(), "end: input", f"{name}: the line")
+            service.ends()
+    (room / "EINVAL").mkdir()
+    with Service(room / "EINVAL", "listen", environment=failing(library, "accept4", errno.EINVAL, 3)) as service:
+        service.ends(1, SOCKET.encode())
+
+
+def name_is_kept(room, library):
+    given = room / "given"
+    given.write_bytes(Row(ROWS / "receiving/one_octet.row").sessions()[0].joined("in"))
+    expect(run(room, {}, "feed", "--db", "db", "--book", BOOK, "given", "/dev/null")[0], 0, "the session")
+    for name in ("fetched", "fetched", "folder/fetched"):
+        (room / "folder").mkdir(exist_ok=True)
+        calls = room / "calls"
+        told = run(room, {"LD_PRELOAD": str(library), "CALLS": str(calls)}, "fetch", "--db", "db", "1", name)
+        expect(told, (0, "done: fetch 1\n", ""), "fetch")
+        lines = calls.read_text().splitlines()
+        expect(lines[lines.index("rename") - 1 :], ["sync of a file", "rename", "sync of a folder"], "its last calls")
+        calls.unlink()
+
+
+CASES = [sockets_without_memory, trace_without_memory, callers_that_pass, name_is_kept]
+
+
+def main():
+    failed = 0
+    with tempfile.TemporaryDirectory() as path:
+        library = compile_library(Path(path), "edge_calls")
+        for case in CASES:
+            room = Path(path) / case.__name__
+            room.mkdir()
+            try:
+                case(room, library)
+            except (Wrong, OSError, subprocess.SubprocessError, ValueError) as why:
+                failed += 1
+                print(f"{case.__name__.replace('_', ' ')}: {type(why).__name__}: {why}")
+    print(f"{len(CASES) - failed} passed, {failed} failed")
+    return 1 if failed else 0
+
+
+if __name__ == "__main__":
+    sys.exit(main())

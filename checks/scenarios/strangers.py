@@ -1,0 +1,365 @@
+#!/usr/bin/env python3
+"""Tries `listen` with callers who aren't let in: who say nothing, too little or the wrong thing, many at a time.
+
+    checks/scenarios/strangers.py [WORD ..]       all cases, or those whose names have one of these words
+
+They keep no partner waiting for longer than a caller has to be let in, and no operator at all: for them no database is opened. A partner
+who was let in has a limit, too. Each case has a port and a database of its own, and all run at once, so it takes some thirty seconds.
+The last line is `N passed, M failed`.
+"""
+
+import collections
+import contextlib
+import fcntl
+import socket
+import subprocess
+import sys
+import tempfile
+import time
+from concurrent.futures import ThreadPoolExecutor
+from pathlib import Path
+
+sys.path.insert(0, str(Path(__file__).resolve().parents[1] / "lib"))
+
+import oftp
+import row_files
+from program import PROGRAM
+from services import BOOK, CARMAKER, LONG, Service, Wrong, expect, rest_of
+
+# How many callers say nothing in all, and how many of them at once.
+STRANGERS = 1000
+AT_ONCE = 100
+# How many seconds they have to be let in, and where a case needs a longer time, whatever the machine does beside it.
+ADMISSION = 2
+LONG_ADMISSION = 12
+# What may be added to that on a machine with other work.
+SOON = 25
+# Where SQLite's locks on a database file lie: the pending, the reserved and the shared ones.
+LOCKS = (1 << 30, 512)
+
+
+def session_of(name):
+    return row_files.Row(row_files.ROWS / f"{name}.row").sessions()[0]
+
+
+NOTHING_WAITING = session_of("listening/nothing_waiting")
+GREETING, SSID = (octets for _, octets in NOTHING_WAITING.steps[:2])
+SILENCE = "fault: 1 read"
+
+
+def within(begin, least, most, what):
+    """What began then took so many seconds."""
+    took = time.monotonic() - begin
+    if not least <= took <= most + SOON:
+        raise Wrong(f"{what} took {took:.1f} s, and {least} to {most} are right")
+
+
+def receive(connection, size):
+    octets = b""
+    while len(octets) < size and (piece := connection.recv(size - len(octets))):
+        octets += piece
+    return octets
+
+
+def play(service, session, size=None, beside=None):
+    """Plays a session, what the partner says in pieces of this size, and expects its line. Lines of sessions that end as `beside` go past."""
+    with service.caller() as caller:
+        caller.setsockopt(socket.IPPROTO_TCP, socket.TCP_NODELAY, 1)
+        for side, octets in session.steps:
+            if side == "out":
+                expect(receive(caller, len(octets)), octets, "the station sent")
+                continue
+            for place in range(0, len(octets), size or len(octets)):
+                caller.sendall(octets[place : place + (size or len(octets))])
+                time.sleep(0.001 if size else 0)
+        caller.shutdown(socket.SHUT_WR)
+        expect(rest_of(caller), b"", "behind its last answer")
+    line = service.line() + "\n"
+    while beside and line == beside.end[1]:
+        line = service.line() + "\n"
+    expect(line, session.end[1], "the line")
+
+
+def play_in_time(service, beside=None):
+    """A partner with a password is served no later than a caller has to be let in."""
+    begin = time.monotonic()
+    play(service, NOTHING_WAITING, beside=beside)
+    within(begin, 0, ADMISSION, "a partner's session")
+
+
+def send_away(stranger):
+    """One who said nothing is greeted and sent away."""
+    with stranger:
+        expect(rest_of(stranger), GREETING, "a stranger reads")
+
+
+@contextlib.contextmanager
+def held(database):
+    """Another program, which is this one, holds the database."""
+    with open(database, "r+b") as file:
+        fcntl.lockf(file, fcntl.LOCK_EX, LOCKS[1], LOCKS[0])
+        yield
+
+
+def listen(room, sessions, *words):
+    return Service(room, "listen", "--sessions", str(sessions), *words)
+
+
+def hundred_at_a_time(room):
+    """A hundred callers who say nothing, ten times, and a partner behind each hundred."""
+    rounds = STRANGERS // AT_ONCE
+    with listen(room, STRANGERS + rounds, "--admission", str(ADMISSION)) as service:
+        for _ in range(rounds):
+            strangers = [service.caller() for _ in range(AT_ONCE)]
+            play_in_time(service)
+            for stranger in strangers:
+                send_away(stranger)
+        service.ends(0, f"{SILENCE}\n".encode() * STRANGERS)
+
+
+def one_after_another(room):
+    """A thousand callers who say nothing, one each hundredth of a second, and a partner behind each fifty."""
+    strangers = collections.deque()
+    with listen(room, STRANGERS + STRANGERS // 50, "--admission", str(ADMISSION)) as service:
+        for number in range(STRANGERS):
+            if len(strangers) == AT_ONCE:
+                send_away(strangers.popleft())
+            strangers.append(service.caller())
+            time.sleep(0.01)
+            if number % 50 == 49:
+                play_in_time(service)
+        for stranger in strangers:
+            send_away(stranger)
+        service.ends(0, f"{SILENCE}\n".encode() * STRANGERS)
+
+
+def each_behind_the_one_before(room):
+    """Callers who say nothing, each behind the end of the one before it, and a partner beside each."""
+    with listen(room, 8, "--admission", str(ADMISSION)) as service:
+        for _ in range(4):
+            stranger = service.caller()
+            begin = time.monotonic()
+            play_in_time(service)
+            send_away(stranger)
+            within(begin, ADMISSION - 0.5, ADMISSION, "the stranger's admission")
+        service.ends(0, f"{SILENCE}\n".encode() * 4)
+
+
+def wrong_passwords(room):
+    """A hundred callers with a wrong password, who don't close."""
+    wrong = session_of("opening/wrong_password")
+    with listen(room, AT_ONCE + 1) as service:
+        strangers = [service.caller() for _ in range(AT_ONCE)]
+        for stranger in strangers:
+            stranger.sendall(wrong.joined("in"))
+        play_in_time(service, beside=wrong)
+        for stranger in strangers:
+            stranger.close()
+
+
+def operators_beside_them(room):
+    """While a hundred callers say nothing, an operator's commands go at once, and the tables are no others."""
+    with listen(room, AT_ONCE + 1, "--admission", "60") as service:
+        strangers = [service.caller() for _ in range(AT_ONCE)]
+        expect([receive(stranger, len(GREETING)) for stranger in strangers], [GREETING] * AT_ONCE, "they read")
+        for kind in ("in", "out", "issued", "received"):
+            done = service.give("report", kind)
+            expect((done.returncode, done.stderr), (0, b""), f"report {kind}")
+        for stranger in strangers:
+            stranger.close()
+        play(service, NOTHING_WAITING, beside=session_of("opening/silent_partner"))
+
+
+def stamps(room):
+    """The files of a case, with their sizes and when they were written. None is opened: that would end a lock of this script's."""
+    return sorted((path.name, path.stat().st_size, path.stat().st_mtime_ns) for path in room.iterdir())
+
+
+def no_database_for_them(room):
+    """Another program holds the database: who isn't let in is answered nevertheless, and who is to be let in is sent away."""
+    rows = ["opening/wrong_password", "opening/unknown_code", "opening/other_level", "opening/no_credit"]
+    with listen(room, len(rows) + 5, "--admission", str(ADMISSION)) as service:
+        play(service, NOTHING_WAITING)
+        before = stamps(room)
+        with held(service.database):
+            for row in rows:
+                begin = time.monotonic()
+                play(service, session_of(row))
+                within(begin, 0, 0, row)
+            with service.caller() as caller:
+                caller.sendall(b"\x20\x00\x00\x05\x43")
+                expect(rest_of(caller), GREETING + oftp.frame(oftp.spell("ESID", {"reason": "02"})), "the station sent")
+            expect(service.line(), "end: own 02", "the line of one who speaks otherwise")
+            send_away(service.caller())
+            expect(service.fault(), SILENCE, "the line of a stranger")
+            expect(stamps(room), before, "the files")
+            begin = time.monotonic()
+            with service.caller() as caller:
+                caller.sendall(SSID)
+                expect(rest_of(caller), GREETING, "the station sent")
+            expect(service.fault(), "fault: 6 store 1", "the line of a partner")
+            within(begin, 9, 10, "the wait for the database")
+        play(service, NOTHING_WAITING)
+        service.ends()
+
+
+def octet_by_octet(room):
+    """The answers are those of the rows, however what a caller says is cut."""
+    rows = [f"opening/{path.stem}" for path in sorted((row_files.ROWS / "opening").glob("*.row"))]
+    sessions = [session_of(row) for row in ["listening/nothing_waiting", "malicious/unknown_command", "malicious/frame_too_short", *rows]]
+    sessions = [session for session in sessions if session.book == NOTHING_WAITING.book and not session.role and not session.closes()]
+    if len(sessions) < 6:
+        raise Wrong(f"{len(sessions)} rows are of the usual book")
+    with listen(room, 3 * len(sessions)) as service:
+        for size in (None, 1, 40):
+            for session in sessions:
+                play(service, session, size)
+        service.ends()
+
+
+def octet_now_and_then(room):
+    """A caller whose SSID takes longer than it has."""
+    with listen(room, 2, "--admission", str(ADMISSION)) as service:
+        begin = time.monotonic()
+        with service.caller() as caller:
+            with contextlib.suppress(ConnectionError):
+                for place in range(len(SSID)):
+                    caller.sendall(SSID[place : place + 1])
+                    time.sleep(0.8)
+                raise Wrong("it was heard to the end")
+        within(begin, ADMISSION - 0.5, ADMISSION, "its admission")
+        expect(service.fault(), SILENCE, "the line")
+        play(service, NOTHING_WAITING)
+        service.ends()
+
+
+def longest_frame_now_and_then(room):
+    """A caller who begins the longest of frames doesn't hold the station for longer than it has."""
+    with listen(room, 2, "--admission", str(ADMISSION)) as service:
+        with service.caller() as caller:
+            caller.sendall(bytes([0x10, 0x01, 0x86, 0xA3]) + bytes(1000))
+            play_in_time(service)
+            expect(service.fault(), SILENCE, "the line")
+        service.ends()
+
+
+def patience_within_the_admission(room):
+    """The patience bounds each wait of an admission."""
+    with listen(room, 2, "--admission", "600", "--patience", "2") as service:
+        begin = time.monotonic()
+        send_away(service.caller())
+        within(begin, 1.5, 2, "the silence")
+        expect(service.fault(), SILENCE, "the line")
+        play(service, NOTHING_WAITING)
+        service.ends()
+
+
+def time_of_another_session(room):
+    """A caller who was greeted, and says its SSID within the long session of another, is let in."""
+    opened = b"".join(octets for side, octets in NOTHING_WAITING.steps[:3] if side == "out")
+    with listen(room, 2, "--admission", str(LONG_ADMISSION)) as service:
+        with service.caller() as late, service.caller() as first:
+            expect(receive(late, len(GREETING)), GREETING, "the greeting")
+            first.sendall(SSID)
+            expect(receive(first, len(opened)), opened, "the first reads")
+            time.sleep(LONG_ADMISSION + 2)
+            late.sendall(NOTHING_WAITING.joined("in"))
+            first.shutdown(socket.SHUT_WR)
+            expect(service.line(), "end: input", "the line of the first")
+            expect(GREETING + rest_of(late), NOTHING_WAITING.joined("out"), "the station sent")
+        expect(service.line() + "\n", NOTHING_WAITING.end[1], "the line")
+        service.ends()
+
+
+def longest_session(room):
+    """A partner who was let in and keeps talking has its time, and no more."""
+    command = oftp.frame(b"D" + bytes(9999))
+    with listen(room, 2, "--longest", "4", "--patience", "0") as service:
+        begin = time.monotonic()
+        with service.caller() as caller, contextlib.suppress(ConnectionError):
+            caller.sendall(SSID)
+            for place in range(len(command)):
+                caller.sendall(command[place : place + 1])
+                time.sleep(0.1)
+            raise Wrong("it was heard to the end")
+        within(begin, 3.5, 4, "the session")
+        expect(service.fault(), SILENCE, "the line")
+        play(service, NOTHING_WAITING)
+        service.ends()
+
+
+def longest_call(room):
+    """So has a partner who was called, and says nothing."""
+    with socket.create_server(("127.0.0.1", 0)) as partner:
+        partner.settimeout(LONG)
+        book = room / "book"
+        book.write_text(BOOK.read_text().replace("127.0.0.1:3305", f"127.0.0.1:{partner.getsockname()[1]}"))
+        words = [PROGRAM, "call", "--db", room / "database", "--book", book, "--partner", CARMAKER, "--longest", "3", "--patience", "0"]
+        begin = time.monotonic()
+        with subprocess.Popen(words, stdout=subprocess.PIPE, stderr=subprocess.PIPE) as program, partner.accept()[0]:
+            told = program.communicate(timeout=LONG)
+        expect((program.returncode, *told), (1, b"", f"{SILENCE}\n".encode()), "the call")
+        within(begin, 2.5, 3, "the call")
+
+
+def traced(room):
+    """Each session stands by itself in the trace, and each octet once."""
+    trace = room / "trace"
+    wrong = session_of("opening/wrong_password")
+    with listen(room, 3, "--admission", str(LONG_ADMISSION), "--trace", trace) as service:
+        stranger = service.caller()
+        for session in (NOTHING_WAITING, wrong):
+            play(service, session)
+        send_away(stranger)
+        expect(service.fault(), SILENCE, "the line")
+        service.ends()
+    wanted = []
+    for session in (NOTHING_WAITING, wrong):
+        wanted += [f"{'<' if side == 'in' else '>'} {oftp.read(octets[4:])[0]}" for side, octets in session.steps]
+        wanted.append(session.end[1].strip())
+    lines = [line.split(" ", 1)[1] for line in trace.read_text().splitlines()]
+    found = [" ".join(line.split()[:2]).rstrip(",") if line[0] in "<>" else line for line in lines]
+    expect(found, [*wanted, "> SSRM", SILENCE], "the trace")
+
+
+CASES = [
+    hundred_at_a_time,
+    one_after_another,
+    each_behind_the_one_before,
+    wrong_passwords,
+    operators_beside_them,
+    no_database_for_them,
+    octet_by_octet,
+    octet_now_and_then,
+    longest_frame_now_and_then,
+    patience_within_the_admission,
+    time_of_another_session,
+    longest_session,
+    longest_call,
+    traced,
+]
+
+
+def tried(case):
+    """Runs a case, and answers why it came out otherwise, or None."""
+    with tempfile.TemporaryDirectory() as room:
+        try:
+            case(Path(room))
+        except (Wrong, OSError, subprocess.SubprocessError) as why:
+            return f"{type(why).__name__}: {why}"
+    return None
+
+
+def main():
+    cases = [case for case in CASES if not sys.argv[1:] or any(word in case.__name__ for word in sys.argv[1:])]
+    with ThreadPoolExecutor(max_workers=len(CASES)) as runners:
+        whys = list(runners.map(tried, cases))
+    for case, why in zip(cases, whys):
+        print(f"{case.__name__.replace('_', ' ')}: {why or 'as it must be'}")
+    failed = sum(why is not None for why in whys)
+    print(f"{len(cases) - failed} passed, {failed} failed")
+    return 1 if failed else 0
+
+
+if __name__ == "__main__":
+    sys.exit(main())
