@@ -1,7 +1,7 @@
 //! Commands: what octets say, and what is written of what they say.
 
 use crate::octets::{Fields, joined, print_line};
-use oftp_wire::{Command, WireFault, encode, parse};
+use oftp_wire::{Command, WireFault, encode, header, parse};
 use std::io;
 
 /// Prints what is written of a command over the octets ff: those that it was read from, and no more, or which.
@@ -33,6 +33,22 @@ pub fn read(rt: &HostRuntime, octets: &[u8]) -> io::Result<()> {
         }
         Err(fault) => println!(rt; "  {fault:?}"),
     }
+}
+
+/// More octets than a command has beside its payload.
+const BESIDE: usize = 99;
+
+/// Prints a command with its header. Its payload, if it has one, has so many octets.
+pub fn print_frame(rt: &HostRuntime, command: &Command, payload: usize) -> io::Result<()> {
+    let mut out = Vec::new(rt.alloc());
+    out.resize(payload.saturating_add(BESIDE), 0)?;
+    let count = encode(command, &mut out).unwrap_or(0);
+    let Some(head) = header(count) else {
+        return println!(rt; "  no frame");
+    };
+    let mut frame = Vec::from_slice(rt.alloc(), &head)?;
+    frame.extend_from_slice(out.get(..count).unwrap_or(&[]))?;
+    print_line(rt, "  ", &frame)
 }
 
 /// Prints what is written of a command, over the octets 9, where the room wants an octet.

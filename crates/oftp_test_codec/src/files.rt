@@ -2,10 +2,12 @@
 
 ghost use Rattle.std.specs.Prelude.{◌<◌, ◌↔◌, IsTrue, length, All};
 
+use crate::commands::print_frame;
 use crate::line::Line;
 use crate::octets::print_line;
 use crate::takers::{LIMITS, print_compared, print_rows, print_taken};
 use oftp_vfile::{Filled, Filler, Format, MOST_ROWS, Row, Taker, VFile};
+use oftp_wire::{Command, Count, Efid, Octets};
 use std::io;
 
 /// How many rows are lent at a time: a payload of 16,383 octets needs no more.
@@ -39,15 +41,36 @@ fn lent_of(rows: &[Row], from: usize) -> (&[Row], bool) {
     }
 }
 
-/// Fills the payloads of a file, each of which is taken again, and printed with the mark after it where `shown` says so. Answers how
-/// many there are.
+/// What is printed of each payload.
+#[derive(Clone, Copy, Drop)]
+enum Shown {
+    /// Its octets, and the mark after it.
+    Marks,
+    /// The frame of its DATA.
+    Frames,
+    Nothing,
+}
+
+/// Prints what is shown of a payload.
+fn print_payload(rt: &HostRuntime, shown: Shown, mark: usize, payload: &[u8]) -> io::Result<()> {
+    match shown {
+        Shown::Marks => {
+            print!(rt; "  mark {mark}:")?;
+            print_line(rt, " ", payload)
+        }
+        Shown::Frames => print_frame(rt, &Command::Data(Octets::new(payload)), payload.len()),
+        Shown::Nothing => Ok(()),
+    }
+}
+
+/// Fills the payloads of a file, each of which is taken again, and shown. Answers how many there are.
 fn carry(
     rt: &HostRuntime,
     format: Format,
     rows: &[Row],
     out: &mut [u8],
     taker: &mut Taker,
-    shown: bool,
+    shown: Shown,
 ) -> io::Result<u64> {
     let mut filler = Filler::new(format, 0);
     for count in 0..u64::MAX {
@@ -56,10 +79,7 @@ fn carry(
             return Ok(count);
         };
         let payload = out.get(..len).unwrap_or(&[]);
-        if shown {
-            print!(rt; "  mark {}:", filler.mark())?;
-            print_line(rt, " ", payload)?;
-        }
+        print_payload(rt, shown, filler.mark(), payload)?;
         if taker.take(payload).is_err() {
             return Ok(count);
         }
@@ -73,9 +93,30 @@ pub fn send(rt: &HostRuntime, line: &mut Line) -> io::Result<()> {
     let mut out = vec![in rt.alloc(); 0u8; line.number() as usize]?;
     let rows = line.rows(rt.alloc())?;
     let mut taker = Taker::new(rt.alloc(), format, longest, 0, 0, LIMITS);
-    let count = carry(rt, format, &rows, &mut out, &mut taker, true)?;
+    let count = carry(rt, format, &rows, &mut out, &mut taker, Shown::Marks)?;
     print_taken(rt, count, &taker)?;
     print_compared(rt, taker, &rows)
+}
+
+/// The least number that has more digits than an EFID tells.
+const LEAST_BEYOND: u64 = 100_000_000_000_000_000;
+
+/// The frames of a file: a DATA for each payload of the rows, and an EFID with the counts of what they carry.
+pub fn frames(rt: &HostRuntime, line: &mut Line) -> io::Result<()> {
+    let (format, longest) = (line.format(), line.number());
+    let mut out = vec![in rt.alloc(); 0u8; line.number() as usize]?;
+    let rows = line.rows(rt.alloc())?;
+    let mut taker = Taker::new(rt.alloc(), format, longest, 0, 0, LIMITS);
+    carry(rt, format, &rows, &mut out, &mut taker, Shown::Frames)?;
+    let (records, units) = taker.counts();
+    if records >= LEAST_BEYOND || units >= LEAST_BEYOND {
+        return Ok(());
+    }
+    let efid = Efid {
+        records: Count::new(records),
+        units: Count::new(units),
+    };
+    print_frame(rt, &Command::Efid(efid), 0)
 }
 
 /// Prints how many payloads a file of U has, and what they carry.
@@ -87,7 +128,8 @@ pub fn whole(rt: &HostRuntime, line: &mut Line) -> io::Result<()> {
     };
     let rows = file.rows.as_slice();
     let mut taker = Taker::new(rt.alloc(), Format::Unstructured, 0, 0, 0, LIMITS);
-    let count = carry(rt, Format::Unstructured, rows, &mut out, &mut taker, false)?;
+    let shown = Shown::Nothing;
+    let count = carry(rt, Format::Unstructured, rows, &mut out, &mut taker, shown)?;
     print_taken(rt, count, &taker)?;
     print_compared(rt, taker, rows)
 }

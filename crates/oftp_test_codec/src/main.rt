@@ -32,6 +32,7 @@ fn answer_of_wire(rt: &HostRuntime, call: &str, line: &mut Line) -> io::Result<(
 fn answer(rt: &HostRuntime, line: &mut Line) -> io::Result<()> {
     match line.word() {
         "longest" => files::longest(rt, line),
+        "frames" => files::frames(rt, line),
         "local" => files::local(rt, line),
         "next" => files::next(rt, line),
         "send" => files::send(rt, line),

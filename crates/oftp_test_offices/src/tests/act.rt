@@ -25,6 +25,9 @@ pub(super) enum Act {
     Send(u64),
 }
 
+/// A change that was made of its short form.
+pub(super) type Made = Result<Change<'static>, OfficeFault>;
+
 // What is wrong with a fixture, unless memory ran out.
 const BAD: OfficeFault = OfficeFault::Store;
 
@@ -86,11 +89,7 @@ fn many_rows(alloc: Global, count: u64) -> Result<Rows, AllocError> {
     Ok(Rows::new(rows))
 }
 
-fn submit(
-    dataset: &'static [u8],
-    format: Format,
-    rows: Rows,
-) -> Result<Change<'static>, OfficeFault> {
+fn submit(dataset: &'static [u8], format: Format, rows: Rows) -> Made {
     Ok(Change::Submit {
         identity: identity(dataset)?,
         format,
@@ -100,11 +99,7 @@ fn submit(
     })
 }
 
-fn start(
-    dataset: &'static [u8],
-    format: Format,
-    count: u64,
-) -> Result<Change<'static>, OfficeFault> {
+fn start(dataset: &'static [u8], format: Format, count: u64) -> Made {
     Ok(Change::Start {
         identity: identity(dataset)?,
         format,
@@ -122,11 +117,7 @@ fn reason_of(kind: ResponseKind) -> (Count<2>, &'static [u8]) {
     }
 }
 
-fn file(
-    dataset: &'static [u8],
-    kind: ResponseKind,
-    note: &'static str,
-) -> Result<Change<'static>, OfficeFault> {
+fn file(dataset: &'static [u8], kind: ResponseKind, note: &'static str) -> Made {
     let (reason, creator) = reason_of(kind);
     Ok(Change::File {
         kind,
@@ -137,7 +128,7 @@ fn file(
     })
 }
 
-fn issue(no: u64, kind: ResponseKind, note: &'static str) -> Result<Change<'static>, OfficeFault> {
+fn issue(no: u64, kind: ResponseKind, note: &'static str) -> Made {
     let (reason, _) = reason_of(kind);
     Ok(Change::Issue {
         no,
@@ -149,7 +140,7 @@ fn issue(no: u64, kind: ResponseKind, note: &'static str) -> Result<Change<'stat
 
 impl Act {
     /// The change.
-    pub(super) fn change(self, alloc: Global) -> Result<Change<'static>, OfficeFault> {
+    pub(super) fn change(self, alloc: Global) -> Made {
         match self {
             Act::Submit(dataset, format, records) => {
                 submit(dataset, format, rows(alloc, records)?)

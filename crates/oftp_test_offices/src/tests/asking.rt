@@ -111,24 +111,20 @@ fn units<O: Office>(
     Ok(number_line(alloc, units)?)
 }
 
-fn look_in<O: Office>(
+// The number of a letter's file, if it is there.
+fn look<O: Office>(
     alloc: Global,
     office: &mut O,
+    side: Side,
     dataset: &'static [u8],
 ) -> Result<String, OfficeFault> {
-    match office.look_in(&identity(dataset)?)? {
-        Some(entry) => Ok(number_line(alloc, entry.no)?),
-        None => Ok(line(alloc, "none")?),
-    }
-}
-
-fn look_out<O: Office>(
-    alloc: Global,
-    office: &mut O,
-    dataset: &'static [u8],
-) -> Result<String, OfficeFault> {
-    match office.look_out(&identity(dataset)?)? {
-        Some(entry) => Ok(number_line(alloc, entry.no)?),
+    let identity = identity(dataset)?;
+    let found = match side {
+        Side::Incoming => office.look_in(&identity)?.map(|entry| entry.no),
+        Side::Outgoing => office.look_out(&identity)?.map(|entry| entry.no),
+    };
+    match found {
+        Some(no) => Ok(number_line(alloc, no)?),
         None => Ok(line(alloc, "none")?),
     }
 }
@@ -176,8 +172,8 @@ pub(super) fn answer<O: Office>(
         }
         Ask::Rows(from, most) => rows(alloc, office, from, most),
         Ask::Units(side, no) => units(alloc, office, side, no),
-        Ask::LookIn(dataset) => look_in(alloc, office, dataset),
-        Ask::LookOut(dataset) => look_out(alloc, office, dataset),
+        Ask::LookIn(dataset) => look(alloc, office, Side::Incoming, dataset),
+        Ask::LookOut(dataset) => look(alloc, office, Side::Outgoing, dataset),
         Ask::ByNo(no) => by_no(alloc, office, no),
         Ask::Received(kind, dataset) => received(alloc, office, kind, dataset),
         Ask::Responses => responses(alloc, office),

@@ -2,8 +2,8 @@
 
 use super::act::{code, identity};
 use oftp_register::{
-    Cursor, Identity, IncomingEntry, IssuedEntry, IssuedResponse, Item, Name, Office, OfficeFault,
-    OutgoingEntry, OutgoingState, ReceivedEntry, ResponseKind, Side,
+    Cursor, Identity, IncomingEntry, IssuedEntry, IssuedResponse, Item, Name, Note, Office,
+    OfficeFault, OutgoingEntry, OutgoingState, ReceivedEntry, ResponseKind, Side,
 };
 use oftp_vfile::{Format, Limits, Rows};
 use std::alloc::{AllocError, Global};
@@ -62,17 +62,33 @@ fn add_response(all: &mut String, response: &IssuedResponse) -> Result<(), Alloc
     write!(all, " {kind} {reason} {note} {dispatch:?}")
 }
 
+// What a file is, whichever way it goes.
+fn add_header(
+    all: &mut String,
+    identity: &Identity,
+    format: Format,
+    longest: u32,
+    description: &Note,
+) -> Result<(), AllocError> {
+    let (letter, format, about) = (
+        letter(identity),
+        format_letter(format),
+        description.as_str(),
+    );
+    write!(all, "{letter} {format}{longest} {about} ")
+}
+
 fn add_incoming(all: &mut String, entry: &IncomingEntry) -> Result<(), AllocError> {
-    let (letter, format) = (letter(&entry.identity), format_letter(entry.format));
-    let about = entry.description.as_str();
-    let IncomingEntry {
-        no,
-        longest,
-        state,
-        rows,
-        ..
-    } = entry;
-    write!(all, "in {no} {letter} {format}{longest} {about} {state:?}")?;
+    let (no, state, rows) = (entry.no, entry.state, entry.rows);
+    write!(all, "in {no} ")?;
+    add_header(
+        all,
+        &entry.identity,
+        entry.format,
+        entry.longest,
+        &entry.description,
+    )?;
+    write!(all, "{state:?}")?;
     if let Some(response) = &entry.response {
         add_response(all, response)?;
     }
@@ -90,16 +106,15 @@ fn add_state(all: &mut String, state: OutgoingState) -> Result<(), AllocError> {
 }
 
 fn add_outgoing(all: &mut String, entry: &OutgoingEntry) -> Result<(), AllocError> {
-    let (letter, format) = (letter(&entry.identity), format_letter(entry.format));
-    let about = entry.description.as_str();
-    let OutgoingEntry {
-        no,
-        longest,
-        rows,
-        mark,
-        ..
-    } = entry;
-    write!(all, "out {no} {letter} {format}{longest} {about} ")?;
+    let (no, mark, rows) = (entry.no, entry.mark, entry.rows);
+    write!(all, "out {no} ")?;
+    add_header(
+        all,
+        &entry.identity,
+        entry.format,
+        entry.longest,
+        &entry.description,
+    )?;
     add_state(all, entry.state)?;
     write!(all, " mark {mark} {rows}")
 }
@@ -206,26 +221,26 @@ fn add_truth(all: &mut String, is_so: bool) -> Result<(), AllocError> {
     all.push_str(if is_so { "true " } else { "false " })
 }
 
-fn add_look_in<O: Office>(
+// The file of an identity, if it is there.
+fn add_look<O: Office>(
     all: &mut String,
     office: &mut O,
+    side: Side,
     identity: &Identity,
 ) -> Result<(), OfficeFault> {
-    if let Some(entry) = office.look_in(identity)? {
-        add_truth(all, entry.identity.is(identity))?;
-        add_incoming(all, &entry)?;
-    }
-    Ok(())
-}
-
-fn add_look_out<O: Office>(
-    all: &mut String,
-    office: &mut O,
-    identity: &Identity,
-) -> Result<(), OfficeFault> {
-    if let Some(entry) = office.look_out(identity)? {
-        add_truth(all, entry.identity.is(identity))?;
-        add_outgoing(all, &entry)?;
+    match side {
+        Side::Incoming => {
+            if let Some(entry) = office.look_in(identity)? {
+                add_truth(all, entry.identity.is(identity))?;
+                add_incoming(all, &entry)?;
+            }
+        }
+        Side::Outgoing => {
+            if let Some(entry) = office.look_out(identity)? {
+                add_truth(all, entry.identity.is(identity))?;
+                add_outgoing(all, &entry)?;
+            }
+        }
     }
     Ok(())
 }
@@ -236,8 +251,8 @@ fn add_file<O: Office>(
     office: &mut O,
     identity: &Identity,
 ) -> Result<(), OfficeFault> {
-    add_look_in(all, office, identity)?;
-    add_look_out(all, office, identity)?;
+    add_look(all, office, Side::Incoming, identity)?;
+    add_look(all, office, Side::Outgoing, identity)?;
     for kind in KINDS {
         add_truth(all, office.has_received(kind, identity)?)?;
     }
