@@ -72,10 +72,13 @@ CHECKS = [
     Check("books", "python3 checks/scenarios/book_faults.py", "the faults of partner books"),
     Check("units", "bash checks/scenarios/service_files.sh", "the units of examples/service"),
     Check("held database", "python3 checks/scenarios/database_held.py", "commands over a database that another process holds"),
+    Check("strangers", "python3 checks/scenarios/strangers.py", "callers who aren't let in, many at a time"),
     Check("sockets", "python3 checks/scenarios/sockets.py", "sessions and requests over sockets"),
+    Check("files made", "python3 checks/scenarios/files_made.py", "the files that the program makes: modes, owners and drafts"),
+    Check("edge calls", "python3 checks/faults/edge_calls.py", "calls for sockets and files that fail, and their order", wants_cc=True),
     Check("memory", "bash checks/speed/feed_64_mib.sh", "the memory of a session of 64 MiB", ALONE),
     Check("speed", "python3 checks/speed/receive_speed.py --assert", "what a file that comes in takes", ALONE),
-    Check("database", "python3 checks/speed/database_cost.py", "what a register in a database costs, beside stock sqlite3", ALONE),
+    Check("database", "python3 checks/speed/database_cost.py --assert", "what a register in a database costs, beside stock sqlite3", ALONE),
     Check("sizes", "python3 checks/speed/sizes.py", "files, texts, books and credits at their limits", ALONE),
 ]
 

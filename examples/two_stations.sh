@@ -134,7 +134,7 @@ services+=("$!")
 await "$http_port"
 echo "\$ GET http://127.0.0.1:$http_port/in"
 python3 -c 'import sys, urllib.request
-print(urllib.request.urlopen(sys.argv[1]).read().decode())' "http://127.0.0.1:$http_port/in"
+print(urllib.request.urlopen(sys.argv[1], timeout=60).read().decode())' "http://127.0.0.1:$http_port/in"
 
 say "What the services said: of the supplier's, and of the car maker's."
 cat supplier.lines

@@ -2,10 +2,30 @@
 # Runs the program, and the tests of refused growths, with each of their allocations refused in turn; and the test of the deframer's
 # room with every allocation behind the reservation refused. No answer may differ: only a fault may stand in its place. What the
 # program wrote by then is a beginning of the whole answer; where the register was refused memory, ESID 08 stands behind it. It wants a
-# C compiler. The program is that of OFTP_STATION, or else the one that was last proved. The tests are proved and built if need be; with
-# the word `built` they are taken as the last `rt ci` left them, and with the word `program` they are left out.
+# C compiler. The program is that of OFTP_STATION, or else the one that was last proved.
+#
+#     checks/faults/each_allocation_refused.sh [built|program] [--allocations N|all]
+#
+# The tests are proved and built if need be; with the word `built` they are taken as the last `rt ci` left them, and with the word
+# `program` they are left out. With `--allocations` the rows below are played over a database too, and requests and reports, with so many
+# allocations of each refused, or all.
 set -euo pipefail
-how=${1-}
+how=
+allocations=
+while [ $# -gt 0 ]; do
+    case "$1" in
+        built | program) how=$1 ;;
+        --allocations)
+            allocations=${2:?a number, or all}
+            shift
+            ;;
+        *)
+            echo "no such word: $1"
+            exit 2
+            ;;
+    esac
+    shift
+done
 root=$(cd "$(dirname "$0")/../.." && pwd)
 room=$(mktemp -d)
 trap 'rm -rf "$room"' EXIT
@@ -131,8 +151,13 @@ each_of_program feed --book "$book" "$root/examples/repeated_end_response.octets
 each_of_program feed --book "$book" "$root/examples/one_file.octets" answer
 if [ "$how" = program ]; then
     echo 'LEFT OUT, since only the gate builds them: the tests of refused growths and of the room that the deframer reserves'
-    exit
+else
+    none_behind_reservation oftp_test_register tests::streams::no_memory_within_room
+    each_of_test oftp_test_register tests::files::refused_and_taken_again
+    each_of_test oftp_test_register tests::registers::memory::each_allocation_refused
 fi
-none_behind_reservation oftp_test_register tests::streams::no_memory_within_room
-each_of_test oftp_test_register tests::files::refused_and_taken_again
-each_of_test oftp_test_register tests::registers::memory::each_allocation_refused
+if [ -n "$allocations" ]; then
+    rows=(receiving/empty_file taken_up/broken_and_taken_up listening/repeated_end_response sending/three_octets_out)
+    python3 "$root/checks/faults/stop_at_each_call.py" --refuse --allocations "$allocations" "${rows[@]}"
+    python3 "$root/checks/faults/listing_allocations.py" --allocations "$allocations"
+fi

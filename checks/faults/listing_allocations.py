@@ -1,7 +1,8 @@
 #!/usr/bin/env python3
 """Refuses the allocations of requests and of reports in turn.
 
-    checks/faults/listing_allocations.py [--most N]        as many of each as N says, 40 where there is no number, spread over all
+    checks/faults/listing_allocations.py [--allocations N]        as many of each as N says, 40 where there is no number, spread over all,
+                                                                  or `all`
 
 They are those that the opening of the database leaves; checks/faults/stop_at_each_call.py refuses the opening's own. A request is answered as
 always, or by a whole 503, or not at all, and then the program ends by a fault. A report is as always, or a fault stands in its place and
@@ -31,6 +32,8 @@ ASKED = {
     "incoming_states": (["in", "issued"], ["GET /in", "GET /in/1", "GET /responses", "POST /in/1", "GET /in/7", "GET /other", "GET"]),
     "outgoing_states": (["out", "received"], ["GET /out", "GET /out/1", "GET /responses"]),
 }
+# The requests whose reply is the same whatever a database holds, so that none is opened for them.
+OPEN_NONE = ("GET /other", "GET")
 FAULTS = (b"fault: 3 office\n", b"fault: 4 memory\n", b"fault: 6 store 2\n")
 UNAVAILABLE = listing_files.reply_of("503", "")
 
@@ -102,9 +105,10 @@ class Act:
 
 
 def numbers_of(act, opening, library):
-    """The numbers of the allocations that an opening leaves. `http` opens the database twice, and hears the request in between."""
+    """The numbers of the allocations that an opening leaves. `http` opens the database twice, and hears the request in between; for some
+    requests it opens it once, before them."""
     last = act.count(library)
-    if act.call is run:
+    if act.call is run or act.words in OPEN_NONE:
         return range(opening + 1, last + 1)
     left = last - 2 * opening
     return [*range(opening + 1, opening + left + 1), *range(last - left + 1, last + 1)]
@@ -144,8 +148,8 @@ def try_each(act, numbers, library, runners):
 
 def main():
     parser = argparse.ArgumentParser(description=__doc__.splitlines()[0])
-    parser.add_argument("--most", type=int, default=40)
-    most = parser.parse_args().most
+    parser.add_argument("--allocations", default="40")
+    most = parser.parse_args().allocations
     passed = failed = 0
     with tempfile.TemporaryDirectory() as path, ThreadPoolExecutor(max_workers=os.cpu_count()) as runners:
         library = compile_library(Path(path), "refuse_allocation")
@@ -155,7 +159,7 @@ def main():
             opening = Act("init", folder, run, ["init"]).count(library)
             acts = acts_over(folder, name)
             for act, numbers in zip(acts, runners.map(lambda act: numbers_of(act, opening, library), acts)):
-                some = numbers[:: max(len(numbers) // most, 1)]
+                some = numbers[:: 1 if most == "all" else max(len(numbers) // int(most), 1)]
                 told, faults = try_each(act, some, library, runners)
                 said = f"{act.name}: {len(some)} of {len(numbers)} allocations refused in turn, {told} told"
                 print("\n".join([*faults[:5], said]), flush=True)

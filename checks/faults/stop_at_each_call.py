@@ -1,8 +1,9 @@
 #!/usr/bin/env python3
 """Stops each command of a day and of some rows at each of its calls on the database, and refuses its allocations in turn.
 
-    checks/faults/stop_at_each_call.py [--allocations N] [--every N]      as many allocations of each command, 25 where there is no number,
-                                                                          spread over all; and each Nth call, where a number is given
+    checks/faults/stop_at_each_call.py [--allocations N] [--every N] [--refuse] [ROW ..]      as many allocations of each command, 25 where
+            there is no number, spread over all, or `all`; each Nth call, where a number is given; with `--refuse` allocations alone; and
+            these of the rows below, or all
 
 The commands are those of the rows below, each over the database that the ones before it left. At each call that changes a file of the
 database the program is killed before it; killed behind half of a write; or told a failure, then and at each later call. Each time, what
@@ -38,6 +39,7 @@ STOPPED = {
     "day/a_day": content(0, 2500),
     "receiving/empty_file": b"",
     "receiving/wrong_count": None,
+    "taken_up/broken_and_taken_up": content(0, 2500),
     "listening/repeated_end_response": None,
     "sending/three_octets_out": None,
     "sending/refusal_goes_out": None,
@@ -192,18 +194,19 @@ def commands_of(name, file, room):
             (now / name).unlink(missing_ok=True)
 
 
-def all_commands(room):
-    for name, file in STOPPED.items():
-        yield from commands_of(name, file, room)
+def all_commands(room, names):
+    for name in names:
+        yield from commands_of(name, STOPPED[name], room)
     (room / "empty").mkdir()
     for name in IN_MEMORY:
-        yield InMemory(Row(ROWS / f"{name}.row").sessions()[0], room / "empty", None)
+        if name in names:
+            yield InMemory(Row(ROWS / f"{name}.row").sessions()[0], room / "empty", None)
 
 
-def numbers_of(command, library, how, most, every):
-    """The numbers of the calls at which a command is stopped: each of them, or some that are spread over all."""
+def count_of(command, library, how):
+    """How many calls of a command can be stopped."""
     if not is_there(command, library, how, 1):
-        return []
+        return 0
     count = 1
     while is_there(command, library, how, 2 * count):
         count *= 2
@@ -211,8 +214,7 @@ def numbers_of(command, library, how, most, every):
     while high - low > 1:
         middle = (low + high) // 2
         low, high = (middle, high) if is_there(command, library, how, middle) else (low, middle)
-    step = every if most is None else max(low // most, 1)
-    return range(1, low + 1, step)
+    return low
 
 
 def is_there(command, library, how, number):
@@ -222,6 +224,19 @@ def is_there(command, library, how, number):
         shutil.copytree(command.base, room)
         given(command.words(room), room, stopping(how, number, library, reached))
         return reached.exists()
+
+
+def ways_of(command, taken):
+    """The ways in which a command is stopped."""
+    return ["refuse"] if taken.refuse or isinstance(command, InMemory) else ["kill", "tear", "fail", "refuse"]
+
+
+def numbers_of(command, how, count, taken):
+    """At which of so many calls a command is stopped: at each, each Nth, or some that are spread over all."""
+    if how != "refuse":
+        return range(1, count + 1, taken.every)
+    is_each = taken.allocations == "all" or isinstance(command, InMemory)
+    return range(1, count + 1, 1 if is_each else max(count // int(taken.allocations), 1))
 
 
 def stop_each(command, how, numbers, library, runners):
@@ -236,29 +251,48 @@ def stop_each(command, how, numbers, library, runners):
     return [f"{command.name}, {how} at {number}: {why}" for number, why in zip(numbers, runners.map(one, numbers)) if why]
 
 
-def main():
+def stop_in_all_ways(command, taken, libraries, runners):
+    """Stops a command in each way at its calls, and prints how often. It answers how many went well and ill."""
+    passed, failed, tried = 0, 0, []
+    for how in ways_of(command, taken):
+        library = libraries["refuse" if how == "refuse" else "fail"]
+        count = count_of(command, library, how if how == "refuse" else "fail")
+        numbers = numbers_of(command, how, count, taken)
+        faults = stop_each(command, how, numbers, library, runners)
+        if not numbers and command.lacks(how):
+            faults = [f"{command.name}, {how}: it {command.lacks(how)}"]
+        print("\n".join(faults[:5]), end="\n" if faults else "")
+        failed += len(faults)
+        passed += max(len(numbers) - len(faults), 0)
+        tried.append(f"{how} at {len(numbers)} of {count}")
+    print(f"{command.name}: {', '.join(tried)}", flush=True)
+    return passed, failed
+
+
+def read_words():
     parser = argparse.ArgumentParser(description=__doc__.splitlines()[0])
-    parser.add_argument("--allocations", type=int, default=25)
+    parser.add_argument("--allocations", default="25")
     parser.add_argument("--every", type=int, default=1)
+    parser.add_argument("--refuse", action="store_true")
+    parser.add_argument("rows", nargs="*", metavar="ROW")
     taken = parser.parse_args()
+    if not set(taken.rows) <= set(STOPPED):
+        parser.error(f"the rows are {', '.join(STOPPED)}")
+    if taken.allocations != "all" and not taken.allocations.strip("0").isdecimal():
+        parser.error("--allocations takes a number from 1 on, or all")
+    return taken
+
+
+def main():
+    taken = read_words()
     passed, failed = 0, 0
     with tempfile.TemporaryDirectory() as path, ThreadPoolExecutor(max_workers=os.cpu_count()) as runners:
         room = Path(path)
         libraries = {how: compile_library(room, name) for how, name in (("fail", "stop_calls"), ("refuse", "refuse_allocation"))}
-        for command in all_commands(room):
-            tried = []
-            for how in ("refuse",) if isinstance(command, InMemory) else ("kill", "tear", "fail", "refuse"):
-                library = libraries.get(how, libraries["fail"])
-                most = taken.allocations if how == "refuse" and not isinstance(command, InMemory) else None
-                numbers = numbers_of(command, library, how if how == "refuse" else "fail", most, taken.every)
-                faults = stop_each(command, how, numbers, library, runners)
-                if not numbers and command.lacks(how):
-                    faults = [f"{command.name}, {how}: it {command.lacks(how)}"]
-                print("\n".join(faults[:5]), end="\n" if faults else "")
-                failed += len(faults)
-                passed += max(len(numbers) - len(faults), 0)
-                tried.append(f"{len(numbers)} {how}")
-            print(f"{command.name}: {', '.join(tried)}", flush=True)
+        for command in all_commands(room, taken.rows or STOPPED):
+            well, ill = stop_in_all_ways(command, taken, libraries, runners)
+            passed += well
+            failed += ill
     print(f"{passed} passed, {failed} failed")
     return 1 if failed or not passed else 0
 
