@@ -8,6 +8,7 @@ pub mod AdditionLemmas
 pub mod KeepLemmas
 pub mod FitLemmas
 pub mod UnitLemmas
+pub mod FormatUnitLemmas
 pub mod LookUpLemmas
 pub mod ByIdentityLemmas
 pub mod EntryLemmas

@@ -5,6 +5,7 @@ pub mod Soundness
 pub mod SoundProps
 pub mod LookUps
 pub mod ByIdentity
+pub mod Units
 pub mod Verdicts
 pub mod Lists
 pub mod Plain

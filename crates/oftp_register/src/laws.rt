@@ -5,6 +5,7 @@ ghost use Rattle.oftp_register.specs.Register.{Register};
 ghost use Rattle.oftp_register.specs.Changes.{apply};
 ghost use Rattle.oftp_register.specs.Soundness.{IsFit, IsSound};
 ghost use Rattle.oftp_register.specs.ByIdentity.{AcceptedStarts, StartsAreFound, StaysElsewhere};
+ghost use Rattle.oftp_register.specs.Units.{UnitsAreTold};
 ghost use Rattle.oftp_register.specs.declared.change.Change.{Change};
 
 /// A change that is fit keeps a register sound: its identities apart, its rows in their formats, its marks within the rows, and
@@ -29,4 +30,10 @@ pub fn starts_are_found()
 /// the law.
 pub fn accepted_starts()
     ensures { AcceptedStarts }
+{}
+
+/// The octets of rows that fit a format are told from it, from the longest record, the number of rows and the last one, but in V. It
+/// does nothing; its contract is the law.
+pub fn units_are_told()
+    ensures { UnitsAreTold }
 {}

@@ -23,7 +23,7 @@ pub use entry::{Dispatch, Identity, IncomingState, OutgoingState, ResponseKind};
 pub use fit::{
     MOST_FILES, MOST_OCTETS, MOST_UNITS, are_full_rows, are_limits, are_rows, is_file, is_response,
 };
-pub use laws::{accepted_starts, changes_keep, changes_stay, starts_are_found};
+pub use laws::{accepted_starts, changes_keep, changes_stay, starts_are_found, units_are_told};
 pub use name::{DigitString, Name};
 pub use note::Note;
 pub use office::{Office, OfficeFault};

@@ -20,6 +20,7 @@ mod ReceivedLemmas
 mod LookLemmas
 mod LoopLemmas
 mod PageLemmas
+mod FormatLemmas
 mod OfficeLemmas
 mod OpenLemmas
 mod BlankLemmas

@@ -7,12 +7,13 @@ ghost use Rattle.oftp_register.specs.Changes.{apply, closed, closing, filed, giv
 ghost use Rattle.oftp_register.specs.declared.change.Change.TheVariants as change;
 ghost use Rattle.oftp_register.specs.Soundness.{AtNumber, Ends, GoesOn, IfOpen, IsFit, IsSound, MayStart};
 ghost use Rattle.oftp_register.specs.LookUps.{AreRowsWithin, IsIncomingWithin, IsItemWithin, IsOutgoingWithin, file_rows, files_full, in_by_no, list_in, list_issued, list_out, list_received, look_in, look_out, next_file, next_item, next_response, out_by_no, rows_of, units_of};
+ghost use Rattle.oftp_register.specs.Units.{file_format};
 ghost use Rattle.oftp_register.specs.Lists.{IsPlace, CarriesOut, beginning_of, incoming_of, issued_of, newly_started, outgoing_of, received_of, register_in, to_send};
 ghost use Rattle.oftp_register.specs.declared.fit.TheConstants.{MOST_UNITS};
 
 use super::incoming::{Header, IncomingFile};
 use super::outgoing::OutgoingFile;
-use super::units::count_units;
+use super::units::units_told;
 use crate::change::{Cause, Change};
 use crate::entries::{
     Cursor, IncomingEntry, IssuedEntry, IssuedResponse, Item, OutgoingEntry, ReceivedEntry,
@@ -629,13 +630,32 @@ impl Lists {
         copy_of(self.alloc, part_of(self.file_rows(side, no), from, most))
     }
 
+    // The format and the longest record of a file.
+    fn file_format(&self, side: Side, no: u64) -> Option<(Format, u32)>
+        ensures { result ≡ file_format (register_in self.now) side no }
+    {
+        match side {
+            Side::Incoming => {
+                let file = &self.incoming[place_of(no, self.incoming.len())?];
+                Some((file.format, file.longest))
+            }
+            Side::Outgoing => {
+                let file = &self.outgoing[place_of(no, self.outgoing.len())?];
+                Some((file.format, file.longest))
+            }
+        }
+    }
+
     // How many octets the rows of a file have.
     pub(crate) fn units_of(&self, side: Side, no: u64) -> u64
         requires { IsSound (register_in self.now) }
         ensures value { result ≡ units_of (register_in self.now) side no }
         ensures within { result ≤ MOST_UNITS }
     {
-        count_units(self.file_rows(side, no))
+        match self.file_format(side, no) {
+            Some((format, longest)) => units_told(format, longest, self.file_rows(side, no)),
+            None => 0,
+        }
     }
 
     // All incoming files.

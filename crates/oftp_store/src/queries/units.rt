@@ -1,17 +1,21 @@
 //! How many octets the rows of files have.
 
-ghost use Rattle.std.specs.Prelude.{◌≡◌, ◌≤◌, ◌<◌, ◌+◌, ◌^◌, IfOk, IfErr};
+ghost use Rattle.std.specs.Prelude.{◌≡◌, ◌≤◌, ◌<◌, ◌+◌, ◌*◌, ◌^◌, length, IfOk, IfErr, IfSome};
 ghost use Rattle.sqlite.specs.Held.{state};
-ghost use Rattle.oftp_vfile.specs.VirtualFile.{units_in};
-ghost use Rattle.oftp_register.specs.LookUps.{units_of};
+ghost use Rattle.oftp_vfile.specs.declared.format.TheConstants.{LONGEST_RECORD};
+ghost use Rattle.oftp_vfile.specs.VirtualFile.{IsLongest, units_in};
+ghost use Rattle.oftp_register.specs.LookUps.{file_rows, units_of};
 ghost use Rattle.oftp_register.specs.Offices.{IsFailure};
+ghost use Rattle.oftp_register.specs.Units.{file_format, units_in_blocks, units_told};
 ghost use Rattle.oftp_register.specs.declared.fit.TheConstants.{MOST_UNITS};
 ghost use Rattle.oftp_tables.specs.Statements.{Looks};
-ghost use Rattle.oftp_store.specs.Tells.{Tells};
+ghost use Rattle.oftp_store.specs.Tells.{Tells, TellsStored};
 
+use super::by_number::find;
+use super::header::{IncomingHeader, OutgoingHeader};
 use super::rows::{count_rows, find_rows};
 use oftp_register::{MOST_UNITS, OfficeFault, Side};
-use oftp_vfile::Row;
+use oftp_vfile::{BLOCK, Format, Row};
 use sqlite::{Alter, Connection};
 use std::alloc::Global;
 
@@ -35,7 +39,110 @@ fn add_units(units: u64, rows: &[Row]) -> Result<u64, OfficeFault>
     Ok(sum)
 }
 
-/// How many octets the rows of the file with a number have, 0 where there is none. The rows are read by pages.
+// How many octets the rows of the file with a number have, each of which is read, by pages.
+fn count_octets<S: Alter>(
+    alloc: Global,
+    conn: &mut Connection<S>,
+    side: Side,
+    no: u64,
+) -> Result<u64, OfficeFault>
+    requires { no < 2 ^ 63 }
+    ensures looks { Looks (state S.Store conn.old) (state S.Store conn.new) result }
+    ensures answer { Tells (λ r units. units ≡ units_in (file_rows r side no)) (state S.Store conn.old) (state S.Store conn.new) result }
+    ensures within { IfOk result (λ units. units ≤ MOST_UNITS) }
+{
+    let count = count_rows(conn, side, no)?;
+    let mut units = 0;
+    'pages: for page in 0..count / PAGE + 1 {
+        let rows = find_rows(alloc, conn, side, no, page * PAGE, PAGE)?;
+        units = add_units(units, rows.as_slice())?;
+    }
+    Ok(units)
+}
+
+// How many octets the records of the file with a number have, each of this length. None of them is read.
+fn count_records<S: Alter>(
+    conn: &mut Connection<S>,
+    side: Side,
+    no: u64,
+    longest: u32,
+) -> Result<u64, OfficeFault>
+    requires no { no < 2 ^ 63 }
+    requires longest { longest ≤ LONGEST_RECORD }
+    ensures looks { Looks (state S.Store conn.old) (state S.Store conn.new) result }
+    ensures answer { TellsStored (λ r units. units ≡ length (file_rows r side no) * longest) (state S.Store conn.old) (state S.Store conn.new) result }
+    ensures within { IfOk result (λ units. units ≤ MOST_UNITS) }
+{
+    let count = count_rows(conn, side, no)?;
+    Ok(u64::from(count) * u64::from(longest))
+}
+
+// How many octets the rows of the file with a number have, of which all but the last are full blocks. The last alone is read.
+fn count_blocks<S: Alter>(
+    alloc: Global,
+    conn: &mut Connection<S>,
+    side: Side,
+    no: u64,
+) -> Result<u64, OfficeFault>
+    requires { no < 2 ^ 63 }
+    ensures looks { Looks (state S.Store conn.old) (state S.Store conn.new) result }
+    ensures answer { TellsStored (λ r units. units ≡ units_in_blocks (file_rows r side no)) (state S.Store conn.old) (state S.Store conn.new) result }
+    ensures within { IfOk result (λ units. units ≤ MOST_UNITS) }
+{
+    let count = count_rows(conn, side, no)?;
+    let full = count.saturating_sub(1);
+    let last = find_rows(alloc, conn, side, no, full, 1)?;
+    add_units(u64::from(full) * BLOCK as u64, last.as_slice())
+}
+
+// How many octets the rows of the file with a number have, which fit this format and this longest record.
+fn count_in_format<S: Alter>(
+    alloc: Global,
+    conn: &mut Connection<S>,
+    side: Side,
+    no: u64,
+    format: Format,
+    longest: u32,
+) -> Result<u64, OfficeFault>
+    requires no { no < 2 ^ 63 }
+    requires longest { IsLongest format longest }
+    ensures looks { Looks (state S.Store conn.old) (state S.Store conn.new) result }
+    ensures answer { Tells (λ r units. units ≡ units_told format longest (file_rows r side no)) (state S.Store conn.old) (state S.Store conn.new) result }
+    ensures within { IfOk result (λ units. units ≤ MOST_UNITS) }
+{
+    match format {
+        Format::Fixed => count_records(conn, side, no, longest),
+        Format::Variable => count_octets(alloc, conn, side, no),
+        Format::Unstructured | Format::Text => count_blocks(alloc, conn, side, no),
+    }
+}
+
+// The format and the longest record of the file with a number, if there is one.
+fn find_format<S: Alter>(
+    alloc: Global,
+    conn: &mut Connection<S>,
+    side: Side,
+    no: u64,
+) -> Result<Option<(Format, u32)>, OfficeFault>
+    requires { no < 2 ^ 63 }
+    ensures looks { Looks (state S.Store conn.old) (state S.Store conn.new) result }
+    ensures answer { TellsStored (λ r found. found ≡ file_format r side no) (state S.Store conn.old) (state S.Store conn.new) result }
+    ensures within { IfOk result (λ found. IfSome found (λ format. IsLongest format.0 format.1)) }
+{
+    match side {
+        Side::Incoming => {
+            let header = find::<IncomingHeader, S>(alloc, conn, no)?;
+            Ok(header.map(|header| (header.file.format, header.file.longest)))
+        }
+        Side::Outgoing => {
+            let header = find::<OutgoingHeader, S>(alloc, conn, no)?;
+            Ok(header.map(|header| (header.file.format, header.file.longest)))
+        }
+    }
+}
+
+/// How many octets the rows of the file with a number have, 0 where there is none. In F no row is read, in U and T the last one, and
+/// in V each, by pages.
 pub(crate) fn count_units<S: Alter>(
     alloc: Global,
     conn: &mut Connection<S>,
@@ -47,11 +154,8 @@ pub(crate) fn count_units<S: Alter>(
     ensures answer { Tells (λ r units. units ≡ units_of r side no) (state S.Store conn.old) (state S.Store conn.new) result }
     ensures within { IfOk result (λ units. units ≤ MOST_UNITS) }
 {
-    let count = count_rows(conn, side, no)?;
-    let mut units = 0;
-    'pages: for page in 0..count / PAGE + 1 {
-        let rows = find_rows(alloc, conn, side, no, page * PAGE, PAGE)?;
-        units = add_units(units, rows.as_slice())?;
-    }
-    Ok(units)
+    let Some((format, longest)) = find_format(alloc, conn, side, no)? else {
+        return Ok(0);
+    };
+    count_in_format(alloc, conn, side, no, format, longest)
 }

@@ -5,7 +5,7 @@ use Rattle.oftp_register.specs.Register.{Register}
 use Rattle.oftp_register.specs.LookUps.{file_rows}
 use Rattle.oftp_register.specs.declared.fit.TheConstants.{MOST_UNITS}
 use Rattle.oftp_store.proofs.LoopLemmas.{IsKnown}
-use Rattle.oftp_store.proofs.queries.units.count_units.Given as goal
+use Rattle.oftp_store.proofs.queries.units.count_octets.Given as goal
 
 -- the pages so far are counted
 abbrev pub invariant-pages : goal.invariant-pages
