@@ -25,3 +25,4 @@ pub mod Turns
 pub mod Proceeding
 pub mod Outputs
 pub mod Resources
+pub mod Recalling

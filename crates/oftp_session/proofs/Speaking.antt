@@ -18,7 +18,7 @@ use Rattle.oftp_session.specs.declared.state.Contact.{Contact}
 use Rattle.oftp_session.specs.declared.state.State.{State}
 use Rattle.oftp_session.specs.declared.state.State.TheVariants as state
 use Rattle.oftp_session.specs.Settings.{Setting}
-use Rattle.oftp_session.specs.Phases.{Phase, Step, Transfer, AwaitingStart, Sending, frame_of, quiet}
+use Rattle.oftp_session.specs.Phases.{Phase, Step, Transfer, Sending, frame_of, quiet}
 use Rattle.oftp_session.specs.Speaker.{having_tried_file, offer_of, offered_from, offers, on_item, sfid_of, speaks}
 use Rattle.oftp_session.specs.Sending.{credit_left, sends_next, turned_sending, payloads_in}
 use Rattle.oftp_session.specs.Steps.{turned}

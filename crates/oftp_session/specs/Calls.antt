@@ -16,10 +16,12 @@ use Rattle.oftp_session.specs.Phases.{Phase, Step, framed, register_after}
 use Rattle.oftp_session.specs.Steps.{Suits}
 use Rattle.oftp_session.specs.Standings.{Standing, StandsIn}
 
--- what a caller sees of a session: its book and whom it calls, where it stands, and the frame that it said last, [] for none
+-- what a caller sees of a session: its book and whom it calls, where it stands, whether it asks to speak, once that was looked up, and
+-- the frame that it said last, [] for none
 pub record Seen : Type 0 where
   pub setting : Setting
   pub standing : Standing
+  pub asks : Option Bool
   pub spoken : List ℕ
 
 -- a session is in this phase

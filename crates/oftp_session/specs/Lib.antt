@@ -9,6 +9,7 @@ pub mod Sending
 pub mod Steps
 pub mod Standings
 pub mod Calls
+pub mod Recalling
 pub mod After
 pub mod Inside
 pub mod Payloads

@@ -7,6 +7,7 @@
 mod change;
 mod commands;
 mod frame;
+mod laws;
 mod link;
 mod listener;
 mod opening;
@@ -18,5 +19,6 @@ mod session;
 mod speaker;
 mod state;
 
+pub use laws::admissions_ask_no_register;
 pub use link::{Link, WhenDone};
 pub use session::{Ending, Out, Session, SessionFault};

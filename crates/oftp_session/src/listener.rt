@@ -9,6 +9,7 @@ ghost use Rattle.oftp_vfile.specs.declared.format.TheConstants.{MOST_ROWS};
 ghost use Rattle.oftp_session.specs.Settings.{setting_of};
 ghost use Rattle.oftp_session.specs.Listener.{came_listener_idle, filing, is_between, response_step};
 ghost use Rattle.oftp_session.specs.Receiving.{asks_to_speak, keeping, offer_step, offered_identity, terms_within, verdict_on};
+ghost use Rattle.oftp_session.specs.Recalling.{IsSoOf};
 ghost use Rattle.oftp_session.specs.Responses.{as_received};
 ghost use Rattle.oftp_session.specs.Starting.{IsFound, MayBegin, Starts, reception_of};
 ghost use Rattle.oftp_session.specs.Inside.{Files, Finds, IsAccepted, Takes};
@@ -74,11 +75,18 @@ pub(crate) trait ListenerPart: Office {
             → Files (keeping no rows.items) (Self.view self.old) (Self.view self.new) result }
         ensures err { IfErr result (λ fault. fault ≡ SessionFault.Office) };
 
-    /// Whether a response is next that wasn't tried.
-    fn asks_to_speak(&mut self, contact: &Contact) -> Result<bool, SessionFault>
+    /// Whether a response is next that wasn't tried. It is looked up once while the partner speaks, since no change of a listener makes
+    /// a response due.
+    fn asks_to_speak(
+        &mut self,
+        contact: &Contact,
+        asks: &mut Option<bool>,
+    ) -> Result<bool, SessionFault>
         ensures clean { (Self.view self.new).clean → (Self.view self.old).clean }
-        ensures finds { (Self.view self.new).clean → (Self.view self.old).stands
+        ensures finds { (Self.view self.new).clean → (Self.view self.old).stands → IsSoOf asks.old contact.now (Self.view self.old).register
             → Finds (asks_to_speak contact.now) (Self.view self.old) (Self.view self.new) result }
+        ensures recalls { (Self.view self.new).clean → (Self.view self.old).stands → IsSoOf asks.old contact.now (Self.view self.old).register
+            → IsSoOf asks.new contact.now (Self.view self.old).register }
         ensures err { IfErr result (λ fault. fault ≡ SessionFault.Office) };
 }
 
@@ -150,11 +158,20 @@ impl<O: Office> ListenerPart for O {
         )
     }
 
-    fn asks_to_speak(&mut self, contact: &Contact) -> Result<bool, SessionFault> {
-        match self.next_item(&contact.code, contact.tried, false) {
-            Ok(item) => Ok(item.is_some()),
-            Err(_) => Err(SessionFault::Office),
+    fn asks_to_speak(
+        &mut self,
+        contact: &Contact,
+        asks: &mut Option<bool>,
+    ) -> Result<bool, SessionFault> {
+        if let Some(given) = *asks {
+            return Ok(given);
         }
+        let Ok(item) = self.next_item(&contact.code, contact.tried, false) else {
+            return Err(SessionFault::Office);
+        };
+        let given = item.is_some();
+        *asks = Some(given);
+        Ok(given)
     }
 }
 

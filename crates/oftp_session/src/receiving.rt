@@ -4,6 +4,7 @@ ghost use Rattle.std.specs.Prelude.{◌≡◌, ◌≢◌, ◌+◌, false, nat_lt
 ghost use Rattle.oftp_vfile.specs.Carries.{is_open};
 ghost use Rattle.oftp_session.specs.Phases.{Receipt};
 ghost use Rattle.oftp_session.specs.Receiving.{came_receiving, carried_by, data_step, end_step, on_end_verdict, reason_of, rows_to_keep, window_step};
+ghost use Rattle.oftp_session.specs.Recalling.{IsSoOf};
 ghost use Rattle.oftp_session.specs.Steps.{IsReceived};
 ghost use Rattle.oftp_session.specs.Standings.{Tracks};
 ghost use Rattle.oftp_session.specs.Calls.{IsFailure, takes_memory};
@@ -110,11 +111,14 @@ fn take_data<O: Office>(
 fn close<O: Office>(
     contact: Contact,
     reception: Reception,
+    asks: &mut Option<bool>,
     office: &mut O,
     frame: &mut Frame,
 ) -> Result<State, SessionFault>
     ensures clean { (O.view office.new).clean → (O.view office.old).clean }
-    ensures takes { (O.view office.new).clean → (O.view office.old).stands
+    ensures recalls { (O.view office.new).clean → (O.view office.old).stands
+        → IsSoOf asks.old contact (O.view office.old).register → IsSoOf asks.new contact (O.view office.old).register }
+    ensures takes { IsSoOf asks.old contact (O.view office.old).register → (O.view office.new).clean → (O.view office.old).stands
         → (f : Receipt) → IsReceived (O.view office.old).register f → Tracks contact f reception → is_open (carried_by f).stage ≡ false
         → Takes (on_end_verdict contact (O.view office.old).register f (carried_by f) EndVerdict.Accept)
         (O.view office.old) (O.view office.new) frame.new result }
@@ -124,7 +128,7 @@ fn close<O: Office>(
     let Ok(rows) = taker.close() else {
         return Err(SessionFault::Memory);
     };
-    let speaks = office.asks_to_speak(&contact)?;
+    let speaks = office.asks_to_speak(&contact, asks)?;
     // The answer stands spelled before the commit, so that only the writer can fail between the two.
     frame.say(&efpa(speaks));
     make(office, Change::Close { no: number, rows })?;
@@ -135,12 +139,16 @@ fn close<O: Office>(
 fn take_end<O: Office>(
     contact: Contact,
     reception: Reception,
+    asks: &mut Option<bool>,
     office: &mut O,
     efid: &Efid,
     frame: &mut Frame,
 ) -> Result<State, SessionFault>
     ensures clean { (O.view office.new).clean → (O.view office.old).clean }
-    ensures takes { StepsFrom IsReceived (λ f. Tracks contact f reception) (λ r f. end_step contact r f efid.now)
+    ensures recalls { (O.view office.new).clean → (O.view office.old).stands
+        → IsSoOf asks.old contact (O.view office.old).register → IsSoOf asks.new contact (O.view office.old).register }
+    ensures takes { IsSoOf asks.old contact (O.view office.old).register
+        → StepsFrom IsReceived (λ f. Tracks contact f reception) (λ r f. end_step contact r f efid.now)
         (O.view office.old) (O.view office.new) frame.new result }
     ensures err { IfErr result IsFailure }
 {
@@ -155,7 +163,7 @@ fn take_end<O: Office>(
             make(office, Change::GiveUp { no })?;
             Ok(State::ListenerIdle(contact))
         }
-        EndVerdict::Accept => close(contact, reception, office, frame),
+        EndVerdict::Accept => close(contact, reception, asks, office, frame),
     }
 }
 
@@ -164,19 +172,23 @@ fn take_end<O: Office>(
 pub(crate) fn in_receiving<O: Office>(
     contact: Contact,
     reception: Reception,
+    asks: &mut Option<bool>,
     office: &mut O,
     command: &Command<'_>,
     frame: &mut Frame,
 ) -> Result<State, SessionFault>
     ensures clean { (O.view office.new).clean → (O.view office.old).clean }
-    ensures takes { StepsFrom IsReceived (λ f. Tracks contact f reception) (λ r f. came_receiving contact r f command.now)
+    ensures recalls { (O.view office.new).clean → (O.view office.old).stands
+        → IsSoOf asks.old contact (O.view office.old).register → IsSoOf asks.new contact (O.view office.old).register }
+    ensures takes { IsSoOf asks.old contact (O.view office.old).register
+        → StepsFrom IsReceived (λ f. Tracks contact f reception) (λ r f. came_receiving contact r f command.now)
         (O.view office.old) (O.view office.new) frame.new result }
     ensures err { IfErr result IsFailure }
     ensures light { takes_memory command.now ≡ false → IfErr result (λ fault. fault ≢ SessionFault.Memory) }
 {
     match command {
         Command::Data(payload) => take_data(contact, reception, office, payload.octets(), frame),
-        Command::Efid(efid) => take_end(contact, reception, office, efid, frame),
+        Command::Efid(efid) => take_end(contact, reception, asks, office, efid, frame),
         _ => Ok(State::unexpected(command, frame)),
     }
 }

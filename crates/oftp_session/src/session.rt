@@ -6,6 +6,7 @@ ghost use Rattle.oftp_session.specs.Phases.{Phase, ending_of, esid_of, frame_of}
 ghost use Rattle.oftp_session.specs.Steps.{came, has_turn, turned, Holds};
 ghost use Rattle.oftp_session.specs.Standings.{StandsIn, ended_as, is_closed, is_due, is_receiving, is_sending, standing_of, turns_left};
 ghost use Rattle.oftp_session.specs.Calls.{Does, IsFailure, IsFull, Seen, Stands, heard, takes_memory};
+ghost use Rattle.oftp_session.specs.Recalling.{IsSoAt};
 ghost use Rattle.oftp_session.specs.Inside.{Takes};
 
 use crate::frame::Frame;
@@ -51,12 +52,14 @@ pub enum Out<'a> {
     Send(&'a [u8]),
 }
 
-/// One session with a partner, by a book.
+/// One session with a partner, by a book. All its calls are over one office: what it looked up may not be looked up again.
 #[derive(Drop)]
 pub struct Session<'b> {
     setting: Setting<'b>,
     // After a fault nothing is held.
     state: Option<State>,
+    // Whether the station asks to speak, once that was looked up since the partner speaks.
+    asks: Option<bool>,
     frame: Frame,
 }
 
@@ -70,6 +73,7 @@ impl<'b> Model for Session<'b> {
     ghost view = { λ s. record {
       setting = setting_of s.setting;
       standing = standing_held s.state;
+      asks = s.asks;
       spoken = s.frame;
     } };
 }
@@ -79,6 +83,7 @@ impl<'b> Model for Session<'b> {
 fn came<O: Office>(
     setting: Setting<'_>,
     state: State,
+    asks: &mut Option<bool>,
     office: &mut O,
     command: &Command<'_>,
     frame: &mut Frame,
@@ -87,12 +92,18 @@ fn came<O: Office>(
     ensures clean { (O.view office.new).clean → (O.view office.old).clean }
     ensures takes { (O.view office.new).clean → (O.view office.old).stands
         → (p : Phase) → Holds p (O.view office.old).register → StandsIn p (standing_of state)
+        → IsSoAt asks.old (standing_of state) (O.view office.old).register
         → Takes (came (setting_of setting.entry) p (O.view office.old).register command.now)
         (O.view office.old) (O.view office.new) frame.new result }
+    ensures recalls { (O.view office.new).clean → (O.view office.old).stands
+        → (p : Phase) → Holds p (O.view office.old).register → StandsIn p (standing_of state)
+        → IsSoAt asks.old (standing_of state) (O.view office.old).register
+        → IfOk result (λ next. IsSoAt asks.new (standing_of next) (O.view office.new).register) }
     ensures err { IfErr result IsFailure }
     ensures spared { is_receiving (standing_of state) ≡ false → IfErr result (λ fault. fault ≢ SessionFault.Memory) }
     ensures light { takes_memory command.now ≡ false → IfErr result (λ fault. fault ≢ SessionFault.Memory) }
 {
+    *asks = state.while_listening(*asks);
     match state {
         State::ResponderOpening | State::SpeakerIdle(_, _) | State::GivingWay(_) => {
             Ok(State::unexpected(command, frame))
@@ -101,7 +112,7 @@ fn came<O: Office>(
         State::AwaitingSsid => Ok(in_awaiting_ssid(setting, command, frame)),
         State::ListenerIdle(contact) => in_listener_idle(setting, contact, office, command, frame),
         State::Receiving(contact, reception) => in_receiving(
-            contact, reception, office, command, frame,
+            contact, reception, asks, office, command, frame,
         ),
         State::AwaitingRtr(contact, number) => in_awaiting_rtr(
             contact, number, office, command, frame,
@@ -176,6 +187,7 @@ impl<'b> Session<'b> {
                 called: None,
             },
             state: Some(State::ResponderOpening),
+            asks: None,
             frame: Frame::empty(alloc),
         }
     }
@@ -194,6 +206,7 @@ impl<'b> Session<'b> {
                 called: Some(partner),
             },
             state: Some(State::InitiatorOpening),
+            asks: None,
             frame: Frame::empty(alloc),
         }
     }
@@ -253,7 +266,14 @@ impl<'b> Session<'b> {
             self.state = Some(state);
             return Err(SessionFault::Ended);
         }
-        self.state = Some(came(self.setting, state, office, command, &mut self.frame)?);
+        self.state = Some(came(
+            self.setting,
+            state,
+            &mut self.asks,
+            office,
+            command,
+            &mut self.frame,
+        )?);
         Ok(self.frame.out())
     }
 
@@ -285,6 +305,9 @@ impl<'b> Session<'b> {
         if state.is_closed() {
             self.state = Some(state);
             return Err(SessionFault::Ended);
+        }
+        if state.is_due() {
+            self.asks = None;
         }
         self.state = Some(turned(self.setting, state, office, &mut self.frame)?);
         Ok(self.frame.out())

@@ -1,8 +1,8 @@
 //! Where a session stands, and what it holds there.
 
-ghost use Rattle.std.specs.Prelude.{◌≡◌};
+ghost use Rattle.std.specs.Prelude.{◌≡◌, if◌then◌else◌, None, is_some};
 ghost use Rattle.oftp_session.specs.Phases.{fails, leaves, unexpected};
-ghost use Rattle.oftp_session.specs.Standings.{ended_as, is_closed, is_due, standing_of};
+ghost use Rattle.oftp_session.specs.Standings.{ended_as, is_closed, is_due, listens_to, standing_of};
 ghost use Rattle.oftp_session.specs.Inside.{Goes};
 
 use crate::commands::esid;
@@ -108,6 +108,26 @@ impl State {
         ensures { result ≡ is_closed (standing_of self.now) }
     {
         self.ended().is_some()
+    }
+
+    /// What was looked up while the partner speaks, and nothing where it doesn't.
+    pub(crate) fn while_listening(&self, asks: Option<bool>) -> Option<bool>
+        ensures { result ≡ (if is_some (listens_to (standing_of self.now)) then asks else None) }
+    {
+        match self {
+            State::ListenerIdle(_) | State::Receiving(_, _) => asks,
+            State::ResponderOpening
+            | State::InitiatorOpening
+            | State::AwaitingSsid
+            | State::SpeakerIdle(_, _)
+            | State::GivingWay(_)
+            | State::AwaitingRtr(_, _)
+            | State::AwaitingStart(_, _)
+            | State::Sending(_, _)
+            | State::AwaitingEnd(_, _)
+            | State::EndedHere(_)
+            | State::EndedThere(_) => None,
+        }
     }
 
     /// Whether an own command is due.
