@@ -13,27 +13,30 @@ use Rattle.oftp_register.specs.Register.{Register}
 use Rattle.oftp_register.specs.Soundness.{IsSound}
 use Rattle.oftp_session.specs.Calls.{Makes}
 use Rattle.oftp_session.specs.Settings.{Setting}
+use Rattle.oftp_session.specs.declared.session.Ending.{Ending}
 use Rattle.oftp_tables.specs.Tables.{register_in}
 use Rattle.oftp_store.specs.Views.{view_of}
 use Rattle.oftp_engine.specs.declared.operating.Operator.{Operator}
 use Rattle.oftp_engine.specs.declared.operating.Told.{Told}
 use Rattle.oftp_io.specs.declared.port.Port.{Port}
 use Rattle.oftp_engine.specs.declared.serving.End.{End}
+use Rattle.oftp_engine.specs.declared.serving.End.TheVariants.{Input}
 use Rattle.oftp_engine.specs.declared.serving.RunFault.{RunFault}
 use Rattle.oftp_engine.specs.declared.serving.RunFault.TheVariants as fault
+use Rattle.oftp_engine.specs.Conversation.{ComesTo, Dialogue}
 use Rattle.oftp_engine.specs.Jobs.{LeavesSome, call_share}
 use Rattle.oftp_engine.specs.Operated.{Operates}
 use Rattle.oftp_engine.specs.Operating.{Deed, IsDeed}
 use Rattle.oftp_engine.specs.Parts.{IsLeft, JobLeaves, OfCall, course_of}
 use Rattle.oftp_io.specs.Ports.{Wrote}
-use Rattle.oftp_engine.specs.Runs.{Course, Output, answered, octets_of, with_change}
+use Rattle.oftp_engine.specs.Runs.{Course, Output, answered, ended_as, octets_of, with_change}
 use Rattle.oftp_engine.specs.Served.{IsPrefix, IsWhole, Serves}
 use Rattle.oftp_engine.specs.Serving.{Took, last_frame, scene}
 use Rattle.oftp_engine.proofs.Ending.{answered_most, run_sound}
 use Rattle.oftp_engine.proofs.Jobs.{left_all, left_before, replay_one}
 use Rattle.oftp_engine.proofs.PartRuns.{jobs_make_the_file, parts_make_the_file}
 use Rattle.oftp_durable.proofs.Counts.{no_answer_passes}
-use Rattle.oftp_durable.specs.Headline.{ButForOffice, CallDone, CallLeaves, LeavesAlone, LeavesPrefix, SessionLeaves, StopsShort, session_of}
+use Rattle.oftp_durable.specs.Headline.{ButForOffice, CallDone, CallLeaves, LeavesAlone, LeavesPrefix, SessionLeaves, StopsShort, as_served, session_of}
 
 -- what the first outputs answered, where all of them are out and no more
 answered_first : (outs later : List Output) → answered (outs ++ later) (length (octets_of outs)) ≡ answered outs (length (octets_of outs))
@@ -156,6 +159,12 @@ module _ {W : Type 0} (contents : W → Option (List ℕ)) (x : View) (a b : Por
           register = λ _. h.register;
         })
 
+    pub conversation_leaves : (talk : Dialogue) (result : Result (Option Ending) RunFault) → ComesTo setting given talk (scene contents x a) (scene contents now b) result
+        → Served (as_served result)
+    conversation_leaves talk (Ok None) h = session_whole (Ok Input) (refl, refl) h.all
+    conversation_leaves talk (Ok (Some end)) h = session_whole (Ok (ended_as end)) (refl, refl) h.all
+    conversation_leaves talk (Err f) h = session_leaves (Err f) h
+
   pub session_alone : (setting : Setting) (given : List ℕ) (result : Result End RunFault) → Serves setting given (scene contents x a) (scene contents now b) result
       → ButForOffice result (LeavesAlone limits s (register_in limits s.now.trees))
   session_alone setting given (Ok end) h = record { has = (h.all.stands, refl); left = h.all.left }
@@ -163,6 +172,12 @@ module _ {W : Type 0} (contents : W → Option (List ℕ)) (x : View) (a b : Por
   session_alone setting given (Err fault.Write) h = record { has = (h.stands, refl); left = h.left }
   session_alone setting given (Err fault.Office) h = tt
   session_alone setting given (Err fault.Memory) h = record { has = (h.stands, refl); left = h.left }
+
+  pub conversation_alone : (setting : Setting) (given : List ℕ) (talk : Dialogue) (result : Result (Option Ending) RunFault)
+      → ComesTo setting given talk (scene contents x a) (scene contents now b) result → ButForOffice result (LeavesAlone limits s (register_in limits s.now.trees))
+  conversation_alone setting given talk (Ok None) h = record { has = (h.all.stands, refl); left = h.all.left }
+  conversation_alone setting given talk (Ok (Some end)) h = record { has = (h.all.stands, refl); left = h.all.left }
+  conversation_alone setting given talk (Err f) h = session_alone setting given (Err f) h
 
   -- an operator's call
 

@@ -1,5 +1,5 @@
 -- The headline: what a stop leaves of a database, as the register after the first of the changes that were accepted.
-use Rattle.std.specs.Prelude.{◌≡◌, ℕ, ⊤, true, List, [], ◌++◌, take, Option, None, is_some, IsTrue, Result, Ok, Err}
+use Rattle.std.specs.Prelude.{◌≡◌, ℕ, ⊤, true, List, [], ◌++◌, take, Option, None, Some, is_some, IsTrue, Result, Ok, Err}
 use Rattle.sqlite.specs.Tree.{Trees}
 use Rattle.sqlite.specs.State.{State}
 use Rattle.oftp_vfile.specs.declared.format.Limits.{Limits}
@@ -10,6 +10,7 @@ use Rattle.oftp_register.specs.ByIdentity.{in_at}
 use Rattle.oftp_register.specs.Changes.{apply_all}
 use Rattle.oftp_register.specs.Register.{Register}
 use Rattle.oftp_session.specs.Settings.{Setting}
+use Rattle.oftp_session.specs.declared.session.Ending.{Ending}
 use Rattle.oftp_tables.specs.Tables.{register_in}
 use Rattle.oftp_tables.specs.Stands.{IsContentOf}
 use Rattle.oftp_store.specs.Opens.{Has}
@@ -17,13 +18,14 @@ use Rattle.oftp_engine.specs.declared.operating.Operator.{Operator}
 use Rattle.oftp_engine.specs.declared.operating.Told.{Told}
 use Rattle.oftp_io.specs.declared.port.Port.{Port}
 use Rattle.oftp_engine.specs.declared.serving.End.{End}
+use Rattle.oftp_engine.specs.declared.serving.End.TheVariants.{Input}
 use Rattle.oftp_engine.specs.declared.serving.RunFault.{RunFault}
 use Rattle.oftp_engine.specs.declared.serving.RunFault.TheVariants as fault
 use Rattle.oftp_engine.specs.Jobs.{call_share}
 use Rattle.oftp_engine.specs.Operating.{Deed, IsDeed}
 use Rattle.oftp_engine.specs.Parts.{BringsParts, File, IsSoFar, SessionData, course_of}
 use Rattle.oftp_io.specs.Ports.{Wrote}
-use Rattle.oftp_engine.specs.Runs.{answered, octets_of}
+use Rattle.oftp_engine.specs.Runs.{answered, ended_as, octets_of}
 use Rattle.oftp_engine.specs.Served.{IsPrefix}
 use Rattle.oftp_engine.specs.Serving.{last_frame}
 use Rattle.oftp_durable.specs.Counts.{AnswersAreKept}
@@ -54,6 +56,12 @@ UnlessOffice fault.Memory holds = holds
 abbrev pub ButForOffice : {T : Type 0} → Result T RunFault → Type 0 → Type 0
 ButForOffice (Ok x) holds = holds
 ButForOffice (Err fault) holds = UnlessOffice fault holds
+
+-- what a conversation answers, as the answer of a session: where it waits, that of one whose input ends there
+abbrev pub as_served : Result (Option Ending) RunFault → Result End RunFault
+as_served (Ok None) = Ok Input
+as_served (Ok (Some ending)) = Ok (ended_as ending)
+as_served (Err fault) = Err fault
 
 -- a session over these octets, whose writer had taken so many octets when it told a fault, if it did
 abbrev pub session_of : Setting → List ℕ → Option ℕ → SessionData

@@ -2,12 +2,14 @@
 #![tactic(auto)]
 
 mod calling;
+mod conversation;
 mod jobs;
 mod laws;
 mod opening;
 mod serving;
 
 pub use calling::operate_durable;
+pub use conversation::go_on_durable;
 pub use jobs::{Ran, run_at, run_durable};
 pub use laws::no_answer_passes;
 pub use opening::open_durable;

@@ -19,7 +19,8 @@ use Rattle.oftp_engine.specs.declared.serving.RunFault.{RunFault}
 use Rattle.oftp_engine.specs.declared.serving.RunFault.TheVariants as fault
 use Rattle.oftp_engine.specs.Runs.{Course, Output, run, started, octets_of, answered, advance, is_stopped, with_change}
 use Rattle.oftp_engine.specs.Serving.{Scene, Took, last_frame}
-use Rattle.oftp_engine.specs.InsideServing.{Grows, Leads, Reaches, BreaksOff, OfficeFails, IsShort, Fails, Comes, IsOver, Sound, Counted}
+use Rattle.oftp_engine.specs.Progress.{Grows, Leads, Comes, Sound, Counted}
+use Rattle.oftp_engine.specs.InsideServing.{Reaches, BreaksOff, OfficeFails, IsShort, Fails, IsOver}
 use Rattle.oftp_engine.specs.Served.{whole, broken_off, IsPrefix, OfficeLeaves, IsWhole, IsBrokenOff, IsOfficeFault, IsOutOfMemory, ServesErr, StopsWithin}
 use Rattle.oftp_engine.proofs.Courses.{grows_none, grows_on, grows_step, run_grows, run_over, run_waits, run_stopped, sound_start}
 use Rattle.oftp_engine.proofs.Phases.{over_from}

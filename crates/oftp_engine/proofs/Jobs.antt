@@ -341,12 +341,12 @@ module _ {R W : Type 0} (remaining : R → Option (List ℕ)) (contents : W → 
   near_on k m n (inr e) = inr (omega arith)
 
   -- what a job leaves, seen from the first register
-  leaves_from : (first old new : View) (before changes : List Change) (least made : ℕ) → apply_all first.register before ≡ Ok old.register
-      → LeavesSome changes least made old.register new → LeavesSome (before ++ changes) (length before + least) (length before + made) first.register new
-  leaves_from first old new before changes least made replay h = record {
+  pub leaves_from : (r s : Register) (new : View) (before changes : List Change) (least made : ℕ) → apply_all r before ≡ Ok s
+      → LeavesSome changes least made s new → LeavesSome (before ++ changes) (length before + least) (length before + made) r new
+  leaves_from r s new before changes least made replay h = record {
     kept = let k = h.kept in omega arith;
     few = few_of before changes made h.few;
-    register = λ is_open. from_first first.register old.register new.register before changes made replay (h.register is_open);
+    register = λ is_open. from_first r s new.register before changes made replay (h.register is_open);
     left = λ content may.
         let p = h.left content may in
         let le = p.least in
@@ -356,7 +356,7 @@ module _ {R W : Type 0} (remaining : R → Option (List ℕ)) (contents : W → 
           most = few_of before changes p.count p.most;
           near = near_on (length before) made p.count p.near;
           register = p.register;
-          replay = from_first first.register old.register p.register before changes p.count replay p.replay;
+          replay = from_first r s p.register before changes p.count replay p.replay;
           holds = p.holds;
         };
   }
@@ -425,7 +425,7 @@ module _ {R W : Type 0} (remaining : R → Option (List ℕ)) (contents : W → 
       done = h.done;
       stop = job.stop;
       stops = subst (λ (r : Register). JobStops remaining contents book r here b job.stop f) h.register job.stops;
-      leaves = leaves_from first old new (changes_of first.register h.entries) job.stop.changes job.stop.answered job.stop.made h.replay job.leaves;
+      leaves = leaves_from first.register old.register new (changes_of first.register h.entries) job.stop.changes job.stop.answered job.stop.made h.replay job.leaves;
       ends = subst (λ (n : ℕ). EndsWith n new f) h.faults job.ends;
     }
 

@@ -15,9 +15,12 @@ pub mod Pumping
 pub mod Stepping
 pub mod Telling
 pub mod Served
+pub mod Conversations
+pub mod Listening
 pub mod Deciding
 pub mod Offers
 pub mod Jobs
+pub mod Growing
 pub mod PartRows
 pub mod PartChanges
 pub mod PartSteps

@@ -41,7 +41,7 @@ use Rattle.oftp_engine.specs.Operating.{Deed, IsDeed, IsFileOf, decided, identit
 use Rattle.oftp_engine.proofs.Offers.{is_file}
 use Rattle.oftp_engine.specs.Parts.{AreParts, BringsParts, File, IsLeft, IsOpenWith, IsPart, IsSoFar, JobData, JobsMakeTheFile, LeaveAll, JobLeaves, MayDo, NoCountPasses, OfCall, PartsMakeTheFile, OfSession, SessionData, course_of, rows_here}
 use Rattle.oftp_engine.specs.Runs.{Course, advance, came_in, is_stopped, refusal, settled, started, step_on, turned_in, turns, with_change}
-use Rattle.oftp_engine.specs.InsideServing.{Sound}
+use Rattle.oftp_engine.specs.Progress.{Sound}
 use Rattle.oftp_engine.proofs.Courses.{grows_step, sound_start}
 use Rattle.oftp_engine.proofs.Folding.{folds_all}
 use Rattle.oftp_engine.proofs.PartChanges.{part_change}

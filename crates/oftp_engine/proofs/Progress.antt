@@ -16,7 +16,8 @@ use Rattle.oftp_engine.specs.declared.serving.RunFault.{RunFault}
 use Rattle.oftp_engine.specs.declared.serving.RunFault.TheVariants as fault
 use Rattle.oftp_engine.specs.Runs.{Course, Output, advance, run, is_stopped, octets_of, with_output, with_change, turned_in, came_in}
 use Rattle.oftp_engine.specs.Serving.{IsSaid, MayRunOut, Scene, Took}
-use Rattle.oftp_engine.specs.InsideServing.{Leads, Reaches, Went, Fails, Made, StepFails}
+use Rattle.oftp_engine.specs.Progress.{Leads, Went}
+use Rattle.oftp_engine.specs.InsideServing.{Reaches, Fails, Made, StepFails}
 use Rattle.oftp_io.proofs.Bytes.{appends_none, appends_on, count_on}
 use Rattle.oftp_engine.proofs.Courses.{grows_none, grows_on, grows_step, octets-append, stopped_before, run_turn, run_frame, run_bad, run_over}
 

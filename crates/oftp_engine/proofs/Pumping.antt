@@ -17,7 +17,8 @@ use Rattle.oftp_session.specs.Calls.{Proceeds, Seen, Stands}
 use Rattle.oftp_engine.specs.declared.serving.RunFault.{RunFault}
 use Rattle.oftp_engine.specs.Runs.{Course, advance, run, is_stopped, step_on}
 use Rattle.oftp_engine.specs.Serving.{Scene}
-use Rattle.oftp_engine.specs.InsideServing.{Comes, Fails, IsAt, IsOver, IsWaiting, Made, Pumped, Settles, StepFails, Stepped}
+use Rattle.oftp_engine.specs.Progress.{Comes, IsAt}
+use Rattle.oftp_engine.specs.InsideServing.{Fails, IsOver, IsWaiting, Made, Pumped, Settles, StepFails, Stepped}
 use Rattle.oftp_engine.proofs.Phases.{fails_proceed, live_from, step_proceeds}
 use Rattle.oftp_engine.proofs.Progress.{fails_later, fails_step, fails_with, leads_bad, leads_frame, leads_step, reaches_step, told_some, went_on, went_step, went_with}
 

@@ -22,7 +22,7 @@ use Rattle.oftp_session.specs.Steps.{Holds}
 use Rattle.oftp_session.specs.Listener.{end_response, negative_end_response}
 use Rattle.oftp_session.specs.Receiving.{offered_identity}
 use Rattle.oftp_session.specs.Sending.{payloads_in}
-use Rattle.oftp_engine.specs.InsideServing.{Counted}
+use Rattle.oftp_engine.specs.Progress.{Counted}
 use Rattle.oftp_engine.specs.Runs.{Course}
 use Rattle.oftp_engine.specs.World.{Station, World, latest, left_after, Event, after_event}
 use Rattle.oftp_register.specs.ByIdentity.{out_at, in_at}

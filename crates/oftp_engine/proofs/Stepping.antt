@@ -16,9 +16,11 @@ use Rattle.oftp_session.specs.declared.session.SessionFault.TheVariants as sessi
 use Rattle.oftp_session.specs.Phases.{EndedHere, Phase, Sending, Step, Transfer, fails, register_after}
 use Rattle.oftp_session.specs.declared.state.Contact.{Contact}
 use Rattle.oftp_session.specs.Standings.{At, Awaits, Broken, Offers, Receives, Sends, Standing, StandsIn, is_sending}
+use Rattle.oftp_session.proofs.Recalling.{ended_recalls}
 use Rattle.oftp_session.proofs.Standings.{phase_sent}
 use Rattle.oftp_session.specs.Steps.{Suits}
 use Rattle.oftp_session.specs.Settings.{Setting}
+use Rattle.oftp_session.specs.Recalling.{Recalls}
 use Rattle.oftp_session.specs.Calls.{Makes, IsMade, IsBefore, IsAfter, IsBroken, IsUndone, Does, DoesNot, Seen, Stands, said as said_of}
 use Rattle.oftp_io.proofs.Bytes.{appends_none}
 use Rattle.oftp_io.specs.declared.port.Port.{Port}
@@ -27,7 +29,9 @@ use Rattle.oftp_engine.specs.declared.serving.RunFault.TheVariants as fault
 use Rattle.oftp_io.specs.Ports.{Sent}
 use Rattle.oftp_engine.specs.Runs.{Course, advance}
 use Rattle.oftp_engine.specs.Serving.{last_frame, Scene, scene, Took}
-use Rattle.oftp_engine.specs.InsideServing.{BrokeOff, IsOwn, LastWords, run_fault, NotMade, NoMemory, Stepped, StepFails, IsAt, StaysBefore, StaysAfter}
+use Rattle.oftp_engine.specs.Progress.{IsAt}
+use Rattle.oftp_engine.specs.Conversation.{IsOwn}
+use Rattle.oftp_engine.specs.InsideServing.{BrokeOff, LastWords, run_fault, NotMade, NoMemory, Stepped, StepFails, StaysBefore, StaysAfter}
 
 pub last_from : {W : Type 0} (contents : W → Option (List ℕ)) (a d : Port W) (said : List ℕ) (all : Bool) → said ≡ last_frame → Sent contents a d said all → LastWords contents a d
 last_from contents a d said all e s = (all, subst (λ (x : List ℕ). Sent contents a d x all) e s)
@@ -48,19 +52,20 @@ made_register (Some k) r new h = sym (ap (λ (x : Result Register Cause). result
 -- a call that did its step, and the write of what it said
 pub stepped_ok : {T W : Type 0} (contents : W → Option (List ℕ)) (a d : Port W) (x y : View) (c : Course) (step : Step) (seen : Seen) (said : List ℕ) (result : Result T RunFault) →
     seen.setting ≡ c.setting → IsMade step.change step.output x y said → x.register ≡ c.register → Suits step.phase (register_after c.register step.change) →
-    Stands step.phase seen → Sent contents a d said (is_ok result) → IfErr result (λ f. f ≡ fault.Write) →
+    Stands step.phase seen → Recalls seen y.register → Sent contents a d said (is_ok result) → IfErr result (λ f. f ≡ fault.Write) →
     Stepped c step seen (scene contents x a) (scene contents y d) result
 unfolding advance
-stepped_ok contents a d x y c step seen said (Ok t) setting made same suits stands sent err =
+stepped_ok contents a d x y c step seen said (Ok t) setting made same suits stands recalls sent err =
     let makes : Makes step.change c.register y.register = subst (λ (r : Register). Makes step.change r y.register) same made.register in
+    let after : y.register ≡ register_after c.register step.change = made_register step.change c.register y.register makes in
     record {
-      now = record { setting = setting; stands = stands; register = made_register step.change c.register y.register makes; suits = suits };
+      now = record { setting = setting; stands = stands; recalls = subst (Recalls seen) after recalls; register = after; suits = suits };
       took = subst (Took (scene contents x a) (scene contents y d)) made.said (record { contents = sent.wrote.contents; taken = sent.wrote.moved });
       stands = λ _. made.stands;
       faults = made.faults;
       told = sent.faults;
     }
-stepped_ok contents a d x y c step seen said (Err f) setting made same suits stands sent err =
+stepped_ok contents a d x y c step seen said (Err f) setting made same suits stands recalls sent err =
     let makes : Makes step.change c.register y.register = subst (λ (r : Register). Makes step.change r y.register) same made.register in
     let old = scene contents x a in
     let new = scene contents y d in
@@ -83,7 +88,13 @@ module _ {T W : Type 0} (contents : W → Option (List ℕ)) (a d : Port W) (x :
       → IfErr told (λ f. f ≡ fault.Write) → Stepped c (fails reason) seen (scene contents x a) (scene contents x d) told
   unfolding advance
   refused (Ok t) stands out wrong = record {
-    now = record { setting = setting ∙ at.setting; stands = stands; register = at.register; suits = record { sound = at.suits.sound; holds = tt } };
+    now = record {
+      setting = setting ∙ at.setting;
+      stands = stands;
+      recalls = ended_recalls reason seen c.register stands;
+      register = at.register;
+      suits = record { sound = at.suits.sound; holds = tt };
+    };
     took = record { contents = out.wrote.contents; taken = out.wrote.moved };
     stands = λ h. h;
     faults = refl;
@@ -159,11 +170,11 @@ module _ {W : Type 0} (contents : W → Option (List ℕ)) (a d : Port W) (x y :
   pub called_ok : {T : Type 0} (next : Seen) (out : Out) (result : Result T RunFault) →
       next.setting ≡ seen.setting → Does (step seen.setting x.register) x y (Ok (said_of out)) →
       Suits (step c.setting c.register).phase (register_after c.register (step c.setting c.register).change) →
-      Stands (step seen.setting x.register).phase next → Sent contents a d (said_of out) (is_ok result) → IfErr result (λ f. f ≡ fault.Write) →
+      Stands (step seen.setting x.register).phase next → Recalls next y.register → Sent contents a d (said_of out) (is_ok result) → IfErr result (λ f. f ≡ fault.Write) →
       Stepped c (step c.setting c.register) next (scene contents x a) (scene contents y d) result
-  called_ok next out result setting made suits stands sent err =
+  called_ok next out result setting made suits stands recalls sent err =
       stepped_ok contents a d x y c (step c.setting c.register) next (said_of out) result (setting ∙ at.setting)
-      (here (λ (s : Step). IsMade s.change s.output x y (said_of out)) made) at.register suits (here (λ (s : Step). Stands s.phase next) stands) sent err
+      (here (λ (s : Step). IsMade s.change s.output x y (said_of out)) made) at.register suits (here (λ (s : Step). Stands s.phase next) stands) recalls sent err
 
   -- it isn't made
   pub called_err : (f : SessionFault) → DoesNot (step seen.setting x.register).change x y f → BrokeOff contents a d f

@@ -11,7 +11,7 @@ use Rattle.oftp_register.specs.Register.{Register}
 use Rattle.oftp_register.specs.Changes.{apply_all, go_on_by}
 use Rattle.oftp_session.specs.Calls.{Makes}
 use Rattle.oftp_session.specs.Phases.{Step, register_after, frame_of}
-use Rattle.oftp_engine.specs.InsideServing.{Counted}
+use Rattle.oftp_engine.specs.Progress.{Counted}
 use Rattle.oftp_engine.specs.Runs.{Course, Output, advance, answered, octets_of, with_change, with_output}
 use Rattle.oftp_engine.specs.World.{latest}
 use Rattle.oftp_engine.proofs.Standing.{MayLeave}

@@ -1,70 +1,25 @@
 -- Inside: how far the engine has come in a run, for the functions of src/serving.rt.
-use Rattle.std.specs.Prelude.{◌≡◌, ℕ, ◌<◌, ◌⊎◌, ⊤, Bool, false, ◌≤◌, List, [], ◌∷◌, ◌++◌, length, take, Option, None, Some, Result, Ok, Err}
+use Rattle.std.specs.Prelude.{◌≡◌, ℕ, ◌<◌, ◌⊎◌, Bool, false, List, [], ◌++◌, length, take, Option, None, Some, Result, Ok, Err}
 use Rattle.oftp_wire.specs.Stream.{Stream, front, Waits}
-use Rattle.oftp_register.specs.declared.change.Change.{Change}
-use Rattle.oftp_register.specs.Register.{Register}
-use Rattle.oftp_register.specs.Changes.{apply_all}
 use Rattle.oftp_register.specs.Offices.{View, Only, WithOrWithout, next_count}
 use Rattle.oftp_session.specs.Phases.{is_over, ending_of, Step, framed}
-use Rattle.oftp_session.specs.Steps.{has_turn, Suits}
-use Rattle.oftp_session.specs.Calls.{Proceeds, Seen, Stands}
+use Rattle.oftp_session.specs.Steps.{has_turn}
+use Rattle.oftp_session.specs.Calls.{Proceeds, Seen}
 use Rattle.oftp_session.specs.declared.session.Ending.{Ending}
 use Rattle.oftp_session.specs.declared.session.SessionFault.{SessionFault}
 use Rattle.oftp_session.specs.declared.session.SessionFault.TheVariants as session
-use Rattle.oftp_engine.specs.Runs.{Course, Output, run, is_stopped, advance, octets_of}
+use Rattle.oftp_engine.specs.Runs.{Course, run, is_stopped, advance, octets_of}
 use Rattle.oftp_io.specs.declared.port.Port.{Port}
 use Rattle.oftp_io.specs.Ports.{Sent}
 use Rattle.oftp_engine.specs.declared.serving.RunFault.{RunFault}
 use Rattle.oftp_engine.specs.declared.serving.RunFault.TheVariants as fault
 use Rattle.oftp_engine.specs.Serving.{Scene, Took, IsSaid, MayRunOut, last_frame}
-
--- each output was made with at most so many changes before it
-abbrev pub Counted : ℕ → List Output → Type 0
-Counted most [] = Unit {0}
-Counted most (o ∷ outputs) = (o.after ≤ most) × Counted most outputs
-
--- the register is the one after the changes, from r on, all of them made, and suits the phase
-pub record Sound (r : Register) (c : Course) : Type 0 where
-  pub replay : apply_all r c.changes ≡ Ok c.register
-  pub counted : Counted (length c.changes) c.outputs
-  pub suits : Suits c.phase c.register
-
--- d comes later in a run than c
-pub record Grows (c d : Course) : Type 0 where
-  pub later_outputs : List Output
-  pub outputs : d.outputs ≡ c.outputs ++ later_outputs
-  pub later_changes : List Change
-  pub changes : d.changes ≡ c.changes ++ later_changes
-  pub sound : (r : Register) → Sound r c → Sound r d
-
--- the run that comes from c with the octets s comes to d with t left, the end of s, whatever follows
-pub record Leads (c : Course) (s : List ℕ) (d : Course) (t : List ℕ) : Type 0 where
-  pub grows : Grows c d
-  pub same : (more : List ℕ) (limit : Option ℕ) → is_stopped limit d ≡ false → run limit (s ++ more) c ≡ run limit (t ++ more) d
-  pub gone : List ℕ
-  pub split : s ≡ gone ++ t
+use Rattle.oftp_engine.specs.Progress.{Comes, Grows, IsAt, Leads, Went}
 
 -- the run that comes from c with the octets s comes to d, which it leaves for e
 pub record Reaches (c : Course) (s : List ℕ) (d e : Course) : Type 0 where
   pub grows : Grows c d
   pub same : (more : List ℕ) (limit : Option ℕ) → is_stopped limit d ≡ false → (u : List ℕ) × (run limit (s ++ more) c ≡ run limit u e)
-
--- a session stands where a course stands
-pub record IsAt (c : Course) (seen : Seen) (scene : Scene) : Type 0 where
-  pub setting : seen.setting ≡ c.setting
-  pub stands : Stands c.phase seen
-  pub register : scene.office.register ≡ c.register
-  pub suits : Suits c.phase c.register
-
--- the engine came from c with the octets s to d with t, and what went out between is out
-pub record Went (c : Course) (s : List ℕ) (d : Course) (t : List ℕ) (old new : Scene) : Type 0 where
-  pub leads : Leads c s d t
-  pub between : List ℕ
-  pub outputs : octets_of d.outputs ≡ octets_of c.outputs ++ between
-  pub took : Took old new between
-  pub stands : old.office.stands → new.office.stands
-  pub faults : new.office.told ≡ old.office.told
-  pub told : new.told ≡ old.told
 
 -- the writer told a fault within the output of a step
 pub record BreaksOff (c : Course) (s : List ℕ) (old new : Scene) : Type 0 where
@@ -174,12 +129,6 @@ Stepped c step seen old new (Err fault) = StepFails c step old new fault
 abbrev pub LastWords : {W : Type 0} → (W → Option (List ℕ)) → Port W → Port W → Type 0
 LastWords contents old new = (all : Bool) × Sent contents old new last_frame all
 
--- the engine came to some course with t left, where the session stands now
-pub record Comes (c : Course) (s t : List ℕ) (seen : Seen) (old new : Scene) : Type 0 where
-  pub at : Course
-  pub went : Went c s at t old new
-  pub now : IsAt at seen new
-
 -- every due turn is taken
 pub record Settles (c : Course) (seen : Seen) (old new : Scene) : Type 0 where
   pub at : Course
@@ -209,13 +158,6 @@ abbrev pub Pumped : Course → List ℕ → Stream → Seen → Scene → Scene 
 Pumped c s stream seen old new (Ok (Some end)) = IsOver c s stream.rest seen old new end
 Pumped c s stream seen old new (Ok None) = IsWaiting c s stream seen old new
 Pumped c s stream seen old new (Err fault) = Fails c s old new fault
-
--- a fault that isn't the reader's
-abbrev pub IsOwn : RunFault → Type 0
-IsOwn fault.Read = ⊥
-IsOwn fault.Write = ⊤
-IsOwn fault.Office = ⊤
-IsOwn fault.Memory = ⊤
 
 -- the fault that a session's fault is to its caller; `Ended` is never met, since a session that is closed isn't called
 abbrev pub run_fault : SessionFault → RunFault

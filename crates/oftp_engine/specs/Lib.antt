@@ -2,6 +2,8 @@
 pub mod Runs
 pub mod Serving
 pub mod Served
+pub mod Progress
+pub mod Conversation
 pub mod Frames
 pub mod Resources
 pub mod Operating

@@ -1,20 +1,31 @@
 //! What holds of runs.
 
-ghost use Rattle.std.specs.Prelude.{◌≡◌, ◌<◌, ℕ, All, List, Option, Ok};
+ghost use Rattle.std.specs.Prelude.{◌≡◌, ◌<◌, ◌++◌, ℕ, [], All, List, Option, Ok};
 ghost use Rattle.oftp_wire.specs.declared.frame_fault.FrameFault.{FrameFault};
 ghost use Rattle.oftp_wire.specs.Stream.{Reads};
+ghost use Rattle.oftp_engine.specs.Conversation.{Dialogue, HasHeard, HeardMore, IsFresh, Listens, ShowsSame};
 ghost use Rattle.oftp_engine.specs.Events.{DeedsAreOrders, StopsLeavePrefixes};
 ghost use Rattle.oftp_engine.specs.Frames.{over_commands};
+ghost use Rattle.oftp_engine.specs.Jobs.{IsRun, IsStopped, changes_of};
 ghost use Rattle.oftp_engine.specs.Parts.{JobsMakeTheFile, NoCountPasses, PartsMakeTheFile};
 ghost use Rattle.oftp_engine.specs.Promise.{TwoStations};
 ghost use Rattle.oftp_engine.specs.Queues.{QueuesAreHeard, RunsAreHeard, RunsSayCommands, RunsSayQueues};
 ghost use Rattle.oftp_engine.specs.Ranges.{RangesAreKept};
 ghost use Rattle.oftp_engine.specs.Resources.{PayloadsNeverLackMemory, RunsNeverLackResources};
 ghost use Rattle.oftp_engine.specs.Runs.{Course, run, started};
+ghost use Rattle.oftp_engine.specs.Served.{whole};
+ghost use Rattle.oftp_engine.specs.Serving.{scene};
+ghost use Rattle.oftp_engine.specs.declared.running.Job.{Job};
+ghost use Rattle.oftp_engine.specs.declared.serving.RunFault.{RunFault};
+ghost use Rattle.oftp_partners.specs.Book.{BookData};
 ghost use Rattle.oftp_session.specs.Settings.{Setting};
 ghost use Rattle.oftp_register.specs.Register.{Register};
 ghost use Rattle.oftp_register.specs.Changes.{apply_all};
 ghost use Rattle.oftp_register.specs.Soundness.{IsSound};
+
+use oftp_io::Port;
+use oftp_register::Office;
+use std::io::{Read, Write};
 
 /// A run over the octets of a stream is the fold over the commands of its frames and the fault behind them.
 pub fn folds_over_frames()
@@ -52,6 +63,20 @@ pub fn runs_never_lack_resources()
     ensures payloads { PayloadsNeverLackMemory }
 {}
 
+/// What a [`Conversation`](crate::Conversation) has heard goes from call to call: it begins with nothing, each piece that it hears comes
+/// behind those before it, and where it waits, it waits on after others had the office and left it as it was, as after look-ups. It does
+/// nothing; its contract is the law.
+pub fn conversations_hear_pieces<O: Office, W: Write>()
+    ensures begins { (setting : Setting) (talk : Dialogue) (first : O) (front : Port W) → (O.view first).clean → (O.view first).stands → IsFresh setting talk
+        → HasHeard setting [] talk (scene W.contents (O.view first) front) (scene W.contents (O.view first) front) }
+    ensures hears { (setting : Setting) (given octets : List ℕ) (old new : Dialogue) (first now : O) (front here : Port W)
+        → HasHeard setting given old (scene W.contents (O.view first) front) (scene W.contents (O.view now) here) → HeardMore old new octets
+        → HasHeard setting (given ++ octets) new (scene W.contents (O.view first) front) (scene W.contents (O.view now) here) }
+    ensures waits { (setting : Setting) (given : List ℕ) (talk : Dialogue) (first now later : O) (front here : Port W) → ShowsSame (O.view now) (O.view later)
+        → Listens setting given talk (scene W.contents (O.view first) front) (scene W.contents (O.view now) here)
+        → Listens setting given talk (scene W.contents (O.view first) front) (scene W.contents (O.view later) here) }
+{}
+
 /// The changes of a run from a sound register are all made, one after another.
 pub fn changes_are_made()
     ensures { (limit : Option ℕ) (setting : Setting) (given : List ℕ) (r : Register) → IsSound r
@@ -62,6 +87,27 @@ pub fn changes_are_made()
 /// may be: nothing of it is here, or a beginning, or the file as one transfer gives it. It does nothing; its contract is the law.
 pub fn jobs_make_the_file()
     ensures { JobsMakeTheFile }
+{}
+
+/// A list of jobs grows: it begins with none, and jobs that are done behind jobs are one list with them, whatever these come to. While a
+/// session waits behind such a list, the register is the one after all changes of the list and of the session so far. It does nothing;
+/// its contract is the law.
+pub fn lists_grow<O: Office, R: Read, W: Write>()
+    ensures begins { (book : BookData) (first : O) → (O.view first).clean → (O.view first).stands
+        → IsRun R.remaining W.contents book (O.view first).register (O.view first).told (O.view first) [] [] }
+    ensures goes { (book : BookData) (first mid last : O) (olds news more done : List (Job R W))
+        → IsRun R.remaining W.contents book (O.view first).register (O.view first).told (O.view mid) olds news
+        → IsRun R.remaining W.contents book (O.view mid).register (O.view mid).told (O.view last) more done
+        → IsRun R.remaining W.contents book (O.view first).register (O.view first).told (O.view last) (olds ++ more) (news ++ done) }
+    ensures stops { (book : BookData) (first mid last : O) (olds news more done : List (Job R W)) (fault : RunFault)
+        → IsRun R.remaining W.contents book (O.view first).register (O.view first).told (O.view mid) olds news
+        → IsStopped R.remaining W.contents book (O.view mid).register (O.view mid).told (O.view last) more done fault
+        → IsStopped R.remaining W.contents book (O.view first).register (O.view first).told (O.view last) (olds ++ more) (news ++ done) fault }
+    ensures waits { (book : BookData) (first mid now : O) (olds news : List (Job R W)) (front here : Port W)
+        → (list : IsRun R.remaining W.contents book (O.view first).register (O.view first).told (O.view mid) olds news)
+        → (setting : Setting) (given : List ℕ) (talk : Dialogue) → Listens setting given talk (scene W.contents (O.view mid) front) (scene W.contents (O.view now) here)
+        → apply_all (O.view first).register (changes_of (O.view first).register list.entries ++ (whole setting given (O.view mid).register).changes)
+        ≡ Ok (O.view now).register }
 {}
 
 /// So it is over one session, after each of its changes. It does nothing; its contract is the law.

@@ -1,6 +1,6 @@
 //! A list of jobs, one after another.
 
-ghost use Rattle.std.specs.Prelude.{◌≡◌, None};
+ghost use Rattle.std.specs.Prelude.{◌≡◌, [], ◌∷◌, None};
 ghost use Rattle.oftp_engine.specs.Jobs.{Runs};
 ghost use Rattle.oftp_engine.specs.InsideRunning.{DoesJob, IsGoneOn};
 
@@ -131,6 +131,25 @@ fn do_job<O: Office, R: Read, W: Write>(
         Job::Session(session) => serve_job(alloc, office, book, session),
         Job::Call(call) => operate_job::<O, R, W>(alloc, office, book, call),
     }
+}
+
+/// Does the next job of a list that grows, and leaves its answer in it: [`run`] of this job alone. What the jobs before it did and what it
+/// does is what [`run`] does of the list of all of them ([`lists_grow`](crate::lists_grow)).
+///
+/// # Errors
+///
+/// As [`run`].
+pub fn do_next<O: Office, R: Read, W: Write>(
+    alloc: Global,
+    office: &mut O,
+    book: &Book,
+    job: &mut Job<'_, R, W>,
+) -> Result<(), RunFault>
+    ensures runs { (O.view office.new).clean → (O.view office.old).stands → Runs R.remaining W.contents book.now
+        (O.view office.old) (O.view office.new) (job.old ∷ []) (job.new ∷ []) result }
+    ensures clean { (O.view office.new).clean → (O.view office.old).clean }
+{
+    do_job(alloc, office, book, job)
 }
 
 /// Does a list of jobs, one after another, and leaves the answer of each in it: that of [`serve`] or of [`operate`]. A fault of a job's

@@ -11,8 +11,11 @@ ghost use Rattle.oftp_io.specs.Ports.{Sent, Puts};
 ghost use Rattle.oftp_engine.specs.Runs.{Course, ended_as, step_on};
 ghost use Rattle.oftp_engine.specs.Served.{Gave, InputEnded, ReaderTold, Serves, setting_of, WriterErr, WriterTold};
 ghost use Rattle.oftp_engine.specs.Serving.{scene};
-ghost use Rattle.oftp_engine.specs.InsideServing.{BrokeOff, IsAt, IsOwn, LastWords, Pumped, Stepped, TurnsTaken, run_fault};
+ghost use Rattle.oftp_engine.specs.Progress.{IsAt};
+ghost use Rattle.oftp_engine.specs.Conversation.{IsOwn};
+ghost use Rattle.oftp_engine.specs.InsideServing.{BrokeOff, LastWords, Pumped, Stepped, TurnsTaken, run_fault};
 
+use crate::conversation::Conversation;
 use oftp_io::Port;
 use oftp_partners::{Book, Partner};
 use oftp_register::{Office, PlainOffice};
@@ -20,9 +23,6 @@ use oftp_session::{Ending, Out, Session, SessionFault};
 use oftp_wire::{Command, Count, Deframer, SessionReason, parse};
 use std::alloc::Global;
 use std::io::{Read, Write};
-
-/// The greatest frame, its header counted (RFC 5024, section 8).
-const LONGEST_FRAME: usize = 100_003;
 
 /// How many octets are read at once, at most.
 const PIECE: usize = 4096;
@@ -258,7 +258,7 @@ fn take_turns<O: Office, W: Write>(
 }
 
 // Takes all that is due and whole. It answers how the session ended, or `None` where it needs more octets.
-fn pump<O: Office, W: Write>(
+pub(crate) fn pump<O: Office, W: Write>(
     session: &mut Session<'_>,
     office: &mut O,
     stream: &mut Deframer,
@@ -293,7 +293,7 @@ fn pump<O: Office, W: Write>(
 }
 
 // A session before its first step.
-fn opened<'b>(alloc: Global, book: &'b Book, role: Role<'b>) -> Session<'b>
+pub(crate) fn opened<'b>(alloc: Global, book: &'b Book, role: Role<'b>) -> Session<'b>
     ensures setting { result.setting ≡ setting_of book.entry.now role.entry }
     ensures stands { Stands (opening (setting_of book.entry.now role.entry).called) result }
     ensures unbroken { result.standing ≢ Broken }
@@ -334,21 +334,16 @@ pub fn serve<O: Office, R: Read, W: Write>(
     ensures ends { InputEnded R.remaining reader.old reader.new result }
     ensures out { Puts W.contents writer.old writer.new }
 {
-    let mut session = opened(alloc, book, role);
-    let mut stream = Deframer::new(alloc, LONGEST_FRAME);
+    let mut conversation = Conversation::new(alloc, book, role);
     let mut piece = [0u8; PIECE];
     'pieces: loop {
-        if let Some(ending) = pump(&mut session, office, &mut stream, writer)? {
+        if let Some(ending) = conversation.go_on(office, writer)? {
             return Ok(End::from(ending));
         }
         match reader.read(&mut piece) {
             None => return Err(RunFault::Read),
             Some(0) => return Ok(End::Input),
-            Some(n) => {
-                if stream.feed(&piece[..n]).is_err() {
-                    return Err(RunFault::Memory);
-                }
-            }
+            Some(n) => conversation.hear(&piece[..n])?,
         }
     }
 }

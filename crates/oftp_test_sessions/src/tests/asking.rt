@@ -1,15 +1,14 @@
-//! Files that a station sends over an office that notes how many rows it is asked for, and may lose one. The partner's octets are
-//! spelled by hand from RFC 5024.
+//! Files over an office that notes what it is asked for, and may lose a row. The partner's octets are spelled by hand from RFC 5024.
 
 use super::BOOK;
 use super::hearing::{Line, call, caller, hear};
 use super::noting::Noting;
 use super::operators::FILE;
-use oftp_engine::{End, Operator, RunFault, Submission, Told};
+use oftp_engine::{End, Operator, Role, RunFault, Submission, Told};
 use oftp_partners::read;
 use oftp_vfile::Format;
 use oftp_wire::Count;
-use std::alloc::Global;
+use std::alloc::{AllocError, Global};
 use std::process::Abort;
 use std::test::Fail;
 
@@ -62,5 +61,86 @@ fn row_lost_by_the_store(rt: HostRuntime) -> Result<(), Fail> {
     office.loses = true;
     let end = send(rt.alloc(), &rt, &mut office, FILE, 65 + 178 + 11)?;
     assert_eq!(rt; end, Err(RunFault::Office));
+    Ok(())
+}
+
+/// The partner's SSID.
+const CALLER: &[u8] = b"\x10\0\0\x41X5O0177CARMAKER            CARPW   00128BNYN002N            \r";
+
+/// SFID up to the last digit of the time, and the rest of it.
+const NAMED: &[u8] = b"\x10\0\0\xa9HABC                          20240131101530000";
+
+const OFFERED: &[u8] = b"        O0013SUPPLIER            O0177CARMAKER            U00000\
+      0000000000001000000000000100000000000000000\
+      00000\
+      0N000";
+
+/// DATA of three octets, and EFID.
+const CONTENT: &[u8] = b"\x10\0\0\x09D\x83ABC\x10\0\0\x27T0000000000000000000000000000000003";
+
+/// ESID 00.
+const OVER: &[u8] = b"\x10\0\0\x0bF00000\r";
+
+/// The station's ready message and its SSID.
+const GREETED: &[u8] =
+    b"\x10\0\0\x17IODETTE FTP READY \r\x10\0\0\x41X5O0013SUPPLIER            SUPPW   00128BNYN002N            \r";
+
+/// SFPA from row 0 on and EFPA, without a wish to speak and with one.
+const TAKEN: &[u8] = b"\x10\0\0\x16200000000000000000\x10\0\0\x064N";
+
+const TAKEN_AND_ASKED: &[u8] = b"\x10\0\0\x16200000000000000000\x10\0\0\x064Y";
+
+/// What a partner says who calls and sends three files, told apart by these digits.
+fn three_files(alloc: Global, digits: &[u8; 3]) -> Result<Vec<u8>, AllocError> {
+    let mut octets = CALLER.to_vec(alloc)?;
+    for digit in digits {
+        octets.extend_from_slice(NAMED)?;
+        octets.push(*digit)?;
+        octets.extend_from_slice(OFFERED)?;
+        octets.extend_from_slice(CONTENT)?;
+    }
+    octets.extend_from_slice(OVER)?;
+    Ok(octets)
+}
+
+/// Hears three files, each of which is answered so.
+fn take(
+    alloc: Global,
+    rt: &impl Abort,
+    office: &mut Noting,
+    digits: &[u8; 3],
+    answer: &[u8],
+) -> Result<(), Fail> {
+    let book = read(alloc, BOOK)?;
+    let octets = three_files(alloc, digits)?;
+    let line = Line::of(octets.as_slice());
+    let heard = hear(alloc, office, &book, Role::Responder, line, 1_000_000);
+    assert_eq!(rt; heard.end, Ok(End::Partner(Count::new(0))));
+    let mut said = GREETED.to_vec(alloc)?;
+    for _ in digits {
+        said.extend_from_slice(answer)?;
+    }
+    assert!(rt; heard.said.as_slice() == said.as_slice());
+    Ok(())
+}
+
+/// However many files come in a session, what is next is looked up once: where no response is due, and where one is.
+#[test]
+fn next_looked_up_once(rt: HostRuntime) -> Result<(), Fail> {
+    let mut office = Noting::new(rt.alloc(), None);
+    take(rt.alloc(), &rt, &mut office, b"123", TAKEN)?;
+    assert_eq!(rt; office.next, 1);
+    let book = read(rt.alloc(), BOOK)?;
+    let release = Operator::Release { no: 1 };
+    let told = call(
+        rt.alloc(),
+        &mut office,
+        &book,
+        &release,
+        &mut Vec::new(rt.alloc()),
+    );
+    assert_eq!(rt; told, Ok(Told::Done));
+    take(rt.alloc(), &rt, &mut office, b"456", TAKEN_AND_ASKED)?;
+    assert_eq!(rt; office.next, 2);
     Ok(())
 }

@@ -23,6 +23,8 @@ pub(crate) struct Noting {
     pub(crate) office: PlainOffice,
     /// How many rows it was asked for at most.
     pub(crate) most: u64,
+    /// How often it was asked what is sent next.
+    pub(crate) next: u64,
     /// Whether it loses the last of the rows that it is asked for.
     pub(crate) loses: bool,
     /// Whether it has stopped: then each call tells a fault.
@@ -55,6 +57,7 @@ impl Noting {
         Noting {
             office,
             most: 0,
+            next: 0,
             loses: false,
             is_stopped: false,
             stop: None,
@@ -181,6 +184,7 @@ impl Office for Noting {
         files: bool,
     ) -> Result<Option<Item>, OfficeFault> {
         self.opened()?;
+        self.next = self.next.saturating_add(1);
         let found = self.office.next_item(partner, cursor, files);
         self.counted(found)
     }

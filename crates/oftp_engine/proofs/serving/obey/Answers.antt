@@ -5,6 +5,7 @@ use Rattle.oftp_session.specs.declared.session.SessionFault.{SessionFault}
 use Rattle.oftp_session.specs.Steps.{came, Holds}
 use Rattle.oftp_session.proofs.Proceeding.{came_proceeds}
 use Rattle.oftp_session.specs.Calls.{Stands}
+use Rattle.oftp_session.specs.Recalling.{Recalls}
 use Rattle.oftp_engine.specs.declared.serving.RunFault.{RunFault}
 use Rattle.oftp_engine.specs.Serving.{scene}
 use Rattle.oftp_engine.specs.InsideServing.{StepFails}
@@ -15,18 +16,23 @@ pub returns-in-Ok-clause-steps : goal.returns-in-Ok-clause-steps
 returns-in-Ok-clause-steps g c = λ clean stood k live at.
     let r = (g.O.Office.view c.args.office.now).register in
     let held = subst (Holds k.phase) (sym at.register) at.suits.holds in
+    let so = subst (Recalls c.args.session.now) (sym at.register) at.recalls in
+    let after = (g.O.Office.view c.on_command.new.office).register in
     let done = c.on_command.follows.holds-at-none in
     let stands = subst (λ (x : Result Out SessionFault). OnOk x (Stands (came c.args.session.now.setting k.phase r c.args.command.now).phase c.on_command.follows.lender-at-none)) c.in-Ok.is
-    (done.phase clean stood k.phase held live at.stands) in
+    (done.made.phase clean stood k.phase held live at.stands so) in
+    let recalls = subst (λ (x : Result Out SessionFault). OnOk x (Recalls c.on_command.follows.lender-at-none after)) c.in-Ok.is
+    (done.recalls clean stood k.phase held live at.stands so) in
     called_ok g.W.Write.contents c.args.writer.now c.write_out.new.port _ _ k c.args.session.now (λ setting r. came setting k.phase r c.args.command.now) at _ c.in-Ok.out c.write_out.result
-    done.setting (c.in-Ok.ensures.does clean stood k.phase held live at.stands) (came_proceeds k.setting k.phase k.register c.args.command.now at.suits).suits
-    stands c.write_out.ensures.sent c.write_out.ensures.err
+    done.made.setting (c.in-Ok.ensures.does clean stood k.phase held live at.stands so) (came_proceeds k.setting k.phase k.register c.args.command.now at.suits).suits
+    stands recalls c.write_out.ensures.sent c.write_out.ensures.err
 
 pub returns-in-Err-clause-steps : goal.returns-in-Err-clause-steps
 returns-in-Err-clause-steps g c = λ clean stood k live at.
     let old = scene g.W.Write.contents (g.O.Office.view c.args.office.now) c.args.writer.now in
     let new = scene g.W.Write.contents (g.O.Office.view c.on_command.new.office) c.break_off.new.port in
     let held = subst (Holds k.phase) (sym at.register) at.suits.holds in
+    let so = subst (Recalls c.args.session.now) (sym at.register) at.recalls in
     subst (λ (x : RunFault). StepFails k (came k.setting k.phase k.register c.args.command.now) old new x) (sym c.break_off.ensures.fault)
     (called_err g.W.Write.contents c.args.writer.now c.break_off.new.port _ _ k c.args.session.now (λ setting r. came setting k.phase r c.args.command.now) at c.in-Err.fault
-    (c.in-Err.ensures.does clean stood k.phase held live at.stands) c.break_off.ensures.broke)
+    (c.in-Err.ensures.does clean stood k.phase held live at.stands so) c.break_off.ensures.broke)

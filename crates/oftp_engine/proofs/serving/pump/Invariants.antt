@@ -1,7 +1,7 @@
 use Rattle.std.proofs.Common.{◌≡◌, None, length}
 use Rattle.oftp_engine.specs.Runs.{Course}
 use Rattle.oftp_engine.specs.Serving.{scene}
-use Rattle.oftp_engine.specs.InsideServing.{IsAt}
+use Rattle.oftp_engine.specs.Progress.{IsAt}
 use Rattle.oftp_engine.proofs.Pumping.{IsPumping}
 use Rattle.oftp_engine.proofs.Underway.{IsUnderway}
 use Rattle.oftp_engine.proofs.serving.pump.Given as goal

@@ -6,6 +6,8 @@ use Rattle.oftp_session.specs.Steps.{turned, Holds}
 use Rattle.oftp_session.proofs.Phases.{turn_live}
 use Rattle.oftp_session.proofs.Proceeding.{turned_proceeds}
 use Rattle.oftp_session.specs.Calls.{Stands}
+use Rattle.oftp_session.specs.Recalling.{Recalls}
+use Rattle.oftp_session.proofs.Recalling.{nothing_recalled}
 use Rattle.oftp_engine.specs.declared.serving.RunFault.{RunFault}
 use Rattle.oftp_engine.specs.Serving.{scene}
 use Rattle.oftp_engine.specs.InsideServing.{StepFails}
@@ -16,19 +18,25 @@ pub returns-in-Ok-clause-steps : goal.returns-in-Ok-clause-steps
 returns-in-Ok-clause-steps g c = λ clean stood k turn at.
     let r = (g.O.Office.view c.args.office.now).register in
     let held = subst (Holds k.phase) (sym at.register) at.suits.holds in
+    let so = subst (Recalls c.args.session.now) (sym at.register) at.recalls in
     let live = turn_live k.phase turn in
+    let after = (g.O.Office.view c.turn.new.office).register in
+    let left = c.turn.follows.lender-at-none in
     let done = c.turn.follows.holds-at-none.made in
+    let recalls = nothing_recalled left.asks left.standing after (c.turn.follows.holds-at-none.forgets c.requires) in
     let stands = subst (λ (x : Result Out SessionFault). OnOk x (Stands (turned c.args.session.now.setting k.phase r).phase c.turn.follows.lender-at-none)) c.in-Ok.is
-    (done.phase clean stood k.phase held live at.stands) in
+    (done.phase clean stood k.phase held live at.stands so) in
     called_ok g.W.Write.contents c.args.writer.now c.write_out.new.port _ _ k c.args.session.now (λ setting r. turned setting k.phase r) at _ c.in-Ok.out c.write_out.result
-    done.setting (c.in-Ok.ensures.does clean stood k.phase held live at.stands) (turned_proceeds k.setting k.phase k.register at.suits).suits stands c.write_out.ensures.sent c.write_out.ensures.err
+    done.setting (c.in-Ok.ensures.does clean stood k.phase held live at.stands so) (turned_proceeds k.setting k.phase k.register at.suits).suits stands recalls c.write_out.ensures.sent
+    c.write_out.ensures.err
 
 pub returns-in-Err-clause-steps : goal.returns-in-Err-clause-steps
 returns-in-Err-clause-steps g c = λ clean stood k turn at.
     let old = scene g.W.Write.contents (g.O.Office.view c.args.office.now) c.args.writer.now in
     let new = scene g.W.Write.contents (g.O.Office.view c.turn.new.office) c.break_off.new.port in
     let held = subst (Holds k.phase) (sym at.register) at.suits.holds in
+    let so = subst (Recalls c.args.session.now) (sym at.register) at.recalls in
     let live = turn_live k.phase turn in
     subst (λ (x : RunFault). StepFails k (turned k.setting k.phase k.register) old new x) (sym c.break_off.ensures.fault)
     (called_err g.W.Write.contents c.args.writer.now c.break_off.new.port _ _ k c.args.session.now (λ setting r. turned setting k.phase r) at c.in-Err.fault
-    (c.in-Err.ensures.does clean stood k.phase held live at.stands) c.break_off.ensures.broke)
+    (c.in-Err.ensures.does clean stood k.phase held live at.stands so) c.break_off.ensures.broke)

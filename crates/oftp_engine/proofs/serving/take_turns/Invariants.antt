@@ -2,7 +2,7 @@ use Rattle.std.proofs.Common.{[]}
 use Rattle.oftp_session.specs.Standings.{turns_left}
 use Rattle.oftp_engine.specs.Runs.{Course}
 use Rattle.oftp_engine.specs.Serving.{scene}
-use Rattle.oftp_engine.specs.InsideServing.{IsAt, Comes}
+use Rattle.oftp_engine.specs.Progress.{IsAt, Comes}
 use Rattle.oftp_engine.proofs.Underway.{IsUnderway}
 use Rattle.oftp_engine.proofs.serving.take_turns.Given as goal
 

@@ -1,0 +1,102 @@
+//! A session that hears octets in pieces.
+
+ghost use Rattle.std.specs.Prelude.{◌≡◌, ◌≢◌, ℕ, List, OnErr, OnOk, IfErr};
+ghost use Rattle.oftp_session.specs.Settings.{Setting};
+ghost use Rattle.oftp_session.specs.Standings.{Broken};
+ghost use Rattle.oftp_io.specs.Ports.{Puts};
+ghost use Rattle.oftp_engine.specs.Conversation.{ComesTo, HasHeard, HeardMore, IsFresh, IsOwn};
+ghost use Rattle.oftp_engine.specs.Served.{WriterTold, setting_of};
+ghost use Rattle.oftp_engine.specs.Serving.{scene};
+
+use crate::serving::{Role, RunFault, opened, pump};
+use oftp_io::Port;
+use oftp_partners::Book;
+use oftp_register::Office;
+use oftp_session::{Ending, Session};
+use oftp_wire::Deframer;
+use std::alloc::Global;
+use std::io::Write;
+use std::marker::Model;
+
+/// The greatest frame, its header counted (RFC 5024, section 8).
+const LONGEST_FRAME: usize = 100_003;
+
+/// One session with a partner, over any office and any writer. It hears octets in pieces, however these are cut, goes on as far as they
+/// reach, and waits for more.
+///
+/// Where it waits, its caller has the office: look-ups that tell no fault change nothing of what [`go_on`] promises of the session.
+///
+/// [`go_on`]: Conversation::go_on
+#[derive(Drop)]
+pub struct Conversation<'b> {
+    session: Session<'b>,
+    stream: Deframer,
+}
+
+impl<'b> Model for Conversation<'b> {
+    ghost use Rattle.oftp_engine.specs.Conversation.{Dialogue};
+
+    ghost Value = { Dialogue };
+
+    ghost view = { λ c. record { seen = c.session; stream = c.stream } };
+}
+
+impl<'b> Conversation<'b> {
+    /// A conversation by a book and in a role, before its first step. It takes no memory.
+    pub fn new(alloc: Global, book: &'b Book, role: Role<'b>) -> Conversation<'b>
+        ensures fresh { IsFresh (setting_of book.entry.now role.entry) result }
+        ensures unbroken { result.seen.standing ≢ Broken }
+    {
+        Conversation {
+            session: opened(alloc, book, role),
+            stream: Deframer::new(alloc, LONGEST_FRAME),
+        }
+    }
+
+    /// Takes all that is due and whole, and writes the answers. It answers how the session ended, or `None` where it waits for more
+    /// octets. It must not be called after a fault.
+    ///
+    /// At each `None` what is out since the conversation began, the register, and what a stop leaves are those of the session over all
+    /// the octets that it has heard. So it is at the end.
+    ///
+    /// # Errors
+    ///
+    /// Those of [`serve`](crate::serve) but for [`RunFault::Read`], with what they leave.
+    pub fn go_on<O: Office, W: Write>(
+        &mut self,
+        office: &mut O,
+        writer: &mut Port<W>,
+    ) -> Result<Option<Ending>, RunFault>
+        requires { self.old.seen.standing ≢ Broken }
+        ensures goes { (O.view office.new).clean → (first : O) (front : Port W) (setting : Setting) (given : List ℕ)
+            → HasHeard setting given self.old (scene W.contents (O.view first) front) (scene W.contents (O.view office.old) writer.old)
+            → ComesTo setting given self.new (scene W.contents (O.view first) front) (scene W.contents (O.view office.new) writer.new) result }
+        ensures clean { (O.view office.new).clean → (O.view office.old).clean }
+        ensures own { IfErr result IsOwn }
+        ensures unbroken { OnOk result (self.new.seen.standing ≢ Broken) }
+        ensures out { Puts W.contents writer.old writer.new }
+        ensures told { WriterTold writer.old writer.new result }
+    {
+        pump(&mut self.session, office, &mut self.stream, writer)
+    }
+
+    /// Hears the next octets. None of them is looked at before the next [`go_on`].
+    ///
+    /// # Errors
+    ///
+    /// [`RunFault::Memory`] where there is no room for them: the conversation is then as it was. After an end that octets brought which
+    /// are no frame, this error comes whatever room there is.
+    ///
+    /// [`go_on`]: Conversation::go_on
+    pub fn hear(&mut self, octets: &[u8]) -> Result<(), RunFault>
+        ensures heard { OnOk result (HeardMore self.old self.new octets.now) }
+        ensures err { OnErr result (self.new ≡ self.old) }
+        ensures memory { IfErr result (λ fault. fault ≡ RunFault.Memory) }
+        ensures seen { self.new.seen ≡ self.old.seen }
+    {
+        if self.stream.feed(octets).is_err() {
+            return Err(RunFault::Memory);
+        }
+        Ok(())
+    }
+}
