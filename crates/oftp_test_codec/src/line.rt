@@ -47,12 +47,17 @@ impl<'a> Line<'a> {
         joined(alloc, &self.fields(alloc)?)
     }
 
-    /// The rows that the rest spells, or `none`.
-    pub fn rows(&self, alloc: Global) -> Result<Vec<Row>, AllocError> {
+    /// The fields that the rest spells, or `none`.
+    pub fn words(&self, alloc: Global) -> Result<Fields, AllocError> {
         if self.rest == "none" {
             return Ok(Vec::new(alloc));
         }
-        rows_of(alloc, self.fields(alloc)?)
+        self.fields(alloc)
+    }
+
+    /// The rows that the rest spells, or `none`.
+    pub fn rows(&self, alloc: Global) -> Result<Vec<Row>, AllocError> {
+        rows_of(alloc, self.words(alloc)?)
     }
 }
 

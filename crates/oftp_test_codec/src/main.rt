@@ -1,6 +1,7 @@
 //! Answers the calls that it reads, a line each: prints the line, and below it what the call answers.
 #![tactic(auto)]
 
+mod channel;
 mod commands;
 mod files;
 mod line;
@@ -38,6 +39,7 @@ fn answer(rt: &HostRuntime, line: &mut Line) -> io::Result<()> {
         "send" => files::send(rt, line),
         "whole" => files::whole(rt, line),
         "take" => takers::take(rt, line),
+        "channel" => channel::answer(rt, line),
         call => answer_of_wire(rt, call, line),
     }
 }

@@ -1,0 +1,6 @@
+mod InputLemmas
+mod SentLemmas
+mod SpellingLemmas
+mod RequestLemmas
+mod PartLemmas
+mod LackingLemmas

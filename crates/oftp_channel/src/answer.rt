@@ -1,0 +1,110 @@
+//! The parts of an answer, as they are written and read.
+
+ghost use Rattle.std.specs.Prelude.{◌≡◌, ◌≤◌, ◌++◌, ℕ, List, None, Some, IfOk, IfErr, IfSome, length};
+ghost use Rattle.oftp_io.specs.Ports.{Sent};
+ghost use Rattle.oftp_channel.specs.Answers.{BeginsNoPart, IsPart, Part, outlet_code, part_of, spelled_end, spelled_part, spelled_piece};
+ghost use Rattle.oftp_channel.specs.Inputs.{Gave, Leaves};
+ghost use Rattle.oftp_channel.specs.declared.answer.Outlet.{Outlet};
+ghost use Rattle.oftp_channel.specs.declared.answer.TheConstants.{LONGEST_PIECE};
+ghost use Rattle.oftp_channel.specs.declared.fault.HearFault.TheVariants.{Form};
+
+use crate::fault::HearFault;
+use crate::inputs::{read_octet, read_word};
+use oftp_io::Port;
+use std::alloc::Global;
+use std::io::{Read, Write};
+
+/// How many octets a piece of an answer has, at most.
+pub const LONGEST_PIECE: usize = 65_536;
+
+/// Where a piece of an answer goes.
+#[derive(Clone, Copy, Debug, PartialEq, Eq, Drop)]
+pub enum Outlet {
+    /// To the standard output.
+    Output,
+    /// To the standard error.
+    Errors,
+    /// To the file that is made.
+    Content,
+}
+
+/// A part of an answer.
+#[derive(Debug, Drop)]
+pub enum AnswerPart {
+    /// Octets for an outlet.
+    Piece(Outlet, Vec<u8>),
+    /// The end, with the status that the command exits with.
+    End(u8),
+}
+
+impl Outlet {
+    // The octet that stands for it.
+    fn code(self) -> u8
+        ensures { result ≡ outlet_code self }
+    {
+        match self {
+            Outlet::Output => 1,
+            Outlet::Errors => 2,
+            Outlet::Content => 3,
+        }
+    }
+
+    // The outlet that an octet stands for.
+    fn of_code(code: u8) -> Option<Outlet>
+        ensures one { IfSome result (λ outlet. outlet_code outlet ≡ code) }
+        ensures none { result ≡ None → (outlet : Outlet) → outlet_code outlet ≡ code → ⊥ }
+    {
+        match code {
+            1 => Some(Outlet::Output),
+            2 => Some(Outlet::Errors),
+            3 => Some(Outlet::Content),
+            _ => None,
+        }
+    }
+}
+
+/// Writes a piece of an answer, of at most [`LONGEST_PIECE`] octets, and answers whether the writer took all of it. Where it didn't, it
+/// told a fault, and has a beginning of the piece.
+pub fn write_piece<W: Write>(writer: &mut Port<W>, outlet: Outlet, octets: &[u8]) -> bool
+    requires { length octets.now ≤ LONGEST_PIECE }
+    ensures { Sent W.contents writer.old writer.new (spelled_piece outlet octets.now) result }
+{
+    let length = (octets.len() as u32).to_be_bytes();
+    if !writer.send(&[outlet.code(), length[0], length[1], length[2], length[3]]) {
+        return false;
+    }
+    writer.send(octets)
+}
+
+/// Writes the end of an answer, and answers whether the writer took all of it. Where it didn't, it told a fault, and has a beginning of
+/// the end.
+pub fn write_end<W: Write>(writer: &mut Port<W>, status: u8) -> bool
+    ensures { Sent W.contents writer.old writer.new (spelled_end status) result }
+{
+    writer.send(&[0, status])
+}
+
+/// Reads the next part of an answer.
+///
+/// # Errors
+/// [`HearFault::Form`] only where no part of an answer begins with what came, whatever comes behind it; [`HearFault::Input`] only where
+/// the reader told a fault, or ended; [`HearFault::Memory`]. What was read is lost.
+pub fn read_part<R: Read>(alloc: Global, reader: &mut Port<R>) -> Result<AnswerPart, HearFault>
+    // What is read is a part, spelled so.
+    ensures part { IfOk result (λ part. IsPart (part_of part)) }
+    ensures read { IfOk result (λ part. Gave R.remaining reader.old reader.new (spelled_part (part_of part))) }
+    // What was written is read again, whatever follows it.
+    ensures again { (told : Part) (rest : List ℕ) → IsPart told → R.remaining reader.old.inner ≡ Some (spelled_part told ++ rest)
+        → IfOk result (λ part. part_of part ≡ told) }
+    ensures refused { IfErr result (λ fault. fault ≡ Form → (heard : List ℕ) → R.remaining reader.old.inner ≡ Some heard → BeginsNoPart heard) }
+    ensures leaves { IfErr result (λ fault. Leaves R.remaining reader.old reader.new fault) }
+{
+    let code = read_octet(alloc, reader)?;
+    if code == 0 {
+        let status = read_octet(alloc, reader)?;
+        return Ok(AnswerPart::End(status));
+    }
+    let outlet = Outlet::of_code(code).ok_or(HearFault::Form)?;
+    let octets = read_word(alloc, reader, LONGEST_PIECE)?;
+    Ok(AnswerPart::Piece(outlet, octets))
+}

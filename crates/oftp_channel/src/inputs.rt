@@ -1,0 +1,101 @@
+//! Octets, numbers and words of an input.
+
+ghost use Rattle.std.specs.Prelude.{◌≡◌, ◌≤◌, ◌<◌, ◌^◌, ◌++◌, ◌∷◌, [], ℕ, List, None, Some, IfOk, IfErr, IfSome, length};
+ghost use Rattle.std.specs.Int.{w32, to_be_bytes};
+ghost use Rattle.oftp_channel.specs.Inputs.{Gave, Leaves};
+ghost use Rattle.oftp_channel.specs.Requests.{spelled_word};
+ghost use Rattle.oftp_channel.specs.declared.fault.HearFault.TheVariants.{Form};
+
+use crate::fault::HearFault;
+use oftp_io::Port;
+use std::alloc::Global;
+use std::io::Read;
+
+/// How many octets are read at once, at most.
+const STEP: usize = 16_384;
+
+// So many octets. The room for them grows as they come.
+fn read_octets<R: Read>(
+    alloc: Global,
+    reader: &mut Port<R>,
+    count: usize,
+) -> Result<Vec<u8>, HearFault>
+    ensures count { IfOk result (λ octets. length octets.items ≡ count) }
+    ensures read { IfOk result (λ octets. Gave R.remaining reader.old reader.new octets.items) }
+    ensures form { IfErr result (λ fault. fault ≡ Form → ⊥) }
+    ensures leaves { IfErr result (λ fault. Leaves R.remaining reader.old reader.new fault) }
+{
+    let mut octets = Vec::new(alloc);
+    let mut step = [0; STEP];
+    'octets: while octets.len() < count {
+        let most = (count - octets.len()).min(STEP);
+        let part = &mut step[..most];
+        let Some(came) = reader.read(part) else {
+            return Err(HearFault::Input);
+        };
+        if came == 0 {
+            return Err(HearFault::Input);
+        }
+        octets.extend_from_slice(&part[..came])?;
+    }
+    Ok(octets)
+}
+
+// An octet.
+pub(crate) fn read_octet<R: Read>(alloc: Global, reader: &mut Port<R>) -> Result<u8, HearFault>
+    ensures read { IfOk result (λ octet. Gave R.remaining reader.old reader.new (octet ∷ [])) }
+    ensures form { IfErr result (λ fault. fault ≡ Form → ⊥) }
+    ensures leaves { IfErr result (λ fault. Leaves R.remaining reader.old reader.new fault) }
+{
+    let octets = read_octets(alloc, reader, 1)?;
+    Ok(octets[0])
+}
+
+// The number that four octets spell.
+fn number_of(octets: [u8; 4]) -> u32
+    ensures { to_be_bytes w32 result ≡ octets }
+{
+    u32::from_be_bytes(octets)
+}
+
+// The number at the front of octets, and what stands behind it.
+pub(crate) fn number_at(octets: &[u8]) -> Option<(u32, &[u8])>
+    ensures some { IfSome result (λ it. octets.now ≡ to_be_bytes w32 it.0 ++ it.1.now) }
+    ensures small { IfSome result (λ it. it.0 < 2 ^ 32) }
+    ensures none { result ≡ None → length octets.now < 4 }
+{
+    match octets {
+        [a, b, c, d, behind @ ..] => Some((number_of([*a, *b, *c, *d]), behind)),
+        _ => None,
+    }
+}
+
+// Four octets, as a number.
+pub(crate) fn read_number<R: Read>(alloc: Global, reader: &mut Port<R>) -> Result<u32, HearFault>
+    ensures read { IfOk result (λ number. Gave R.remaining reader.old reader.new (to_be_bytes w32 number)) }
+    ensures form { IfErr result (λ fault. fault ≡ Form → ⊥) }
+    ensures leaves { IfErr result (λ fault. Leaves R.remaining reader.old reader.new fault) }
+{
+    let octets = read_octets(alloc, reader, 4)?;
+    Ok(number_of([octets[0], octets[1], octets[2], octets[3]]))
+}
+
+// A word of at most so many octets.
+pub(crate) fn read_word<R: Read>(
+    alloc: Global,
+    reader: &mut Port<R>,
+    most: usize,
+) -> Result<Vec<u8>, HearFault>
+    requires { most < 2 ^ 32 }
+    ensures most { IfOk result (λ word. length word.items ≤ most) }
+    ensures read { IfOk result (λ word. Gave R.remaining reader.old reader.new (spelled_word word.items)) }
+    ensures refused { IfErr result (λ fault. fault ≡ Form → (heard more rest word : List ℕ) → R.remaining reader.old.inner ≡ Some heard
+        → length word ≤ most → heard ++ more ≡ spelled_word word ++ rest → ⊥) }
+    ensures leaves { IfErr result (λ fault. Leaves R.remaining reader.old reader.new fault) }
+{
+    let count = read_number(alloc, reader)? as usize;
+    if count > most {
+        return Err(HearFault::Form);
+    }
+    read_octets(alloc, reader, count)
+}

@@ -1,0 +1,40 @@
+//! The octet by which a station says that it hears a request.
+
+ghost use Rattle.std.specs.Prelude.{◌≡◌, ◌∷◌, [], ℕ, List, Some, IfErr, OnOk};
+ghost use Rattle.oftp_io.specs.Ports.{Sent};
+ghost use Rattle.oftp_channel.specs.Inputs.{Gave, Leaves};
+ghost use Rattle.oftp_channel.specs.declared.fault.HearFault.TheVariants.{Form};
+ghost use Rattle.oftp_channel.specs.declared.ready.TheConstants.{READY};
+
+use crate::fault::HearFault;
+use crate::inputs::read_octet;
+use oftp_io::Port;
+use std::alloc::Global;
+use std::io::{Read, Write};
+
+/// The octet. Other octets are another channel's.
+pub const READY: u8 = b'1';
+
+/// Says that a request is heard, and answers whether the writer took it. Where it didn't, it told a fault, and has nothing.
+pub fn write_ready<W: Write>(writer: &mut Port<W>) -> bool
+    ensures { Sent W.contents writer.old writer.new (READY ∷ []) result }
+{
+    writer.send(&[READY])
+}
+
+/// Waits until the station hears a request.
+///
+/// # Errors
+/// [`HearFault::Form`] only where it says something else; [`HearFault::Input`] only where the reader told a fault, or ended;
+/// [`HearFault::Memory`]. What was read is lost.
+pub fn read_ready<R: Read>(alloc: Global, reader: &mut Port<R>) -> Result<(), HearFault>
+    ensures read { OnOk result (Gave R.remaining reader.old reader.new (READY ∷ [])) }
+    ensures refused { IfErr result (λ fault. fault ≡ Form → (rest : List ℕ) → R.remaining reader.old.inner ≡ Some (READY ∷ rest) → ⊥) }
+    ensures leaves { IfErr result (λ fault. Leaves R.remaining reader.old reader.new fault) }
+{
+    if read_octet(alloc, reader)? == READY {
+        Ok(())
+    } else {
+        Err(HearFault::Form)
+    }
+}

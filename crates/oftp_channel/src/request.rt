@@ -1,0 +1,90 @@
+//! Requests, as they are written and read.
+
+ghost use Rattle.std.specs.Prelude.{◌≡◌, ◌≤◌, ◌<◌, ◌^◌, ◌↔◌, ◌++◌, ℕ, List, Some, IfOk, IfErr, IsTrue, length, map};
+ghost use Rattle.oftp_io.specs.Ports.{Sent};
+ghost use Rattle.oftp_channel.specs.Inputs.{Gave, Leaves};
+ghost use Rattle.oftp_channel.specs.Requests.{BeginsNoRequest, IsRequest, spelled_request, spelled_word};
+ghost use Rattle.oftp_channel.specs.declared.fault.HearFault.TheVariants.{Form};
+
+use crate::fault::HearFault;
+use crate::inputs::{read_number, read_word};
+use oftp_io::Port;
+use std::alloc::Global;
+use std::io::{Read, Write};
+
+/// How many words a request has, at most.
+pub const MOST_WORDS: usize = 64;
+
+/// How many octets they have in all, at most: 80 MiB.
+pub const LARGEST_REQUEST: usize = 83_886_080;
+
+/// Whether these words make a request: at most [`MOST_WORDS`], of at most [`LARGEST_REQUEST`] octets in all.
+pub fn fits(words: &[&[u8]]) -> bool
+    ensures { IsTrue result ↔ IsRequest (map (λ word. word.now) words.now) }
+{
+    let mut left = LARGEST_REQUEST;
+    for word in words {
+        if left < word.len() {
+            return false;
+        }
+        left -= word.len();
+    }
+    words.len() <= MOST_WORDS
+}
+
+/// Writes a request of these words, which [`fits`], and answers whether the writer took all of it. Where it didn't, it told a fault, and
+/// has a beginning of the request.
+pub fn write_request<W: Write>(writer: &mut Port<W>, words: &[&[u8]]) -> bool
+    requires { IsRequest (map (λ word. word.now) words.now) }
+    ensures { Sent W.contents writer.old writer.new (spelled_request (map (λ word. word.now) words.now)) result }
+{
+    if !writer.send(&(words.len() as u32).to_be_bytes()) {
+        return false;
+    }
+    for word in words {
+        if !write_word(writer, word) {
+            return false;
+        }
+    }
+    true
+}
+
+// Writes a word, and answers whether the writer took all of it.
+fn write_word<W: Write>(writer: &mut Port<W>, word: &[u8]) -> bool
+    requires { length word.now < 2 ^ 32 }
+    ensures { Sent W.contents writer.old writer.new (spelled_word word.now) result }
+{
+    if !writer.send(&(word.len() as u32).to_be_bytes()) {
+        return false;
+    }
+    writer.send(word)
+}
+
+/// Reads a request. The room for it grows as its octets come.
+///
+/// # Errors
+/// [`HearFault::Form`] only where no request begins with what came, whatever comes behind it; [`HearFault::Input`] only where the reader
+/// told a fault, or ended; [`HearFault::Memory`]. What was read is lost.
+pub fn read_request<R: Read>(alloc: Global, reader: &mut Port<R>) -> Result<Vec<Vec<u8>>, HearFault>
+    // What is read is a request, spelled so.
+    ensures request { IfOk result (λ words. IsRequest (map (λ word. word.items) words.items)) }
+    ensures read { IfOk result (λ words. Gave R.remaining reader.old reader.new (spelled_request (map (λ word. word.items) words.items))) }
+    // What was written is read again, whatever follows it.
+    ensures again { (asked : List (List ℕ)) (rest : List ℕ) → IsRequest asked → R.remaining reader.old.inner ≡ Some (spelled_request asked ++ rest)
+        → IfOk result (λ words. map (λ word. word.items) words.items ≡ asked) }
+    ensures refused { IfErr result (λ fault. fault ≡ Form → (heard : List ℕ) → R.remaining reader.old.inner ≡ Some heard → BeginsNoRequest heard) }
+    ensures leaves { IfErr result (λ fault. Leaves R.remaining reader.old reader.new fault) }
+{
+    let count = read_number(alloc, reader)? as usize;
+    if count > MOST_WORDS {
+        return Err(HearFault::Form);
+    }
+    let mut left = LARGEST_REQUEST;
+    let mut words = Vec::new(alloc);
+    'words: while words.len() < count {
+        let word = read_word(alloc, reader, left)?;
+        left -= word.len();
+        words.push(word)?;
+    }
+    Ok(words)
+}

@@ -1,0 +1,181 @@
+//! The channel: requests and answers, as they are written and read.
+
+use crate::line::Line;
+use crate::octets::{print_line, print_whole};
+use oftp_channel::{
+    AnswerPart, HearFault, Outlet, PieceWriter, fits, lacking, read_part, read_ready, read_request,
+    write_end, write_ready, write_request,
+};
+use oftp_io::Port;
+use std::io::{self, Write};
+
+/// The status that answers end with.
+const STATUS: u8 = 7;
+
+/// What octets are read as.
+#[derive(Clone, Copy, Drop)]
+enum Heard {
+    Ready,
+    Request,
+    Part,
+}
+
+/// A port that gives these octets.
+fn port_of(octets: &[u8]) -> Port<&[u8]> {
+    Port::new(octets, u64::MAX)
+}
+
+/// The fault of octets, if they have one.
+fn fault_of(rt: &HostRuntime, heard: Heard, octets: &[u8]) -> Option<HearFault> {
+    let mut port = port_of(octets);
+    let alloc = rt.alloc();
+    match heard {
+        Heard::Ready => read_ready(alloc, &mut port).err(),
+        Heard::Request => read_request(alloc, &mut port).err(),
+        Heard::Part => read_part(alloc, &mut port).err(),
+    }
+}
+
+/// Prints what becomes of so many lengths.
+fn print_lengths(rt: &HostRuntime, count: u32, fault: Option<HearFault>) -> io::Result<()> {
+    match fault {
+        Some(fault) => print!(rt; " {count}*{fault:?}"),
+        None => print!(rt; " {count}*read"),
+    }
+}
+
+/// Prints what becomes of octets that are cut at each length, from none of them to all.
+fn print_cuts(rt: &HostRuntime, heard: Heard, octets: &[u8]) -> io::Result<()> {
+    print!(rt; "  cut:")?;
+    let mut before = fault_of(rt, heard, &[]);
+    let mut count = 0u32;
+    for length in 0..=octets.len() {
+        let fault = fault_of(rt, heard, &octets[..length]);
+        if fault != before {
+            print_lengths(rt, count, before)?;
+            before = fault;
+            count = 0;
+        }
+        count = count.saturating_add(1);
+    }
+    print_lengths(rt, count, before)?;
+    println!(rt)
+}
+
+/// Prints what is written of a request of these words.
+fn ask(rt: &HostRuntime, words: &[Vec<u8>]) -> io::Result<()> {
+    let mut lent = Vec::new(rt.alloc());
+    for word in words {
+        lent.push(word.as_slice())?;
+    }
+    let mut port = Port::new(Vec::new(rt.alloc()), 0);
+    if fits(&lent) && write_request(&mut port, &lent) {
+        print_line(rt, "  ", port.inner())
+    } else {
+        println!(rt; "  no request")
+    }
+}
+
+/// Prints the words of the request that octets begin with, and what becomes of the octets where they are cut.
+fn asked(rt: &HostRuntime, octets: &[u8]) -> io::Result<()> {
+    let mut port = port_of(octets);
+    match read_request(rt.alloc(), &mut port) {
+        Ok(words) => {
+            for word in &words {
+                print!(rt; "  word")?;
+                print_whole(rt, word)?;
+                println!(rt)?;
+            }
+            println!(rt;
+                "  {} words, {} octets left",
+                words.len(),
+                port.inner().len()
+            )?;
+        }
+        Err(fault) => println!(rt; "  {fault:?}")?,
+    }
+    print_cuts(rt, Heard::Request, octets)
+}
+
+/// Prints how many octets are lacking of a request, at least, where octets are cut at each length; `-` where none will ever be one.
+fn print_lacking(rt: &HostRuntime, octets: &[u8]) -> io::Result<()> {
+    print!(rt; "  lacking:")?;
+    for length in 0..=octets.len() {
+        match lacking(&octets[..length]) {
+            Ok(count) => print!(rt; " {count}")?,
+            Err(_) => print!(rt; " -")?,
+        }
+    }
+    println!(rt)
+}
+
+/// Prints what is written of an answer: a piece for each outlet, and the end.
+fn tell(rt: &HostRuntime, pieces: &[Vec<u8>]) -> io::Result<()> {
+    let mut answer = Vec::new(rt.alloc());
+    for (place, octets) in pieces.iter().enumerate() {
+        let outlet = match place {
+            0 => Outlet::Output,
+            1 => Outlet::Errors,
+            _ => Outlet::Content,
+        };
+        PieceWriter::new(Port::new(&mut answer, 0), outlet).write_all(octets)?;
+    }
+    let mut port = Port::new(&mut answer, 0);
+    if write_end(&mut port, STATUS) {
+        print_line(rt, "  ", &answer)
+    } else {
+        println!(rt; "  no answer")
+    }
+}
+
+/// Prints a part of an answer, and tells whether more may follow.
+fn print_part(rt: &HostRuntime, part: Result<AnswerPart, HearFault>) -> io::Result<bool> {
+    match part {
+        Ok(AnswerPart::Piece(outlet, octets)) => {
+            print!(rt; "  {outlet:?}")?;
+            print_whole(rt, &octets)?;
+            println!(rt)?;
+            Ok(true)
+        }
+        Ok(AnswerPart::End(status)) => {
+            println!(rt; "  End {status}")?;
+            Ok(false)
+        }
+        Err(fault) => {
+            println!(rt; "  {fault:?}")?;
+            Ok(false)
+        }
+    }
+}
+
+/// Prints the parts of the answer that octets begin with, up to its end.
+fn told(rt: &HostRuntime, octets: &[u8]) -> io::Result<()> {
+    let mut port = port_of(octets);
+    for _ in 0..=octets.len() {
+        if !print_part(rt, read_part(rt.alloc(), &mut port))? {
+            break;
+        }
+    }
+    println!(rt; "  {} octets left", port.inner().len())
+}
+
+/// Prints what is written where a station is ready.
+fn ready(rt: &HostRuntime) -> io::Result<()> {
+    let mut port = Port::new(Vec::new(rt.alloc()), 0);
+    println!(rt; "  {}", write_ready(&mut port))?;
+    print_line(rt, "  ", port.inner())
+}
+
+/// Answers a call of the channel.
+pub fn answer(rt: &HostRuntime, line: &mut Line) -> io::Result<()> {
+    match line.word() {
+        "ask" => ask(rt, &line.words(rt.alloc())?),
+        "asked" => asked(rt, &line.octets(rt.alloc())?),
+        "lacking" => print_lacking(rt, &line.octets(rt.alloc())?),
+        "tell" => tell(rt, &line.words(rt.alloc())?),
+        "told" => told(rt, &line.octets(rt.alloc())?),
+        "part" => print_cuts(rt, Heard::Part, &line.octets(rt.alloc())?),
+        "hear" => print_cuts(rt, Heard::Ready, &line.octets(rt.alloc())?),
+        _ => ready(rt),
+    }
+}
