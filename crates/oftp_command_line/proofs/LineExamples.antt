@@ -7,10 +7,11 @@ use Rattle.oftp_vfile.specs.declared.format.Format.TheVariants as format
 use Rattle.oftp_command_line.specs.Arguments.{taken}
 use Rattle.oftp_command_line.specs.FeedLine.{feed_app}
 use Rattle.oftp_command_line.specs.Files.{FilesSaid}
-use Rattle.oftp_command_line.specs.Line.{Said, line_named, line_of_words, said_call, said_check, said_feed, said_fetch, said_http, said_init, said_listen, said_migrate, said_refuse, said_release, said_report, said_show, said_submit}
+use Rattle.oftp_command_line.specs.Line.{Said, line_named, line_of_words, said_call, said_check, said_feed, said_fetch, said_http, said_init, said_listen, said_migrate, said_refuse, said_release, said_report, said_run, said_show, said_submit}
 use Rattle.oftp_command_line.specs.OperatorLines.{refuse_app, release_app, submit_app}
 use Rattle.oftp_command_line.specs.RegisterLines.{fetch_app, report_app}
-use Rattle.oftp_command_line.specs.ServiceLines.{call_app, http_app, listen_app}
+use Rattle.oftp_command_line.specs.ServiceLines.{call_app, http_app, listen_app, run_app}
+use Rattle.oftp_command_line.specs.Terms.{EntranceSaid, TermsSaid}
 use Rattle.oftp_command_line.specs.declared.line.commands.feed.Side.TheVariants.{Initiator, Responder}
 
 -- the words with this octet before the first of them
@@ -229,23 +230,70 @@ feed_lines : AreRead (
 unfolding clap_on_literals feed_app line_named taken
 feed_lines = refl
 
+-- callers are awaited on this port of this address, and have so many seconds to be let in
+abbrev entrance_at : ℕ → List ℕ → ℕ → EntranceSaid
+entrance_at port address admission = record { port = port; address = address; admission = admission }
+
+-- a partner may keep still for so many seconds, a session takes so many at most, and is told there
+abbrev terms_of : ℕ → ℕ → Option (List ℕ) → TermsSaid
+terms_of patience longest trace = record { patience = patience; longest = longest; trace = trace }
+
+-- lines of `run`
+run_lines : AreRead (
+    -- `run` serves on port 3305 of the loopback address without an end, where no more is said
+    asks (codes "run --db=d --book=b")
+    (said_run (record {
+      files = d_and_b;
+      entrance = entrance_at 3305 (codes "127.0.0.1") 30;
+      http_port = 0;
+      host = None;
+      interval = 0;
+      terms = terms_of 300 86400 None;
+      jobs = 0;
+    }))
+    -- options come in any order
+    ∷ asks (codes "run --patience 0 --longest=1 --jobs=1000000 --trace=t --call-every=9 --host h --book=b --http-port=8 --address ::1 --admission 7 --db=d --port=6")
+    (said_run (record {
+      files = d_and_b;
+      entrance = entrance_at 6 (codes "::1") 7;
+      http_port = 8;
+      host = Some (codes "h");
+      interval = 9;
+      terms = terms_of 0 1 (Some (codes "t"));
+      jobs = 1000000;
+    }))
+    -- the interval ends with a day
+    ∷ bad (codes "run --db=d --book=b --call-every=86401")
+    -- a port has a last one for HTTP, too
+    ∷ bad (codes "run --db=d --book=b --http-port=65536")
+    -- no port is 0
+    ∷ bad (codes "run --db=d --book=b --port=0")
+    -- no more than a million jobs can be asked for
+    ∷ bad (codes "run --db=d --book=b --jobs=1000001")
+    -- patience ends with a day
+    ∷ bad (codes "run --db=d --book=b --patience=86401")
+    -- some time is left to be let in
+    ∷ bad (codes "run --db=d --book=b --admission=0")
+    -- a session takes some time
+    ∷ bad (codes "run --db=d --book=b --longest=0")
+    -- it doesn't count sessions
+    ∷ bad (codes "run --db=d --book=b --sessions=1")
+    -- it does without no book
+    ∷ bad (codes "run --db=d")
+    -- it takes no word
+    ∷ bad (codes "run --db=d --book=b w")
+    ∷ [])
+unfolding clap_on_literals run_app line_named taken
+run_lines = refl
+
 -- lines of `listen`
 listen_lines : AreRead (
     -- `listen` serves one session on port 3305 of the loopback address, where no more is said
     asks (codes "listen --db=d --book=b")
-    (said_listen (record { files = d_and_b; port = 3305; address = codes "127.0.0.1"; sessions = 1; admission = 30; patience = 300; longest = 86400; trace = None }))
+    (said_listen (record { files = d_and_b; entrance = entrance_at 3305 (codes "127.0.0.1") 30; sessions = 1; terms = terms_of 300 86400 None }))
     -- options come in any order
     ∷ asks (codes "listen --patience 0 --longest=1 --sessions=1000000 --trace=t --book=b --address ::1 --admission 86400 --db=d --port=65535")
-    (said_listen (record {
-      files = d_and_b;
-      port = 65535;
-      address = codes "::1";
-      sessions = 1000000;
-      admission = 86400;
-      patience = 0;
-      longest = 1;
-      trace = Some (codes "t");
-    }))
+    (said_listen (record { files = d_and_b; entrance = entrance_at 65535 (codes "::1") 86400; sessions = 1000000; terms = terms_of 0 1 (Some (codes "t")) }))
     -- no port is 0
     ∷ bad (codes "listen --db=d --book=b --port=0")
     -- nor after the last
@@ -276,10 +324,10 @@ listen_lines = refl
 call_lines : AreRead (
     -- `call` takes a partner
     asks (codes "call --db=d --book=b --partner=p")
-    (said_call (record { files = d_and_b; partner = codes "p"; patience = 300; longest = 86400; trace = None }))
+    (said_call (record { files = d_and_b; partner = codes "p"; terms = terms_of 300 86400 None }))
     -- and a patience, a longest session and a trace
     ∷ asks (codes "call --db=d --book=b --longest 1 --patience 86400 --trace t --partner p")
-    (said_call (record { files = d_and_b; partner = codes "p"; patience = 86400; longest = 1; trace = Some (codes "t") }))
+    (said_call (record { files = d_and_b; partner = codes "p"; terms = terms_of 86400 1 (Some (codes "t")) }))
     -- it does without no partner
     ∷ bad (codes "call --db=d --book=b")
     -- it lets nobody in

@@ -10,7 +10,7 @@ use Rattle.clap.specs.declared.builder.ArgAction.TheVariants.{Set}
 use Rattle.clap.specs.declared.builder.value_parser.ValueParser.{ValueParser}
 use Rattle.clap.specs.declared.builder.value_parser.ValueParser.TheVariants.{Unsigned}
 use Rattle.clap.specs.declared.parser.matches.ArgMatches.{ArgMatches}
-use Rattle.oftp_command_line.specs.declared.line.arguments.TheConstants.{MOST_ADMISSION, MOST_CALLERS, MOST_DURATION, MOST_NO, MOST_PATIENCE, MOST_PORT}
+use Rattle.oftp_command_line.specs.declared.line.arguments.TheConstants.{MOST_ADMISSION, MOST_CALLERS, MOST_DURATION, MOST_INTERVAL, MOST_JOBS, MOST_NO, MOST_PATIENCE, MOST_PORT}
 
 -- ---- the kinds of argument
 
@@ -57,6 +57,22 @@ own_address = defaulted (codes "address") (codes "127.0.0.1")
 -- the option for how many callers are served
 abbrev pub callers : Text → Rule
 callers id = numbered 1 MOST_CALLERS (defaulted id (codes "1"))
+
+-- the option for the port where requests by HTTP are awaited; 0 is none
+abbrev pub own_http_port : Rule
+own_http_port = numbered 0 MOST_PORT (defaulted (codes "http-port") (codes "0"))
+
+-- the option for a name of the machine that requests may ask
+abbrev pub own_host : Rule
+own_host = optional (codes "host")
+
+-- the option for how many seconds lie between the calls of a partner for whom something waits; 0 is never
+abbrev pub own_interval : Rule
+own_interval = numbered 0 MOST_INTERVAL (defaulted (codes "call-every") (codes "0"))
+
+-- the option for how many jobs are done; 0 is without an end
+abbrev pub own_jobs : Rule
+own_jobs = numbered 0 MOST_JOBS (defaulted (codes "jobs") (codes "0"))
 
 -- the option for how many seconds a partner may keep still
 abbrev pub own_patience : Rule

@@ -8,4 +8,5 @@ pub mod OperatorLines
 pub mod Printed
 pub mod RegisterLines
 pub mod ServiceLines
+pub mod Terms
 pub mod Told

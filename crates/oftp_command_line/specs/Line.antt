@@ -6,7 +6,7 @@ use Rattle.oftp_command_line.specs.FeedLine.{FeedSaid, feed_app, feed_in, feed_s
 use Rattle.oftp_command_line.specs.FileLines.{check_app, init_app, migrate_app, show_app}
 use Rattle.oftp_command_line.specs.OperatorLines.{RefuseSaid, ReleaseSaid, SubmitSaid, refuse_app, refuse_said, refuse_with, release_app, release_said, release_with, submit_app, submit_in, submit_said}
 use Rattle.oftp_command_line.specs.RegisterLines.{FetchSaid, ReportSaid, fetch_app, fetch_said, fetch_with, report_app, report_in, report_said}
-use Rattle.oftp_command_line.specs.ServiceLines.{CallSaid, HttpSaid, ListenSaid, call_app, call_said, call_with, http_app, http_said, http_with, listen_app, listen_said, listen_with}
+use Rattle.oftp_command_line.specs.ServiceLines.{CallSaid, HttpSaid, ListenSaid, RunSaid, call_app, call_said, call_with, http_app, http_said, http_with, listen_app, listen_said, listen_with, run_app, run_said, run_with}
 use Rattle.oftp_command_line.specs.declared.line.Line.{Line}
 use Rattle.oftp_command_line.specs.declared.line.Line.TheVariants as line
 use Rattle.oftp_command_line.specs.declared.line.commands.Name.{Name}
@@ -24,6 +24,7 @@ pub data Said : Type 0 where
   said_report : ReportSaid → Said
   said_show : Text → Said
   said_feed : FeedSaid → Said
+  said_run : RunSaid → Said
   said_listen : ListenSaid → Said
   said_call : CallSaid → Said
   said_http : HttpSaid → Said
@@ -40,6 +41,7 @@ said (line.Fetch f) = said_fetch (fetch_said f)
 said (line.Report r) = said_report (report_said r)
 said (line.Show input) = said_show input.now
 said (line.Feed f) = said_feed (feed_said f)
+said (line.Run r) = said_run (run_said r)
 said (line.Listen l) = said_listen (listen_said l)
 said (line.Call c) = said_call (call_said c)
 said (line.Http h) = said_http (http_said h)
@@ -51,8 +53,8 @@ name_of = named ((codes "init", name.Init) ∷ (codes "migrate", name.Migrate)
     ∷ (codes "release", name.Release) ∷ (codes "refuse", name.Refuse)
     ∷ (codes "fetch", name.Fetch) ∷ (codes "report", name.Report)
     ∷ (codes "show", name.Show)
-    ∷ (codes "feed", name.Feed) ∷ (codes "listen", name.Listen)
-    ∷ (codes "call", name.Call) ∷ (codes "http", name.Http) ∷ [])
+    ∷ (codes "feed", name.Feed) ∷ (codes "run", name.Run)
+    ∷ (codes "listen", name.Listen) ∷ (codes "call", name.Call) ∷ (codes "http", name.Http) ∷ [])
 
 -- the command of this name, as the parser is told of it
 abbrev pub app_named : Name → App
@@ -66,6 +68,7 @@ app_named name.Fetch = fetch_app
 app_named name.Report = report_app
 app_named name.Show = show_app
 app_named name.Feed = feed_app
+app_named name.Run = run_app
 app_named name.Listen = listen_app
 app_named name.Call = call_app
 app_named name.Http = http_app
@@ -83,6 +86,7 @@ said_by name.Fetch rows = Some (said_fetch (fetch_with rows))
 said_by name.Report rows = option_map said_report (report_in rows)
 said_by name.Show rows = Some (said_show (given (codes "in") rows))
 said_by name.Feed rows = option_map said_feed (feed_in rows)
+said_by name.Run rows = Some (said_run (run_with rows))
 said_by name.Listen rows = Some (said_listen (listen_with rows))
 said_by name.Call rows = Some (said_call (call_with rows))
 said_by name.Http rows = Some (said_http (http_with rows))

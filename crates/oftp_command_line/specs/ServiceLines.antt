@@ -1,34 +1,67 @@
--- The command lines of `listen`, `call` and `http`, which are services over sockets.
+-- The command lines of `run`, `listen`, `call` and `http`, which are services over sockets.
 use Rattle.std.specs.Prelude.{ℕ, List, [], ◌∷◌, Option, codes, option_map}
 use Rattle.clap.specs.Words.{App, Row, Text, first_of}
-use Rattle.oftp_command_line.specs.Arguments.{app_with, callers, given, needed, number, own_address, own_admission, own_book, own_database, own_duration, own_patience, own_port, own_trace}
+use Rattle.oftp_command_line.specs.Arguments.{app_with, callers, given, needed, number, own_address, own_admission, own_book, own_database, own_duration, own_host, own_http_port, own_interval, own_jobs, own_patience, own_port, own_trace}
 use Rattle.oftp_command_line.specs.Files.{FilesSaid, files_said, files_with}
+use Rattle.oftp_command_line.specs.Terms.{EntranceSaid, TermsSaid, entrance_said, entrance_with, terms_said, terms_with}
 use Rattle.oftp_command_line.specs.declared.line.commands.services.Call.{Call}
 use Rattle.oftp_command_line.specs.declared.line.commands.services.Http.{Http}
 use Rattle.oftp_command_line.specs.declared.line.commands.services.Listen.{Listen}
+use Rattle.oftp_command_line.specs.declared.line.commands.services.Run.{Run}
+
+-- what `run` is asked for
+pub record RunSaid : Type 0 where
+  pub files : FilesSaid
+  pub entrance : EntranceSaid
+  pub http_port : ℕ
+  pub host : Option Text
+  pub interval : ℕ
+  pub terms : TermsSaid
+  pub jobs : ℕ
+
+-- the same, of the command that was read
+abbrev pub run_said : Run → RunSaid
+run_said r = record {
+  files = files_said r.files;
+  entrance = entrance_said r.entrance;
+  http_port = r.http_port;
+  host = option_map (λ s. s.now) r.host;
+  interval = r.interval;
+  terms = terms_said r.terms;
+  jobs = r.jobs;
+}
+
+-- `run`, as the parser is told of it
+unfoldable pub run_app : App
+run_app = app_with (codes "run") (own_database ∷ own_book ∷ own_port (codes "3305") ∷ own_address ∷ own_http_port
+    ∷ own_host ∷ own_interval ∷ own_admission ∷ own_patience ∷ own_duration ∷ own_trace ∷ own_jobs ∷ [])
+
+-- what `run` is asked for by these values
+abbrev pub run_with : List Row → RunSaid
+run_with rows = record {
+  files = files_with rows;
+  entrance = entrance_with rows;
+  http_port = number (codes "http-port") rows;
+  host = first_of (codes "host") rows;
+  interval = number (codes "call-every") rows;
+  terms = terms_with rows;
+  jobs = number (codes "jobs") rows;
+}
 
 -- what `listen` is asked for
 pub record ListenSaid : Type 0 where
   pub files : FilesSaid
-  pub port : ℕ
-  pub address : Text
+  pub entrance : EntranceSaid
   pub sessions : ℕ
-  pub admission : ℕ
-  pub patience : ℕ
-  pub longest : ℕ
-  pub trace : Option Text
+  pub terms : TermsSaid
 
 -- the same, of the command that was read
 abbrev pub listen_said : Listen → ListenSaid
 listen_said l = record {
   files = files_said l.files;
-  port = l.port;
-  address = l.address.now;
+  entrance = entrance_said l.entrance;
   sessions = l.sessions;
-  admission = l.admission;
-  patience = l.patience;
-  longest = l.longest;
-  trace = option_map (λ s. s.now) l.trace;
+  terms = terms_said l.terms;
 }
 
 -- `listen`, as the parser is told of it
@@ -40,31 +73,23 @@ listen_app = app_with (codes "listen") (own_database ∷ own_book ∷ own_port (
 abbrev pub listen_with : List Row → ListenSaid
 listen_with rows = record {
   files = files_with rows;
-  port = number (codes "port") rows;
-  address = given (codes "address") rows;
+  entrance = entrance_with rows;
   sessions = number (codes "sessions") rows;
-  admission = number (codes "admission") rows;
-  patience = number (codes "patience") rows;
-  longest = number (codes "longest") rows;
-  trace = first_of (codes "trace") rows;
+  terms = terms_with rows;
 }
 
 -- what `call` is asked for
 pub record CallSaid : Type 0 where
   pub files : FilesSaid
   pub partner : Text
-  pub patience : ℕ
-  pub longest : ℕ
-  pub trace : Option Text
+  pub terms : TermsSaid
 
 -- the same, of the command that was read
 abbrev pub call_said : Call → CallSaid
 call_said c = record {
   files = files_said c.files;
   partner = c.partner.now;
-  patience = c.patience;
-  longest = c.longest;
-  trace = option_map (λ s. s.now) c.trace;
+  terms = terms_said c.terms;
 }
 
 -- `call`, as the parser is told of it
@@ -77,9 +102,7 @@ abbrev pub call_with : List Row → CallSaid
 call_with rows = record {
   files = files_with rows;
   partner = given (codes "partner") rows;
-  patience = number (codes "patience") rows;
-  longest = number (codes "longest") rows;
-  trace = first_of (codes "trace") rows;
+  terms = terms_with rows;
 }
 
 -- what `http` is asked for

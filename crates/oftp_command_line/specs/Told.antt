@@ -1,11 +1,13 @@
 -- What the parser is told of a command, and the names that the values of its arguments have: for private clauses alone.
-use Rattle.std.specs.Prelude.{ℕ, Bool, List, Option, None, Some, codes, false, fold, map, true}
+use Rattle.std.specs.Prelude.{ℕ, Bool, IsSome, List, Option, None, Some, codes, false, fold, map, true}
 use Rattle.std.specs.Borrow.{Bor}
-use Rattle.clap.specs.Words.{App, Rule, Text, new_app, with_rule}
+use Rattle.clap.specs.Words.{App, Row, Rule, Text, first_of, new_app, with_rule}
 use Rattle.oftp_command_line.specs.Arguments as spec
+use Rattle.oftp_command_line.specs.Arguments.{IsNumber}
 use Rattle.oftp_command_line.specs.declared.line.arguments.Argument.{Argument}
 use Rattle.oftp_command_line.specs.declared.line.arguments.Kind.{Kind}
 use Rattle.oftp_command_line.specs.declared.line.arguments.Kind.TheVariants.{Word, Needed, Optional, Defaulted}
+use Rattle.oftp_command_line.specs.declared.line.arguments.TheConstants.{MOST_ADMISSION, MOST_DURATION, MOST_PATIENCE, MOST_PORT}
 use Rattle.oftp_command_line.specs.declared.line.commands.Name.{Name}
 use Rattle.oftp_command_line.specs.declared.line.commands.Name.TheVariants as name
 
@@ -52,6 +54,7 @@ word_of name.Fetch = codes "fetch"
 word_of name.Report = codes "report"
 word_of name.Show = codes "show"
 word_of name.Feed = codes "feed"
+word_of name.Run = codes "run"
 word_of name.Listen = codes "listen"
 word_of name.Call = codes "call"
 word_of name.Http = codes "http"
@@ -59,3 +62,14 @@ word_of name.Http = codes "http"
 -- names with what each stands for, as texts
 abbrev pub names_in : {X : Type 0} → List (Bor Text × X) → List (Text × X)
 names_in names = map (λ n. (n.0.now, n.1)) names
+
+-- there is a value for each part of an entrance
+pub record HasEntrance (rows : List Row) : Type 0 where
+  pub port : IsNumber 1 MOST_PORT (codes "port") rows
+  pub address : IsSome (first_of (codes "address") rows)
+  pub admission : IsNumber 1 MOST_ADMISSION (codes "admission") rows
+
+-- there is a value for each of the terms that always have one
+pub record HasTerms (rows : List Row) : Type 0 where
+  pub patience : IsNumber 0 MOST_PATIENCE (codes "patience") rows
+  pub longest : IsNumber 1 MOST_DURATION (codes "longest") rows

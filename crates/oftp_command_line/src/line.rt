@@ -13,7 +13,8 @@ pub use commands::feed::{Feed, Side};
 pub use commands::files::Files;
 pub use commands::operators::{Refuse, Release, Submit};
 pub use commands::registers::{Fetch, Report};
-pub use commands::services::{Call, Http, Listen};
+pub use commands::services::{Call, Http, Listen, Run};
+pub use commands::terms::{Entrance, SessionTerms};
 use commands::{NAMES, Name};
 use std::alloc::{AllocError, Global};
 use values::matched;
@@ -53,6 +54,8 @@ pub enum Line<'a> {
     },
     /// One session from the octets of a file to another file.
     Feed(Feed<'a>),
+    /// A station by day and night.
+    Run(Run<'a>),
     /// Sessions of partners who call.
     Listen(Listen<'a>),
     /// One session with a partner who is called.

@@ -3,8 +3,10 @@
 
 mod access;
 mod database;
+mod page;
 mod perform;
 mod ports;
+mod resident;
 mod sockets;
 mod tracing;
 mod transcript;

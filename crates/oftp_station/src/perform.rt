@@ -1,5 +1,6 @@
 //! The commands.
 
+mod asking;
 mod content;
 mod drafts;
 mod fetching;
@@ -12,13 +13,19 @@ mod sessions;
 mod showing;
 mod traces;
 
+use asking::{Asking, reached};
+pub use fetching::entry_to_fetch;
+pub use files::book_of;
 use oftp_command_line::{Fault, Line, LineFault, Outcome, line_of, write_line};
 use oftp_engine::Told;
+pub use services::patience_of;
 use std::io::{self, ErrorKind, Write};
 
-const DONE: u8 = 0;
+/// The exit status of a command that is done.
+pub const DONE: u8 = 0;
 
-const FAILED: u8 = 1;
+/// That of one that was refused, or failed.
+pub const FAILED: u8 = 1;
 
 const BAD_LINE: u8 = 2;
 
@@ -31,7 +38,7 @@ pub fn perform(
     err: &mut impl Write,
 ) -> u8 {
     match line_of(rt.alloc(), words) {
-        Ok(line) => match carry_out(rt, &line, out, err) {
+        Ok(line) => match carry_out(rt, words, &line, out, err) {
             Ok(status) => status,
             Err(fault) => {
                 let _ = writeln!(err, "{fault}");
@@ -59,9 +66,59 @@ pub fn tell_unread(error: &io::Error, err: &mut impl Write) -> u8 {
     BAD_LINE
 }
 
+/// The database of a command that a station over it carries out, where one runs.
+fn shared_database<'a>(line: &Line<'a>) -> Option<&'a str> {
+    match line {
+        Line::Submit(submit) => Some(submit.files.database),
+        Line::Release(release) => Some(release.files.database),
+        Line::Refuse(refuse) => Some(refuse.files.database),
+        Line::Call(call) => Some(call.files.database),
+        Line::Fetch(fetch) => Some(fetch.database),
+        Line::Report(report) => Some(report.database),
+        Line::Init { database } => Some(*database),
+        _ => None,
+    }
+}
+
+/// Carries out a command: by the station that runs over its database, or else over the database itself.
+fn carry_out(
+    rt: &HostRuntime,
+    words: &[String],
+    line: &Line<'_>,
+    out: &mut impl Write,
+    err: &mut impl Write,
+) -> Result<u8, Fault> {
+    let station = match shared_database(line) {
+        Some(database) => reached(rt, database),
+        None => None,
+    };
+    match &station {
+        Some(stream) => ask(Asking::new(rt, words, stream), line, out, err),
+        None => carry_out_alone(rt, line, out, err),
+    }
+}
+
+/// Has a station carry out a command.
+fn ask(
+    asking: Asking<'_>,
+    line: &Line<'_>,
+    out: &mut impl Write,
+    err: &mut impl Write,
+) -> Result<u8, Fault> {
+    match line {
+        Line::Submit(submit) => asking.submit(submit, out, err),
+        Line::Release(release) => asking.respond(&release.files, out, err),
+        Line::Refuse(refuse) => asking.respond(&refuse.files, out, err),
+        Line::Fetch(fetch) => asking.fetch(fetch, out, err),
+        Line::Report(_) => asking.report(out, err),
+        Line::Call(call) => asking.call(call, out, err),
+        _ => asking.ask_alone(out, err),
+    }
+}
+
 /// Carries out a command, writes what it did, and answers the exit status. A call of the operator, a report and a
 /// service write it themselves, a service the faults of its callers too.
-fn carry_out(
+fn carry_out_alone(
     rt: &HostRuntime,
     line: &Line<'_>,
     out: &mut impl Write,
@@ -86,6 +143,10 @@ fn carry_out(
             FAILED
         }),
         Line::Call(call) => tell(services::call(rt, call)?, out),
+        Line::Run(run) => {
+            services::run(rt, run, out)?;
+            Ok(DONE)
+        }
         Line::Listen(listen) => {
             services::listen(rt, listen, out, err)?;
             Ok(DONE)
@@ -104,13 +165,13 @@ fn check(rt: &HostRuntime, book: &str) -> Result<Outcome, Fault> {
 }
 
 /// Writes how a command came out, and answers the exit status.
-fn tell(outcome: Outcome, out: &mut impl Write) -> Result<u8, Fault> {
+pub fn tell(outcome: Outcome, out: &mut impl Write) -> Result<u8, Fault> {
     write_line(out, &outcome)?;
     Ok(if outcome.is_refusal() { FAILED } else { DONE })
 }
 
 /// The exit status of a call of the operator, whose line is out.
-fn status_of(told: Told) -> u8 {
+pub fn status_of(told: Told) -> u8 {
     match told {
         Told::Done => DONE,
         Told::Refused(_) => FAILED,

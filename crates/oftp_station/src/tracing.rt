@@ -5,6 +5,8 @@ use crate::transcript::Transcript;
 use jiff::Timestamp;
 use oftp_command_line::{Fault, Outcome};
 use oftp_engine::End;
+use std::alloc::Global;
+use std::cell::RefCell;
 use std::fmt;
 use std::fs::{File, OpenOptions};
 use std::io::{self, ErrorKind, Read, Write};
@@ -13,7 +15,16 @@ use std::io::{self, ErrorKind, Read, Write};
 #[derive(Drop)]
 pub struct Trace<'a> {
     rt: &'a HostRuntime,
-    file: File,
+    target: Target,
+}
+
+/// Where the lines of a trace go.
+#[derive(Drop)]
+enum Target {
+    /// To a file.
+    File(File),
+    /// To where somebody else takes them.
+    Kept(RefCell<Vec<u8>>),
 }
 
 impl<'a> Trace<'a> {
@@ -28,7 +39,35 @@ impl<'a> Trace<'a> {
             }
             made => made?,
         };
-        Ok(Trace { rt, file })
+        Ok(Trace {
+            rt,
+            target: Target::File(file),
+        })
+    }
+
+    /// The trace that is kept until somebody takes it.
+    pub fn kept(rt: &'a HostRuntime) -> Trace<'a> {
+        Trace {
+            rt,
+            target: Target::Kept(RefCell::new(Vec::new(rt.alloc()))),
+        }
+    }
+
+    /// What was kept.
+    pub fn into_kept(self) -> Vec<u8> {
+        let Trace { rt, target } = self;
+        match target {
+            Target::Kept(kept) => kept.into_inner(),
+            Target::File(file) => {
+                drop(file);
+                Vec::new(rt.alloc())
+            }
+        }
+    }
+
+    /// Appends lines that were told elsewhere.
+    pub fn append(&self, lines: &[u8]) {
+        self.put(lines)
     }
 
     /// Appends the line of a session's end.
@@ -43,7 +82,7 @@ impl<'a> Trace<'a> {
     pub fn tell<L: fmt::Display>(&self, line: &L) {
         if let Some(time) = self.time() {
             if let Ok(text) = format!(in self.rt.alloc(); "{time} {line}\n") {
-                self.put(text.as_str());
+                self.put(text.as_bytes());
             }
         }
     }
@@ -54,9 +93,22 @@ impl<'a> Trace<'a> {
     }
 
     /// Appends lines at once.
-    fn put(&self, lines: &str) {
-        let mut file = &self.file;
-        let _ = file.write_all(lines.as_bytes());
+    fn put(&self, lines: &[u8]) {
+        match &self.target {
+            Target::File(file) => {
+                let mut file = file;
+                let _ = file.write_all(lines);
+            }
+            Target::Kept(kept) => keep(self.rt.alloc(), kept, lines),
+        }
+    }
+}
+
+/// Keeps lines behind those that were kept.
+fn keep(alloc: Global, kept: &RefCell<Vec<u8>>, lines: &[u8]) {
+    if let Ok(mut all) = kept.try_replace(Vec::new(alloc)) {
+        let _ = all.extend_from_slice(lines);
+        let _ = kept.try_replace(all);
     }
 }
 
@@ -117,7 +169,7 @@ impl Way<'_> {
         let head = format!(in alloc; "{time} {} ", self.mark).ok()?;
         let mut lines = String::new(alloc);
         self.transcript.take(piece, head.as_str(), &mut lines).ok()?;
-        self.trace.put(lines.as_str());
+        self.trace.put(lines.as_bytes());
         Some(())
     }
 }

@@ -27,6 +27,12 @@ const MOST_ADMISSION: u64 = 86_400;
 /// The longest session that can be asked for, in seconds: a day.
 const MOST_DURATION: u64 = 86_400;
 
+/// The longest time between the calls of a partner that can be asked for, in seconds: a day.
+const MOST_INTERVAL: u64 = 86_400;
+
+/// After how many jobs a station can be asked to end, at most.
+const MOST_JOBS: u64 = 1_000_000;
+
 /// An argument of a command, which takes one value.
 #[derive(Clone, Copy)]
 pub(super) struct Argument<'a> {
@@ -222,6 +228,43 @@ pub(super) fn callers<'a>(id: &'a str, help: &'a str) -> Argument<'a>
     ensures { told result ≡ spec.callers id.entry.now }
 {
     numbered(defaulted(id, "1", "COUNT", help), 1, MOST_CALLERS)
+}
+
+/// The option for the port where requests by HTTP are awaited.
+pub(super) fn own_http_port<'a>() -> Argument<'a>
+    ensures { told result ≡ spec.own_http_port }
+{
+    let help = "The port where requests by HTTP are awaited, 0 to 65535, 0 for none";
+    numbered(defaulted("http-port", "0", "PORT", help), 0, MOST_PORT)
+}
+
+/// The option for a name of the machine that requests may ask.
+pub(super) fn own_host<'a>() -> Argument<'a>
+    ensures { told result ≡ spec.own_host }
+{
+    let help = "A name by which browsers find this machine";
+    optional("host", "NAME", help)
+}
+
+/// The option for how many seconds lie between the calls of a partner for whom something waits.
+pub(super) fn own_interval<'a>() -> Argument<'a>
+    ensures { told result ≡ spec.own_interval }
+{
+    let help =
+        "After how many seconds each partner for whom something waits is called, 0 to 86400, 0 for never";
+    numbered(
+        defaulted("call-every", "0", "SECONDS", help),
+        0,
+        MOST_INTERVAL,
+    )
+}
+
+/// The option for how many jobs are done.
+pub(super) fn own_jobs<'a>() -> Argument<'a>
+    ensures { told result ≡ spec.own_jobs }
+{
+    let help = "After how many jobs it ends, 0 to 1000000, 0 for never";
+    numbered(defaulted("jobs", "0", "COUNT", help), 0, MOST_JOBS)
 }
 
 /// The option for the file to which a session's commands are appended in words.

@@ -12,6 +12,7 @@ pub(super) mod files;
 pub(super) mod operators;
 pub(super) mod registers;
 pub(super) mod services;
+pub(super) mod terms;
 mod texts;
 
 use super::arguments::{Argument, command, own_book, own_database, word};
@@ -25,11 +26,12 @@ use operators::{
 use registers::{fetch_arguments, fetch_read, report_arguments, report_read};
 use services::{
     call_arguments, call_read, http_arguments, http_read, listen_arguments, listen_read,
+    run_arguments, run_read,
 };
 use std::alloc::{AllocError, Global};
 
 /// The names of all commands, in the order in which texts have them.
-pub(super) const NAMES: [Name; 13] = [
+pub(super) const NAMES: [Name; 14] = [
     Name::Init,
     Name::Migrate,
     Name::Check,
@@ -40,6 +42,7 @@ pub(super) const NAMES: [Name; 13] = [
     Name::Report,
     Name::Show,
     Name::Feed,
+    Name::Run,
     Name::Listen,
     Name::Call,
     Name::Http,
@@ -58,6 +61,7 @@ pub(super) enum Name {
     Report,
     Show,
     Feed,
+    Run,
     Listen,
     Call,
     Http,
@@ -79,6 +83,7 @@ impl Name {
             "report" => Some(Name::Report),
             "show" => Some(Name::Show),
             "feed" => Some(Name::Feed),
+            "run" => Some(Name::Run),
             "listen" => Some(Name::Listen),
             "call" => Some(Name::Call),
             "http" => Some(Name::Http),
@@ -112,6 +117,7 @@ impl Name {
             Name::Report => self.taking(alloc, &report_arguments()),
             Name::Show => self.taking(alloc, &[input()]),
             Name::Feed => self.taking(alloc, &feed_arguments()),
+            Name::Run => self.taking(alloc, &run_arguments()),
             Name::Listen => self.taking(alloc, &listen_arguments()),
             Name::Call => self.taking(alloc, &call_arguments()),
             Name::Http => self.taking(alloc, &http_arguments()),
@@ -148,6 +154,7 @@ impl Name {
                 input: given(matches, "in"),
             }),
             Name::Feed => feed_read(alloc, matches).map(Line::Feed),
+            Name::Run => Ok(Line::Run(run_read(matches))),
             Name::Listen => Ok(Line::Listen(listen_read(matches))),
             Name::Call => Ok(Line::Call(call_read(matches))),
             Name::Http => Ok(Line::Http(http_read(matches))),

@@ -6,7 +6,7 @@ ghost use Rattle.oftp_command_line.specs.Arguments as spec;
 ghost use Rattle.oftp_command_line.specs.Arguments.{HasValues, IsNumber, taken, values_in};
 ghost use Rattle.oftp_command_line.specs.Fault.{is_bad};
 ghost use Rattle.oftp_command_line.specs.Told.{names_in};
-ghost use Rattle.oftp_command_line.specs.declared.line.arguments.TheConstants.{MOST_ADMISSION, MOST_CALLERS, MOST_DURATION, MOST_NO, MOST_PATIENCE, MOST_PORT};
+ghost use Rattle.oftp_command_line.specs.declared.line.arguments.TheConstants.{MOST_ADMISSION, MOST_CALLERS, MOST_DURATION, MOST_INTERVAL, MOST_JOBS, MOST_NO, MOST_PATIENCE, MOST_PORT};
 
 use super::LineFault;
 use clap::error::ErrorKind;
@@ -122,6 +122,37 @@ pub(super) fn duration_of(matches: &ArgMatches<'_>) -> u64
     ensures { result ≡ spec.number (codes "longest") (values_in matches.now) }
 {
     number(matches, "longest")
+}
+
+/// The port where requests by HTTP are awaited.
+pub(super) fn http_port_of(matches: &ArgMatches<'_>) -> u16
+    requires { IsNumber 0 MOST_PORT (codes "http-port") (values_in matches.now) }
+    ensures { result ≡ spec.number (codes "http-port") (values_in matches.now) }
+{
+    number(matches, "http-port") as u16
+}
+
+/// A name of the machine that requests may ask, if there is one.
+pub(super) fn host_of<'a>(matches: &ArgMatches<'a>) -> Option<&'a str>
+    ensures { option_map (λ s. s.now) result ≡ first_of (codes "host") (values_in matches.now) }
+{
+    value_of(matches, "host")
+}
+
+/// How many seconds lie between the calls of a partner for whom something waits.
+pub(super) fn interval_of(matches: &ArgMatches<'_>) -> u64
+    requires { IsNumber 0 MOST_INTERVAL (codes "call-every") (values_in matches.now) }
+    ensures { result ≡ spec.number (codes "call-every") (values_in matches.now) }
+{
+    number(matches, "call-every")
+}
+
+/// How many jobs are done.
+pub(super) fn jobs_of(matches: &ArgMatches<'_>) -> u64
+    requires { IsNumber 0 MOST_JOBS (codes "jobs") (values_in matches.now) }
+    ensures { result ≡ spec.number (codes "jobs") (values_in matches.now) }
+{
+    number(matches, "jobs")
 }
 
 /// The file to which a session's commands are appended in words, if one is.

@@ -1,11 +1,13 @@
 //! The command `fetch`, which writes an incoming file in its local form.
 
 use crate::database::{self, Errand, PATIENCE};
+use crate::perform::files::file_fault;
 use crate::perform::replacing::{Place, draft_of, place_of, settle};
 use oftp_command_line::{Fault, Fetch, Outcome};
 use oftp_engine::{Port, RunFault, write_content};
 use oftp_register::{IncomingEntry, IncomingState, Office};
 use std::alloc::Global;
+use std::fs::File;
 use std::io::Write;
 
 /// Any fault of a look-up is one of the office.
@@ -38,16 +40,43 @@ fn fetch_from<O: Office>(
     line: &Fetch<'_>,
     office: &mut O,
 ) -> Result<Outcome, Fault> {
-    let entry = match office.in_by_no(line.no) {
-        Ok(Some(entry)) => entry,
-        Ok(None) => return Ok(Outcome::Unknown),
-        Err(_) => return Err(OFFICE),
-    };
-    if entry.state != IncomingState::Whole {
-        return Ok(Outcome::WrongState);
+    match entry_to_fetch(office, line.no)? {
+        Ok(entry) => {
+            make_file(rt, line, office, &entry)?;
+            Ok(Outcome::Fetched(entry.no))
+        }
+        Err(refusal) => Ok(refusal),
     }
-    make_file(rt, line, office, &entry)?;
-    Ok(Outcome::Fetched(entry.no))
+}
+
+/// The whole incoming file of this number, or the refusal where there is none.
+pub fn entry_to_fetch<O: Office>(
+    office: &mut O,
+    no: u64,
+) -> Result<Result<IncomingEntry, Outcome>, Fault> {
+    match office.in_by_no(no) {
+        Ok(Some(entry)) if entry.state == IncomingState::Whole => Ok(Ok(entry)),
+        Ok(Some(_)) => Ok(Err(Outcome::WrongState)),
+        Ok(None) => Ok(Err(Outcome::Unknown)),
+        Err(_) => Err(OFFICE),
+    }
+}
+
+/// Makes the file that the line names, of octets that are there.
+pub(super) fn make_file_of(rt: &HostRuntime, line: &Fetch<'_>, octets: &[u8]) -> Result<(), Fault> {
+    match place_of(rt, line.file, line.database)? {
+        Place::Device(mut device) => put(&mut device, octets),
+        Place::Name(name) => {
+            let mut draft = draft_of(rt, &name)?;
+            let written = put(&mut draft.file, octets);
+            settle(rt, draft, &name, written)
+        }
+    }
+}
+
+/// Writes octets. What can't be written can't be made.
+fn put(file: &mut File, octets: &[u8]) -> Result<(), Fault> {
+    file.write_all(octets).map_err(|error| file_fault(&error))
 }
 
 /// Makes the file that the line names.

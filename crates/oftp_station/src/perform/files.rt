@@ -2,6 +2,7 @@
 
 use oftp_command_line::Fault;
 use oftp_partners::{self as partners, Book, BookFault};
+use std::alloc::Global;
 use std::fs::{self, Metadata, OpenFile};
 use std::io::{self, ErrorKind};
 use std::os::unix::fs::MetadataExt;
@@ -10,10 +11,22 @@ use std::rt::Files;
 /// The book of a file.
 pub(super) fn read_book<R: Files + AllocGlobal>(rt: &R, path: &str) -> Result<Book, Fault> {
     let octets = fs::read(rt, path).map_err(|error| file_fault(&error))?;
-    let Ok(text) = str::from_utf8(octets.as_slice()) else {
+    book_of(rt.alloc(), octets.as_slice())
+}
+
+/// The octets of a book's file, and the book that they are.
+pub(super) fn read_book_octets(rt: &HostRuntime, path: &str) -> Result<(Vec<u8>, Book), Fault> {
+    let octets = fs::read(rt, path).map_err(|error| file_fault(&error))?;
+    let book = book_of(rt.alloc(), octets.as_slice())?;
+    Ok((octets, book))
+}
+
+/// The book that the octets of a file are.
+pub fn book_of(alloc: Global, octets: &[u8]) -> Result<Book, Fault> {
+    let Ok(text) = str::from_utf8(octets) else {
         return Err(Fault::Book(BookFault::NotToml));
     };
-    partners::read(rt.alloc(), text).map_err(book_fault)
+    partners::read(alloc, text).map_err(book_fault)
 }
 
 /// Want of memory is no fault of the book.

@@ -1,19 +1,111 @@
-//! The commands `listen`, `call` and `http`, over sockets.
+//! The commands `run`, `listen`, `call` and `http`, over sockets.
 
-use crate::database;
-use crate::perform::files::read_book;
+use crate::database::{self, DatabaseOffice, PATIENCE};
+use crate::perform::files::{read_book, read_book_octets};
 use crate::perform::traces::open_trace;
-use crate::sockets::{Reception, Station, bound, connected, dial, http_on, listen_on};
-use oftp_command_line::{Call, Fault, Http, Listen, Outcome};
+use crate::resident::{Bench, SocketPlace, codes_of, reside};
+use crate::sockets::{
+    Opened, Reception, Station, bound, connected, dial, http_on, listen_on, socket_fault,
+};
+use crate::tracing::Trace;
+use oftp_command_line::{Call, Entrance, Fault, Files, Http, Listen, Outcome, Run, SessionTerms};
+use oftp_partners::Book;
+use std::alloc::Global;
 use std::io::Write;
 use std::time::Duration;
 
 /// How long a partner may keep still. Zero seconds are no limit.
-fn patience_of(seconds: u64) -> Option<Duration> {
+pub fn patience_of(seconds: u64) -> Option<Duration> {
     match seconds {
         0 => None,
         _ => Some(Duration::from_secs(seconds)),
     }
+}
+
+/// The trace that the line of a service asks for.
+pub(super) fn trace_of<'a>(
+    rt: &'a HostRuntime,
+    files: &Files<'_>,
+    terms: &SessionTerms<'_>,
+) -> Result<Option<Trace<'a>>, Fault> {
+    open_trace(rt, terms.trace, &[files.book], Some(files.database))
+}
+
+/// How long a caller has to be let in. Who isn't takes no longer than a session may.
+fn admission_of(entrance: &Entrance<'_>, terms: &SessionTerms<'_>) -> Duration {
+    Duration::from_secs(entrance.admission.min(terms.longest))
+}
+
+/// What the sessions of a service are served from.
+fn station_of<'a>(
+    book: &'a Book,
+    files: &Files<'a>,
+    terms: &SessionTerms<'a>,
+    trace: Option<&'a Trace<'a>>,
+) -> Station<'a> {
+    Station {
+        book,
+        database: files.database,
+        patience: patience_of(terms.patience),
+        longest: Duration::from_secs(terms.longest),
+        trace,
+    }
+}
+
+/// Serves partners and commands over the database, which is held open, and writes a line to `out` for each session, behind one that says
+/// that it is ready.
+pub(super) fn run(rt: &HostRuntime, line: &Run<'_>, out: &mut impl Write) -> Result<(), Fault> {
+    let (octets, book) = read_book_octets(rt, line.files.book)?;
+    let mut office = database::open(rt, line.files.database, PATIENCE)?;
+    let trace = trace_of(rt, &line.files, &line.terms)?;
+    let station = station_of(&book, &line.files, &line.terms, trace.as_ref());
+    run_over(rt, line, &station, octets.as_slice(), &mut office, out)
+}
+
+/// A name, if there is one, as a text of its own.
+fn name_of(alloc: Global, name: Option<&str>) -> Result<Option<String>, Fault> {
+    match name {
+        Some(name) => match String::from_str(alloc, name) {
+            Ok(name) => Ok(Some(name)),
+            Err(_) => Err(Fault::MEMORY),
+        },
+        None => Ok(None),
+    }
+}
+
+/// The same over the office, which holds the database, with the octets of the book.
+fn run_over(
+    rt: &HostRuntime,
+    line: &Run<'_>,
+    station: &Station<'_>,
+    octets: &[u8],
+    office: &mut DatabaseOffice,
+    out: &mut impl Write,
+) -> Result<(), Fault> {
+    let codes = codes_of(rt.alloc(), octets)?;
+    let host = name_of(rt.alloc(), line.host)?;
+    let partners = bound(rt, line.entrance.address, line.entrance.port)?;
+    let requests = match line.http_port {
+        0 => None,
+        port => Some(bound(rt, line.entrance.address, port)?),
+    };
+    let place = SocketPlace::beside(rt, line.files.database).map_err(|error| socket_fault(&error))?;
+    let commands = place.listen(rt).map_err(|error| socket_fault(&error))?;
+    let requests = requests.as_ref();
+    let host = host.as_ref();
+    let bench = Bench {
+        partners: &partners,
+        commands: &commands,
+        requests,
+        host,
+        admission: admission_of(&line.entrance, &line.terms),
+        codes: codes.as_slice(),
+        interval: Duration::from_secs(line.interval),
+        jobs: line.jobs,
+    };
+    let ended = reside(rt, &bench, station, office, out);
+    let _ = place.remove(rt);
+    ended
 }
 
 /// Serves the sessions of partners who call, and writes a line for each: its end to `out`, or its fault to `err`.
@@ -25,26 +117,14 @@ pub(super) fn listen(
 ) -> Result<(), Fault> {
     let book = read_book(rt, line.files.book)?;
     database::make(rt, line.files.database)?;
-    let trace = open_trace(
-        rt,
-        line.trace,
-        &[line.files.book],
-        Some(line.files.database),
-    )?;
-    let listener = bound(rt, line.address, line.port)?;
-    let station = Station {
-        book: &book,
-        database: line.files.database,
-        patience: patience_of(line.patience),
-        longest: Duration::from_secs(line.longest),
-        trace: trace.as_ref(),
-    };
+    let trace = trace_of(rt, &line.files, &line.terms)?;
+    let listener = bound(rt, line.entrance.address, line.entrance.port)?;
     let reception = Reception {
         listener: &listener,
         sessions: line.sessions,
-        // Who isn't let in takes no longer than a session may.
-        admission: Duration::from_secs(line.admission.min(line.longest)),
+        admission: admission_of(&line.entrance, &line.terms),
     };
+    let station = station_of(&book, &line.files, &line.terms, trace.as_ref());
     listen_on(rt, &reception, &station, out, err)
 }
 
@@ -55,22 +135,10 @@ pub(super) fn call(rt: &HostRuntime, line: &Call<'_>) -> Result<Outcome, Fault> 
         return Ok(Outcome::Unknown);
     };
     database::make(rt, line.files.database)?;
-    let trace = open_trace(
-        rt,
-        line.trace,
-        &[line.files.book],
-        Some(line.files.database),
-    )?;
-    let patience = patience_of(line.patience);
-    let stream = connected(rt, partner.address.as_str(), patience)?;
-    let station = Station {
-        book: &book,
-        database: line.files.database,
-        patience,
-        longest: Duration::from_secs(line.longest),
-        trace: trace.as_ref(),
-    };
-    dial(rt, stream, partner, &station).map(Outcome::Ended)
+    let trace = trace_of(rt, &line.files, &line.terms)?;
+    let station = station_of(&book, &line.files, &line.terms, trace.as_ref());
+    let stream = connected(rt, partner.address.as_str(), station.patience)?;
+    dial(rt, stream, partner, &station, &mut Opened).map(Outcome::Ended)
 }
 
 /// Answers requests for what a database holds. The fault of one caller is written to `err`.

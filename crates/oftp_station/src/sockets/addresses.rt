@@ -59,7 +59,7 @@ pub(super) fn accepted(rt: &HostRuntime, listener: &TcpListener) -> Result<TcpSt
 }
 
 /// Whether accept may be called again after this error.
-fn passes(error: &io::Error) -> bool {
+pub fn passes(error: &io::Error) -> bool {
     match error.raw_os_error() {
         Some(number) => PASSING.contains(&number),
         None => false,
@@ -67,7 +67,7 @@ fn passes(error: &io::Error) -> bool {
 }
 
 /// Want of memory is no fault of the socket.
-fn socket_fault(error: &io::Error) -> Fault {
+pub fn socket_fault(error: &io::Error) -> Fault {
     if error.kind() == ErrorKind::OutOfMemory || error.raw_os_error() == Some(NO_BUFFERS) {
         Fault::MEMORY
     } else {

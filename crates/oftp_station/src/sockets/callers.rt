@@ -7,7 +7,7 @@ use std::io::Write;
 
 /// Why a caller wasn't served to the end.
 #[derive(Clone, Copy, Drop)]
-pub(super) enum Trouble {
+pub enum Trouble {
     /// It is this caller's alone: a line on standard error says so, and the service goes on.
     OfCaller(Fault),
     /// It ends the service.
@@ -16,7 +16,7 @@ pub(super) enum Trouble {
 
 impl Trouble {
     /// The fault, whoever has it.
-    pub(super) fn fault(self) -> Fault {
+    pub fn fault(self) -> Fault {
         match self {
             Trouble::OfCaller(fault) | Trouble::OfService(fault) => fault,
         }

@@ -3,6 +3,7 @@
 use crate::sockets::moments::Timed;
 use std::io::{self, ErrorKind, Read, Write};
 use std::net::{Shutdown, TcpStream};
+use std::os::fd::{AsRawFd, RawFd};
 use std::time::Duration;
 
 /// How often a call that a signal interrupts is made.
@@ -16,13 +17,13 @@ const FAREWELL: u64 = 5;
 
 /// A connection. Each read and each write fails where the partner keeps still for longer than the limit.
 #[derive(Drop)]
-pub(super) struct Connection {
+pub struct Connection {
     stream: TcpStream,
 }
 
 impl Connection {
     /// The connection of a stream. Without a limit the partner is waited for as long as it takes.
-    pub(super) fn new(stream: TcpStream, limit: Option<Duration>) -> io::Result<Connection> {
+    pub fn new(stream: TcpStream, limit: Option<Duration>) -> io::Result<Connection> {
         // An answer is written at once, whatever the partner has yet to acknowledge.
         stream.set_nodelay(true)?;
         let connection = Connection { stream };
@@ -47,6 +48,12 @@ impl Connection {
         let mut rest = Timed::new(rt, self, Duration::from_secs(FAREWELL))?.take(MOST_DROPPED);
         io::copy(&mut rest, &mut io::sink())?;
         Ok(())
+    }
+}
+
+impl AsRawFd for Connection {
+    fn as_raw_fd(&self) -> RawFd {
+        self.stream.as_raw_fd()
     }
 }
 

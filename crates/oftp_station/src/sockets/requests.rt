@@ -16,10 +16,10 @@ use std::net::{TcpListener, TcpStream};
 use std::time::Duration;
 
 /// How many octets of a request are read: one more than a head may have.
-const MOST_OCTETS: usize = 8_193;
+pub const MOST_OCTETS: usize = 8_193;
 
 /// How many seconds a request may take to come, and its reply to go.
-const LIMIT: u64 = 10;
+pub const LIMIT: u64 = 10;
 
 /// Answers so many requests for what a database holds, one connection each. Where another program holds the database, the connection
 /// is closed without a reply, and a line to `err` says so.
@@ -79,7 +79,7 @@ fn hear(
 }
 
 /// Whether a request can be answered. What the answer is doesn't count yet, so the database isn't opened for it.
-fn is_whole(alloc: Global, request: &[u8]) -> Result<bool, Fault> {
+pub fn is_whole(alloc: Global, request: &[u8]) -> Result<bool, Fault> {
     match answer(alloc, request, &mut PlainOffice::new(alloc, LIMITS)) {
         Ok(_) => Ok(true),
         Err(ListFault::Incomplete) => Ok(false),

@@ -1,6 +1,6 @@
 //! Sessions over sockets.
 
-use crate::database::{self, PATIENCE};
+use crate::database::{self, DatabaseOffice, PATIENCE};
 use crate::ports::ports_of;
 use crate::sockets::admission::{Admission, Opening, Skipping, admit};
 use crate::sockets::callers::{Trouble, settled};
@@ -14,6 +14,55 @@ use oftp_partners::{Book, Partner};
 use std::io::{Read, Write};
 use std::net::{TcpListener, TcpStream};
 use std::time::{Duration, Instant};
+
+/// What a session is served over.
+pub trait Desk {
+    /// Serves a session.
+    ///
+    /// # Errors
+    /// Its trouble.
+    fn converse<R: Read + Drop, W: Write + Drop>(
+        &mut self,
+        rt: &HostRuntime,
+        role: Role<'_>,
+        station: &Station<'_>,
+        reader: R,
+        writer: W,
+    ) -> Result<End, Trouble>;
+}
+
+/// The database that is opened for each session, and given up after it.
+#[derive(Clone, Copy)]
+pub struct Opened;
+
+impl Desk for Opened {
+    fn converse<R: Read + Drop, W: Write + Drop>(
+        &mut self,
+        rt: &HostRuntime,
+        role: Role<'_>,
+        station: &Station<'_>,
+        reader: R,
+        writer: W,
+    ) -> Result<End, Trouble> {
+        let mut office = database::open_if_free(rt, station.database, PATIENCE)?;
+        office.converse(rt, role, station, reader, writer)
+    }
+}
+
+impl Desk for DatabaseOffice {
+    fn converse<R: Read + Drop, W: Write + Drop>(
+        &mut self,
+        rt: &HostRuntime,
+        role: Role<'_>,
+        station: &Station<'_>,
+        reader: R,
+        writer: W,
+    ) -> Result<End, Trouble> {
+        let (mut reader, mut writer) = ports_of(reader, writer);
+        let end = self.serve(rt.alloc(), station.book, role, &mut reader, &mut writer)?;
+        Ok(end)
+    }
+}
 
 /// What sessions are served from.
 #[derive(Clone, Copy)]
@@ -73,7 +122,7 @@ fn serve_next(
 ) -> Result<End, Trouble> {
     let caller = waiting.next_caller(most, station)?;
     let begun = Instant::now(rt);
-    let served = serve_caller(rt, &caller, station);
+    let served = serve_caller(rt, &caller, station, &mut Opened);
     part(rt, &caller.connection, station, &served);
     if let Ok(begun) = begun {
         waiting.stand_still(begun);
@@ -85,22 +134,23 @@ fn serve_next(
 ///
 /// # Errors
 /// Any fault of the database or of the session.
-pub fn dial(
+pub fn dial<D: Desk>(
     rt: &HostRuntime,
     stream: TcpStream,
     partner: &Partner,
     station: &Station<'_>,
+    desk: &mut D,
 ) -> Result<End, Fault> {
     let Ok(connection) = Connection::new(stream, station.patience) else {
         return Err(Fault::Run(RunFault::Read));
     };
-    let served = serve_called(rt, &connection, partner, station);
+    let served = serve_called(rt, &connection, partner, station, desk);
     part(rt, &connection, station, &served);
     served.map_err(Trouble::fault)
 }
 
 /// Appends how a session ended to its trace. Where the station had the last word, the partner is left the time to read it.
-fn part(
+pub fn part(
     rt: &HostRuntime,
     connection: &Connection,
     station: &Station<'_>,
@@ -126,17 +176,18 @@ fn tell_end(trace: &Trace<'_>, served: &Result<End, Trouble>) {
 }
 
 /// One session with a partner who was called.
-fn serve_called(
+fn serve_called<D: Desk>(
     rt: &HostRuntime,
     connection: &Connection,
     partner: &Partner,
     station: &Station<'_>,
+    desk: &mut D,
 ) -> Result<End, Trouble> {
     let Ok(begun) = Instant::now(rt) else {
         return Err(Trouble::from(RunFault::Read));
     };
     let term = Term::new(rt, connection, begun, station.longest, station.patience);
-    serve(
+    desk.converse(
         rt,
         Role::Initiator(partner),
         station,
@@ -145,8 +196,13 @@ fn serve_called(
     )
 }
 
-/// One session with a caller, for which the database is opened once the caller is to be let in.
-fn serve_caller(rt: &HostRuntime, caller: &Caller, station: &Station<'_>) -> Result<End, Trouble> {
+/// One session with a caller. Nothing is asked of the desk before the caller is to be let in.
+pub fn serve_caller<D: Desk>(
+    rt: &HostRuntime,
+    caller: &Caller,
+    station: &Station<'_>,
+    desk: &mut D,
+) -> Result<End, Trouble> {
     let connection = &caller.connection;
     let whole = Term::new(
         rt,
@@ -170,7 +226,7 @@ fn serve_caller(rt: &HostRuntime, caller: &Caller, station: &Station<'_>) -> Res
         Admission::Ended(end) => Ok(end),
         Admission::LetIn(opening) => {
             let Opening { heard, said } = opening;
-            serve(
+            desk.converse(
                 rt,
                 Role::Responder,
                 station,
@@ -179,18 +235,4 @@ fn serve_caller(rt: &HostRuntime, caller: &Caller, station: &Station<'_>) -> Res
             )
         }
     }
-}
-
-/// One session over the database, which is opened for it.
-fn serve<R: Read + Drop, W: Write + Drop>(
-    rt: &HostRuntime,
-    role: Role<'_>,
-    station: &Station<'_>,
-    reader: R,
-    writer: W,
-) -> Result<End, Trouble> {
-    let mut office = database::open_if_free(rt, station.database, PATIENCE)?;
-    let (mut reader, mut writer) = ports_of(reader, writer);
-    let end = office.serve(rt.alloc(), station.book, role, &mut reader, &mut writer)?;
-    Ok(end)
 }

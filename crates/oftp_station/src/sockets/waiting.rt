@@ -1,12 +1,14 @@
 //! Callers who wait to be let in, side by side. They hold nothing but their connections.
 
-use crate::sockets::addresses::accepted;
+use crate::sockets::addresses::{accepted, passes};
 use crate::sockets::admission::{Said, greet, judged};
 use crate::sockets::callers::Trouble;
 use crate::sockets::connection::Connection;
 use crate::sockets::sessions::Station;
 use oftp_command_line::Fault;
 use oftp_engine::RunFault;
+use oftp_wire::{Command, Deframer, parse};
+use std::alloc::Global;
 use std::io::{self, ErrorKind, Read};
 use std::net::{TcpListener, TcpStream};
 use std::time::{Clock, Duration, Instant};
@@ -22,9 +24,9 @@ const MOST_HEARD: usize = 128;
 
 /// A caller who was greeted.
 #[derive(Drop)]
-pub(super) struct Caller {
+pub struct Caller {
     /// The connection.
-    pub(super) connection: Connection,
+    pub connection: Connection,
     /// When it was greeted. The time of others' sessions isn't counted.
     pub(super) begun: Instant,
     /// How long it has to be let in. Who said too little in its time has none left.
@@ -49,9 +51,20 @@ enum Standing {
     Enters,
 }
 
+/// Who was taken in.
+#[derive(Clone, Copy)]
+pub enum Arrival {
+    /// Nobody: nobody has called, or there is no room.
+    Nobody,
+    /// Nobody yet: it has to be tried again.
+    Later,
+    /// The next who has called.
+    Somebody,
+}
+
 /// The callers who wait, in the order in which they came.
 #[derive(Drop)]
-pub(super) struct Waiting<'a> {
+pub struct Waiting<'a> {
     rt: &'a HostRuntime,
     listener: &'a TcpListener,
     // How long each has to be let in.
@@ -61,11 +74,7 @@ pub(super) struct Waiting<'a> {
 
 impl<'a> Waiting<'a> {
     /// Nobody waits yet.
-    pub(super) fn new(
-        rt: &'a HostRuntime,
-        listener: &'a TcpListener,
-        admission: Duration,
-    ) -> Waiting<'a> {
+    pub fn new(rt: &'a HostRuntime, listener: &'a TcpListener, admission: Duration) -> Waiting<'a> {
         Waiting {
             rt,
             listener,
@@ -85,18 +94,64 @@ impl<'a> Waiting<'a> {
     ) -> Result<Caller, Trouble> {
         for _ in 0..u64::MAX {
             self.welcome(most.min(MOST_WAITING), station)?;
-            if let Some(place) = self.called(station)?
-                && place < self.callers.len()
-            {
-                let caller = self.callers.remove(place);
-                return match caller.connection.set_waiting(true) {
-                    Ok(()) => Ok(caller),
-                    Err(_) => Err(Trouble::from(RunFault::Read)),
-                };
+            if let Some(caller) = self.due(station)? {
+                return Ok(caller);
             }
             self.rt.sleep(Duration::from_millis(PAUSE));
         }
         Err(Trouble::from(Fault::Socket))
+    }
+
+    /// The caller whose turn it is, if it is anybody's: the first who is to be let in, else the first who leaves.
+    ///
+    /// # Errors
+    /// The trouble of that caller, or of the service.
+    pub fn due(&mut self, station: &Station<'_>) -> Result<Option<Caller>, Trouble> {
+        let Some(place) = self.called(station)? else {
+            return Ok(None);
+        };
+        if place >= self.callers.len() {
+            return Ok(None);
+        }
+        let caller = self.callers.remove(place);
+        match caller.connection.set_waiting(true) {
+            Ok(()) => Ok(Some(caller)),
+            Err(_) => Err(Trouble::from(RunFault::Read)),
+        }
+    }
+
+    /// Takes in the next who has called, where there is room, and waits for nobody: the listener doesn't either.
+    ///
+    /// # Errors
+    /// The trouble of a caller who can't be greeted, or of the listener.
+    pub fn take_in(&mut self, station: &Station<'_>) -> Result<Arrival, Trouble> {
+        if self.callers.len() as u64 >= MOST_WAITING {
+            return Ok(Arrival::Nobody);
+        }
+        let stream = match self.listener.accept() {
+            Ok((stream, _)) => stream,
+            Err(error) if error.kind() == ErrorKind::WouldBlock => return Ok(Arrival::Nobody),
+            Err(error) if passes(&error) => return Ok(Arrival::Later),
+            Err(_) => return Err(Trouble::from(Fault::Socket)),
+        };
+        let caller = self.greeted(stream, station)?;
+        if self.callers.push(caller).is_err() {
+            return Err(Trouble::from(Fault::MEMORY));
+        }
+        Ok(Arrival::Somebody)
+    }
+
+    /// The connection of who came last.
+    pub fn newest(&self) -> Option<&Connection> {
+        match self.callers.last() {
+            Some(caller) => Some(&caller.connection),
+            None => None,
+        }
+    }
+
+    /// Whether nobody waits.
+    pub fn is_empty(&self) -> bool {
+        self.callers.is_empty()
     }
 
     /// Takes in who has called, up to so many in all.
@@ -168,7 +223,7 @@ impl<'a> Waiting<'a> {
     }
 
     /// A session was served since this moment, whose time isn't counted.
-    pub(super) fn stand_still(&mut self, since: Instant) {
+    pub fn stand_still(&mut self, since: Instant) {
         let Ok(passed) = since.elapsed(self.rt) else {
             return;
         };
@@ -200,6 +255,19 @@ impl Read for Spoken<'_> {
 }
 
 impl Caller {
+    /// The code of the partner that it is let in as. There is none where it isn't let in.
+    pub fn code(&self, alloc: Global) -> Option<String> {
+        if !matches!(&self.standing, Standing::Enters) {
+            return None;
+        }
+        let mut stream = Deframer::new(alloc, MOST_HEARD);
+        stream.feed(self.heard.as_slice()).ok()?;
+        match parse(stream.next().ok()??) {
+            Ok(Command::Ssid(ssid)) => format!(in alloc; "{}", ssid.code).ok(),
+            _ => None,
+        }
+    }
+
     /// What it said, and what it says then.
     pub(super) fn spoken(&self) -> Spoken<'_> {
         Spoken {

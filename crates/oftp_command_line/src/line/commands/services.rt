@@ -1,43 +1,93 @@
-//! The commands `listen`, `call` and `http`, which are services over sockets.
-#![tactic(auto, using(crate::proofs::Values::has_text), unfolding(crate::specs::ServiceLines::listen_app, crate::specs::ServiceLines::call_app, crate::specs::ServiceLines::http_app))]
+//! The commands `run`, `listen`, `call` and `http`, which are services over sockets.
 
 ghost use Rattle.std.specs.Prelude.{◌≡◌, codes};
 ghost use Rattle.oftp_command_line.specs.Arguments.{HasValues, values_in};
-ghost use Rattle.oftp_command_line.specs.ServiceLines.{call_app, call_said, call_with, http_app, http_said, http_with, listen_app, listen_said, listen_with};
+ghost use Rattle.oftp_command_line.specs.ServiceLines.{call_app, call_said, call_with, http_app, http_said, http_with, listen_app, listen_said, listen_with, run_app, run_said, run_with};
 ghost use Rattle.oftp_command_line.specs.Told.{app_told};
 
 use super::files::{Files, files_read};
+use super::terms::{Entrance, SessionTerms, entrance_read, terms_read};
 use crate::line::arguments::{
     Argument, callers, needed, own_address, own_admission, own_book, own_database, own_duration,
-    own_patience, own_port, own_trace,
+    own_host, own_http_port, own_interval, own_jobs, own_patience, own_port, own_trace,
 };
 use crate::line::values::{
-    address_of, admission_of, callers_of, duration_of, given, patience_of, port_of, trace_of,
+    address_of, callers_of, given, host_of, http_port_of, interval_of, jobs_of, port_of,
 };
 use clap::ArgMatches;
+
+/// The command `run`, which serves partners and commands by day and night.
+#[derive(Debug, Clone, Copy, PartialEq, Eq)]
+pub struct Run<'a> {
+    /// The database and the book.
+    pub files: Files<'a>,
+    /// Where callers are awaited.
+    pub entrance: Entrance<'a>,
+    /// The port where requests by HTTP are awaited, 0 to 65,535; 0 is none.
+    pub http_port: u16,
+    /// A name of the machine that requests may ask, if there is one.
+    pub host: Option<&'a str>,
+    /// How many seconds lie between the calls of a partner for whom something waits, 0 to 86,400; 0 is never.
+    pub interval: u64,
+    /// How its sessions go.
+    pub terms: SessionTerms<'a>,
+    /// After how many jobs it ends, 0 to 1,000,000; 0 is never.
+    pub jobs: u64,
+}
+
+/// The arguments of `run`.
+#[tactic(auto, unfolding(crate::specs::ServiceLines::run_app))]
+pub(super) fn run_arguments<'a>() -> [Argument<'a>; 12]
+    ensures { app_told (codes "run") result ≡ run_app }
+{
+    [
+        own_database(),
+        own_book(),
+        own_port("3305"),
+        own_address(),
+        own_http_port(),
+        own_host(),
+        own_interval(),
+        own_admission(),
+        own_patience(),
+        own_duration(),
+        own_trace(),
+        own_jobs(),
+    ]
+}
+
+/// What `run` is asked for by the values of its options.
+#[tactic(auto, using(crate::proofs::Values::has_text), unfolding(crate::specs::ServiceLines::run_app))]
+pub(super) fn run_read<'a>(matches: &ArgMatches<'a>) -> Run<'a>
+    requires { HasValues run_app (values_in matches.now) }
+    ensures { run_said result ≡ run_with (values_in matches.now) }
+{
+    Run {
+        files: files_read(matches),
+        entrance: entrance_read(matches),
+        http_port: http_port_of(matches),
+        host: host_of(matches),
+        interval: interval_of(matches),
+        terms: terms_read(matches),
+        jobs: jobs_of(matches),
+    }
+}
 
 /// The command `listen`, which serves sessions of partners who call.
 #[derive(Debug, Clone, Copy, PartialEq, Eq)]
 pub struct Listen<'a> {
     /// The database and the book.
     pub files: Files<'a>,
-    /// The port where callers are awaited, 1 to 65,535.
-    pub port: u16,
-    /// The machine's address where callers are awaited.
-    pub address: &'a str,
+    /// Where callers are awaited.
+    pub entrance: Entrance<'a>,
     /// How many sessions are served, 1 to 1,000,000.
     pub sessions: u64,
-    /// How many seconds a caller has in all to be let in, 1 to 86,400.
-    pub admission: u64,
-    /// How many seconds a partner may keep still, 0 to 86,400; 0 is for ever.
-    pub patience: u64,
-    /// How many seconds a session may take in all, 1 to 86,400.
-    pub longest: u64,
-    /// The file to which what goes over the connection is appended in words, if one is.
-    pub trace: Option<&'a str>,
+    /// How its sessions go.
+    pub terms: SessionTerms<'a>,
 }
 
 /// The arguments of `listen`.
+#[tactic(auto, unfolding(crate::specs::ServiceLines::listen_app))]
 pub(super) fn listen_arguments<'a>() -> [Argument<'a>; 9]
     ensures { app_told (codes "listen") result ≡ listen_app }
 {
@@ -56,19 +106,16 @@ pub(super) fn listen_arguments<'a>() -> [Argument<'a>; 9]
 }
 
 /// What `listen` is asked for by the values of its options.
+#[tactic(auto, using(crate::proofs::Values::has_text), unfolding(crate::specs::ServiceLines::listen_app))]
 pub(super) fn listen_read<'a>(matches: &ArgMatches<'a>) -> Listen<'a>
     requires { HasValues listen_app (values_in matches.now) }
     ensures { listen_said result ≡ listen_with (values_in matches.now) }
 {
     Listen {
         files: files_read(matches),
-        port: port_of(matches),
-        address: address_of(matches),
+        entrance: entrance_read(matches),
         sessions: callers_of(matches, "sessions"),
-        admission: admission_of(matches),
-        patience: patience_of(matches),
-        longest: duration_of(matches),
-        trace: trace_of(matches),
+        terms: terms_read(matches),
     }
 }
 
@@ -79,15 +126,12 @@ pub struct Call<'a> {
     pub files: Files<'a>,
     /// The code of the partner that is called.
     pub partner: &'a str,
-    /// How many seconds the partner may keep still, 0 to 86,400; 0 is for ever.
-    pub patience: u64,
-    /// How many seconds the session may take in all, 1 to 86,400.
-    pub longest: u64,
-    /// The file to which what goes over the connection is appended in words, if one is.
-    pub trace: Option<&'a str>,
+    /// How its session goes.
+    pub terms: SessionTerms<'a>,
 }
 
 /// The arguments of `call`.
+#[tactic(auto, unfolding(crate::specs::ServiceLines::call_app))]
 pub(super) fn call_arguments<'a>() -> [Argument<'a>; 6]
     ensures { app_told (codes "call") result ≡ call_app }
 {
@@ -103,6 +147,7 @@ pub(super) fn call_arguments<'a>() -> [Argument<'a>; 6]
 }
 
 /// What `call` is asked for by the values of its options.
+#[tactic(auto, using(crate::proofs::Values::has_text), unfolding(crate::specs::ServiceLines::call_app))]
 pub(super) fn call_read<'a>(matches: &ArgMatches<'a>) -> Call<'a>
     requires { HasValues call_app (values_in matches.now) }
     ensures { call_said result ≡ call_with (values_in matches.now) }
@@ -110,9 +155,7 @@ pub(super) fn call_read<'a>(matches: &ArgMatches<'a>) -> Call<'a>
     Call {
         files: files_read(matches),
         partner: given(matches, "partner"),
-        patience: patience_of(matches),
-        longest: duration_of(matches),
-        trace: trace_of(matches),
+        terms: terms_read(matches),
     }
 }
 
@@ -130,6 +173,7 @@ pub struct Http<'a> {
 }
 
 /// The arguments of `http`.
+#[tactic(auto, unfolding(crate::specs::ServiceLines::http_app))]
 pub(super) fn http_arguments<'a>() -> [Argument<'a>; 4]
     ensures { app_told (codes "http") result ≡ http_app }
 {
@@ -143,6 +187,7 @@ pub(super) fn http_arguments<'a>() -> [Argument<'a>; 4]
 }
 
 /// What `http` is asked for by the values of its options.
+#[tactic(auto, using(crate::proofs::Values::has_text), unfolding(crate::specs::ServiceLines::http_app))]
 pub(super) fn http_read<'a>(matches: &ArgMatches<'a>) -> Http<'a>
     requires { HasValues http_app (values_in matches.now) }
     ensures { http_said result ≡ http_with (values_in matches.now) }

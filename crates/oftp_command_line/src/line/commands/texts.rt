@@ -20,6 +20,7 @@ impl Name {
             Name::Report => "report",
             Name::Show => "show",
             Name::Feed => "feed",
+            Name::Run => "run",
             Name::Listen => "listen",
             Name::Call => "call",
             Name::Http => "http",
@@ -42,6 +43,10 @@ impl Name {
             Name::Show => "oftp_station show <IN>",
             Name::Feed =>
                 "oftp_station feed [--db <DATABASE>] --book <BOOK> [--role <ROLE>] [--partner <CODE>] [--trace <FILE>] <IN> <OUT>",
+            Name::Run =>
+                "oftp_station run --db <DATABASE> --book <BOOK> [--port <PORT>] [--address <ADDRESS>] [--http-port <PORT>] \
+                 [--host <NAME>] [--call-every <SECONDS>] [--admission <SECONDS>] [--patience <SECONDS>] [--longest <SECONDS>] [--trace <FILE>] \
+                 [--jobs <COUNT>]",
             Name::Listen =>
                 "oftp_station listen --db <DATABASE> --book <BOOK> [--port <PORT>] [--address <ADDRESS>] [--sessions <COUNT>] \
                  [--admission <SECONDS>] [--patience <SECONDS>] [--longest <SECONDS>] [--trace <FILE>]",
@@ -65,6 +70,7 @@ impl Name {
             Name::Report => "Tells what the database holds, as comma-separated values",
             Name::Show => "Prints the commands in file IN, a line each, up to the first fault",
             Name::Feed => "Plays one session from the octets of file IN to file OUT",
+            Name::Run => "Serves partners and commands by day and night, one after another",
             Name::Listen => "Serves sessions of partners who call, one after another",
             Name::Call => "Calls a partner for one session",
             Name::Http => "Answers requests for what the database holds, one after another",

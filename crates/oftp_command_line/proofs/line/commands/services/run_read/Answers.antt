@@ -1,0 +1,31 @@
+use Rattle.std.proofs.Common.{codes, refl}
+use Rattle.oftp_command_line.specs.ServiceLines.{run_app}
+use Rattle.oftp_command_line.specs.declared.line.arguments.TheConstants.{MOST_ADMISSION, MOST_DURATION, MOST_INTERVAL, MOST_JOBS, MOST_PATIENCE, MOST_PORT}
+use Rattle.oftp_command_line.proofs.line.commands.services.run_read.Goals as goal
+
+pub entrance_read-requires : goal.entrance_read-requires
+unfolding run_app
+entrance_read-requires c = record {
+  port = c.requires.numbers 1 MOST_PORT (codes "port") refl;
+  address = c.requires.texts (codes "address") refl;
+  admission = c.requires.numbers 1 MOST_ADMISSION (codes "admission") refl;
+}
+
+pub terms_read-requires : goal.terms_read-requires
+unfolding run_app
+terms_read-requires c = record {
+  patience = c.requires.numbers 0 MOST_PATIENCE (codes "patience") refl;
+  longest = c.requires.numbers 1 MOST_DURATION (codes "longest") refl;
+}
+
+pub jobs_of-requires : goal.jobs_of-requires
+unfolding run_app
+jobs_of-requires c = c.requires.numbers 0 MOST_JOBS (codes "jobs") refl
+
+pub http_port_of-requires : goal.http_port_of-requires
+unfolding run_app
+http_port_of-requires c = c.requires.numbers 0 MOST_PORT (codes "http-port") refl
+
+pub interval_of-requires : goal.interval_of-requires
+unfolding run_app
+interval_of-requires c = c.requires.numbers 0 MOST_INTERVAL (codes "call-every") refl

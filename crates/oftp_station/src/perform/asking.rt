@@ -1,0 +1,235 @@
+//! Commands that have the station do what they ask, where one runs over their database. They read and make the files themselves.
+
+use crate::perform::content::read_content;
+use crate::perform::fetching::make_file_of;
+use crate::perform::files::read_book_octets;
+use crate::perform::services::trace_of;
+use crate::perform::{DONE, FAILED, tell};
+use crate::resident::SocketPlace;
+use crate::tracing::Trace;
+use oftp_channel::{AnswerPart, HearFault, Outlet, fits, read_part, read_ready, write_request};
+use oftp_command_line::{Call, Fault, Fetch, Files, Outcome, Submit};
+use oftp_engine::{Port, RunFault};
+use std::alloc::Global;
+use std::io::{self, Write};
+use std::os::unix::net::UnixStream;
+
+/// The station is gone, or says what no station says: what was asked is done or not done.
+const GONE: Fault = Fault::Run(RunFault::Office);
+
+/// A command whose database a station holds.
+#[derive(Clone, Copy)]
+pub(super) struct Asking<'a> {
+    rt: &'a HostRuntime,
+    words: &'a [String],
+    stream: &'a UnixStream,
+}
+
+/// The connection to the station that runs over a database, if one does.
+pub(super) fn reached(rt: &HostRuntime, database: &str) -> Option<UnixStream> {
+    SocketPlace::beside(rt, database).ok()?.connect(rt).ok()
+}
+
+impl<'a> Asking<'a> {
+    /// The command of these words, whose station is reached over this stream.
+    pub(super) fn new(
+        rt: &'a HostRuntime,
+        words: &'a [String],
+        stream: &'a UnixStream,
+    ) -> Asking<'a> {
+        Asking { rt, words, stream }
+    }
+
+    /// Hands in a file.
+    pub(super) fn submit(
+        self,
+        submit: &Submit<'_>,
+        out: &mut impl Write,
+        err: &mut impl Write,
+    ) -> Result<u8, Fault> {
+        let (book, _) = read_book_octets(self.rt, submit.files.book)?;
+        let content = read_content(self.rt, submit)?;
+        self.ask_line(book.as_slice(), content.as_slice(), out, err)
+    }
+
+    /// Releases or refuses a file.
+    pub(super) fn respond(
+        self,
+        files: &Files<'_>,
+        out: &mut impl Write,
+        err: &mut impl Write,
+    ) -> Result<u8, Fault> {
+        let (book, _) = read_book_octets(self.rt, files.book)?;
+        self.ask_line(book.as_slice(), &[], out, err)
+    }
+
+    /// Asks what needs no file.
+    pub(super) fn ask_alone(self, out: &mut impl Write, err: &mut impl Write) -> Result<u8, Fault> {
+        self.ask_line(&[], &[], out, err)
+    }
+
+    /// Asks for a report, which is written as it comes.
+    pub(super) fn report(self, out: &mut impl Write, err: &mut impl Write) -> Result<u8, Fault> {
+        let status = self.ask(&[], &[], out, err, &mut io::sink())?;
+        flush(out)?;
+        Ok(status)
+    }
+
+    /// Fetches a file, and makes it once all of it is there.
+    pub(super) fn fetch(
+        self,
+        fetch: &Fetch<'_>,
+        out: &mut impl Write,
+        err: &mut impl Write,
+    ) -> Result<u8, Fault> {
+        let alloc = self.rt.alloc();
+        let mut line = Vec::new(alloc);
+        let mut content = Vec::new(alloc);
+        let status = self.ask(&[], &[], &mut line, err, &mut content)?;
+        if status == DONE {
+            make_file_of(self.rt, fetch, content.as_slice())?;
+        }
+        print(line.as_slice(), out)?;
+        Ok(status)
+    }
+
+    /// Has a partner called.
+    pub(super) fn call(
+        self,
+        call: &Call<'_>,
+        out: &mut impl Write,
+        err: &mut impl Write,
+    ) -> Result<u8, Fault> {
+        let (octets, book) = read_book_octets(self.rt, call.files.book)?;
+        if book.partner(call.partner.as_bytes()).is_none() {
+            return tell(Outcome::Unknown, out);
+        }
+        let trace = trace_of(self.rt, &call.files, &call.terms)?;
+        let mut line = Vec::new(self.rt.alloc());
+        let mut told = Told {
+            trace: trace.as_ref(),
+        };
+        let status = self.ask(octets.as_slice(), &[], &mut line, err, &mut told)?;
+        print(line.as_slice(), out)?;
+        Ok(status)
+    }
+
+    /// Asks for what is a line, which is printed once the whole answer has come.
+    fn ask_line(
+        self,
+        book: &[u8],
+        content: &[u8],
+        out: &mut impl Write,
+        err: &mut impl Write,
+    ) -> Result<u8, Fault> {
+        let mut line = Vec::new(self.rt.alloc());
+        let status = self.ask(book, content, &mut line, err, &mut io::sink())?;
+        print(line.as_slice(), out)?;
+        Ok(status)
+    }
+
+    /// Asks, takes the pieces of the answer to where they go, and answers the exit status.
+    fn ask(
+        self,
+        book: &[u8],
+        content: &[u8],
+        out: &mut impl Write,
+        err: &mut impl Write,
+        made: &mut impl Write,
+    ) -> Result<u8, Fault> {
+        let alloc = self.rt.alloc();
+        let request = request_of(alloc, book, content, self.words)?;
+        let mut reader = Port::new(self.stream, u64::MAX);
+        let mut writer = Port::new(self.stream, 0);
+        read_ready(alloc, &mut reader).map_err(fault_of)?;
+        if !fits(request.as_slice()) {
+            return Err(Fault::MEMORY);
+        }
+        if !write_request(&mut writer, request.as_slice()) {
+            return Err(GONE);
+        }
+        for _ in 0..u64::MAX {
+            match read_part(alloc, &mut reader).map_err(fault_of)? {
+                AnswerPart::End(status) => return Ok(status),
+                AnswerPart::Piece(Outlet::Output, octets) => put(octets.as_slice(), out)?,
+                AnswerPart::Piece(Outlet::Errors, octets) => {
+                    let _ = err.write_all(octets.as_slice());
+                }
+                AnswerPart::Piece(Outlet::Content, octets) => {
+                    if made.write_all(octets.as_slice()).is_err() {
+                        return Err(Fault::MEMORY);
+                    }
+                }
+            }
+        }
+        Err(GONE)
+    }
+}
+
+/// The words of a request: the book, the content, and the words of the command.
+fn request_of<'a>(
+    alloc: Global,
+    book: &'a [u8],
+    content: &'a [u8],
+    words: &'a [String],
+) -> Result<Vec<&'a [u8]>, Fault> {
+    let mut request = Vec::new(alloc);
+    let mut is_kept = request.push(book).is_ok() && request.push(content).is_ok();
+    for word in words {
+        is_kept = is_kept && request.push(word.as_bytes()).is_ok();
+    }
+    if is_kept {
+        Ok(request)
+    } else {
+        Err(Fault::MEMORY)
+    }
+}
+
+/// Why no answer comes.
+fn fault_of(fault: HearFault) -> Fault {
+    match fault {
+        HearFault::Memory => Fault::MEMORY,
+        HearFault::Input | HearFault::Form => GONE,
+    }
+}
+
+/// Writes to an output.
+fn put(octets: &[u8], out: &mut impl Write) -> Result<(), Fault> {
+    match out.write_all(octets) {
+        Ok(()) => Ok(()),
+        Err(_) => Err(Fault::Run(RunFault::Write)),
+    }
+}
+
+/// Has an output written at once.
+fn flush(out: &mut impl Write) -> Result<(), Fault> {
+    match out.flush() {
+        Ok(()) => Ok(()),
+        Err(_) => Err(Fault::Run(RunFault::Write)),
+    }
+}
+
+/// Writes a line at once.
+fn print(line: &[u8], out: &mut impl Write) -> Result<(), Fault> {
+    put(line, out)?;
+    flush(out)
+}
+
+/// The writer of what a session's trace is to have. A trace that isn't asked for takes it, too.
+#[derive(Clone, Copy)]
+struct Told<'a> {
+    trace: Option<&'a Trace<'a>>,
+}
+
+impl Write for Told<'_> {
+    fn write(&mut self, lines: &[u8]) -> io::Result<usize> {
+        if let Some(trace) = self.trace {
+            trace.append(lines);
+        }
+        Ok(lines.len())
+    }
+
+    fn flush(&mut self) -> io::Result<()> {
+        Ok(())
+    }
+}

@@ -1,0 +1,214 @@
+//! What commands ask, and what is done for them over the office.
+
+use crate::database::{DatabaseOffice, Errand};
+use crate::perform::{DONE, book_of, entry_to_fetch, patience_of, status_of, tell};
+use crate::resident::answers::Answer;
+use crate::resident::calls::Wanted;
+use oftp_channel::Outlet;
+use oftp_command_line::{Call, Fault, Line, Outcome, Submit, line_of};
+use oftp_engine::{Operator, Port, RunFault, Submission, write_content};
+use oftp_listing::ReportKind;
+use oftp_register::Office;
+use std::alloc::Global;
+use std::time::Duration;
+
+/// What a command asks: its words, and the octets of the files that it read for them.
+#[derive(Drop)]
+pub(super) struct Asked {
+    book: Vec<u8>,
+    content: Vec<u8>,
+    words: Vec<String>,
+}
+
+/// What comes of it.
+#[derive(Drop)]
+pub(super) enum Task {
+    /// It is answered so. Where there is no answer, there was no memory for it.
+    Answered(Option<Vec<u8>>),
+    /// It is answered so, and the office has failed.
+    Failed(Option<Vec<u8>>),
+    /// A partner is to be called for it.
+    Calls(Wanted),
+    /// It is nothing that a command asks.
+    Nothing,
+}
+
+impl Asked {
+    /// What is asked by the octets of a request: the book, the content, and then the words.
+    pub(super) fn of(alloc: Global, request: Vec<Vec<u8>>) -> Option<Asked> {
+        let mut parts = request.into_iter();
+        let book = parts.next()?;
+        let content = parts.next()?;
+        let mut words = Vec::new(alloc);
+        for part in parts {
+            let word = String::from_utf8(part).ok()?;
+            words.push(word).ok()?;
+        }
+        Some(Asked {
+            book,
+            content,
+            words,
+        })
+    }
+
+    /// Does what is asked over an office.
+    pub(super) fn carry_out(&self, rt: &HostRuntime, office: &mut DatabaseOffice) -> Task {
+        let alloc = rt.alloc();
+        match line_of(alloc, self.words.as_slice()) {
+            Ok(Line::Call(call)) => match self.call(alloc, &call) {
+                Ok(wanted) => Task::Calls(wanted),
+                Err(fault) => Task::Answered(Answer::new(alloc).ended(Err(fault))),
+            },
+            Ok(line) => {
+                let mut answer = Answer::new(alloc);
+                let outcome = self.carry_out_line(alloc, office, &line, &mut answer);
+                match outcome {
+                    Ok(None) => Task::Nothing,
+                    Ok(Some(status)) => Task::Answered(answer.ended(Ok(status))),
+                    Err(Fault::Run(RunFault::Office)) => {
+                        Task::Failed(answer.ended(Err(Fault::Run(RunFault::Office))))
+                    }
+                    Err(fault) => Task::Answered(answer.ended(Err(fault))),
+                }
+            }
+            Err(_) => Task::Nothing,
+        }
+    }
+
+    /// Who is to be called.
+    fn call(&self, alloc: Global, call: &Call<'_>) -> Result<Wanted, Fault> {
+        let book = book_of(alloc, self.book.as_slice())?;
+        let code = String::from_str(alloc, call.partner).map_err(|_| Fault::MEMORY)?;
+        Ok(Wanted {
+            book: Some(book),
+            code,
+            patience: patience_of(call.terms.patience),
+            longest: Duration::from_secs(call.terms.longest),
+            is_traced: call.terms.trace.is_some(),
+        })
+    }
+
+    /// Does what a line asks over an office, and answers its exit status. There is none for a line that no command asks.
+    fn carry_out_line(
+        &self,
+        alloc: Global,
+        office: &mut DatabaseOffice,
+        line: &Line<'_>,
+        answer: &mut Answer,
+    ) -> Result<Option<u8>, Fault> {
+        let status = match line {
+            Line::Submit(submit) => {
+                let operator = Operator::Submit(self.submission(submit));
+                self.operate(alloc, office, &operator, answer)?
+            }
+            Line::Release(release) => {
+                let operator = Operator::Release { no: release.no };
+                self.operate(alloc, office, &operator, answer)?
+            }
+            Line::Refuse(refuse) => {
+                let operator = Operator::Refuse {
+                    no: refuse.no,
+                    reason: refuse.reason,
+                    text: refuse.text,
+                };
+                self.operate(alloc, office, &operator, answer)?
+            }
+            Line::Report(what) => report(alloc, office, what.kind, answer)?,
+            Line::Fetch(fetch) => send_file(alloc, office, fetch.no, answer)?,
+            Line::Init { .. } => tell_in(alloc, Outcome::Initiated, answer)?,
+            _ => return Ok(None),
+        };
+        Ok(Some(status))
+    }
+
+    /// Does what an operator wants of an office.
+    fn operate(
+        &self,
+        alloc: Global,
+        office: &mut DatabaseOffice,
+        operator: &Operator<'_>,
+        answer: &mut Answer,
+    ) -> Result<u8, Fault> {
+        let book = book_of(alloc, self.book.as_slice())?;
+        let mut port = Port::new(Vec::new(alloc), 0);
+        let told = office
+            .operate(alloc, &book, operator, &mut port)
+            .map_err(Fault::Run)?;
+        answer.add(Outlet::Output, port.into_inner().as_slice())?;
+        Ok(status_of(told))
+    }
+
+    /// What is submitted.
+    fn submission<'a>(&'a self, submit: &Submit<'a>) -> Submission<'a> {
+        Submission {
+            dataset: submit.dataset,
+            date: submit.date,
+            time: submit.time,
+            to: submit.to,
+            format: submit.format,
+            longest: submit.longest,
+            description: submit.description,
+            content: self.content.as_slice(),
+        }
+    }
+}
+
+/// Adds a report to an answer.
+fn report(
+    alloc: Global,
+    office: &mut DatabaseOffice,
+    kind: ReportKind,
+    answer: &mut Answer,
+) -> Result<u8, Fault> {
+    let mut port = Port::new(Vec::new(alloc), 0);
+    let reported = office.report(alloc, kind, &mut port);
+    answer.add(Outlet::Output, port.into_inner().as_slice())?;
+    match reported {
+        Ok(()) => Ok(DONE),
+        Err(fault) => Err(Fault::from(fault)),
+    }
+}
+
+/// Adds a whole incoming file to an answer, and the line that tells it.
+fn send_file(
+    alloc: Global,
+    office: &mut DatabaseOffice,
+    no: u64,
+    answer: &mut Answer,
+) -> Result<u8, Fault> {
+    let (content, outcome) = office.run(Fetching { alloc, no })?;
+    answer.add(Outlet::Content, content.as_slice())?;
+    tell_in(alloc, outcome, answer)
+}
+
+/// Adds the line of an outcome to an answer, and answers the exit status.
+fn tell_in(alloc: Global, outcome: Outcome, answer: &mut Answer) -> Result<u8, Fault> {
+    let mut line = Vec::new(alloc);
+    let status = tell(outcome, &mut line)?;
+    answer.add(Outlet::Output, line.as_slice())?;
+    Ok(status)
+}
+
+/// An incoming file that is fetched.
+#[derive(Clone, Copy)]
+struct Fetching {
+    alloc: Global,
+    no: u64,
+}
+
+impl Errand for Fetching {
+    type Outcome = Result<(Vec<u8>, Outcome), Fault>;
+
+    fn run<O: Office>(self, office: &mut O) -> Result<(Vec<u8>, Outcome), Fault> {
+        let Fetching { alloc, no } = self;
+        let mut port = Port::new(Vec::new(alloc), 0);
+        let outcome = match entry_to_fetch(office, no)? {
+            Ok(entry) => {
+                write_content(alloc, office, &entry, &mut port).map_err(Fault::Run)?;
+                Outcome::Fetched(entry.no)
+            }
+            Err(refusal) => refusal,
+        };
+        Ok((port.into_inner(), outcome))
+    }
+}
