@@ -68,10 +68,13 @@ CHECKS = [
     Check("sqlite", "python3 checks/scenarios/stock_sqlite.py", "the databases that the program writes and refuses, by stock sqlite3"),
     Check("example of services", "bash examples/two_stations.sh", "two stations as services on this machine, one of them killed"),
     Check("example of a day", "bash examples/a_day.sh | diff examples/a_day.stdout -", "the commands of a day"),
+    Check("documents", "python3 checks/scenarios/documents.py", "what the documents say of the commands, and README's day as it stands there"),
     Check("octets", "python3 checks/scenarios/spell_examples.py", "the octets of examples/, against the rows that spell them"),
     Check("books", "python3 checks/scenarios/book_faults.py", "the faults of partner books"),
     Check("units", "bash checks/scenarios/service_files.sh", "the units of examples/service"),
     Check("held database", "python3 checks/scenarios/database_held.py", "commands over a database that another process holds"),
+    Check("command lines beside a resident", "python3 checks/scenarios/command_lines.py --beside", "the same where a station holds the database"),
+    Check("resident", "python3 checks/scenarios/resident.py", "a station that holds its database, and who connects to it"),
     Check("strangers", "python3 checks/scenarios/strangers.py", "callers who aren't let in, many at a time"),
     Check("sockets", "python3 checks/scenarios/sockets.py", "sessions and requests over sockets"),
     Check("files made", "python3 checks/scenarios/files_made.py", "the files that the program makes: modes, owners and drafts"),
@@ -79,6 +82,8 @@ CHECKS = [
     Check("memory", "bash checks/speed/feed_64_mib.sh", "the memory of a session of 64 MiB", ALONE),
     Check("speed", "python3 checks/speed/receive_speed.py --assert", "what a file that comes in takes", ALONE),
     Check("database", "python3 checks/speed/database_cost.py --assert", "what a register in a database costs, beside stock sqlite3", ALONE),
+    Check("growth", "python3 checks/speed/growth.py --assert", "what a station that holds its database takes as its register grows", ALONE),
+    Check("page", "python3 checks/scenarios/page.py", "the page for people, in a browser", ALONE),
     Check("sizes", "python3 checks/speed/sizes.py", "files, texts, books and credits at their limits", ALONE),
 ]
 
@@ -89,6 +94,7 @@ WANTED = {
     "a C compiler": (["cc"], ["gcc", "libc6-dev"]),
     "systemd": (["systemd-analyze"], ["systemd"]),
     "stunnel": (["stunnel", "openssl"], ["stunnel4", "openssl"]),
+    "a browser": (["chromium"], ["chromium", "fonts-dejavu-core"]),
 }
 # How a check begins the line of what it couldn't try.
 NOT_TRIED = "NOT TRIED for want of "

@@ -1,7 +1,7 @@
 #!/usr/bin/env python3
 """Kills the program by SIGKILL at random moments, and looks at what it left.
 
-    checks/faults/kill_at_random.py [--seconds N] [--seed N]       30 seconds, and another seed each time, where none is given
+    checks/faults/kill_at_random.py [--seconds N | --minutes N] [--seed N]       30 seconds, and another seed each time, where none is given
 
 Each trial gives the program one command over a database that earlier trials left: a session in which a file comes in, through a pipe
 in pieces of random sizes; one in which a file goes out; one in which responses come, or go; `submit`; `release` or `refuse`. After a
@@ -9,10 +9,15 @@ random time it is killed, unless it ended before. Then the tables are read by st
 They have to stand for all changes that the octets and the lines that came out answer, and else for no more than what comes next:
 never for less, and never for half a change. The next trial goes on with what is left. It goes on behind its time until a trial of each
 kind was killed, and fails where five minutes more bring none. The seed is printed, and at a failure all that is left is kept in a
-folder. The last line is `N passed, M failed`.
+folder.
+
+Over each of the five databases `listen` and `http` stay from the first trial to the last. Some of the sessions in which something comes go
+to that `listen`, and half of these are cut off. Between two trials a stranger calls, or somebody asks for what the database holds. What the
+services hold at the end is compared with what they held at the beginning (checks/lib/staying.py). The last line is `N passed, M failed`.
 """
 
 import argparse
+import contextlib
 import random
 import subprocess
 import sys
@@ -22,9 +27,9 @@ from pathlib import Path
 
 sys.path.insert(0, str(Path(__file__).resolve().parents[1] / "lib"))
 
-import oftp
 import tables
 from killed import BLOCK, BUFFER, CREDIT, Station, Wrong, keep, rows_of
+from staying import Services, frame
 
 # How many octets of a file a full DATA carries: each 63 behind a header octet.
 FULL = (BUFFER - 1) // 64 * 63 + max((BUFFER - 1) % 64 - 1, 0)
@@ -34,12 +39,6 @@ FILES_OF_A_DATABASE = 6
 LONGEST = 300
 PARTNER = {"originator": "O0177CARMAKER", "destination": "O0013SUPPLIER"}
 STAMP = {"date": "20240131", "time": "1015300001"}
-
-
-def frame(kind, **fields):
-    return oftp.frame(oftp.spell(kind, fields))
-
-
 OPENS = frame("SSID", code="O0177CARMAKER", password="CARPW", buffer=str(BUFFER), credit=str(CREDIT), mode="B")
 ENDS = frame("ESID", reason="00")
 
@@ -91,14 +90,13 @@ class FileIn:
         end = frame("EFID", records="0", units=str(len(self.octets)))
         if self.is_whole():
             frames, end = [], b""
-        commands, was_killed = self.station.session(self.name, b"".join([OPENS, offer, *frames, end, ENDS]))
+        commands, is_broken = self.station.session(self.name, b"".join([OPENS, offer, *frames, end, ENDS]))
         allowed = self.allowed(begin, len(frames), commands)
         self.look()
-        if self.left not in (allowed if was_killed else allowed[-1:]):
+        if self.left not in (allowed if is_broken else allowed[-1:]):
             raise Wrong(f"{self.left} is left, and it should be one of {allowed}")
         if self.is_whole() and (count(commands, "EFPA") or count(commands, "SFNA")):
             self.begin_file()
-        return was_killed
 
     def is_whole(self):
         return self.left is not None and self.left[0] == "whole"
@@ -163,17 +161,16 @@ class FileOut:
         credits = frame("CDT") * (0 if is_duplicate else len(frames) // CREDIT)
         end = b"" if is_duplicate else frame("EFPA")
         octets = b"".join([frame("SSRM"), OPENS, answer, credits, end, ENDS])
-        commands, was_killed = self.station.session(self.name, octets, *self.station.called())
+        commands, is_broken = self.station.session(self.name, octets, *self.station.called())
         self.compare_frames(commands, offered, frames)
         allowed = [("handed", offered)] if is_duplicate else self.allowed(begin, len(frames), commands)
         if is_duplicate and not count(commands, "CD"):
             allowed = [self.left, *allowed]
         self.look()
-        if self.left not in (allowed if was_killed else allowed[-1:]):
+        if self.left not in (allowed if is_broken else allowed[-1:]):
             raise Wrong(f"{self.left} is left, and it should be one of {allowed}")
         if self.left[0] == "handed":
             self.begin_file()
-        return was_killed
 
     def compare_frames(self, commands, offered, frames):
         """What came out is what the file is, from the row that the partner asked for."""
@@ -239,10 +236,9 @@ class Submission:
         path = station.room / "file"
         path.write_bytes(octets)
         number = len(self.files) + 1
-        line, was_killed = station.until_killed(self.name, [*submission(station, f"INV.{number:04}"), path])
+        line, _ = station.until_killed(self.name, [*submission(station, f"INV.{number:04}"), path])
         found = station.tables()
         self.check(octets, line, found)
-        return was_killed
 
     def check(self, octets, line, found):
         number = len(self.files) + 1
@@ -288,25 +284,27 @@ class Release:
         if self.sent == self.files:
             self.begin_anew()
         is_session = self.sent < len(self.issued) and (len(self.issued) == self.files or self.station.chance.random() < 0.4)
-        return self.send() if is_session else self.issue()
+        if is_session:
+            self.send()
+        else:
+            self.issue()
 
     def issue(self):
         number = len(self.issued) + 1
         kind = self.station.chance.choice(["EERP", "NERP"])
         words = ("release", str(number)) if kind == "EERP" else ("refuse", str(number), "12", "WRONG PLANT")
-        line, was_killed = self.station.until_killed(self.name, self.station.words(*words))
+        line, _ = self.station.until_killed(self.name, self.station.words(*words))
         issued = self.look()
         if line and not f"done: {words[0]} {number}\n".encode().startswith(line):
             raise Wrong(f"it told {line!r}")
         if [row["kind"] for row in issued] not in ([*self.issued, kind], *([] if line else [self.issued])):
             raise Wrong(f"it told {line!r}, and {issued} are issued")
         self.issued = [row["kind"] for row in issued]
-        return was_killed
 
     def send(self):
         due = len(self.issued) - self.sent
         octets = b"".join([frame("SSRM"), OPENS, frame("RTR") * due, ENDS])
-        commands, was_killed = self.station.session("responses go out", octets, *self.station.called())
+        commands, _ = self.station.session("responses go out", octets, *self.station.called())
         kinds = [kind for kind, _ in commands if kind in ("EERP", "NERP")]
         if kinds != self.issued[self.sent : self.sent + len(kinds)]:
             raise Wrong(f"{kinds} went out, of {self.issued} from {self.sent} on")
@@ -316,7 +314,6 @@ class Release:
         if sum(sent) not in (least, self.sent + len(kinds)) or sent != sorted(sent, reverse=True):
             raise Wrong(f"{kinds} went out from {self.sent} on, and {sent} are sent")
         self.sent = sum(sent)
-        return was_killed
 
     def look(self):
         return self.station.tables()["issued"]
@@ -338,7 +335,7 @@ class Responses:
         # The partner sends again what wasn't answered, and the last one that was.
         first = max(self.filed - 1, 0)
         sent = [self.spelled(number) for number in range(first, first + 30)]
-        commands, was_killed = self.station.session(self.name, b"".join([OPENS, *sent, ENDS]))
+        commands, _ = self.station.session(self.name, b"".join([OPENS, *sent, ENDS]))
         answered = count(commands, "RTR")
         received = self.station.tables()["received"]
         least = max(self.filed, first + answered)
@@ -348,7 +345,6 @@ class Responses:
             if (row["dataset"], row["kind"]) != (f"INV.{number:04}", self.kind(number)):
                 raise Wrong(f"response {number} is {row}")
         self.filed = len(received)
-        return was_killed
 
     def kind(self, number):
         return "NERP" if number % 3 == 0 else "EERP"
@@ -362,47 +358,73 @@ class Responses:
 SCENARIOS = [FileIn, FileOut, Submission, Release, Responses]
 
 
-def unkilled(told):
-    """The kinds of which no trial was killed yet."""
-    return [name for name, (_, killed) in told.items() if not killed]
+class Running:
+    """A scenario, and the services that stay over its database."""
+
+    def __init__(self, scenario, room, chance, stack):
+        folder = room / scenario.__name__
+        folder.mkdir()
+        self.name = scenario.name
+        self.chance = chance
+        self.station = Station(folder, chance)
+        self.station.services = stack.enter_context(Services(folder, self.station.book))
+        self.scenario = scenario(self.station)
+        self.trials = 0
+
+    def go_on(self):
+        """A trial, and one who calls the services behind it. It answers why that went wrong, or None."""
+        try:
+            self.scenario.trial()
+            self.station.services.meet(self.chance)
+        except (Wrong, tables.Damaged, OSError, subprocess.SubprocessError) as why:
+            return f"{self.name}: {type(why).__name__}: {why}; it is kept in {keep(self.station.room)}"
+        self.trials += 1
+        return None
+
+    def settle(self):
+        """Tells what was done, and answers why it wasn't enough, or too much was held."""
+        told, whys = self.station.services.settle()
+        cuts = f", {self.station.cuts} cut off" if self.station.cuts else ""
+        print("\n    ".join([f"{self.name}: {self.trials} trials, {self.station.kills} programs killed{cuts}", *told]))
+        return [f"{self.name}: {why}" for why in [*whys, *([] if self.station.kills else ["the program was never killed"])]]
+
+
+def try_in_turn(running, seconds):
+    """Trials of each scenario in turn until the time is up. It answers why one went wrong, or None."""
+    end = time.monotonic() + seconds
+    last = end + LONGEST
+    while time.monotonic() < end or (time.monotonic() < last and not all(it.station.kills for it in running)):
+        for it in running:
+            why = it.go_on()
+            if why:
+                return why
+    return None
 
 
 def run_all(room, seconds, chance):
-    """Runs trials of each scenario in turn until the time is up. It answers how many went well and ill."""
-    running = []
-    for scenario in SCENARIOS:
-        folder = room / scenario.__name__
-        folder.mkdir()
-        running.append(scenario(Station(folder, chance)))
-    told = {scenario.name: [0, 0] for scenario in running}
-    end = time.monotonic() + seconds
-    last = end + LONGEST
-    while time.monotonic() < end or (time.monotonic() < last and unkilled(told)):
-        for scenario in running:
-            try:
-                was_killed = scenario.trial()
-            except (Wrong, tables.Damaged, subprocess.SubprocessError) as why:
-                print(f"{scenario.name}: {why}; it is kept in {keep(scenario.station.room)}")
-                return sum(trials for trials, _ in told.values()), 1
-            told[scenario.name][0] += 1
-            told[scenario.name][1] += was_killed
-    for name, (trials, killed) in told.items():
-        print(f"{name}: {trials} trials, {killed} of them killed")
-    never = unkilled(told)
-    print("".join(f"{name}: the program was never killed\n" for name in never), end="")
-    return sum(trials for trials, _ in told.values()), len(never)
+    """Runs the scenarios beside each other. It answers how many trials went well, and what went ill."""
+    with contextlib.ExitStack() as stack:
+        try:
+            running = [Running(scenario, room, chance, stack) for scenario in SCENARIOS]
+        except Wrong as why:
+            return 0, [f"before any trial: {why}"]
+        why = try_in_turn(running, seconds)
+        whys = [why] if why else [why for it in running for why in it.settle()]
+    return sum(it.trials for it in running), whys
 
 
 def main():
     parser = argparse.ArgumentParser(description=__doc__.splitlines()[0])
     parser.add_argument("--seconds", type=float, default=30)
+    parser.add_argument("--minutes", type=lambda count: 60 * float(count), dest="seconds", default=argparse.SUPPRESS)
     parser.add_argument("--seed", type=int, default=random.SystemRandom().randrange(10**6))
     taken = parser.parse_args()
-    print(f"seed {taken.seed}")
+    print(f"seed {taken.seed}", flush=True)
     with tempfile.TemporaryDirectory() as room:
-        passed, failed = run_all(Path(room), taken.seconds, random.Random(taken.seed))
-    print(f"{passed} passed, {failed} failed")
-    return 1 if failed or not passed else 0
+        passed, whys = run_all(Path(room), taken.seconds, random.Random(taken.seed))
+    print("".join(f"{why}\n" for why in whys), end="")
+    print(f"{passed} passed, {len(whys)} failed")
+    return 1 if whys or not passed else 0
 
 
 if __name__ == "__main__":

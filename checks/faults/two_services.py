@@ -1,7 +1,7 @@
 #!/usr/bin/env python3
 """Joins two stations as real processes, breaks their connection, kills them at random moments, and tests what they promise each other.
 
-    checks/faults/two_services.py [--seconds N] [--seed N]       30 seconds, and another seed each time, where none is given
+    checks/faults/two_services.py [--seconds N | --minutes N] [--seed N]       30 seconds, and another seed each time, where none is given
 
 Each station is the program over a database of its own. A round is: a few commands of both operators (submit, release, refuse), some of
 them killed; and a session, in which one station calls the other, who listens. All octets of a session pass through this script. It may
@@ -10,12 +10,17 @@ by SIGKILL, after a time or at a place in what is said. After each round both da
 stations promise (`promised`): a file that one has handed over is whole and equal at the other, and what it holds as delivered or
 returned was answered so there. Behind a number of rounds come two sessions that nothing breaks: then all is delivered or returned.
 
-Four pairs of stations live at once. It goes on behind its time until programs and commands were killed, connections broken and transfers
-went on, and fails where five minutes more don't bring them. The seed is printed: it repeats what is chosen, and not how far a program is when it is killed. At
-a failure all that happened to the pair is printed too, and what is left is kept. The last line is `N passed, M failed`.
+Four pairs of stations live at once. In every other pair the services of one station stay, from the first life to the last: its `listen`,
+which is never killed, and its `http`, which is asked between two rounds; strangers call, too. What they hold at the end is compared with
+what they held at the beginning (checks/lib/staying.py).
+
+It goes on behind its time until programs and commands were killed, connections broken and transfers went on, and fails where five minutes
+more don't bring them. The seed is printed: it repeats what is chosen, and not how far a program is when it is killed. At a failure all that
+happened to the pair is printed too, and what is left is kept. The last line is `N passed, M failed`.
 """
 
 import argparse
+import contextlib
 import random
 import re
 import select
@@ -36,28 +41,35 @@ import oftp
 import tables
 from killed import Wrong
 from program import ROOT
+from staying import Services, held_port
 
 PAIRS = 4
 ROUNDS_OF_A_LIFE = 24
 FILES = 10
 MOST = 20_000
 LONG = 60
-# What has to come. Where some of it hasn't when the time is up, lives follow for so many seconds more, at most.
+# What has to come. Where some of it hasn't when the time is up, lives of so many seconds follow, for so many at most.
+SECONDS_MORE = 10
 LONGEST = 300
 WANTED = ["commands killed", "programs killed", "connections broken", "transfers that went on"]
 IDENTITY = ["dataset", "date", "time", "originator", "destination"]
 STAMP = ["--date", "20240201", "--time", "0800000001"]
 # How a session may end: between two stations none breaks the protocol.
 ENDS = ["end: own 00", "end: partner 00", "end: input", "fault: 1 read", "fault: 2 write"]
+# How the call ends whose connection was reset before the program saw that it was made.
+UNMADE = "fault: 8 socket"
 
 
 class Station(killed.Station):
-    """A station: its database, its book, the partner's code, and the rows of each file that was handed in here."""
+    """A station from its first day on: its database, its book, the partner's code, the rows of each file that was handed in here, and the
+    services that stay here, if any do."""
 
-    def __init__(self, room, chance, name, book, partner):
+    def __init__(self, room, chance, name, book, partner, services=None):
         super().__init__(room, chance)
+        self.begin_anew()
         self.name = name
         self.partner = partner
+        self.services = services
         self.book.write_text(book)
         self.given = {}
         self.held = tables.read(self.database)
@@ -277,13 +289,15 @@ class Usual:
 
 
 class Session:
-    """A session: one station calls and the other listens, each a process, and all that they say passes here."""
+    """A session: one station calls and the other listens, each a process, and all that they say passes here. Where the services of the
+    second one stay, its process is there before, and is never killed."""
 
     def __init__(self, post, port, caller, listener, troubles):
         self.post = post
-        self.port = port
+        self.service = listener.services.listen if listener.services else None
+        self.port = self.service.port if self.service else port
         self.begin = time.monotonic()
-        self.words = [caller.words("call", "--partner", caller.partner), listener.words("listen", "--port", str(port))]
+        self.words = [caller.words("call", "--partner", caller.partner), listener.words("listen", "--port", str(self.port))]
         self.troubles = list(troubles)
         self.killed = set()
         self.sides = []
@@ -303,10 +317,12 @@ class Session:
             self.hang_up()
             return [self.ended(place) for place in range(2)]
         finally:
-            for program in self.programs:
+            for program in self.programs[:1] if self.service else self.programs:
                 program.kill()
 
     def start(self, place):
+        if place == 1 and self.service:
+            return self.service.program
         return subprocess.Popen(self.words[place], stdout=subprocess.PIPE, stderr=subprocess.PIPE)
 
     def connect(self):
@@ -398,6 +414,8 @@ class Session:
             self.kill(1)
 
     def kill(self, place):
+        """Kills a program. In the place of a service that stays it is the one who calls."""
+        place = 0 if self.service else place
         self.programs[place].kill()
         self.killed.add(place)
 
@@ -410,13 +428,24 @@ class Session:
 
     def ended(self, place):
         """The line that a program told, or that it was killed."""
+        if place == 1 and self.service:
+            return self.told_by_service()
         out, err = self.programs[place].communicate(timeout=LONG)
         status = self.programs[place].returncode
         if status == -9 and place in self.killed:
             return "killed"
         line = (out + err).decode().removesuffix("\n")
-        if status not in (0, 1) or line not in ENDS or line.startswith("fault:") != bool(err):
+        is_unmade = line == UNMADE and place == 0 and self.is_broken
+        if status not in (0, 1) or not (line in ENDS or is_unmade) or line.startswith("fault:") != bool(err):
             raise Wrong(f"the {['caller', 'listener'][place]} ended by status {status}, {out!r}, {err!r}")
+        return line
+
+    def told_by_service(self):
+        """The line of the service that stays. It is done with the session then."""
+        line = self.service.either()
+        if line not in ENDS:
+            raise Wrong(f"the service that stays told {line!r}")
+        self.service.look()
         return line
 
 
@@ -442,18 +471,26 @@ def book_of(name, settings, port):
     return re.sub(r"127\.0\.0\.1:\d+", f"127.0.0.1:{port}", text)
 
 
-def held_port():
-    """A port that nobody else is given, and that the program can listen on."""
-    holder = socket.socket()
-    holder.setsockopt(socket.SOL_SOCKET, socket.SO_REUSEADDR, 1)
-    holder.bind(("127.0.0.1", 0))
-    return holder
+def settings_of(chance):
+    restart = chance.choice(["true", "true", "true", "false"])
+    return {"buffer": chance.choice([128, 1024, 4096]), "credit": chance.choice([1, 2, 9]), "restart": restart}
+
+
+class Staying:
+    """The services of the supplier's station, which stay for many lives, in the folder that it has in each."""
+
+    def __init__(self, room, chance, port):
+        self.folder = Path(tempfile.mkdtemp(dir=room))
+        self.settings = settings_of(chance)
+        book = self.folder / "book.toml"
+        book.write_text(book_of("supplier", self.settings, port))
+        self.services = Services(self.folder, book)
 
 
 class Pair:
     """Two stations from their first day on, and all that happens to them, in words."""
 
-    def __init__(self, room, chance, post, port):
+    def __init__(self, room, chance, post, port, staying=None):
         self.chance = chance
         self.post = post
         self.port = port
@@ -461,16 +498,18 @@ class Pair:
         self.room = Path(tempfile.mkdtemp(dir=room))
         self.count = Counter()
         self.told = []
-        self.stations = [self.station("carmaker", "O0013SUPPLIER"), self.station("supplier", "O0177CARMAKER")]
+        self.stations = [self.station("carmaker", "O0013SUPPLIER"), self.station("supplier", "O0177CARMAKER", staying)]
 
-    def station(self, name, partner):
+    def station(self, name, partner, staying=None):
         folder = self.room / name
-        folder.mkdir()
-        chance = self.chance
-        restart = chance.choice(["true", "true", "true", "false"])
-        settings = {"buffer": chance.choice([128, 1024, 4096]), "credit": chance.choice([1, 2, 9]), "restart": restart}
+        if staying:
+            folder.symlink_to(staying.folder)
+        else:
+            folder.mkdir()
+        settings = staying.settings if staying else settings_of(self.chance)
         self.told.append(f"{name}: {settings}")
-        return Station(folder, chance, name, book_of(name, settings, self.post.getsockname()[1]), partner)
+        book = book_of(name, settings, self.post.getsockname()[1])
+        return Station(folder, self.chance, name, book, partner, staying.services if staying else None)
 
     def give(self, station, wanted, *words):
         """An operator's command, which has to tell this line; one that isn't refused may be killed, and then it may tell nothing."""
@@ -550,6 +589,9 @@ class Pair:
         troubles = [Trouble(self.chance, self.usual) for _ in range(self.chance.choice([0, 1, 1, 1, 1, 2]))]
         self.session(caller, listener, troubles)
         self.look()
+        for station in self.stations:
+            if station.services:
+                station.services.meet(self.chance)
         self.count["rounds"] += 1
 
     def settle(self):
@@ -572,33 +614,57 @@ class Pair:
         self.count["rounds"] += 1
 
 
-def live(room, chance, until):
-    """Lives of pairs, one after another and one at least, until the time is up. It answers what they did, and why the last one went wrong,
-    or None."""
-    count = Counter()
-    with socket.create_server(("127.0.0.1", 0)) as post, held_port() as holder:
-        while True:
-            pair = Pair(room, chance, post, holder.getsockname()[1])
+class Lives:
+    """Lives of pairs, one after another: what they did, what the services held that stayed in them, and why some went wrong."""
+
+    def __init__(self, room, chance, is_staying):
+        self.room = room
+        self.chance = chance
+        self.is_staying = is_staying
+        self.count = Counter()
+        self.told = []
+        self.whys = []
+
+    def go_on(self, until):
+        """One life at least, and more until the time is up."""
+        with contextlib.ExitStack() as stack:
+            post = stack.enter_context(socket.create_server(("127.0.0.1", 0)))
+            port = stack.enter_context(held_port()).getsockname()[1]
             try:
-                for _ in range(ROUNDS_OF_A_LIFE):
-                    if time.monotonic() < until:
-                        pair.round()
-                pair.settle()
-            except (Wrong, tables.Damaged, OSError, subprocess.SubprocessError) as why:
-                told = "\n".join(pair.told)
-                return count + pair.count, f"{told}\n{type(why).__name__}: {why}; it is kept in {killed.keep(pair.room)}"
-            count += pair.count
-            if time.monotonic() >= until:
-                return count, None
+                staying = Staying(self.room, self.chance, post.getsockname()[1]) if self.is_staying else None
+            except Wrong as why:
+                self.whys.append(f"before any life: {why}")
+                return self
+            services = stack.enter_context(staying.services) if staying else None
+            while self.live(Pair(self.room, self.chance, post, port, staying), until) and time.monotonic() < until:
+                pass
+            if services and not self.whys:
+                told, self.whys = services.settle()
+                self.told += told
+        return self
+
+    def live(self, pair, until):
+        """A life. It answers whether all went well."""
+        try:
+            for _ in range(ROUNDS_OF_A_LIFE):
+                if time.monotonic() < until:
+                    pair.round()
+            pair.settle()
+        except (Wrong, tables.Damaged, OSError, subprocess.SubprocessError) as why:
+            told = "\n".join(pair.told)
+            self.whys.append(f"{told}\n{type(why).__name__}: {why}; it is kept in {killed.keep(pair.room)}")
+        self.count += pair.count
+        return not self.whys
 
 
-def live_side_by_side(room, chances, until, players):
-    """Lives of pairs beside each other. It answers what they did, and why some went wrong."""
-    count, faults = Counter(), []
-    for done, why in players.map(lambda chance: live(room, chance, until), chances):
-        count += done
-        faults += [why] if why else []
-    return count, faults
+def live_side_by_side(lives, until, players):
+    """Lives of pairs beside each other. It answers what all of them did so far, what their services held, and why some went wrong."""
+    count, told, whys = Counter(), [], []
+    for it in players.map(lambda it: it.go_on(until), lives):
+        count += it.count
+        told += it.told
+        whys += it.whys
+    return count, told, whys
 
 
 def missing(count):
@@ -609,18 +675,18 @@ def missing(count):
 def main():
     parser = argparse.ArgumentParser(description=__doc__.splitlines()[0])
     parser.add_argument("--seconds", type=float, default=30)
+    parser.add_argument("--minutes", type=lambda count: 60 * float(count), dest="seconds", default=argparse.SUPPRESS)
     parser.add_argument("--seed", type=int, default=random.SystemRandom().randrange(10**6))
     taken = parser.parse_args()
-    print(f"seed {taken.seed}")
+    print(f"seed {taken.seed}", flush=True)
     until = time.monotonic() + taken.seconds
     last = until + LONGEST
     with tempfile.TemporaryDirectory() as room, ThreadPoolExecutor(max_workers=PAIRS) as players:
-        chances = [random.Random(f"{taken.seed} {place}") for place in range(PAIRS)]
-        count, faults = live_side_by_side(Path(room), chances, until, players)
+        lives = [Lives(Path(room), random.Random(f"{taken.seed} {place}"), place % 2 == 1) for place in range(PAIRS)]
+        count, told, faults = live_side_by_side(lives, until, players)
         while missing(count) and not faults and time.monotonic() < last:
-            more, faults = live_side_by_side(Path(room), chances, 0, players)
-            count += more
-    print("".join(f"{why}\n" for why in faults), end="")
+            count, told, faults = live_side_by_side(lives, time.monotonic() + SECONDS_MORE, players)
+    print("".join(f"{line}\n" for line in faults + told), end="")
     rounds = count.pop("rounds", 0)
     print(", ".join(f"{number} {name}" for name, number in sorted(count.items())))
     faults += [f"no {name}" for name in missing(count)]

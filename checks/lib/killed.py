@@ -1,5 +1,5 @@
 """A station whose programs are killed at random moments: its database and its book, and what is left of it by stock sqlite3 and by the
-program's own reports."""
+program's own reports. Services may stay beside them."""
 
 import os
 import random
@@ -14,10 +14,13 @@ from pathlib import Path
 import oftp
 import tables
 from program import PROGRAM
+from services import Wrong, expect
+from staying import converse
 
 BLOCK = 1024
 BUFFER = 2048
 CREDIT = 8
+SHARE_OF_SERVICES = 0.4
 BOOK = f"""[station]
 code = 'O0013SUPPLIER'
 buffer = {BUFFER}
@@ -31,10 +34,6 @@ sends = 'SUPPW'
 mode = 'B'
 address = '127.0.0.1:3305'
 """
-
-
-class Wrong(Exception):
-    """What is left isn't what the answers say."""
 
 
 def kinds_of(octets):
@@ -52,7 +51,7 @@ def rows_of(octets):
 
 
 class Station:
-    """A database, and the program that is killed over it."""
+    """A database, and the program that is killed over it. Where services stay over it, some sessions go to them, and are cut off."""
 
     def __init__(self, room, chance):
         self.room = room
@@ -61,6 +60,9 @@ class Station:
         self.book = room / "book.toml"
         self.book.write_text(BOOK)
         self.usual_time = {}
+        self.services = None
+        # How many programs were killed, and how many sessions of a service were cut off.
+        self.kills = self.cuts = 0
 
     def begin_anew(self):
         for end in ("", "-wal"):
@@ -86,11 +88,14 @@ class Station:
             out, err = program.communicate()
         if program.returncode not in (0, -9):
             raise Wrong(f"{name}: status {program.returncode}, {out!r}, {err!r}")
+        self.kills += program.returncode == -9
         return out, program.returncode == -9
 
     def session(self, name, octets, *role):
-        """A session with these octets, through a pipe in pieces of random sizes. It answers the commands that came out, and whether it
-        was killed."""
+        """A session with these octets, in pieces of random sizes, through a pipe or over a socket. It answers the commands that came out,
+        and whether it was killed or cut off."""
+        if self.services and not role and self.chance.random() < SHARE_OF_SERVICES:
+            return self.call(octets)
         source, sink = os.pipe()
         answer = self.room / "answer"
         answer.unlink(missing_ok=True)
@@ -103,6 +108,18 @@ class Station:
         finally:
             writer.join()
         return kinds_of(answer.read_bytes() if answer.exists() else b""), was_killed
+
+    def call(self, octets):
+        """A session with the service that stays. The partner is gone within it, or says all."""
+        chance = self.chance
+        end = chance.choice([len(octets), chance.randrange(len(octets))])
+        sizes = random.Random(chance.random())
+        greatest = chance.choice([64, 4096, 65536])
+        answer = converse(self.services.listen, octets[:end], lambda: sizes.randint(1, greatest))
+        expect(self.services.listen.either(), "end: partner 00" if end == len(octets) else "end: input", "the line of the service")
+        self.services.listen.look()
+        self.cuts += end < len(octets)
+        return kinds_of(answer), end < len(octets)
 
     def called(self):
         return ["--role", "initiator", "--partner", "O0177CARMAKER"]

@@ -12,11 +12,15 @@ import tables
 from acts import check_left
 from program import PROGRAM
 from row_files import ROWS, Bad, Remains, Row, octets_of
+from services import free_port
 
 LINES = ROWS / "lines"
 SECONDS = 30
 BAD = 2
 DATABASE = ("db", "db-wal")
+# What a station that holds the database has in its folder, and the commands that ask it.
+HELD = {*DATABASE, "db-station"}
+ASKING = ("init", "submit", "release", "refuse", "fetch", "report", "call")
 # The words before a text that is taken as it stands.
 TEXTS = ("line", "bad", "out", "err")
 
@@ -54,9 +58,26 @@ class Given:
         else:
             raise ValueError("no line begins so")
 
-    def run(self, folder):
-        """Gives the program the words. It answers why it comes out otherwise, or None."""
-        before = found_in(folder)
+    def asks(self):
+        """Whether a station that holds the database `db` can be asked."""
+        is_of_db = "--db=db" in self.words or ("--db", "db") in zip(self.words, self.words[1:])
+        return self.most is None and self.status != BAD and self.words[:1] and self.words[0] in ASKING and is_of_db
+
+    def run_beside(self, folder):
+        """The same with a station that holds the database, where one can. It answers whether it could, too."""
+        words = [PROGRAM, "run", "--db", "db", "--book", ROWS / "books/usual.toml", "--port", str(free_port())]
+        with subprocess.Popen(words, cwd=folder, stdout=subprocess.PIPE, stderr=subprocess.PIPE) as station:
+            is_ready = station.stdout.readline() == b"ready\n"
+            try:
+                return self.run(folder, HELD if is_ready else ()), is_ready
+            finally:
+                station.kill()
+                station.wait()
+                (folder / "db-station").unlink(missing_ok=True)
+
+    def run(self, folder, left_out=()):
+        """Gives the program the words. It answers why it comes out otherwise, or None. Names that are left out may be anything."""
+        before = found_in(folder, left_out)
         with open(self.output or os.devnull, "wb") as output:
             done = subprocess.run(
                 [PROGRAM, *self.words],
@@ -68,7 +89,7 @@ class Given:
                 timeout=SECONDS,
                 check=False,
             )
-        return self.why_otherwise(done) or self.why_changed(before, found_in(folder))
+        return self.why_otherwise(done) or self.why_changed(before, found_in(folder, left_out), left_out)
 
     def limit(self):
         if self.most is not None:
@@ -82,13 +103,15 @@ class Given:
         wanted = f"wanted {self.out!r}, {self.err!r} and status {self.status}"
         return f"{wanted}, got {out!r}, {err!r} and status {done.returncode}"
 
-    def why_changed(self, before, after):
+    def why_changed(self, before, after, left_out):
         """Why the folder isn't as it was, but for what is to be made, or None."""
         made = {*self.made, *(DATABASE if "db" in self.made else ())}
         for name in sorted(before.keys() | after.keys()):
             if name not in made and before.get(name) != after.get(name):
                 return f"{name} is {'gone' if name not in after else 'another' if name in before else 'new'}"
         for name, octets in self.made.items():
+            if name in left_out:
+                continue
             if name not in after:
                 return f"{name} isn't there"
             mode, found = after[name]
@@ -106,6 +129,8 @@ class Line(Remains):
         super().__init__()
         self.name = name
         self.is_bad = is_bad
+        # How many of its commands asked a station.
+        self.asked = 0
         self.acts = [lambda folder: make_book(folder, "usual")]
 
     def take(self, first, rest, text):
@@ -118,15 +143,25 @@ class Line(Remains):
         else:
             self.acts[-1].take(first, rest, text)
 
-    def run(self):
-        """Does all that the line says, in a new folder. It answers why it comes out otherwise, or None."""
+    def run(self, is_beside=False):
+        """Does all that the line says, in a new folder, each command beside a station that holds the database where that is said. It answers why
+        it comes out otherwise, or None."""
         with tempfile.TemporaryDirectory() as path:
             folder = Path(path)
             for act in self.acts:
-                why = act.run(folder) if isinstance(act, Given) else act(folder)
+                why = self.do(act, folder, is_beside)
                 if why:
                     return f"{shown(act.words)}: {why}"
             return self.why_left(folder)
+
+    def do(self, act, folder, is_beside):
+        if not isinstance(act, Given):
+            return act(folder)
+        if not (is_beside and act.asks()):
+            return act.run(folder)
+        why, has_asked = act.run_beside(folder)
+        self.asked += has_asked
+        return why
 
     def why_left(self, folder):
         if self.left is None:
@@ -139,10 +174,12 @@ def shown(words):
     return shlex.join(str(word) for word in words)
 
 
-def found_in(folder):
+def found_in(folder, left_out=()):
     """What is in the folder: of each name its permissions, and its octets or what it is."""
     found = {}
     for path in folder.iterdir():
+        if path.name in left_out:
+            continue
         what = os.readlink(path) if path.is_symlink() else "a folder" if path.is_dir() else path.read_bytes()
         found[path.name] = (path.lstat().st_mode, what)
     return found

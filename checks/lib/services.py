@@ -1,4 +1,4 @@
-"""`listen` and `http` as processes, each over a database and at a port of its own, with those who connect to them."""
+"""`run`, `listen` and `http` as processes, each over a database and at a port of its own, with those who connect to them."""
 
 import itertools
 import os
@@ -6,6 +6,7 @@ import select
 import socket
 import subprocess
 import time
+from pathlib import Path
 
 from program import PROGRAM
 from row_files import ROWS
@@ -46,7 +47,7 @@ class Service:
     def __init__(self, room, command, *words, book=BOOK, port=None, output=subprocess.PIPE, faults=subprocess.PIPE, environment=None):
         self.port = port or free_port()
         self.database = room / "database"
-        of_book = ["--book", book] if command == "listen" else []
+        of_book = ["--book", book] if command in ("listen", "run") else []
         words = [PROGRAM, command, "--db", self.database, *of_book, "--port", str(self.port), *words]
         environment = {**os.environ, **(environment or {})}
         self.program = subprocess.Popen(words, stdout=output, stderr=faults, env=environment)
@@ -124,6 +125,40 @@ class Service:
         identity = ["--dataset", "INV.1", "--date", "20240201", "--time", "0800000001"]
         done = self.give("submit", *identity, "--to", CARMAKER, "--format", "U", file)
         expect(done.stdout, b"done: submit 1\n", "submit")
+
+
+class Resident(Service):
+    """A station that holds its database."""
+
+    def __init__(self, room, *words, **how):
+        super().__init__(room, "run", *words, **how)
+        self.socket = Path(f"{self.database}-station")
+
+    def __enter__(self):
+        expect(self.either(), "ready", "the first line")
+        return self
+
+    def client(self):
+        """A connection to its socket for commands, with the octet that says that a request is heard."""
+        client = socket.socket(socket.AF_UNIX)
+        client.settimeout(LONG)
+        with Short(self.socket) as path:
+            client.connect(path)
+        return client
+
+
+class Short:
+    """A short path to a file: that through its folder, which is open meanwhile."""
+
+    def __init__(self, path):
+        self.path = path
+
+    def __enter__(self):
+        self.folder = os.open(self.path.parent, os.O_RDONLY)
+        return f"/proc/self/fd/{self.folder}/{self.path.name}"
+
+    def __exit__(self, *_why):
+        os.close(self.folder)
 
 
 def rest_of(connection):

@@ -1,11 +1,12 @@
 #!/usr/bin/env python3
 """Gives the built program the command lines of rows/lines, and tells each that is answered otherwise or leaves something else.
 
-    checks/scenarios/command_lines.py [TOPIC ..]        the files of rows/lines by their names; all where none is named
+    checks/scenarios/command_lines.py [--beside] [TOPIC ..]     the files of rows/lines by their names; all where none is named
 
 rows/README.md says how a line is written. Each is given in a folder of its own, with the files that it names. What it prints, how it
 ends and what is in the folder afterwards have to be what is said, and nothing else may be printed, made or changed. Of each command in
-commands.lines the words are varied: each is left out, is given twice, and has one beside it that no command takes. The last line is
+commands.lines the words are varied: each is left out, is given twice, and has one beside it that no command takes. With `--beside` each
+command that can ask a station which holds its database is given while one runs: nothing may come out otherwise. The last line is
 `N passed, M failed`.
 """
 
@@ -20,21 +21,26 @@ from line_files import LINES, all_lines
 
 
 def main():
-    passed = failed = 0
+    topics = [word for word in sys.argv[1:] if word != "--beside"]
+    is_beside = "--beside" in sys.argv[1:]
+    passed = failed = asked = 0
     for path in sorted(LINES.glob("*.lines")):
-        if sys.argv[1:] and path.stem not in sys.argv[1:]:
+        if topics and path.stem not in topics:
             continue
         for line in all_lines(path):
             try:
-                why = line.run()
+                why = line.run(is_beside)
             except (OSError, subprocess.TimeoutExpired, tables.Damaged) as fault:
                 why = fault
+            asked += line.asked
             passed += not why
             failed += bool(why)
             if why:
                 print(f"{path.stem}: {line.name}: {why}")
+    if is_beside:
+        print(f"{asked} commands asked a station")
     print(f"{passed} passed, {failed} failed")
-    return 1 if failed or not passed else 0
+    return 1 if failed or not passed or is_beside and not asked else 0
 
 
 if __name__ == "__main__":

@@ -1,8 +1,8 @@
 #!/usr/bin/env python3
 """Plays random sessions over the built program and over a model of a station (checks/lib/model.py), and says where they differ.
 
-    checks/scenarios/fuzz.py [--seconds N] [--seed N] [--sessions N] [--jobs N]     20 seconds, another seed each time and a process for each
-                                                                                    processor, where none is given
+    checks/scenarios/fuzz.py [--seconds N | --minutes N] [--seed N] [--sessions N] [--jobs N]     20 seconds, another seed each time and a
+                                                                                                  process for each processor, where none is given
 
 A life is a database, or a register in memory, and what is done to it: sessions in both roles with three partners, whose commands follow
 what the model of the station has out, but for mistakes of every kind; and submissions, releases, refusals and fetches between them. The
@@ -10,11 +10,16 @@ octets of a session are then changed here and there, and given to `feed` in a fi
 time the octets out, the lines, the exit status and the tables that are left have to be the model's. A life has a seed of its own; where
 something differs, the seed is printed, with all that was done in words, and `--seed N --sessions 1` plays that life again. It goes on
 behind its time until each step of the step tables was taken, unless `--sessions` says how many there are, and fails where five minutes
-more leave one out. The last line is `N passed, M failed`, which counts sessions.
+more leave one out.
+
+Half of the lives over a database have the book of services that stay from life to life: partners who call speak to that `listen` over a
+socket, and that `http` is asked between two acts. What they hold at the end is compared with what they held at the beginning
+(checks/lib/staying.py). The last line is `N passed, M failed`, which counts sessions.
 """
 
 import argparse
 import collections
+import contextlib
 import copy
 import multiprocessing
 import os
@@ -33,6 +38,8 @@ import model
 import oftp
 import tables
 from program import PROGRAM
+from services import Wrong
+from staying import Services, converse
 
 STATIONS = ["O0013SUPPLIER"] * 30 + ["O0013"]
 PARTNERS = {"O0177CARMAKER": "CARPW", "O0099OTHER": "", "A-(B&C)/D.9": "12345678"}
@@ -46,6 +53,8 @@ TEXTS = ["", "", "", "OK", "NO PLANT", "ü€\U0001f600", "a" * 999, "€" * 333
 LONGEST = 300
 # So many seeds are more than one turn plays.
 SEEDS = 10**7
+# How many books of services there are for so many seeds that follow one another.
+BOOKS, SEEDS_OF_BOOKS = 4, 10**6
 REASONS = {"SFNA": "01 02 03 05 06 13 14 99", "ESID": "01 02 03 04 06 07 10 12"}
 TURNS = "SSRM,SSID,SFPA,SFPA later,DATA,CDT,EFID,EFPA N,EFPA Y,EFNA 10,EFNA 11,RTR,EERP,NERP 09,SFID,SFID later,CD,ESID 00".split(",")
 REFUSALS = [f"{kind} {reason}" for kind, reasons in REASONS.items() for reason in reasons.split()]
@@ -311,11 +320,60 @@ def change(chance, partner, frames):
 # -- a life
 
 
+def draw_book(chance, is_whole=False):
+    """A book as the model takes it. Unless it is to be whole, now and then a partner is missing."""
+    partners = {code: {"expects": password, "sends": chance.choice(["SUPPW", ""])} for code, password in PARTNERS.items()}
+    if chance.random() < 0.05 and not is_whole:
+        del partners[chance.choice(list(PARTNERS))]
+    for partner in partners.values():
+        partner["mode"] = "B" if chance.random() < 0.9 else chance.choice("SR")
+    buffer, credit = chance.choice([128, 128, 129, 130, 192, 1025, 2048, 16384]), chance.choice([1, 1, 2, 2, 3, 7, 99])
+    code, restart = chance.choice(STATIONS), chance.choice("YYYYN")
+    return {"code": code, "buffer": buffer, "credit": credit, "restart": restart, "partners": partners}
+
+
+def text_of(book):
+    """A book as the program takes it."""
+    word = "true" if book["restart"] == "Y" else "false"
+    station = f"[station]\ncode = '{book['code']}'\nbuffer = {book['buffer']}\ncredit = {book['credit']}\nrestart = {word}\n"
+    lines = [station]
+    for code, partner in book["partners"].items():
+        words = "".join(f"{name} = '{value}'\n" for name, value in {"code": code, **partner, "address": "127.0.0.1:1"}.items())
+        lines.append(f"\n[[partner]]\n{words}")
+    return "".join(lines)
+
+
+class Staying:
+    """The services that stay, each pair with a book, in a folder that a process has for its lives. A seed says which book it is."""
+
+    def __init__(self, room, stack):
+        self.room = room
+        self.stack = stack
+        self.there = {}
+
+    def of(self, seed):
+        """The services for the life of a seed, and their book. They are started for the first such life."""
+        name = f"book {seed // SEEDS_OF_BOOKS} {seed % BOOKS}"
+        if name not in self.there:
+            book = draw_book(random.Random(name), is_whole=True)
+            (self.room / name).write_text(text_of(book))
+            self.there[name] = self.stack.enter_context(Services(self.room, self.room / name)), book
+        return self.there[name]
+
+    def settle(self):
+        """What each held, in words, and why that is too much."""
+        came = [services.settle() for services, _ in self.there.values()]
+        return [line for told, _ in came for line in told], [why for _, whys in came for why in whys]
+
+
 class Life:
     """A register of the program and one of the model, and what is done to both; or ten sessions in memory."""
 
-    def __init__(self, seed, room):
+    def __init__(self, seed, room, staying):
         self.chance = random.Random(seed)
+        self.seed = seed
+        self.staying = staying
+        self.services = None
         self.room = room
         self.database = room / "database"
         self.register = model.Register()
@@ -327,12 +385,16 @@ class Life:
 
     def live(self):
         chance = self.chance
-        self.take_book()
         if chance.random() < 0.3:
+            self.take_book()
             for _ in range(10):
                 self.register = model.Register()
                 self.hold_session(None)
             return
+        if chance.random() < 0.5:
+            self.services, self.book = self.staying.of(self.seed)
+            self.give("init", "--db", "database")
+        self.take_book()
         for _ in range(chance.choice([3, 10, 25, 50])):
             if chance.random() < 0.05:
                 self.take_book()
@@ -347,26 +409,18 @@ class Life:
             else:
                 self.hold_session(self.database)
             self.compare_tables()
+            if self.services and chance.random() < 0.2:
+                self.services.meet_request(chance)
 
     def take_book(self):
-        chance = self.chance
-        partners = {code: {"expects": password, "sends": chance.choice(["SUPPW", ""])} for code, password in PARTNERS.items()}
-        if chance.random() < 0.05:
-            del partners[chance.choice(list(PARTNERS))]
-        for partner in partners.values():
-            partner["mode"] = "B" if chance.random() < 0.9 else chance.choice("SR")
-        buffer, credit = chance.choice([128, 128, 129, 130, 192, 1025, 2048, 16384]), chance.choice([1, 1, 2, 2, 3, 7, 99])
-        code, restart = chance.choice(STATIONS), chance.choice("YYYYN")
-        self.book = {"code": code, "buffer": buffer, "credit": credit, "restart": restart, "partners": partners}
-        word = "true" if restart == "Y" else "false"
-        lines = [f"[station]\ncode = '{code}'\nbuffer = {buffer}\ncredit = {credit}\nrestart = {word}\n"]
-        for code, partner in partners.items():
-            words = "".join(f"{name} = '{value}'\n" for name, value in {"code": code, **partner, "address": "127.0.0.1:1"}.items())
-            lines.append(f"\n[[partner]]\n{words}")
-        (self.room / "book").write_text("".join(lines))
-        modes = " ".join(partner["mode"] for partner in partners.values())
-        self.told.append(f"the book: {self.book['code']}, buffer {buffer}, credit {credit}, restart {restart}")
-        self.told.append(f"    {' '.join(partners)}: {modes}")
+        """A book from now on. Services that stay have theirs."""
+        if not self.services:
+            self.book = draw_book(self.chance)
+        (self.room / "book").write_text(text_of(self.book))
+        book = self.book
+        modes = " ".join(partner["mode"] for partner in book["partners"].values())
+        self.told.append(f"the book{' of services' if self.services else ''}: {book['code']}, buffer {book['buffer']}, credit {book['credit']}")
+        self.told.append(f"    restart {book['restart']}, {' '.join(book['partners'])}: {modes}")
 
     def give(self, *words, **how):
         return subprocess.run([PROGRAM, *words], capture_output=True, check=False, timeout=60, cwd=self.room, **how)
@@ -387,8 +441,12 @@ class Life:
         session = model.Session(self.book, self.register, called)
         line = self.play(session, octets)
         role = ["--role", "initiator", "--partner", called] if called else []
+        wanted = b"".join(session.out)
         for over in [database] if database and not is_empty else [None, database] if database else [None]:
-            self.compare_session(role, over, octets, line, b"".join(session.out))
+            if over and self.services and not called:
+                self.compare_call(octets, line, wanted)
+            else:
+                self.compare_session(role, over, octets, line, wanted)
         self.sessions += 1
 
     def play(self, session, octets):
@@ -443,6 +501,20 @@ class Life:
         got = acts.octets_in(answer)
         if (done.stdout.decode(), done.stderr, done.returncode) != (line, b"", 0):
             raise Differs(f"{where} it ends by {done.stdout!r}, {done.stderr!r}, status {done.returncode}, and not by {line!r}")
+        self.compare_octets(where, got, wanted)
+
+    def compare_call(self, octets, line, wanted):
+        """The session goes over a socket to the service that stays."""
+        most = self.chance.choice([1, 5, 200, 4096]) if len(octets) < 3000 else 4096
+        sizes = random.Random(self.chance.random())
+        got = converse(self.services.listen, octets, lambda: sizes.randint(1, most))
+        told = self.services.listen.either()
+        if f"{told}\n" != line:
+            raise Differs(f"over a socket it ends by {told!r}, and not by {line!r}")
+        self.compare_octets("over a socket", got, wanted)
+        self.services.listen.look()
+
+    def compare_octets(self, where, got, wanted):
         for number, (want, found) in enumerate(zip([*oftp.frames_of(wanted), b""], [*oftp.frames_of(got), b""]), 1):
             if want != found:
                 raise Differs(f"{where} frame {number} out is {acts.shown(found)}, and not {acts.shown(want)}")
@@ -524,29 +596,34 @@ def write_pieces(sink, octets, sizes, most):
 # -- many lives
 
 
-def play_life(seed, room):
+def play_life(seed, room, staying):
     """Plays the life of a seed. It answers the life, and what differs, in words, or None."""
-    life = Life(seed, room)
+    life = Life(seed, room, staying)
     try:
         life.live()
-    except (Differs, tables.Damaged, subprocess.SubprocessError, OSError, LookupError, ValueError) as why:
+    except (Differs, Wrong, tables.Damaged, subprocess.SubprocessError, OSError, LookupError, ValueError) as why:
         said = why if isinstance(why, Differs) else repr(why)
         return life, f"seed {seed}:\n  " + "\n  ".join([*life.told, f"BUT {said}"])
     return life, None
 
 
 def work(share):
-    """Plays one life after the other, until the time is over, so many sessions were held, or something differs."""
+    """Plays one life after the other, until the time is over, so many sessions were held, or something differs. It answers the sessions, the
+    steps, what the services held, and what went wrong."""
     seeds, deadline, most = share
-    sessions, steps = 0, collections.Counter()
-    with tempfile.TemporaryDirectory() as path:
+    sessions, steps, told, whys = 0, collections.Counter(), [], []
+    with tempfile.TemporaryDirectory() as path, contextlib.ExitStack() as stack:
+        staying = Staying(Path(path), stack)
         for seed in seeds:
-            life, why = play_life(seed, Path(path))
+            life, why = play_life(seed, Path(path), staying)
             sessions += life.sessions
             steps += life.steps
+            whys += [why] if why else []
             if why or sessions >= most or time.monotonic() > deadline:
                 break
-    return sessions, steps, why
+        if not whys:
+            told, whys = staying.settle()
+    return sessions, steps, told, whys
 
 
 class Played:
@@ -566,11 +643,11 @@ class Played:
         shares = [(range(self.first + job, self.first + SEEDS, self.jobs), deadline, self.most) for job in range(self.jobs)]
         self.first += SEEDS
         with multiprocessing.Pool(self.jobs) as pool:
-            for sessions, steps, why in pool.imap_unordered(work, shares):
+            for sessions, steps, told, whys in pool.imap_unordered(work, shares):
                 self.sessions += sessions
                 self.steps += steps
-                self.failed += why is not None
-                print(why or "", end="\n" if why else "", flush=True)
+                self.failed += len(whys)
+                print("".join(f"{line}\n" for line in whys + told), end="", flush=True)
 
     def missing(self):
         return sorted(WANTED - set(self.steps))
@@ -579,6 +656,7 @@ class Played:
 def main():
     parser = argparse.ArgumentParser(description=__doc__.splitlines()[0])
     parser.add_argument("--seconds", type=float, default=20)
+    parser.add_argument("--minutes", type=lambda count: 60 * float(count), dest="seconds", default=argparse.SUPPRESS)
     parser.add_argument("--seed", type=int, default=random.randrange(10**9))
     parser.add_argument("--sessions", type=int)
     parser.add_argument("--jobs", type=int, default=os.cpu_count())

@@ -33,7 +33,7 @@ starts() {
 }
 
 if command -v systemd-analyze > /dev/null; then
-    for unit in oftp-listen.service oftp-call@.service oftp-call@.timer oftp-http.service; do
+    for unit in oftp-run.service oftp-listen.service oftp-call@.service oftp-call@.timer oftp-http.service; do
         count verify "$unit"
     done
 else

@@ -21,17 +21,15 @@ import sys
 import tempfile
 import time
 from pathlib import Path
-from typing import NamedTuple
 
 sys.path.insert(0, str(Path(__file__).resolve().parents[1] / "lib"))
 
 import one_file
+from filled import BLOCK, copied, fill_large, fill_many, fill_out, opened, settle
+from measured import Taken, by_processor, run, run_quietly, shown
 from one_file import BOOK, FILE, MEBI, frame_of
 from program import PROGRAM, ROOT
 from row_files import in_subrecords
-
-BLOCK = 1024
-OUTGOING = {"dataset": "INV.0001", "date": "20240201", "time": "0800000001"}
 
 # Each case: what it is, the octets of the file, the buffer, the credit, the octets that a DATA carries (as many as the buffer lets it
 # carry where there is no number), and how many times as much of the processor as stock sqlite3 it should take, and may take: two and a half
@@ -68,14 +66,7 @@ class Room:
         return path
 
     def copy_of(self, database):
-        """A copy of a database, on the disk before anything is measured."""
-        copy = self.path / "copy"
-        for end in ("-wal", "-shm"):
-            Path(f"{copy}{end}").unlink(missing_ok=True)
-        shutil.copyfile(database, copy)
-        with open(copy, "rb") as file:
-            os.fsync(file)
-        return copy
+        return copied(database, self.path / "copy")
 
 
 def build_plain(path):
@@ -84,42 +75,6 @@ def build_plain(path):
     if shutil.which("cc") and subprocess.run(words, capture_output=True, check=False).returncode == 0:
         return path / "plain_store"
     return None
-
-
-def settle(database):
-    """Brings all of a database into its one file."""
-    connection = sqlite3.connect(database)
-    connection.execute("PRAGMA wal_checkpoint(TRUNCATE)")
-    connection.close()
-
-
-def run_quietly(words):
-    subprocess.run(words, check=True, stdout=subprocess.DEVNULL)
-
-
-class Taken(NamedTuple):
-    """What a run took: the seconds on the clock and those of the processor, and the KiB of memory, at least this script's own."""
-
-    seconds: float
-    processor: float
-    memory: int = 0
-
-
-def by_processor(runs):
-    """The run that took least of the processor."""
-    return min(runs, key=lambda taken: taken.processor)
-
-
-def run(words):
-    """Runs a program to its end, and says what it took."""
-    begin = time.monotonic()
-    with open(os.devnull, "wb") as nowhere:
-        to_nowhere = [(os.POSIX_SPAWN_DUP2, nowhere.fileno(), 1)]
-        pid = os.posix_spawn(str(words[0]), [str(word) for word in words], os.environ, file_actions=to_nowhere)
-        _, status, used = os.wait4(pid, 0)
-    if status != 0:
-        raise SystemExit(f"{words[0]} {words[1]} failed with status {os.waitstatus_to_exitcode(status)}")
-    return Taken(time.monotonic() - begin, used.ru_utime + used.ru_stime, used.ru_maxrss)
 
 
 def make(size, buffer, credit, carried, path):
@@ -174,7 +129,7 @@ def receive_by_python(database, size, window):
     """What Python's sqlite3 takes for the same statements."""
     body = b"A" * BLOCK
     begin = time.monotonic(), time.process_time()
-    connection = opened_by_python(database)
+    connection = opened(database)
     connection.execute("INSERT INTO in_file VALUES (1, 'ASN.0001', '20240131', '1015300001', 'A', 'B', 'U', 0, '', 'open')")
     kept = 0
     for came in range(window, size, window):
@@ -194,14 +149,6 @@ def receive_by_python(database, size, window):
     return taken
 
 
-def opened_by_python(database):
-    connection = sqlite3.connect(database, isolation_level=None)
-    connection.execute("PRAGMA journal_mode = WAL")
-    connection.execute("PRAGMA synchronous = FULL")
-    connection.execute("PRAGMA foreign_keys = ON")
-    return connection
-
-
 def send(room, size, buffer, credit, runs):
     """What the program and plain sqlite3 take at least for one file that goes out."""
     given, answer, book = room.path / "given", room.path / "answer", room.book(buffer, credit)
@@ -210,7 +157,7 @@ def send(room, size, buffer, credit, runs):
     answers = [frame_of("SFPA", count="0"), frame_of("CDT") * (frames // credit), frame_of("EFPA"), frame_of("ESID", reason="00")]
     given.write_bytes(b"".join([frame_of("SSRM"), opening, *answers]))
     full = room.path / "full"
-    fill_out(room, full, size)
+    fill_out(room.empty, full, size)
     taken, plain = [], []
     for _ in range(runs):
         database = room.copy_of(full)
@@ -226,19 +173,6 @@ def send(room, size, buffer, credit, runs):
     return by_processor(taken), by_processor(plain)
 
 
-def fill_out(room, full, size):
-    """A database with one file that waits."""
-    shutil.copyfile(room.empty, full)
-    connection = sqlite3.connect(full)
-    values = (*OUTGOING.values(), "O0013SUPPLIER", "O0177CARMAKER")
-    with connection:
-        connection.execute("INSERT INTO out_file VALUES (1, ?, ?, ?, ?, ?, 'U', 0, '', 0, 'waiting', '')", values)
-        rows = ((at, b"A" * BLOCK) for at in range(size // BLOCK))
-        connection.executemany("INSERT INTO out_row VALUES (1, ?, ?)", rows)
-    connection.close()
-    settle(full)
-
-
 def check_sent(database, answer, frames):
     connection = sqlite3.connect(database)
     found = connection.execute("SELECT state FROM out_file").fetchall()
@@ -250,7 +184,7 @@ def check_sent(database, answer, frames):
 
 def send_by_python(database, size, window):
     begin = time.monotonic(), time.process_time()
-    connection = opened_by_python(database)
+    connection = opened(database)
     marked = 0
     for gone in range(window, size + 1, window):
         query = "SELECT body FROM out_row WHERE no = 1 AND pos >= ? ORDER BY pos LIMIT ?"
@@ -265,43 +199,6 @@ def send_by_python(database, size, window):
     return taken
 
 
-def fill_large(room, mebis):
-    """A database with so many MiB in two files that came."""
-    large = room.path / f"large_{mebis}"
-    shutil.copyfile(room.empty, large)
-    connection = sqlite3.connect(large)
-    with connection:
-        for number in (1, 2):
-            values = (number, f"ASN.{number:04}", "20240131", "1015300001", "O0177CARMAKER", "O0013SUPPLIER")
-            connection.execute("INSERT INTO in_file VALUES (?, ?, ?, ?, ?, ?, 'U', 0, '', 'whole')", values)
-            rows = ((number, at, os.urandom(BLOCK)) for at in range(mebis * MEBI // 2 // BLOCK))
-            connection.executemany("INSERT INTO in_row VALUES (?, ?, ?)", rows)
-    connection.close()
-    settle(large)
-    return large
-
-
-def fill_many(room, files):
-    """A database with so many files that came, each answered, and as many that went out, each delivered."""
-    many = room.path / f"many_{files}"
-    shutil.copyfile(room.empty, many)
-    connection = sqlite3.connect(many)
-    with connection:
-        for no in range(1, files + 1):
-            name, ours, theirs = f"N.{no:06}", "O0013SUPPLIER", "O0177CARMAKER"
-            values = (no, name, "20240131", "1015300001", theirs, ours)
-            connection.execute("INSERT INTO in_file VALUES (?, ?, ?, ?, ?, ?, 'U', 0, '', 'whole')", values)
-            connection.execute("INSERT INTO in_row VALUES (?, 0, ?)", (no, b"A" * 100))
-            connection.execute("INSERT INTO issued VALUES (?, 'EERP', '', '', 1)", (no,))
-            values = (no, name, ours, theirs)
-            connection.execute("INSERT INTO out_file VALUES (?, ?, '20240201', '0800000001', ?, ?, 'U', 0, '', 0, 'delivered', '')", values)
-            connection.execute("INSERT INTO out_row VALUES (?, 0, ?)", (no, b"A" * 100))
-            connection.execute("INSERT INTO received VALUES (?, 'EERP', ?, '20240201', '0800000001', ?, ?, '')", values)
-    connection.close()
-    settle(many)
-    return many
-
-
 def idle_session(room):
     """The octets of a partner that is called and gets nothing."""
     given = room.path / "idle"
@@ -313,7 +210,7 @@ def idle_session(room):
 def read_by_python(database):
     """What Python's sqlite3 takes to read each octet of the files that came."""
     begin = time.monotonic(), time.process_time()
-    connection = opened_by_python(database)
+    connection = opened(database)
     sum(len(body) for (body,) in connection.execute("SELECT body FROM in_row"))
     connection.close()
     return Taken(time.monotonic() - begin[0], time.process_time() - begin[1])
@@ -322,7 +219,7 @@ def read_by_python(database):
 def report_by_python(database):
     """What Python's sqlite3 takes to list the files that came: each with how many rows and octets it has, and its response."""
     begin = time.monotonic(), time.process_time()
-    connection = opened_by_python(database)
+    connection = opened(database)
     rows = "(SELECT count(*) FROM in_row WHERE no = f.no), (SELECT sum(length(body)) FROM in_row WHERE no = f.no)"
     query = f"SELECT f.*, {rows}, i.kind FROM in_file f LEFT JOIN issued i ON i.no = f.no ORDER BY f.no"
     with open(os.devnull, "w", encoding="utf-8") as nowhere:
@@ -361,10 +258,6 @@ class Told:
         print(line if is_good else f"{line}: TOO MUCH", flush=True)
 
 
-def shown(taken):
-    return f"{taken.seconds:8.3f} ({taken.processor:6.3f})"
-
-
 def measure(room, runs):
     told = Told("plain C" if room.plain else "Python")
     for name, size, buffer, credit, carried, wanted, most in RECEIVED:
@@ -372,11 +265,11 @@ def measure(room, runs):
     for name, size, buffer, credit, wanted, most in SENT:
         told.beside(name, *send(room, size, buffer, credit, runs), wanted, most)
     told.memory("64 MiB come in", *receive(room, 64 * MEBI, 16384, 99, None, 1), 128)
-    large = [fill_large(room, mebis) for mebis in (100, 25)]
-    opened = [least(runs, ["init", "--db", database]) for database in large]
-    told.beside("100 MiB are opened", opened[0], by_processor(read_by_python(large[0]) for _ in range(runs)), *OPENED)
-    told.grows("100 MiB are opened", *opened)
-    many = [fill_many(room, files) for files in (10_000, 2_500)]
+    large = [fill_large(room.empty, room.path / f"large_{mebis}", mebis) for mebis in (100, 25)]
+    openings = [least(runs, ["init", "--db", database]) for database in large]
+    told.beside("100 MiB are opened", openings[0], by_processor(read_by_python(large[0]) for _ in range(runs)), *OPENED)
+    told.grows("100 MiB are opened", *openings)
+    many = [fill_many(room.empty, room.path / f"many_{files}", files) for files in (10_000, 2_500)]
     reported = [least(runs, ["report", "--db", database, "in"]) for database in many]
     told.beside("10,000 files are reported", reported[0], by_processor(report_by_python(many[0]) for _ in range(runs)), *REPORTED)
     told.grows("10,000 files are reported", *reported)

@@ -1,0 +1,85 @@
+"""Databases of a station that are filled by stock sqlite3, as large as wanted, and what stock sqlite3 takes to open them."""
+
+import os
+import shutil
+import sqlite3
+from pathlib import Path
+
+BLOCK = 1024
+MEBI = 1024 * 1024
+OURS, THEIRS = "O0013SUPPLIER", "O0177CARMAKER"
+OUTGOING = {"dataset": "INV.0001", "date": "20240201", "time": "0800000001"}
+
+
+def settle(database):
+    """Brings all of a database into its one file."""
+    connection = sqlite3.connect(database)
+    connection.execute("PRAGMA wal_checkpoint(TRUNCATE)")
+    connection.close()
+
+
+def copied(database, copy):
+    """A copy of a database, on the disk before anything is measured."""
+    for end in ("-wal", "-shm"):
+        Path(f"{copy}{end}").unlink(missing_ok=True)
+    shutil.copyfile(database, copy)
+    with open(copy, "rb") as file:
+        os.fsync(file)
+    return copy
+
+
+def opened(database):
+    """A connection of stock sqlite3, which keeps what the station's keeps."""
+    connection = sqlite3.connect(database, isolation_level=None)
+    connection.execute("PRAGMA journal_mode = WAL")
+    connection.execute("PRAGMA synchronous = FULL")
+    connection.execute("PRAGMA foreign_keys = ON")
+    return connection
+
+
+def fill_out(empty, full, size):
+    """A database with one file that waits."""
+    shutil.copyfile(empty, full)
+    connection = sqlite3.connect(full)
+    values = (*OUTGOING.values(), OURS, THEIRS)
+    with connection:
+        connection.execute("INSERT INTO out_file VALUES (1, ?, ?, ?, ?, ?, 'U', 0, '', 0, 'waiting', '')", values)
+        rows = ((at, b"A" * BLOCK) for at in range(size // BLOCK))
+        connection.executemany("INSERT INTO out_row VALUES (1, ?, ?)", rows)
+    connection.close()
+    settle(full)
+
+
+def fill_large(empty, large, mebis):
+    """A database with so many MiB in two files that came."""
+    shutil.copyfile(empty, large)
+    connection = sqlite3.connect(large)
+    with connection:
+        for number in (1, 2):
+            values = (number, f"LARGE.{number}", "20240131", "1015300001", THEIRS, OURS)
+            connection.execute("INSERT INTO in_file VALUES (?, ?, ?, ?, ?, ?, 'U', 0, '', 'whole')", values)
+            rows = ((number, at, os.urandom(BLOCK)) for at in range(mebis * MEBI // 2 // BLOCK))
+            connection.executemany("INSERT INTO in_row VALUES (?, ?, ?)", rows)
+    connection.close()
+    settle(large)
+    return large
+
+
+def fill_many(empty, many, files):
+    """A database with so many files that came, each answered, and as many that went out, each delivered."""
+    shutil.copyfile(empty, many)
+    connection = sqlite3.connect(many)
+    with connection:
+        for no in range(1, files + 1):
+            name = f"N.{no:06}"
+            values = (no, name, "20240131", "1015300001", THEIRS, OURS)
+            connection.execute("INSERT INTO in_file VALUES (?, ?, ?, ?, ?, ?, 'U', 0, '', 'whole')", values)
+            connection.execute("INSERT INTO in_row VALUES (?, 0, ?)", (no, b"A" * 100))
+            connection.execute("INSERT INTO issued VALUES (?, 'EERP', '', '', 1)", (no,))
+            values = (no, name, OURS, THEIRS)
+            connection.execute("INSERT INTO out_file VALUES (?, ?, '20240201', '0800000001', ?, ?, 'U', 0, '', 0, 'delivered', '')", values)
+            connection.execute("INSERT INTO out_row VALUES (?, 0, ?)", (no, b"A" * 100))
+            connection.execute("INSERT INTO received VALUES (?, 'EERP', ?, '20240201', '0800000001', ?, ?, '')", values)
+    connection.close()
+    settle(many)
+    return many

@@ -1,0 +1,277 @@
+"""`listen` and `http` as services that stay for as long as a check runs, those who call them, and what they hold: descriptors and memory.
+
+Behind each caller a service holds the very descriptors that it held before the first. Its memory goes up and down with the sizes of the
+databases that it opens for its callers, and of what is given back the allocator keeps some, which hides what is lost for a while. So before
+the first caller and behind the last one a service has the same small tasks over a new database, and what it has of memory within them and behind
+them is compared: at the end it is at most so many KiB (`MORE`) above what it was at the beginning.
+"""
+
+import os
+import socket
+import struct
+import threading
+import time
+from pathlib import Path
+
+import oftp
+from listing_files import END, ask, body_of, reply_of
+from services import CARMAKER, LONG, Service, Wrong, expect
+
+# A service that stays is given more callers than come.
+CALLERS = "1000000"
+# Code of the program that runs for the first time is read in, and the allocator keeps some of the greatest database that was opened, once
+# and for all: some 2 MiB of one of 8 MB.
+MORE = 4096
+# How many of the same tasks it has at the beginning and at the end. The first half warm it up.
+TASKS = 20
+# How many seconds a service may take to be done with a caller who has its answer.
+SOON = 20
+TARGETS = ["/in", "/out", "/responses"]
+
+
+def frame(kind, **fields):
+    return oftp.frame(oftp.spell(kind, fields))
+
+
+# What strangers say before they say nothing more, and the lines that tell of them.
+OPENS = frame("SSID", code=CARMAKER, password="CARPW", buffer="128", credit="1", mode="B")
+WRONG_PASSWORD = frame("SSID", code=CARMAKER, password="WRONG", buffer="128", credit="1", mode="B")
+STRANGERS = [
+    (b"", "end: input"),
+    (WRONG_PASSWORD[:40], "end: input"),
+    (WRONG_PASSWORD, "end: own 04"),
+    (WRONG_PASSWORD + bytes(10_000), "end: own 04"),
+    (b"\x20\x00\x00\x05\x43", "end: own 02"),
+]
+# How the session of one who resets the connection may end.
+RESETS = ["end: input", "fault: 1 read", "fault: 2 write"]
+
+
+def held_port():
+    """A port that nobody else is given, and that the program can listen on."""
+    holder = socket.socket()
+    holder.setsockopt(socket.SOL_SOCKET, socket.SO_REUSEADDR, 1)
+    holder.bind(("127.0.0.1", 0))
+    return holder
+
+
+# ---- what a process holds
+
+
+def descriptors_of(process):
+    """Where each descriptor of a process leads."""
+    found = {}
+    for entry in os.listdir(f"/proc/{process}/fd"):
+        try:
+            found[int(entry)] = os.readlink(f"/proc/{process}/fd/{entry}")
+        except FileNotFoundError:
+            pass  # it was closed in between
+    return found
+
+
+def memory_of(process, name):
+    """How many KiB of memory a process has (VmRSS), or had at most since that was last forgotten (VmHWM)."""
+    for line in Path(f"/proc/{process}/status").read_text().splitlines():
+        if line.startswith(f"{name}:"):
+            return int(line.split()[1])
+    raise Wrong("the service has ended")
+
+
+def forget_peak(process):
+    """What a process had of memory at most is from now on what it has."""
+    Path(f"/proc/{process}/clear_refs").write_text("5")
+
+
+def is_heard(port):
+    """Whether anyone listens at this port of 127.0.0.1. Nobody calls there for it."""
+    return f" 0100007F:{port:04X} 00000000:0000 0A " in Path("/proc/net/tcp").read_text()
+
+
+# ---- services
+
+
+class Staying(Service):
+    """A service that stays, with what it holds. Its task is what it does for one who has nothing else to do with it."""
+
+    def __init__(self, room, command, task, *words, **how):
+        self.command = command
+        self.task = task
+        self.callers = 0
+        self.holder = held_port()
+        super().__init__(room, command, *words, port=self.holder.getsockname()[1], **how)
+        try:
+            self.wait_until_heard()
+            self.descriptors = descriptors_of(self.program.pid)
+            self.memory = self.measure()
+        except (Wrong, OSError):
+            self.leave()
+            raise
+
+    def wait_until_heard(self):
+        until = time.monotonic() + LONG
+        while not is_heard(self.port):
+            if self.program.poll() is not None or time.monotonic() > until:
+                raise Wrong(f"{self.command} isn't heard")
+            time.sleep(0.01)
+
+    def measure(self):
+        """What it has of memory at most within the same tasks over a new database, and behind them."""
+        for end in ("", "-wal"):
+            Path(f"{self.database}{end}").unlink(missing_ok=True)
+        for number in range(TASKS):
+            if number == TASKS // 2:
+                forget_peak(self.program.pid)
+            self.task(self)
+            self.wait_until_done()
+        return [memory_of(self.program.pid, name) for name in ("VmHWM", "VmRSS")]
+
+    def look(self):
+        """Behind a caller it holds what it held before the first one."""
+        self.callers += 1
+        self.wait_until_done()
+
+    def wait_until_done(self):
+        """It is done with a caller, or soon will be: then it has no other descriptors than before the first one."""
+        until = time.monotonic() + SOON
+        while (now := descriptors_of(self.program.pid)) != self.descriptors:
+            if time.monotonic() > until:
+                raise Wrong(f"{self.command} holds {now} behind {self.callers} callers, and held {self.descriptors} before them")
+            time.sleep(0.002)
+
+    def settle(self):
+        """Ends it. It answers what it held, in words, and what is wrong: that this is more than at the beginning, or what it told beside the lines
+        that were asked for."""
+        try:
+            memory = self.measure()
+        except (Wrong, OSError) as why:
+            return f"{self.command}: {self.callers} callers", [str(why)]
+        self.program.kill()
+        whys = [f"{self.command} told {told!r}" for told in self.rest() if told]
+        told = (
+            f"{self.command}: {self.callers} callers, {len(self.descriptors)} descriptors before and behind each; KiB of memory "
+            f"within and behind the same tasks: {self.memory} before them, {memory} behind"
+        )
+        if any(now > before + MORE for before, now in zip(self.memory, memory)):
+            whys.append(f"too much memory: {told}")
+        return told, whys
+
+    def leave(self):
+        """Ends it, whatever it has told."""
+        self.program.kill()
+        self.program.wait()
+        self.holder.close()
+
+
+class Services:
+    """Both services over the database of a room."""
+
+    def __init__(self, room, book):
+        self.http = Staying(room, "http", ask_list, "--requests", CALLERS)
+        try:
+            self.listen = Staying(room, "listen", hold_session, "--sessions", CALLERS, book=book)
+        except (Wrong, OSError):
+            self.http.leave()
+            raise
+
+    def __enter__(self):
+        return self
+
+    def __exit__(self, *_why):
+        for service in (self.listen, self.http):
+            service.leave()
+
+    def settle(self):
+        """Ends both. It answers what each held, in words, and what is wrong."""
+        came = [service.settle() for service in (self.listen, self.http)]
+        return [told for told, _ in came], [why for _, whys in came for why in whys]
+
+    def meet(self, chance):
+        """A stranger calls, or somebody asks for what the database holds."""
+        chance.choice([self.meet_stranger, self.meet_request])(chance)
+
+    def meet_stranger(self, chance):
+        if chance.random() < 0.2:
+            reset(self.listen, WRONG_PASSWORD[: chance.randrange(len(WRONG_PASSWORD))])
+            lines = RESETS
+        else:
+            said, line = chance.choice(STRANGERS)
+            converse(self.listen, said, lambda: len(said))
+            lines = [line]
+        line = self.listen.either()
+        if line not in lines:
+            raise Wrong(f"the line of a stranger is {line!r}, not one of {lines}")
+        self.listen.look()
+
+    def meet_request(self, chance):
+        target = chance.choice(TARGETS)
+        head = f"GET {target} HTTP/1.1\r\n\r\n".encode()
+        how = chance.random()
+        if how < 0.1:
+            reset(self.http, head[: chance.randrange(len(head))])
+        elif how < 0.2:
+            expect(ask(self.http, [head[: chance.randrange(len(head))]], is_over=True), b"", "the reply to half a head")
+        elif how < 0.3:
+            expect(ask(self.http, [b"GET /nothing HTTP/1.1\r\n\r\n"]), reply_of("404", ""), "the reply to a target that nothing fits")
+        else:
+            self.expect_list(target, ask(self.http, [head]))
+        self.http.look()
+
+    def expect_list(self, target, reply):
+        """The reply shows what stock sqlite3 reads."""
+        first, _, body = reply.partition(END + END)
+        expect((first[:13], body), (b"HTTP/1.1 200 ", body_of(self.http.database, target)), f"the reply for {target}")
+
+
+# ---- who calls them
+
+
+def ask_list(http):
+    """The task of `http`."""
+    expect(ask(http, [b"GET /in HTTP/1.1\r\n\r\n"]), reply_of("200", "[]"), "the reply for an empty database")
+
+
+def hold_session(listen):
+    """The task of `listen`."""
+    converse(listen, OPENS + frame("ESID", reason="00"), lambda: len(OPENS))
+    expect(listen.either(), "end: partner 00", "the line of a session without files")
+
+
+def reset(service, octets):
+    """One who says this, and resets the connection."""
+    with service.caller() as caller:
+        caller.setsockopt(socket.SOL_SOCKET, socket.SO_LINGER, struct.pack("ii", 1, 0))
+        caller.sendall(octets)
+
+
+def converse(service, octets, next_size):
+    """What a service answers to one who says these octets, in pieces of such sizes, and then nothing more."""
+    with service.caller() as caller:
+        caller.setsockopt(socket.IPPROTO_TCP, socket.TCP_NODELAY, 1)
+        writer = threading.Thread(target=say, args=(caller, octets, next_size))
+        writer.start()
+        answer = hear(caller)
+        writer.join()
+    return answer
+
+
+def say(caller, octets, next_size):
+    at = 0
+    try:
+        while at < len(octets):
+            size = next_size()
+            caller.sendall(octets[at : at + size])
+            at += size
+        caller.shutdown(socket.SHUT_WR)
+    except OSError:
+        pass  # the service has ended the session
+
+
+def hear(caller):
+    """All that comes. Where the service hasn't read what was said behind the end of a session, a reset follows its last octet."""
+    octets = b""
+    try:
+        while piece := caller.recv(65536):
+            octets += piece
+    except ConnectionResetError:
+        pass
+    return octets

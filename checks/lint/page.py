@@ -1,0 +1,132 @@
+#!/usr/bin/env python3
+"""Holds the page, crates/oftp_station/src/page.html, to what a browser is told of it, to the words of the crates, and to its copy for the
+program, crates/oftp_station/src/page.rt.
+
+    checks/lint/page.py            compares, prints each thing that differs, and `N passed, M failed`
+    checks/lint/page.py --write    writes the sums of its script and its style into the page, and the copy
+
+The page's policy allows the script and the style of these sums alone, and no text to become markup. Nothing of the page is from elsewhere. It
+knows each state that the listing names (oftp_listing/specs/Names.antt), and has the words of oftp_wire/specs/Reasons.antt for the reasons that
+stand there.
+"""
+
+import base64
+import hashlib
+import re
+import sys
+from pathlib import Path
+
+sys.path.insert(0, str(Path(__file__).resolve().parents[1] / "lib"))
+
+from program import ROOT
+
+PAGE = ROOT / "crates/oftp_station/src/page.html"
+COPY = ROOT / "crates/oftp_station/src/page.rt"
+REASONS = ROOT / "crates/oftp_wire/specs/Reasons.antt"
+NAMES = ROOT / "crates/oftp_listing/specs/Names.antt"
+# What a policy has to say, beside the sums.
+POLICY = [
+    *("default-src 'none'", "connect-src 'self'", "img-src data:", "base-uri 'none'", "form-action 'none'"),
+    *("require-trusted-types-for 'script'", "trusted-types 'none'"),
+]
+# What would make markup or code of a text, and what would load something.
+FORBIDDEN = [
+    *("innerHTML", "outerHTML", "insertAdjacentHTML", "document.write", "createContextualFragment", "DOMParser", "setHTML", "srcdoc"),
+    *("eval(", "Function(", "import(", "://", "@import", "url(", " src=", "XMLHttpRequest", "WebSocket", "EventSource", "sendBeacon"),
+]
+MARKS = '"###'
+
+
+def policy_of(text):
+    """The directives of the page's policy."""
+    found = re.search(r'http-equiv="Content-Security-Policy" content="([^"]*)"', text)
+    return [" ".join(it.split()) for it in found.group(1).split(";")] if found else []
+
+
+def sums_of(text):
+    """The directive that allows the page's script alone, and the one for its style."""
+    for part, name in (("script", "script-src"), ("style", "style-src")):
+        bodies = re.findall(rf"<{part}>(.*?)</{part}>", text, re.S)
+        yield f"{name} " + " ".join(f"'sha256-{base64.b64encode(hashlib.sha256(it.encode()).digest()).decode()}'" for it in bodies)
+
+
+def with_sums(text):
+    for directive in sums_of(text):
+        name, _, sums = directive.partition(" ")
+        text = re.sub(rf"{name} [^;\"]*", lambda _, it=f"{name} {sums}": it, text, count=1)
+    return text
+
+
+def copy_of(text):
+    """The page as a text of the program."""
+    return (
+        "//! The page for people, the text of page.html: written by `checks/lint/page.py --write`.\n\n"
+        "/// What a request for `/` is answered with: one text of HTML, in which all is that it needs.\n"
+        f"pub(crate) const PAGE: &str = r###\"{text}{MARKS};\n"
+    )
+
+
+def reasons_told():
+    """The reasons of SFNA that the station knows, with their words."""
+    text = REASONS.read_text(encoding="utf-8")
+    numbers = dict(re.findall(r"^(?:start|end)_number (\w+) = (\d+)$", text, re.M))
+    return [(f"{int(numbers[name]):02}", words) for name, words in re.findall(r'^(?:start|end)_phrase (\w+) = codes " (.*)"$', text, re.M)]
+
+
+def reasons_shown(text):
+    """The reasons of SFNA that the page knows."""
+    found = re.search(r"const START_REASONS = \{(.*?)\};", text, re.S)
+    return dict(re.findall(r'"(\d\d)": "([^"]*)"', found.group(1))) if found else {}
+
+
+def states_told():
+    """The names that the listing has for the states of files."""
+    text = NAMES.read_text(encoding="utf-8")
+    return re.findall(r'^(incoming|outgoing)_state_name \(?\w+.*= codes "(\w+)"$', text, re.M)
+
+
+def states_shown(text):
+    """The states of each list in the page's table."""
+    table = re.search(r"const STATES = \{\n(.*?)\n\};", text, re.S)
+    lists = re.findall(r"^  (\w+): \{\n(.*?)^  \},", table.group(1), re.S | re.M) if table else []
+    # A whole file is shown by what was said of it.
+    more = {"in": {"whole"} if 'state === "whole"' in text else set()}
+    return {name: set(re.findall(r"^    (\w+): \{", body, re.M)) | more.get(name, set()) for name, body in lists}
+
+
+def judged(text):
+    """What is asked of the page, and whether it is so."""
+    policy = policy_of(text)
+    for directive in [*POLICY, *sums_of(text)]:
+        yield f"its policy says: {directive}", directive in policy
+    yield "its policy says nothing else", len(policy) == len(POLICY) + 2
+    for word in FORBIDDEN:
+        yield f"it has no {word.strip()}", word not in text
+    for number, words in reasons_told():
+        yield f"it has the reason {number} {words}", reasons_shown(text).get(number) == words
+    for side, name in states_told():
+        yield f"it knows the {side} state {name}", name in states_shown(text).get({"incoming": "in", "outgoing": "out"}[side], ())
+    yield "it has a browser ask for no icon", '<link rel="icon" href="data:,">' in text
+    yield "no line of it is longer than 180 characters", all(len(line) <= 180 for line in text.splitlines())
+    yield "it can stand in a text of the program", MARKS not in text
+    yield f"{COPY.name} is its copy", COPY.exists() and COPY.read_text(encoding="utf-8") == copy_of(text)
+
+
+def main():
+    text = PAGE.read_text(encoding="utf-8")
+    if sys.argv[1:] == ["--write"]:
+        text = with_sums(text)
+        PAGE.write_text(text, encoding="utf-8")
+        COPY.write_text(copy_of(text), encoding="utf-8")
+    failed = passed = 0
+    for what, is_so in judged(text):
+        passed += bool(is_so)
+        failed += not is_so
+        if not is_so:
+            print(f"page.html: not so: {what}")
+    print(f"{passed} passed, {failed} failed")
+    return 1 if failed or not passed else 0
+
+
+if __name__ == "__main__":
+    sys.exit(main())

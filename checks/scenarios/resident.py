@@ -1,0 +1,604 @@
+#!/usr/bin/env python3
+"""Tries `run` as a process: partners, commands and false clients, all at its sockets.
+
+    checks/scenarios/resident.py [WORD ..]       all cases, or those whose names have one of these words
+
+Each case has a port and a database of its own, and all run at once, so it takes some twenty seconds. The last line is `N passed, M failed`.
+"""
+
+import contextlib
+import os
+import signal
+import socket
+import stat
+import struct
+import subprocess
+import sys
+import tempfile
+import threading
+import time
+from concurrent.futures import ThreadPoolExecutor
+from pathlib import Path
+
+sys.path.insert(0, str(Path(__file__).resolve().parents[1] / "lib"))
+
+import one_file
+import row_files
+import tables
+from program import PROGRAM
+from services import BOOK, CARMAKER, LONG, Resident, Wrong, expect, free_port, rest_of
+
+# What may be added to any time on a machine with other work.
+SOON = 25
+READY = b"1"
+IDENTITY = ["--dataset", "INV.1", "--date", "20240201", "--time", "0800000001", "--to", CARMAKER, "--format", "U"]
+
+
+def session_of(name):
+    return row_files.Row(row_files.ROWS / f"{name}.row").sessions()[0]
+
+
+ONE_OCTET = session_of("receiving/one_octet")
+NOTHING_WAITING = session_of("listening/nothing_waiting")
+WRONG = session_of("opening/wrong_password")
+GREETING, SSID = (octets for _, octets in NOTHING_WAITING.steps[:2])
+
+
+def told(program):
+    out, err = program.communicate(timeout=LONG)
+    return program.returncode, out, err
+
+
+def given(service, command, *words):
+    """What a command over the database of the service comes to."""
+    done = service.give(command, *words)
+    return done.returncode, done.stdout, done.stderr
+
+
+def play(service, session, code=CARMAKER):
+    """Plays a session, and expects its line."""
+    with service.caller() as caller:
+        caller.sendall(session.joined("in"))
+        caller.shutdown(socket.SHUT_WR)
+        expect(rest_of(caller), session.joined("out"), "the station sent")
+    expect(service.line() + "\n", f"session {code} in: {session.end[1]}", "the line")
+
+
+def within(begin, most, what):
+    took = time.monotonic() - begin
+    if took > most + SOON:
+        raise Wrong(f"{what} took {took:.1f} s")
+
+
+def lines(room):
+    """A line for each session, with the code of whoever is let in; and the station ends after so many jobs."""
+    with Resident(room, "--jobs", "5") as service:
+        play(service, ONE_OCTET)
+        play(service, WRONG, "-")
+        expect(given(service, "report", "in")[0], 0, "a report")
+        expect(given(service, "release", "1"), (0, b"done: release 1\n", b""), "a release")
+        play(service, session_of("opening/unknown_code"), "-")
+        service.ends()
+        expect(service.socket.exists(), False, "whether the socket is left")
+
+
+def operator_beside_it(room):
+    """An operator's commands ask it, and the database has what they did."""
+    file = room / "file"
+    file.write_bytes(bytes(range(256)) * 1000)
+    with Resident(room) as service:
+        play(service, ONE_OCTET)
+        expect(given(service, "init"), (0, b"done: init\n", b""), "init")
+        expect(given(service, "submit", *IDENTITY, file), (0, b"done: submit 1\n", b""), "submit")
+        expect(given(service, "submit", *IDENTITY, file), (1, b"refused: 1 duplicate\n", b""), "submit again")
+        expect(given(service, "fetch", "1", room / "fetched"), (0, b"done: fetch 1\n", b""), "fetch")
+        expect(given(service, "fetch", "2", room / "none"), (1, b"refused: 2 unknown\n", b""), "fetch of none")
+        expect(given(service, "release", "1"), (0, b"done: release 1\n", b""), "release")
+        expect(given(service, "refuse", "1", "12", "no"), (1, b"refused: 3 state\n", b""), "refuse")
+        report = given(service, "report", "out")
+        expect((report[0], report[1].count(b"\n")), (0, 2), "the report")
+        expect((room / "fetched").read_bytes(), b"A", "the file")
+    expect(tables.unfit(tables.read(service.database)), None, "the tables")
+    expect(len(tables.read(service.database)["out_file"]), 1, "how many files were submitted")
+
+
+def largest_file(room):
+    """A file of 64 MiB goes there, and none that is larger."""
+    file, larger = room / "file", room / "larger"
+    file.write_bytes(bytes(1 << 26))
+    larger.write_bytes(bytes((1 << 26) + 1))
+    with Resident(room) as service:
+        expect(given(service, "submit", *IDENTITY, larger), (1, b"refused: 4 limit\n", b""), "submit of too much")
+        expect(given(service, "submit", *IDENTITY, file), (0, b"done: submit 1\n", b""), "submit")
+
+
+def many_at_once(room):
+    """Commands that come at once are done one after another, each once."""
+    file = room / "file"
+    file.write_bytes(b"A")
+    with Resident(room) as service:
+        words = [[f"--dataset=INV.{number}", *IDENTITY[2:], file] for number in range(40)]
+        with ThreadPoolExecutor(max_workers=40) as runners:
+            done = list(runners.map(lambda given_words: given(service, "submit", *given_words), words))
+        expect(sorted(done), sorted((0, f"done: submit {number}\n".encode(), b"") for number in range(1, 41)), "the lines")
+
+
+def stale_socket(room):
+    """The socket of a station that was killed keeps nobody away, and the next one takes it over. Nobody else may connect to it."""
+    with Resident(room) as service:
+        mode = os.stat(service.socket).st_mode
+        expect((stat.S_ISSOCK(mode), stat.S_IMODE(mode)), (True, 0o600), "the socket's file")
+    expect(service.socket.exists(), True, "whether a socket is left")
+    expect(given(service, "report", "in")[0], 0, "a report without a station")
+    with Resident(room) as again:
+        expect(given(again, "report", "in")[0], 0, "a report")
+        again.program.send_signal(signal.SIGTERM)
+        again.program.wait(LONG)
+    expect(given(again, "init"), (0, b"done: init\n", b""), "init without a station")
+
+
+def file_in_the_place_of_the_socket(room):
+    """A file that is no socket stays, and the station doesn't start."""
+    (room / "database-station").write_bytes(b"A")
+    service = Resident(room)
+    service.ends(1, b"fault: 8 socket\n")
+    expect((room / "database-station").read_bytes(), b"A", "the file")
+
+
+def two_stations(room):
+    """A second station over the database gives up, and takes nothing away from the first."""
+    with Resident(room) as service:
+        begin = time.monotonic()
+        Resident(room).ends(1, b"fault: 6 store 1\n")
+        within(begin, 10, "the second station")
+        expect(given(service, "report", "in")[0], 0, "a report")
+        play(service, NOTHING_WAITING)
+
+
+def faults_in_order(room):
+    """The book, the database, the trace, and then the sockets."""
+    port = free_port()
+    with socket.create_server(("127.0.0.1", port)):
+        (room / "folder").mkdir()
+        (room / "folder/database").mkdir()
+        faulty = room / "faulty"
+        faulty.write_text("no book")
+        Resident(room / "folder", "--trace", room / "none/trace", book=faulty, port=port).ends(1, b"fault: 5 book 1\n")
+        Resident(room / "folder", "--trace", room / "none/trace", port=port).ends(1, b"fault: 6 store 1\n")
+        Resident(room, "--trace", room / "none/trace", port=port).ends(1, b"fault: 7 file\n")
+        Resident(room, port=port).ends(1, b"fault: 8 socket\n")
+    expect((room / "database-station").exists(), False, "whether a socket is there")
+
+
+def long_path(room):
+    """A path longer than a socket's address has room for, found through a link, too."""
+    folder = room / ("long" * 40)
+    folder.mkdir()
+    with Resident(folder) as service:
+        expect(given(service, "init"), (0, b"done: init\n", b""), "init")
+        link = room / "link"
+        link.symlink_to(service.database)
+        done = subprocess.run([PROGRAM, "report", "--db", link, "in"], capture_output=True, timeout=LONG, check=False)
+        expect((done.returncode, done.stderr), (0, b""), "a report through a link")
+
+
+def request_of(*words):
+    spelled = [struct.pack(">I", len(word)) + word for word in words]
+    return struct.pack(">I", len(words)) + b"".join(spelled)
+
+
+def answer_of(client):
+    """The answer that a client gets: what goes to each outlet, and the exit status."""
+    octets, outlets = rest_of(client), {}
+    while octets[:1] != b"\0":
+        outlet, size = struct.unpack(">BI", octets[:5])
+        outlets[outlet] = outlets.get(outlet, b"") + octets[5 : 5 + size]
+        octets = octets[5 + size :]
+    expect(len(octets), 2, "how many octets end an answer")
+    return outlets, octets[1]
+
+
+def false_clients(room):
+    """What is no request is closed without an answer and without a change, and so is a request that no command makes."""
+    for_nothing = [
+        struct.pack(">I", 65),
+        struct.pack(">II", 1, 83886081),
+        request_of(),
+        request_of(b"", b"", b"nothing"),
+        request_of(b"", b"", b"listen", b"--db", b"d", b"--book", b"b"),
+        request_of(b"", b"", b"\xff"),
+        request_of(b"", b"", b"init", b"--db=d") + b"A",
+    ]
+    with Resident(room) as service:
+        for octets in for_nothing:
+            with service.client() as client:
+                expect(client.recv(1), READY, "the first octet")
+                client.sendall(octets)
+                with contextlib.suppress(ConnectionResetError):
+                    expect(client.recv(1), b"", f"what answers {octets[:40]!r}")
+        with service.client() as client:
+            client.recv(1)
+            client.sendall(request_of(b"", b"", b"init", b"--db=d"))
+            expect(answer_of(client), ({1: b"done: init\n"}, 0), "the answer to init")
+        expect(given(service, "report", "in")[0], 0, "a report")
+
+
+def half_requests(room):
+    """A command that is gone within its request asks for nothing."""
+    request = request_of(BOOK.read_bytes(), b"A", b"submit", b"--db=d", b"--book=b", *(word.encode() for word in IDENTITY), b"f")
+    with Resident(room) as service:
+        for size in (0, 3, 4, 100, len(request) - 1):
+            with service.client() as client:
+                client.recv(1)
+                client.sendall(request[:size])
+        expect(given(service, "report", "out")[1].count(b"\n"), 1, "lines of the report")
+        with service.client() as client:
+            client.recv(1)
+            for place in range(0, len(request), 7):
+                client.sendall(request[place : place + 7])
+            expect(answer_of(client), ({1: b"done: submit 1\n"}, 0), "the answer to a request that drips")
+
+
+def silent_clients(room):
+    """As many silent clients as there are places, on either socket, delay neither a command nor a partner."""
+    with Resident(room) as service, contextlib.ExitStack() as stack:
+        for _ in range(100):
+            stack.enter_context(service.client())
+            stack.enter_context(service.caller())
+        begin = time.monotonic()
+        expect(given(service, "report", "in")[0], 0, "a report")
+        within(begin, 0, "a report")
+        begin = time.monotonic()
+        play(service, NOTHING_WAITING)
+        within(begin, 0, "a session")
+
+
+def clients_that_read_nothing(room):
+    """Commands that don't take their answers, each of a mebibyte, delay nobody, and hold no more places than there are."""
+    book = room / "book"
+    book.write_text(one_file.BOOK.format(buffer=16384, credit=99))
+    with Resident(room, book=book) as service, contextlib.ExitStack() as stack:
+        with service.caller() as caller:
+            caller.sendall(one_file.session(one_file.MEBI, 16384, 99))
+            caller.shutdown(socket.SHUT_WR)
+            rest_of(caller)
+        expect(service.line(), f"session {CARMAKER} in: end: partner 00", "the line")
+        for _ in range(100):
+            client = stack.enter_context(service.client())
+            expect(client.recv(1), READY, "the first octet")
+            client.sendall(request_of(b"", b"", b"fetch", b"--db=d", b"1", b"f"))
+        begin = time.monotonic()
+        expect(given(service, "report", "in")[0], 0, "a report")
+        play(service, NOTHING_WAITING)
+        within(begin, 0, "a report and a session")
+        expect(given(service, "fetch", "1", room / "fetched"), (0, b"done: fetch 1\n", b""), "fetch")
+        expect((room / "fetched").read_bytes(), b"A" * one_file.MEBI, "the file")
+
+
+def strangers(room):
+    """Who isn't let in in time is sent away, and keeps nobody waiting."""
+    with Resident(room, "--admission", "2") as service:
+        begin = time.monotonic()
+        with service.caller() as silent, service.caller() as slow:
+            slow.sendall(SSID[:10])
+            play(service, NOTHING_WAITING)
+            expect(given(service, "report", "in")[0], 0, "a report")
+            for _ in range(2):
+                expect(service.line(), "session - in: fault: 1 read", "the line of a stranger")
+            expect((rest_of(silent), rest_of(slow)), (GREETING, GREETING), "they read")
+        if not 1.5 <= time.monotonic() - begin <= 2 + SOON:
+            raise Wrong(f"they were waited for {time.monotonic() - begin:.1f} s")
+
+
+def silent_partner(room):
+    """A partner who is let in and then says nothing has its patience, and the service goes on."""
+    with Resident(room, "--patience", "2") as service:
+        with service.caller() as caller:
+            caller.sendall(SSID)
+            expect(service.line(), f"session {CARMAKER} in: fault: 1 read", "the line")
+        play(service, ONE_OCTET)
+
+
+def command_waits_for_a_session(room):
+    """A command that comes within a session waits for its end, longer than a database is waited for."""
+    with Resident(room) as service, service.caller() as caller:
+        caller.sendall(SSID)
+        time.sleep(0.5)
+        words = [PROGRAM, "report", "--db", service.database, "in"]
+        with subprocess.Popen(words, stdout=subprocess.PIPE, stderr=subprocess.PIPE) as program:
+            time.sleep(12)
+            expect(program.poll(), None, "whether the report waits")
+            caller.shutdown(socket.SHUT_WR)
+            expect(service.line(), f"session {CARMAKER} in: end: input", "the line")
+            expect((told(program)[0], program.returncode), (0, 0), "the report")
+
+
+def book_with(room, address):
+    book = room / "book"
+    book.write_text(BOOK.read_text().replace("127.0.0.1:3305", address))
+    return book
+
+
+def call(service, book, *words):
+    words = [PROGRAM, "call", "--db", service.database, "--book", book, "--partner", CARMAKER, *words]
+    return subprocess.Popen(words, stdout=subprocess.PIPE, stderr=subprocess.PIPE)
+
+
+def converse(connection, session):
+    """Plays the partner's side of a session, and closes."""
+    with connection:
+        connection.sendall(session.joined("in"))
+        connection.shutdown(socket.SHUT_WR)
+        expect(rest_of(connection), session.joined("out"), "the station sent")
+
+
+def calls(room):
+    """`call` has the station call: a partner who is there, one who leaves, one who is silent, and nobody."""
+    session = session_of("calling/initiator_alone")
+    trace = room / "trace"
+    with socket.create_server(("127.0.0.1", 0)) as partner, Resident(room) as service:
+        partner.settimeout(LONG)
+        book = book_with(room, f"localhost:{partner.getsockname()[1]}")
+        with call(service, book, "--trace", trace) as program:
+            converse(partner.accept()[0], session)
+            expect(told(program), (0, session.end[1].encode(), b""), "the call")
+        expect(service.line() + "\n", f"session {CARMAKER} out: {session.end[1]}", "the line")
+        told_of = [line.split(" ", 1)[1] for line in trace.read_text().splitlines()]
+        wanted = {"< SSRM", "> SSID from O0013SUPPLIER", session.end[1].strip()}
+        expect((told_of[:1], told_of[-1:], wanted - set(told_of)), (["< SSRM"], [session.end[1].strip()], set()), "the trace")
+        with call(service, book) as program:
+            partner.accept()[0].close()
+            expect(told(program), (0, b"end: input\n", b""), "the call of one who left")
+        expect(service.line(), f"session {CARMAKER} out: end: input", "the line")
+        with call(service, book, "--patience", "1") as program, partner.accept()[0]:
+            expect(told(program), (1, b"", b"fault: 1 read\n"), "the call of a silent partner")
+        expect(service.line(), f"session {CARMAKER} out: fault: 1 read", "the line")
+    with Resident(room) as service:
+        with call(service, book) as program:
+            expect(told(program), (1, b"", b"fault: 8 socket\n"), "the call of nobody")
+        expect(service.line(), f"session {CARMAKER} out: fault: 8 socket", "the line")
+        with call(service, BOOK, "--partner", "O0099OTHER") as program:
+            expect(told(program)[0], 2, "a partner twice")
+        words = [PROGRAM, "call", "--db", service.database, "--book", BOOK, "--partner", "O0099OTHER"]
+        done = subprocess.run(words, capture_output=True, timeout=LONG, check=False)
+        expect((done.returncode, done.stdout, done.stderr), (1, b"refused: 2 unknown\n", b""), "the call of a stranger")
+
+
+def partner_who_does_not_answer(room):
+    """Connecting to a partner whose machine doesn't answer delays nobody."""
+    with socket.socket() as partner, socket.socket() as other, Resident(room) as service:
+        partner.bind(("127.0.0.1", 0))
+        # With one who waits to be accepted the queue is full, and whoever comes next isn't answered.
+        partner.listen(0)
+        other.connect(partner.getsockname())
+        book = book_with(room, f"127.0.0.1:{partner.getsockname()[1]}")
+        begin = time.monotonic()
+        with call(service, book, "--patience", "4") as program:
+            time.sleep(0.5)
+            expect(given(service, "report", "out")[0], 0, "a report while it connects")
+            play(service, NOTHING_WAITING)
+            expect(program.poll(), None, "whether it still connects")
+            expect(told(program), (1, b"", b"fault: 8 socket\n"), "the call")
+        if not 3.5 <= time.monotonic() - begin <= 4 + SOON:
+            raise Wrong(f"the call took {time.monotonic() - begin:.1f} s")
+
+
+def clock(room):
+    """The station calls a partner by itself once something waits for it, and not before, and tries one that isn't there at the next turn alone."""
+    file = room / "file"
+    file.write_bytes(b"ABC")
+    with socket.create_server(("127.0.0.1", 0)) as partner:
+        book = book_with(room, f"127.0.0.1:{partner.getsockname()[1]}")
+        with Resident(room, "--call-every", "1", book=book) as service:
+            partner.settimeout(3)
+            with contextlib.suppress(TimeoutError):
+                partner.accept()
+                raise Wrong("it called for nothing")
+            partner.settimeout(LONG)
+            expect(given(service, "submit", *IDENTITY, file)[0], 0, "submit")
+            with partner.accept()[0] as connection:
+                connection.sendall(GREETING)
+                connection.shutdown(socket.SHUT_WR)
+                rest_of(connection)
+            expect(service.line(), f"session {CARMAKER} out: end: input", "the line")
+            partner.close()
+            begin = time.monotonic()
+            for _ in range(2):
+                expect(service.line(), f"session {CARMAKER} out: fault: 8 socket", "the line")
+            if time.monotonic() - begin < 1:
+                raise Wrong("it called twice within a second")
+
+
+# ---- HTTP
+
+
+def ask(port, *pieces):
+    """The reply to a request that comes in these pieces."""
+    with socket.create_connection(("127.0.0.1", port), timeout=LONG) as caller:
+        for piece in pieces:
+            caller.sendall(piece)
+            time.sleep(0.01)
+        return rest_of(caller)
+
+
+def get(port, target, *fields):
+    lines = [f"GET {target} HTTP/1.1", *fields, "", ""]
+    head, _, body = ask(port, "\r\n".join(lines).encode()).partition(b"\r\n\r\n")
+    return int(head.split()[1]), body
+
+
+def requests(room):
+    """The register and the page by HTTP, for whoever asks this host."""
+    port = free_port()
+    with Resident(room, "--http-port", str(port), "--host", "station.example") as service:
+        play(service, ONE_OCTET)
+        status, body = get(port, "/in")
+        expect((status, b"ASN.0001" in body), (200, True), "the list")
+        expect(get(port, "/in/1")[0], 200, "an entry")
+        expect(get(port, "/in/2")[0], 404, "no entry")
+        expect(get(port, "/nothing")[0], 404, "no page")
+        status, page = get(port, "/")
+        expect((status, page.startswith(b"<!doctype html>")), (200, True), "the page")
+        expect(ask(port, b"POST / HTTP/1.1\r\n\r\n").split()[1], b"404", "another method for the page")
+        for host in ("127.0.0.1", f"127.0.0.1:{port}", "localhost", f"LocalHost:{port}", "station.example", "STATION.example:80"):
+            expect(get(port, "/in", f"Host: {host}")[0], 200, f"the host {host}")
+            expect(get(port, "/", f"host:{host}")[0], 200, f"the host {host}")
+        for host in ("", "elsewhere", "127.0.0.2", "station.example.elsewhere", "localhost.elsewhere:80", "[::1]", "[::1", ":80", "127.0.0.1 elsewhere"):
+            expect(get(port, "/in", f"Host: {host}"), (400, b'{"error":400}'), f"the host {host}")
+            expect(get(port, "/", "Host: localhost", f"Host: {host}")[0], 400, f"the host {host} behind another")
+        expect(ask(port, b"nothing\r\n\r\n").split()[1], b"400", "what is no request")
+        expect(ask(port, b"GET /in HTTP/1.1\r\nX: " + b"a" * 9000).split()[1], b"400", "a head that is too long")
+
+
+def slow_requests(room):
+    """Sixty who send half a head delay nobody, and each has ten seconds."""
+    port = free_port()
+    with Resident(room, "--http-port", str(port)) as service, contextlib.ExitStack() as stack:
+        begin = time.monotonic()
+        slow = []
+        for _ in range(60):
+            caller = stack.enter_context(socket.create_connection(("127.0.0.1", port), timeout=LONG))
+            caller.sendall(b"GET /in HT")
+            slow.append(caller)
+        expect(get(port, "/in")[0], 200, "a list")
+        expect(given(service, "report", "in")[0], 0, "a report")
+        play(service, NOTHING_WAITING)
+        within(begin, 2, "what isn't slow")
+        for caller in slow:
+            expect(rest_of(caller), b"", "what half a head is answered")
+        if time.monotonic() - begin < 9:
+            raise Wrong("they had less than ten seconds")
+        expect(get(port, "/in")[0], 200, "a list")
+
+
+def request_that_is_not_read(room):
+    """Who doesn't read a long reply delays nobody."""
+    port = free_port()
+    with Resident(room, "--http-port", str(port)) as service, contextlib.ExitStack() as stack:
+        for _ in range(60):
+            caller = stack.enter_context(socket.create_connection(("127.0.0.1", port), timeout=LONG))
+            caller.sendall(b"GET / HTTP/1.1\r\n\r\n")
+        begin = time.monotonic()
+        expect(given(service, "report", "in")[0], 0, "a report")
+        expect(get(port, "/")[0], 200, "the page")
+        within(begin, 0, "what is read")
+
+
+def killed_within_a_command(room):
+    """A command whose station is killed within it says so, and doesn't say that anything is done."""
+    with socket.create_server(("127.0.0.1", 0)) as partner, Resident(room) as service:
+        partner.settimeout(LONG)
+        with call(service, book_with(room, f"127.0.0.1:{partner.getsockname()[1]}")) as program, partner.accept()[0]:
+            service.program.kill()
+            expect(told(program), (1, b"", b"fault: 3 office\n"), "the call")
+
+
+def killed_while_files_are_submitted(room):
+    """What was answered before a kill is there, and each command was answered or says that it isn't known."""
+    file = room / "file"
+    file.write_bytes(b"A")
+    answered, failed = [], []
+    is_killed = threading.Event()
+
+    def submit_on(worker):
+        for number in range(1000):
+            name = f"INV.{worker}.{number}"
+            done = given(service, "submit", f"--dataset={name}", *IDENTITY[2:], file)
+            if done[0] == 0:
+                answered.append(name)
+            else:
+                failed.append(done)
+            if is_killed.is_set():
+                return
+
+    with Resident(room) as service:
+        with ThreadPoolExecutor(max_workers=8) as runners:
+            workers = [runners.submit(submit_on, worker) for worker in range(8)]
+            time.sleep(2)
+            service.program.kill()
+            is_killed.set()
+        for worker in workers:
+            worker.result()
+    expect(set(failed) <= {(1, b"", b"fault: 3 office\n")}, True, f"whether {failed} says that the station is gone")
+    expect((len(answered) > 8, len(failed) > 0), (True, True), "whether commands were answered, and others cut off")
+    found = {entry["dataset"] for entry in tables.read(service.database)["out_file"]}
+    expect(set(answered) - found, set(), "what was answered and isn't there")
+
+
+def stopped_within_a_session(room):
+    """What was answered before a SIGTERM is there."""
+    session = session_of("receiving/file_in_one_session")
+    with Resident(room) as service, service.caller() as caller:
+        play(service, ONE_OCTET)
+        octets = b""
+        wanted = b"".join(octets for side, octets in session.steps[:-1] if side == "out")
+        caller.sendall(b"".join(octets for side, octets in session.steps[:-1] if side == "in").replace(b"ASN.0001", b"ASN.0002"))
+        while len(octets) < len(wanted):
+            octets += caller.recv(65536)
+        service.program.terminate()
+        service.program.wait(LONG)
+    files = [(entry["dataset"], entry["state"]) for entry in tables.read(service.database)["in_file"]]
+    expect(files, [("ASN.0001", "whole"), ("ASN.0002", "whole")], "the files")
+
+
+def nothing_to_print_to(room):
+    """A station whose line can't be written ends."""
+    with open("/dev/full", "wb") as output:
+        service = Resident(room, output=output)
+        expect(service.program.wait(LONG), 1, "the exit status")
+        expect(service.program.stderr.read(), b"fault: 2 write\n", "the fault")
+
+
+CASES = [
+    lines,
+    operator_beside_it,
+    largest_file,
+    many_at_once,
+    stale_socket,
+    file_in_the_place_of_the_socket,
+    two_stations,
+    faults_in_order,
+    long_path,
+    false_clients,
+    half_requests,
+    silent_clients,
+    clients_that_read_nothing,
+    strangers,
+    silent_partner,
+    command_waits_for_a_session,
+    calls,
+    partner_who_does_not_answer,
+    clock,
+    requests,
+    slow_requests,
+    request_that_is_not_read,
+    killed_within_a_command,
+    killed_while_files_are_submitted,
+    stopped_within_a_session,
+    nothing_to_print_to,
+]
+
+
+def tried(case):
+    """Runs a case, and answers why it came out otherwise, or None."""
+    with tempfile.TemporaryDirectory() as room:
+        try:
+            case(Path(room))
+        except (Wrong, OSError, subprocess.SubprocessError) as why:
+            return f"{type(why).__name__}: {why}"
+    return None
+
+
+def main():
+    cases = [case for case in CASES if not sys.argv[1:] or any(word in case.__name__ for word in sys.argv[1:])]
+    with ThreadPoolExecutor(max_workers=len(CASES)) as runners:
+        whys = list(runners.map(tried, cases))
+    for case, why in zip(cases, whys):
+        print(f"{case.__name__.replace('_', ' ')}: {why or 'as it must be'}")
+    failed = sum(why is not None for why in whys)
+    print(f"{len(cases) - failed} passed, {failed} failed")
+    return 1 if failed or not cases else 0
+
+
+if __name__ == "__main__":
+    sys.exit(main())
