@@ -46,7 +46,7 @@ class Check(NamedTuple):
 
 # Those that run beside each other stand in the order in which they begin: the longest first.
 CHECKS = [
-    Check("wrong bodies", "python3 checks/wrong_bodies/wrong_bodies.py --of-the-day", "the wrong bodies of one crate, another each day", is_of_gate=True),
+    Check("wrong bodies", "python3 checks/wrong_bodies/wrong_bodies.py --of-the-day", "wrong bodies of one crate, another each day", is_of_gate=True),
     Check("stops", "python3 checks/faults/stop_at_each_call.py", "a day, stopped at each call on the database, and with allocations refused", wants_cc=True),
     Check("stops of two", "python3 checks/faults/two_stations.py --stops --every 1", "two stations, one stopped at each call on its database", wants_cc=True),
     Check("listing allocations", "python3 checks/faults/listing_allocations.py", "requests and reports, with allocations refused", wants_cc=True),

@@ -4,12 +4,15 @@
     checks/scenarios/documents.py
 
 Each command of docs/COMMANDS.md is one that the program has, and the other way round; its line there names the options that its `--help`
-names. The blocks below README's heading "A day .." are typed as they stand there, in a folder of their own: what stands behind a `$` prints
-the lines below it. Where `rt` is there, the documents name its logic. The last line is `N passed, M failed`.
+names. Its reasons are those that the page for people knows. The blocks below README's heading "A day .." and below "The first day" of docs/OPERATING.md are typed as they stand there, each in a folder
+of its own, with ports that are free: what stands behind a `$` prints the lines below it. Where stunnel isn't there, the first day ends before
+it. Where `rt` is there, the documents name its logic. The last line is `N passed, M failed`.
 """
 
+import os
 import re
 import shutil
+import signal
 import subprocess
 import sys
 import tempfile
@@ -23,11 +26,18 @@ from services import LONG, Wrong, expect, free_port
 
 README = ROOT / "README.md"
 COMMANDS = ROOT / "docs/COMMANDS.md"
+OPERATING = ROOT / "docs/OPERATING.md"
 # A command's line of the table: its name, and what stands behind it.
 LINE = re.compile(r"^\| `\./oftp_station ([a-z]+)((?:[^`|]|\\\|)*)` \|", re.M)
 OPTION = re.compile(r"--[a-z][a-z-]*")
-# The port of the books of examples/.
-PORT = "3305"
+PAGE = ROOT / "crates/oftp_station/src/page.html"
+# A reason with its words, in a document and in the page.
+REASON = re.compile(r"(?:\| |, )(\d\d) ([a-z][a-z' ]*[a-z])")
+REASON_OF_PAGE = re.compile(r'"(\d\d)": "([^"]+)"')
+# The ports that the documents name.
+PORT = re.compile(r"\b(?:3305|3306|8080|6619|13305)\b")
+# The end of a text that a command is given in the lines below it.
+HERE = re.compile(r"<<'?(\w+)'?$")
 
 
 def said(*words):
@@ -50,9 +60,19 @@ def options_are_told():
         expect(set(OPTION.findall(words)), options, f"the options of {name} in docs/COMMANDS.md")
 
 
-def blocks_below(heading):
-    """The indented blocks of README below a heading, each as its lines."""
-    text = README.read_text(encoding="utf-8").partition(f"\n## {heading}")[2].partition("\n## ")[0]
+def reasons_are_told():
+    """The reasons of SFNA and NERP in the documents are those of the page."""
+    page = PAGE.read_text(encoding="utf-8")
+    commands = COMMANDS.read_text(encoding="utf-8")
+    for kind, name in (("SFNA", "START_REASONS"), ("NERP", "NEGATIVE_REASONS")):
+        table = commands.partition(f"\n| {kind} |")[2].partition("\n\n")[0]
+        shown = page.partition(f"const {name} = {{")[2].partition("};")[0]
+        expect(dict(REASON.findall(table)), dict(REASON_OF_PAGE.findall(shown)), f"the reasons of {kind} in docs/COMMANDS.md")
+
+
+def blocks_below(path, heading):
+    """The indented blocks of a document below a heading, each as its lines."""
+    text = path.read_text(encoding="utf-8").partition(f"\n## {heading}")[2].partition("\n## ")[0]
     lines = [line[4:] if line.startswith("    ") else None for line in text.splitlines()]
     block = []
     for line in [*lines, None]:
@@ -65,8 +85,12 @@ def blocks_below(heading):
 
 def typed(block):
     """What is typed in a block, each with what it prints, or None where that isn't said."""
-    found, is_continued = [], False
+    found, end, is_continued = [], None, False
     for line in block:
+        if end is not None:
+            found[-1][0] += f"\n{line}"
+            end = None if line == end else end
+            continue
         if is_continued:
             found[-1][0] += line.strip().rstrip("\\")
         elif line.startswith("$ "):
@@ -77,44 +101,75 @@ def typed(block):
         else:
             found.append([line.rstrip("\\"), None])
         is_continued = line.endswith("\\")
+        here = HERE.search(line)
+        end = here[1] if here else None
     return found
 
 
-def in_room(command, room, port):
-    """A command as it is typed in a folder of its own, with a port of its own."""
-    command = command.replace("./oftp_station", str(PROGRAM)).replace("/tmp/", f"{room}/")
-    return command.replace(" listen ", f" listen --port {port} ")
+class Typist:
+    """Types commands in a folder of its own, where examples/ is too, and where the program is on the path. The ports that the documents
+    name are free ones there, and /tmp is the folder itself."""
+
+    def __enter__(self):
+        self.path = Path(tempfile.mkdtemp())
+        self.ports, self.services = {}, []
+        shutil.copytree(ROOT / "examples", self.path / "examples")
+        for book in (self.path / "examples").glob("*/book.toml"):
+            book.write_text(self.as_here(book.read_text(encoding="utf-8")), encoding="utf-8")
+        (self.path / "bin").mkdir()
+        for link in ("bin/oftp_station", "oftp_station"):
+            (self.path / link).symlink_to(PROGRAM)
+        self.environment = {**os.environ, "PATH": f"{self.path}/bin:{os.environ['PATH']}"}
+        return self
+
+    def __exit__(self, *_):
+        for service in self.services:
+            service.kill()
+            service.wait()
+        for told in self.path.glob("*/*pid"):
+            try:
+                os.kill(int(told.read_text()), signal.SIGKILL)
+            except (OSError, ValueError):
+                pass
+        shutil.rmtree(self.path)
+
+    def as_here(self, text):
+        """A text of the documents with the ports and the folder of this typist."""
+        return PORT.sub(lambda it: str(self.ports.setdefault(it[0], free_port())), text).replace("/tmp/", f"{self.path}/")
+
+    def type(self, command, wanted):
+        """Types a command. What ends in `&` goes on beside the others, and `listen` has the port that it takes of itself."""
+        words = ["bash", "-c", self.as_here(command.replace(" listen --db", " listen --port 3305 --db"))]
+        if command.endswith("&"):
+            words[2] = f"exec {words[2][:-1]}"
+            self.services.append(subprocess.Popen(words, cwd=self.path, env=self.environment, stderr=subprocess.DEVNULL))
+            time.sleep(1)
+            return
+        done = subprocess.run(words, cwd=self.path, env=self.environment, capture_output=True, text=True, timeout=LONG, check=False)
+        if wanted is None:
+            expect(done.returncode, 0, f"{command}, which said {done.stdout}{done.stderr}")
+        else:
+            expect(done.stdout + done.stderr, self.as_here(wanted), command)
 
 
 def day_goes_as_shown():
     """README's day, typed as it stands there."""
-    with tempfile.TemporaryDirectory() as path:
-        room, port = Path(path), free_port()
-        shutil.copytree(ROOT / "examples", room / "examples")
-        for book in (room / "examples").glob("*/book.toml"):
-            book.write_text(book.read_text(encoding="utf-8").replace(PORT, str(port)), encoding="utf-8")
-        services = []
-        try:
-            for block in blocks_below("A day"):
-                for command, wanted in typed(block):
-                    type_in(room, in_room(command, room, port), wanted, services)
-        finally:
-            for service in services:
-                service.kill()
-                service.wait()
+    with Typist() as typist:
+        for block in blocks_below(README, "A day"):
+            for command, wanted in typed(block):
+                typist.type(command, wanted)
 
 
-def type_in(room, command, wanted, services):
-    """Types a command. What ends in `&` goes on beside the others."""
-    if command.endswith("&"):
-        services.append(subprocess.Popen(["bash", "-c", f"exec {command[:-1]}"], cwd=room, stderr=subprocess.DEVNULL))
-        time.sleep(1)
-        return
-    done = subprocess.run(["bash", "-c", command], cwd=room, capture_output=True, text=True, timeout=LONG, check=False)
-    if wanted is None:
-        expect(done.returncode, 0, command)
-    else:
-        expect(done.stdout + done.stderr, wanted, command)
+def first_day_goes_as_shown():
+    """The first day of docs/OPERATING.md, typed as it stands there."""
+    has_tunnel = shutil.which("stunnel") and shutil.which("openssl")
+    with Typist() as typist:
+        for block in blocks_below(OPERATING, "The first day"):
+            if block[0].startswith("openssl ") and not has_tunnel:
+                print("NOT TRIED for want of stunnel: the first day through TLS")
+                return
+            for command, wanted in typed(block):
+                typist.type(command, wanted)
 
 
 def kit_is_told():
@@ -129,7 +184,7 @@ def kit_is_told():
         expect(named, {logic}, f"the toolchain of {name}")
 
 
-CASES = [commands_are_told, options_are_told, day_goes_as_shown, kit_is_told]
+CASES = [commands_are_told, options_are_told, reasons_are_told, day_goes_as_shown, first_day_goes_as_shown, kit_is_told]
 
 
 def main():

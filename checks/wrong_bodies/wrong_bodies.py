@@ -6,7 +6,7 @@
     checks/wrong_bodies/wrong_bodies.py --record [CRATE ..]    as the first; an edit that names no refusal gets the line of what refused it, for a person to read over
     checks/wrong_bodies/wrong_bodies.py --fits                 says whether each edit can be applied to the text that it turns
     checks/wrong_bodies/wrong_bodies.py --ledger               says whether each crate with edits is what it was when all of them were refused
-    checks/wrong_bodies/wrong_bodies.py --of-the-day           tries one crate, another each day, whatever the ledger says
+    checks/wrong_bodies/wrong_bodies.py --of-the-day           tries some of one crate, another each day, whatever the ledger says
 
 Many edits are tried in one check, over a copy of the crate and over the proofs that its out/ kept: in a round no two edits turn one function. rattle checks
 a function against the contracts of those that it calls, so it tells a function that fails by itself from one that only calls such a function. An edit
@@ -29,7 +29,8 @@ can't be applied or doesn't compile; where nothing refuses it but that a proof n
 
 The ledger, checks/wrong_bodies/ledger.txt, has a line for each crate with edits: the sum of its src/, specs/, proofs/ and edits when all were
 refused, how many, and the day. A crate that changed since is to be tried again. The sum says nothing of the crates below: a contract there can turn
-what refuses an edit, and so can another toolchain. That is what the try of the day is for, by which each crate is tried again within a few weeks.
+what refuses an edit, and so can another toolchain. That is what the try of the day is for, by which each crate is tried again in turn. It takes some
+minutes: a crate whose edits take longer is tried in parts, another each time.
 The last line is `N passed, M failed`.
 """
 
@@ -51,6 +52,8 @@ from program import ROOT
 
 LEDGER = ROOT / "checks" / "wrong_bodies" / "ledger.txt"
 PARTS = ("src", "specs", "proofs")
+# After how many seconds of a processor the try of the day begins no other check.
+DAY = 300
 # What a proof says where an edit took away a name that it cites, and what then rests on that proof.
 TAKEN_AWAY = re.compile(r"has no field|is not in scope|has no `|was not admitted|that depend on `")
 
@@ -285,26 +288,27 @@ def try_alone(edit, room):
     return [], "NOT REFUSED: what it turns is proved with it" if failures.is_proved else f"NOT REFUSED by what it turns: {failures.first()}"
 
 
-def try_all(edits, room):
-    """Tries the edits of a crate: what refuses each, or why it fails, and how many checks that took."""
-    found, left, alone, checks = {}, in_rounds(edits, room), [], 0
-    while left:
+def try_rounds(left, room, most):
+    """Tries the edits of these rounds, and begins no other check after `most` seconds of a processor: what refuses each edit that was tried, or why it
+    fails, and how many checks that took."""
+    found, checks, end = {}, 0, processor() + most
+    while left and processor() < end:
         tried = left.pop(0)
+        checks += 1
         if len(tried) == 1:
-            alone += tried
+            found[tried[0]] = try_alone(tried[0], room)
             continue
         refused, blamed, others, _ = try_round(tried, room)
-        checks += 1
         found.update({it: (words, None) for it, words in refused.items()})
-        alone += blamed
+        alone = [[it] for it in blamed]
         if blamed and others:
             left.append(others)
         elif others and not refused:
             left += [others[: len(others) // 2], others[len(others) // 2 :]]
         else:
-            alone += others
-    found.update({it: try_alone(it, room) for it in alone})
-    return found, checks + len(alone)
+            alone += [[it] for it in others]
+        left += alone
+    return found, checks
 
 
 def compared(edit, words, why):
@@ -326,8 +330,15 @@ def record(edit, words):
         edit.refused_by = clauses
 
 
-def try_crate(crate, jobs, is_recording, named=()):
-    """Tries the edits of a crate, those that are named or all, and returns how many they are and how many fail. What they cost is printed too."""
+def of_the_day(rounds):
+    """The rounds of the crate of the day, each of which is the first in its turn."""
+    at = today().toordinal() // len(crates_with_edits()) % len(rounds)
+    return rounds[at:] + rounds[:at]
+
+
+def try_crate(crate, jobs, is_recording=False, named=(), is_of_the_day=False):
+    """Tries the edits of a crate, those that are named or all or, of the day, as many as it has time for, and returns how many were tried and how many
+    fail. What they cost is printed too."""
     edits, lost = read_all([crate])
     edits = [it for it in edits if not named or it.name in named]
     if not build(crate):
@@ -335,17 +346,19 @@ def try_crate(crate, jobs, is_recording, named=()):
         return len(edits) + lost, len(edits) + lost
     before = processor()
     with tempfile.TemporaryDirectory(prefix="wrong-bodies-") as folder:
-        found, checks = try_all(edits, Room(crate, folder, jobs))
+        room = Room(crate, folder, jobs)
+        rounds = in_rounds(edits, room)
+        found, checks = try_rounds(of_the_day(rounds), room, DAY) if is_of_the_day else try_rounds(rounds, room, float("inf"))
     failed = lost
-    for edit in edits:
+    for edit in sorted(found, key=edits.index):
         words, why = found[edit]
         if is_recording:
             record(edit, words)
         why = compared(edit, words, why)
         print(f"{edit.name}: {why or 'refused by ' + ', '.join(words)}", flush=True)
         failed += bool(why)
-    print(f"{crate}: {len(edits)} edits in {checks} checks, {processor() - before:.0f} s of a processor", flush=True)
-    return len(edits) + lost, failed
+    print(f"{crate}: {len(found)} of {len(edits)} edits in {checks} checks, {processor() - before:.0f} s of a processor", flush=True)
+    return len(found) + lost, failed
 
 
 def read_all(crates):
@@ -438,7 +451,7 @@ def main(words):
     if "--fits" in words or "--ledger" in words:
         tried = [call() for word, call in (("--fits", fit), ("--ledger", held_to_ledger)) if word in words]
     elif "--of-the-day" in words:
-        tried = [try_crate(crate_of_the_day(), jobs, False)]
+        tried = [try_crate(crate_of_the_day(), jobs, is_of_the_day=True)]
     else:
         tried = try_and_write(named, jobs, "--record" in words)
     failed = sum(it for _, it in tried)
