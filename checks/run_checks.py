@@ -68,7 +68,7 @@ CHECKS = [
     Check("sqlite", "python3 checks/scenarios/stock_sqlite.py", "the databases that the program writes and refuses, by stock sqlite3"),
     Check("example of services", "bash examples/two_stations.sh", "two stations as services on this machine, one of them killed"),
     Check("example of a day", "bash examples/a_day.sh | diff examples/a_day.stdout -", "the commands of a day"),
-    Check("documents", "python3 checks/scenarios/documents.py", "what the documents say of the commands, and README's day as it stands there"),
+    Check("documents", "python3 checks/scenarios/documents.py", "what the documents say of the commands, and the days that they show"),
     Check("octets", "python3 checks/scenarios/spell_examples.py", "the octets of examples/, against the rows that spell them"),
     Check("books", "python3 checks/scenarios/book_faults.py", "the faults of partner books"),
     Check("units", "bash checks/scenarios/service_files.sh", "the units of examples/service"),

@@ -138,8 +138,10 @@ class Typist:
         return PORT.sub(lambda it: str(self.ports.setdefault(it[0], free_port())), text).replace("/tmp/", f"{self.path}/")
 
     def type(self, command, wanted):
-        """Types a command. What ends in `&` goes on beside the others, and `listen` has the port that it takes of itself."""
-        words = ["bash", "-c", self.as_here(command.replace(" listen --db", " listen --port 3305 --db"))]
+        """Types a command. What ends in `&` goes on beside the others. A station where no port is named has the one that it takes of itself."""
+        if " run --db" in command and " --port " not in command:
+            command = command.replace(" run --db", " run --port 3305 --db")
+        words = ["bash", "-c", self.as_here(command)]
         if command.endswith("&"):
             words[2] = f"exec {words[2][:-1]}"
             self.services.append(subprocess.Popen(words, cwd=self.path, env=self.environment, stderr=subprocess.DEVNULL))
