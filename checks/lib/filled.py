@@ -50,6 +50,10 @@ def fill_out(empty, full, size):
     settle(full)
 
 
+# The numbers from one to another, of which a statement makes as many rows.
+NUMBERS = "WITH RECURSIVE n(i) AS (SELECT :from UNION ALL SELECT i + 1 FROM n WHERE i < :to)"
+
+
 def fill_large(empty, large, mebis):
     """A database with so many MiB in two files that came."""
     shutil.copyfile(empty, large)
@@ -58,8 +62,8 @@ def fill_large(empty, large, mebis):
         for number in (1, 2):
             values = (number, f"LARGE.{number}", "20240131", "1015300001", THEIRS, OURS)
             connection.execute("INSERT INTO in_file VALUES (?, ?, ?, ?, ?, ?, 'U', 0, '', 'whole')", values)
-            rows = ((number, at, os.urandom(BLOCK)) for at in range(mebis * MEBI // 2 // BLOCK))
-            connection.executemany("INSERT INTO in_row VALUES (?, ?, ?)", rows)
+            given = {"from": 0, "to": mebis * MEBI // 2 // BLOCK - 1, "no": number, "size": BLOCK}
+            connection.execute(f"{NUMBERS} INSERT INTO in_row SELECT :no, i, randomblob(:size) FROM n", given)
     connection.close()
     settle(large)
     return large
@@ -69,17 +73,21 @@ def fill_many(empty, many, files):
     """A database with so many files that came, each answered, and as many that went out, each delivered."""
     shutil.copyfile(empty, many)
     connection = sqlite3.connect(many)
+    came = "i, printf('N.%06d', i), '20240131', '1015300001', :theirs, :ours"
+    went = "i, printf('N.%06d', i), '20240201', '0800000001', :ours, :theirs"
+    of_went = "printf('N.%06d', i), '20240201', '0800000001', :ours, :theirs"
+    tables = {
+        "in_file": f"{came}, 'U', 0, '', 'whole'",
+        "in_row": "i, 0, :body",
+        "issued": "i, 'EERP', '', '', 1",
+        "out_file": f"{went}, 'U', 0, '', 0, 'delivered', ''",
+        "out_row": "i, 0, :body",
+        "received": f"i, 'EERP', {of_went}, ''",
+    }
+    given = {"from": 1, "to": files, "ours": OURS, "theirs": THEIRS, "body": b"A" * 100}
     with connection:
-        for no in range(1, files + 1):
-            name = f"N.{no:06}"
-            values = (no, name, "20240131", "1015300001", THEIRS, OURS)
-            connection.execute("INSERT INTO in_file VALUES (?, ?, ?, ?, ?, ?, 'U', 0, '', 'whole')", values)
-            connection.execute("INSERT INTO in_row VALUES (?, 0, ?)", (no, b"A" * 100))
-            connection.execute("INSERT INTO issued VALUES (?, 'EERP', '', '', 1)", (no,))
-            values = (no, name, OURS, THEIRS)
-            connection.execute("INSERT INTO out_file VALUES (?, ?, '20240201', '0800000001', ?, ?, 'U', 0, '', 0, 'delivered', '')", values)
-            connection.execute("INSERT INTO out_row VALUES (?, 0, ?)", (no, b"A" * 100))
-            connection.execute("INSERT INTO received VALUES (?, 'EERP', ?, '20240201', '0800000001', ?, ?, '')", values)
+        for table, values in tables.items():
+            connection.execute(f"{NUMBERS} INSERT INTO {table} SELECT {values} FROM n", given)
     connection.close()
     settle(many)
     return many

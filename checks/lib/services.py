@@ -44,6 +44,9 @@ def free_port(host="127.0.0.1"):
 class Service:
     """A service of the program in a room of its own, with its database and port."""
 
+    # How many seconds it may take for anything.
+    patience = LONG
+
     def __init__(self, room, command, *words, book=BOOK, port=None, output=subprocess.PIPE, faults=subprocess.PIPE, environment=None):
         self.port = port or free_port()
         self.database = room / "database"
@@ -66,7 +69,7 @@ class Service:
         begin = time.monotonic()
         while True:
             caller = socket.socket(socket.AF_INET6 if ":" in host else socket.AF_INET)
-            caller.settimeout(LONG)
+            caller.settimeout(self.patience)
             if is_narrow:
                 caller.setsockopt(socket.IPPROTO_TCP, socket.TCP_MAXSEG, 536)
                 caller.setsockopt(socket.SOL_SOCKET, socket.SO_RCVBUF, 4096)
@@ -75,7 +78,7 @@ class Service:
                 return caller
             except ConnectionRefusedError:
                 caller.close()
-                if self.program.poll() is not None or time.monotonic() - begin > LONG:
+                if self.program.poll() is not None or time.monotonic() - begin > self.patience:
                     raise
                 time.sleep(0.02)
 
@@ -93,7 +96,7 @@ class Service:
 
     def next_of(self, streams):
         """The next line of one of these outputs."""
-        until = time.monotonic() + LONG
+        until = time.monotonic() + self.patience
         while not any(b"\n" in self.texts[stream] for stream in streams):
             ready, _, _ = select.select(streams, [], [], max(until - time.monotonic(), 0))
             piece = os.read(ready[0].fileno(), 4096) if ready else b""
@@ -108,7 +111,7 @@ class Service:
     def rest(self):
         """What it told beside the lines that were asked for, up to its end: of standard output, and of standard error."""
         streams = (self.program.stdout, self.program.stderr)
-        return [self.texts.get(stream, b"") + (more or b"") for stream, more in zip(streams, self.program.communicate(timeout=LONG))]
+        return [self.texts.get(stream, b"") + (more or b"") for stream, more in zip(streams, self.program.communicate(timeout=self.patience))]
 
     def ends(self, status=0, err=b""):
         """It ends by itself, and has told nothing else but this on standard error."""

@@ -1,17 +1,20 @@
 #!/usr/bin/env python3
 """What a station that holds its database takes for each command, request and session, as its register grows.
 
-    checks/speed/growth.py [--assert] [--whole]
+    checks/speed/growth.py [--assert] [--whole] [--only size|count]
 
 Registers of 10 and 100 MiB in two files, and of 1,000 and 10,000 files that came and went, are filled by stock sqlite3; `--whole` adds
 one of 1 GiB and one of 100,000 files. Over each, `run` does what operators and partners have it do, each act several times over, and a line
 says what one takes on average: the seconds of the processor that the station took, and those of the command that asked it. What answers
 the same, however large the register, may take at most MOST times what it takes over the least one; a list may take MOST times as long as its
-entries are more. With `--assert` it fails where one takes longer. The last line is `N passed, M failed`.
+entries are more. With `--whole` a line also says what the same act takes as a program of its own, with its opening, how much memory it has
+then, and what plain C over libsqlite3 (`plain_store.c`, `plain_register.c`) takes for it over the same database without opening it. With
+`--assert` it fails where one takes longer. The last line is `N passed, M failed`.
 """
 
 import argparse
 import sqlite3
+import subprocess
 import sys
 import tempfile
 from pathlib import Path
@@ -19,12 +22,13 @@ from typing import Callable, NamedTuple
 
 sys.path.insert(0, str(Path(__file__).resolve().parents[1] / "lib"))
 
+import services
 from filled import BLOCK, MEBI, OURS, THEIRS, copied, fill_large, fill_many, settle
+from holding import Holding, spoken, taken_answers
 from listing_files import ask
 from measured import run, run_quietly
 from one_file import BOOK, FILE, data_frames, frame_of
-from program import PROGRAM
-from services import Resident, expect, free_port, rest_of
+from program import PROGRAM, ROOT
 
 # How many times as much something may take than over the least register (2 is wanted), and the seconds that may be chance.
 MOST = 3
@@ -32,32 +36,41 @@ NOISE = 0.002
 SMALL = 10 * 1024
 # How often each small act is done.
 OFTEN = 20
+# How many rows plain C reads at a time, as the station does.
+STEP = 64
 
 
 class Register(NamedTuple):
-    """A database: its name, its file, how many files came before those that are added for the acts, and how many times the least it is."""
+    """A database: its name, its file, how many files came and went before those that are added for the acts, and how many times the least it
+    is."""
 
     name: str
     database: Path
-    entries: int
+    came: int
+    went: int
     times: int
 
 
 class Act(NamedTuple):
-    """Something that is done: its name, what does it, given the station and how often it was done before, how often it is done, and whether
-    it answers with all entries. It answers the seconds of the processor that the command took."""
+    """Something that is done: its name, what does it, how often it is done, whether it answers with all entries, and of how many parts one time is.
+
+    `do` is given a station and how often it was done before: a `Held` one, which answers the seconds of the processor that the command
+    took, or an `Alone` one, which answers what a program of its own took. `plain` says the words for plain C."""
 
     name: str
     do: Callable
+    plain: Callable
     often: int = OFTEN
     is_list: bool = False
+    parts: int = 1
 
 
 class Room:
-    """A folder with what the runs take: a book, content, and the registers."""
+    """A folder with what the runs take: a book, content, programs and the registers."""
 
-    def __init__(self, path):
+    def __init__(self, path, is_whole):
         self.path = path
+        self.is_whole = is_whole
         self.empty = path / "empty"
         run_quietly([PROGRAM, "init", "--db", self.empty])
         settle(self.empty)
@@ -65,68 +78,104 @@ class Room:
         self.book.write_text(BOOK.format(buffer=16384, credit=99))
         self.content = path / "content"
         self.content.write_bytes(b"A" * SMALL)
+        if is_whole:
+            for name in ("plain_store", "plain_register"):
+                run_quietly(["cc", "-O2", "-o", path / name, ROOT / f"checks/speed/{name}.c", "-lsqlite3"])
 
-    def by_size(self, is_whole):
-        for mebis in (10, 100, 1024) if is_whole else (10, 100):
-            database = fill_large(self.empty, self.path / f"size_{mebis}", mebis)
-            yield with_small(Register(f"{mebis:,} MiB", database, 2, 1))
+    def by_size(self):
+        for mebis in (10, 100, 1024) if self.is_whole else (10, 100):
+            database = fill_large(self.empty, self.path / "register", mebis)
+            yield with_small(Register(f"{mebis:,} MiB", database, 2, 0, 1))
 
-    def by_count(self, is_whole):
-        for count in (1_000, 10_000, 100_000) if is_whole else (1_000, 10_000):
-            database = fill_many(self.empty, self.path / f"many_{count}", count)
-            yield with_small(Register(f"{count:,} files", database, count, count // 1000))
+    def by_count(self):
+        for count in (1_000, 10_000, 100_000) if self.is_whole else (1_000, 10_000):
+            database = fill_many(self.empty, self.path / "register", count)
+            yield with_small(Register(f"{count:,} files", database, count, count, count // 1000))
 
 
 def with_small(register):
-    """The register with small files that came, are whole and aren't answered."""
+    """The register with small files that came, are whole and aren't answered: those that are released, and those that are refused."""
     connection = sqlite3.connect(register.database)
     with connection:
-        for at in range(1, OFTEN + 1):
-            values = (register.entries + at, f"SMALL.{at}", "20240131", "1015300001", THEIRS, OURS)
+        for at in range(1, 2 * OFTEN + 1):
+            values = (register.came + at, f"SMALL.{at}", "20240131", "1015300001", THEIRS, OURS)
             connection.execute("INSERT INTO in_file VALUES (?, ?, ?, ?, ?, ?, 'U', 0, '', 'whole')", values)
-            rows = [(register.entries + at, pos, b"A" * BLOCK) for pos in range(SMALL // BLOCK)]
+            rows = [(register.came + at, pos, b"A" * BLOCK) for pos in range(SMALL // BLOCK)]
             connection.executemany("INSERT INTO in_row VALUES (?, ?, ?)", rows)
     connection.close()
     settle(register.database)
     return register
 
 
-class Station(Resident):
-    """A station over a copy of a register, with its port for requests."""
+class Held(Holding):
+    """A station that holds a copy of a register. What it does answers what the command beside it took."""
+
+    def __init__(self, room, register):
+        self.room, self.register, self.files = room, register, OFTEN
+        super().__init__(room.path / "station", register.database, room.book)
+
+    def session(self, *frames):
+        super().session(*frames)
+        return 0.0
+
+
+class Alone:
+    """A copy of a register that nobody holds. Each act is a program of its own, which opens it."""
+
+    def __init__(self, room, register):
+        self.room, self.register, self.files = room, register, 1
+        self.database = copied(register.database, room.path / "alone")
+
+    def command(self, name, *words):
+        return run([PROGRAM, name, "--db", self.database, *words])
+
+    def request(self, target):
+        service = Waiting(services.free_port())
+        words = ["http", "--db", self.database, "--port", str(service.port), "--requests", "1"]
+        return run([PROGRAM, *words], lambda: ask(service, [f"GET {target} HTTP/1.1\r\n\r\n".encode()]))
+
+    def session(self, *frames):
+        given, answer = self.room.path / "given", self.room.path / "answer"
+        given.write_bytes(spoken(*frames))
+        return self.command("feed", "--book", self.room.book, given, answer)
+
+
+class Waiting(services.Service):
+    """A service that somebody else starts: callers wait for it."""
+
+    patience = Holding.patience
+
+    def __init__(self, port):
+        self.port = port
+        self.program = self
+
+    def poll(self):
+        return None
+
+
+class Plain:
+    """A copy of a register for plain C."""
 
     def __init__(self, room, register):
         self.room, self.register = room, register
-        self.requests = free_port()
-        folder = room.path / "station"
-        folder.mkdir(exist_ok=True)
-        copied(register.database, folder / "database")
-        super().__init__(folder, "--http-port", str(self.requests), book=room.book)
+        self.database = copied(register.database, room.path / "plain")
 
-    def taken(self):
-        """The seconds of the processor that it has taken."""
-        return int(Path(f"/proc/{self.program.pid}/schedstat").read_text().split()[0]) / 1e9
+    def taken(self, words):
+        """The seconds of the processor that plain C took, without opening the database."""
+        program, act, *rest = words
+        command = [self.room.path / program, act, self.database, *rest]
+        told = subprocess.run([str(word) for word in command], check=True, capture_output=True, text=True).stdout.split()
+        return (int(told[1]) - int(told[0])) / 1e9
 
-    def command(self, name, *words):
-        """What a command beside it takes of the processor."""
-        return run([PROGRAM, name, "--db", self.database, *words]).processor
+    def receive(self, *frames):
+        given, answer = self.room.path / "given", self.room.path / "answer"
+        given.write_bytes(spoken(*frames))
+        return ["plain_store", "receive", given, answer, 99]
 
-    def request(self, target):
-        port, self.port = self.port, self.requests
-        try:
-            reply = ask(self, [f"GET {target} HTTP/1.1\r\n\r\n".encode()])
-        finally:
-            self.port = port
-        expect(reply[:12], b"HTTP/1.1 200", f"the reply for {target}")
-        return 0.0
-
-    def session(self, *frames, credit=b"099", buffer="16384"):
-        """A session of a partner who says these frames between SSID and ESID."""
-        opening = frame_of("SSID", code=THEIRS, password="CARPW", buffer=buffer, credit=credit.decode(), mode="B")
-        with self.caller() as caller:
-            caller.sendall(b"".join([opening, *frames, frame_of("ESID", reason="00")]))
-            rest_of(caller)
-        expect(self.line(), f"session {THEIRS} in: end: partner 00", "the line of the session")
-        return 0.0
+    def send(self):
+        given, answer = self.room.path / "given", self.room.path / "answer"
+        given.write_bytes(b"")
+        return ["plain_store", "send", given, answer, 99, 16384]
 
 
 def file_of(name, size):
@@ -135,21 +184,55 @@ def file_of(name, size):
     return [offer, *data_frames(size, 16384), frame_of("EFID", records="0", units=str(size))]
 
 
-def submit(station, at):
+def submit(it, at):
     identity = ["--dataset", f"NEW.{at}", "--date", "20240201", "--time", "0800000001", "--to", THEIRS, "--format", "U"]
-    return station.command("submit", "--book", station.room.book, *identity, station.room.content)
+    return it.command("submit", "--book", it.room.book, *identity, it.room.content)
+
+
+def released(it, at):
+    """The number of a file that is released, shown and fetched."""
+    return it.register.came + 1 + at
+
+
+def refused(it, at):
+    return it.register.came + OFTEN + 1 + at
+
+
+def listed(kind):
+    return lambda it: ["plain_register", "list", kind]
 
 
 ACTS = [
-    Act("submit of 10 KB", submit),
-    Act("release", lambda it, at: it.command("release", "--book", it.room.book, str(it.register.entries + 1 + at))),
-    Act("fetch of 10 KB", lambda it, at: it.command("fetch", str(it.register.entries + 1 + at), it.room.path / "fetched")),
-    Act("GET /in/NO", lambda it, at: it.request(f"/in/{it.register.entries + 1 + at}")),
-    Act("10 KB come in", lambda it, at: it.session(*file_of(f"CAME.{at}", SMALL))),
-    Act("8 MiB come in", lambda it, at: it.session(*file_of(f"LARGE.{3 + at}", 8 * MEBI)), 2),
-    Act("report in", lambda it, at: it.command("report", "in"), 3, True),
-    Act("GET /in", lambda it, at: it.request("/in"), 3, True),
-    Act("GET /responses", lambda it, at: it.request("/responses"), 3, True),
+    Act("submit of 10 KB", submit, lambda it: ["plain_register", "submit", it.room.content, "NEW"]),
+    # Before responses wait, which would go out first.
+    Act("10 KB go out", lambda it, at: it.session(*taken_answers(it.files, 1)), lambda it: it.send(), 1, parts=OFTEN),
+    Act(
+        "release",
+        lambda it, at: it.command("release", "--book", it.room.book, str(released(it, at))),
+        lambda it: ["plain_register", "release", released(it, 0)],
+    ),
+    Act(
+        "refuse",
+        lambda it, at: it.command("refuse", "--book", it.room.book, str(refused(it, at)), "99", "no"),
+        lambda it: ["plain_register", "release", refused(it, 0)],
+    ),
+    Act(
+        "fetch of 10 KB",
+        lambda it, at: it.command("fetch", str(released(it, at)), it.room.path / "fetched"),
+        lambda it: ["plain_register", "fetch", released(it, 0), STEP, it.room.path / "fetched"],
+    ),
+    Act("GET /in/NO", lambda it, at: it.request(f"/in/{released(it, at)}"), lambda it: ["plain_register", "show", "in", released(it, 0)]),
+    Act("GET /out/NO", lambda it, at: it.request(f"/out/{it.register.went + 1}"), lambda it: ["plain_register", "show", "out", it.register.went + 1]),
+    Act("10 KB come in", lambda it, at: it.session(*file_of(f"CAME.{at}", SMALL)), lambda it: it.receive(*file_of("CAME", SMALL))),
+    Act("report in", lambda it, at: it.command("report", "in"), listed("in"), 3, True),
+    Act("report out", lambda it, at: it.command("report", "out"), listed("out"), 3, True),
+    Act("report issued", lambda it, at: it.command("report", "issued"), listed("issued"), 3, True),
+    Act("report received", lambda it, at: it.command("report", "received"), listed("received"), 3, True),
+    Act("GET /in", lambda it, at: it.request("/in"), listed("in"), 3, True),
+    Act("GET /out", lambda it, at: it.request("/out"), listed("out"), 3, True),
+    Act("GET /responses", lambda it, at: it.request("/responses"), listed("received"), 3, True),
+    # Behind the others, since an opening takes longer then.
+    Act("8 MiB come in", lambda it, at: it.session(*file_of(f"LARGE.{3 + at}", 8 * MEBI)), lambda it: it.receive(*file_of("LARGE.3", 8 * MEBI)), 2),
 ]
 
 
@@ -163,7 +246,8 @@ class Cost(NamedTuple):
 def cost_of(station, act):
     before = station.taken()
     commands = [act.do(station, at) for at in range(act.often)]
-    return Cost((station.taken() - before) / act.often, sum(commands) / act.often)
+    times = act.often * act.parts
+    return Cost((station.taken() - before) / times, sum(commands) / times)
 
 
 def may_take(act, least, register):
@@ -172,12 +256,20 @@ def may_take(act, least, register):
     return MOST * times * least + NOISE
 
 
+def told_beside(act, cost, alone, plain):
+    """What a line says of the act as a program of its own, and of plain C."""
+    taken, of_plain = act.do(alone, 0), plain.taken(act.plain(plain))
+    opened = f"with its opening {taken.processor * 1000:10.1f} ms, {taken.memory / 1024:6.0f} MiB"
+    return f"; {opened}; plain C {of_plain * 1000:9.2f} ms, {sum(cost) / of_plain:6.1f} times"
+
+
 def measure(room, registers):
     """Measures registers of one kind, the least first. It answers how many of the comparisons passed and failed."""
     passed, failed, least = 0, 0, {}
     for register in registers:
-        with Station(room, register) as station:
-            print(f"{register.name}: the opening took {station.taken():.3f} s of the processor", flush=True)
+        beside = (Alone(room, register), Plain(room, register)) if room.is_whole else ()
+        with Held(room, register) as station:
+            print(f"{register.name}: the opening took {station.taken():.3f} s of the processor, {station.memory() / 1024:.0f} MiB", flush=True)
             for act in ACTS:
                 cost = cost_of(station, act)
                 first = least.setdefault(act.name, cost)
@@ -185,7 +277,9 @@ def measure(room, registers):
                 passed += is_well
                 failed += not is_well
                 line = f"  {act.name:<16} station {cost.station * 1000:9.2f} ms, command {cost.command * 1000:7.2f} ms"
+                line += told_beside(act, cost, *beside) if beside else ""
                 print(line if is_well else f"{line}: TOO MUCH", flush=True)
+            print(f"  the station had {station.memory() / 1024:.0f} MiB at most", flush=True)
     return passed, failed
 
 
@@ -193,10 +287,12 @@ def main():
     parser = argparse.ArgumentParser(description=__doc__.splitlines()[0])
     parser.add_argument("--assert", action="store_true", dest="is_asserted")
     parser.add_argument("--whole", action="store_true")
+    parser.add_argument("--only", choices=["size", "count"])
     taken = parser.parse_args()
     with tempfile.TemporaryDirectory() as path:
-        room = Room(Path(path))
-        counts = [measure(room, room.by_size(taken.whole)), measure(room, room.by_count(taken.whole))]
+        room = Room(Path(path), taken.whole)
+        kinds = {"size": room.by_size, "count": room.by_count}
+        counts = [measure(room, registers()) for kind, registers in kinds.items() if taken.only in (None, kind)]
     passed, failed = (sum(column) for column in zip(*counts))
     print(f"{passed} passed, {failed} failed")
     return 1 if taken.is_asserted and failed else 0

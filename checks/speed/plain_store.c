@@ -2,17 +2,20 @@
    each change, one transaction for each window. It takes the octets of the partner's side as they are, and judges nothing.
 
        plain_store receive DATABASE IN OUT CREDIT      the file in the session of IN comes in
-       plain_store send DATABASE IN OUT CREDIT BUFFER  the first outgoing file goes out; of IN the frames are counted alone
+       plain_store send DATABASE IN OUT CREDIT BUFFER  the first outgoing file that waits goes out; of IN the frames are counted alone
 
+   It prints two numbers: the nanoseconds of the processor up to the end of the opening, which reads the schema, and up to the end of all.
    The journal mode is that of the database, a write-ahead log, with synchronous=FULL, and the log is left as it is. */
 #include <sqlite3.h>
 #include <stdio.h>
 #include <stdlib.h>
 #include <string.h>
+#include <time.h>
 
 enum { BLOCK = 1024, ROOM = 1 << 17, LENT = 64 };
 
 static sqlite3 *db;
+static sqlite3_int64 number;
 static FILE *in, *out;
 static unsigned char frame[ROOM];
 
@@ -34,6 +37,27 @@ static sqlite3_stmt *prepared(const char *text) {
 static void step(sqlite3_stmt *statement) {
     if (sqlite3_step(statement) != SQLITE_DONE) fail("step");
     sqlite3_reset(statement);
+}
+
+/* Finds the number of the file. */
+static void find_number(const char *text) {
+    sqlite3_stmt *statement = prepared(text);
+    if (sqlite3_step(statement) != SQLITE_ROW) fail(text);
+    number = sqlite3_column_int64(statement, 0);
+    sqlite3_finalize(statement);
+}
+
+/* A change of the file, in a transaction of its own. */
+static void change(sqlite3_stmt *statement) {
+    run("BEGIN IMMEDIATE");
+    step(statement);
+    run("COMMIT");
+}
+
+static long long spent(void) {
+    struct timespec time;
+    clock_gettime(CLOCK_PROCESS_CPUTIME_ID, &time);
+    return time.tv_sec * 1000000000LL + time.tv_nsec;
 }
 
 /* The next command of IN; its length, or 0 at the end. */
@@ -94,21 +118,24 @@ static void keep(sqlite3_stmt *insert, int is_end) {
 }
 
 static void receive(int credit) {
+    find_number("SELECT coalesce(max(no), 0) + 1 FROM in_file");
     sqlite3_stmt *start = prepared("INSERT INTO in_file VALUES "
-                                   "(1, ?1, '20240131', '1015300001', 'O0177CARMAKER', 'O0013SUPPLIER', ?2, ?3, '', 'open')");
-    sqlite3_stmt *insert = prepared("INSERT INTO in_row VALUES (1, ?1, ?2)");
+                                   "(?4, trim(?1), '20240131', '1015300001', 'O0177CARMAKER', 'O0013SUPPLIER', ?2, ?3, '', 'open')");
+    sqlite3_stmt *insert = prepared("INSERT INTO in_row VALUES (?3, ?1, ?2)");
+    sqlite3_stmt *end = prepared("UPDATE in_file SET state = 'whole' WHERE no = ?1");
+    sqlite3_bind_int64(start, 4, number);
+    sqlite3_bind_int64(insert, 3, number);
+    sqlite3_bind_int64(end, 1, number);
     int left = credit;
     for (size_t size; (size = next()) > 0;) {
         if (frame[0] == 'H') {
             char format[2] = {frame[106], 0}, longest[6] = {0};
             memcpy(longest, frame + 107, 5);
             is_unstructured = format[0] == 'U';
-            sqlite3_bind_text(start, 1, "ASN.0001", -1, SQLITE_STATIC);
+            sqlite3_bind_text(start, 1, (char *)frame + 1, 26, SQLITE_TRANSIENT);
             sqlite3_bind_text(start, 2, format, -1, SQLITE_TRANSIENT);
             sqlite3_bind_int64(start, 3, atoi(longest));
-            run("BEGIN IMMEDIATE");
-            step(start);
-            run("COMMIT");
+            change(start);
             answer("200000000000000000", 18);
         } else if (frame[0] == 'D') {
             take(frame + 1, size - 1);
@@ -123,7 +150,7 @@ static void receive(int credit) {
         } else if (frame[0] == 'T') {
             run("BEGIN IMMEDIATE");
             keep(insert, 1);
-            run("UPDATE in_file SET state = 'whole' WHERE no = 1");
+            step(end);
             run("COMMIT");
             answer("4N", 2);
         }
@@ -144,8 +171,13 @@ static void lend(sqlite3_stmt *select, sqlite3_int64 from) {
 }
 
 static void send_file(int credit, size_t buffer) {
-    sqlite3_stmt *select = prepared("SELECT body FROM out_row WHERE no = 1 AND pos >= ?1 ORDER BY pos LIMIT ?2");
-    sqlite3_stmt *mark = prepared("UPDATE out_file SET mark = ?1 WHERE no = 1");
+    find_number("SELECT coalesce(min(no), 1) FROM out_file WHERE state = 'waiting'");
+    sqlite3_stmt *select = prepared("SELECT body FROM out_row WHERE no = ?3 AND pos >= ?1 ORDER BY pos LIMIT ?2");
+    sqlite3_stmt *mark = prepared("UPDATE out_file SET mark = ?1 WHERE no = ?2");
+    sqlite3_stmt *set = prepared("UPDATE out_file SET state = ?1 WHERE no = ?2");
+    sqlite3_bind_int64(select, 3, number);
+    sqlite3_bind_int64(mark, 2, number);
+    sqlite3_bind_int64(set, 2, number);
     sqlite3_int64 lent = 0, marked = 0;
     size_t begin = 0, gone = 0;
     int left = credit;
@@ -176,18 +208,19 @@ static void send_file(int credit, size_t buffer) {
         if ((sqlite3_int64)(gone / BLOCK) == marked) continue;
         marked = gone / BLOCK;
         sqlite3_bind_int64(mark, 1, marked);
-        run("BEGIN IMMEDIATE");
-        step(mark);
-        run("COMMIT");
+        change(mark);
     }
-    run("BEGIN IMMEDIATE; UPDATE out_file SET state = 'closing' WHERE no = 1; COMMIT");
-    run("BEGIN IMMEDIATE; UPDATE out_file SET state = 'handed' WHERE no = 1; COMMIT");
+    sqlite3_bind_text(set, 1, "closing", -1, SQLITE_STATIC);
+    change(set);
+    sqlite3_bind_text(set, 1, "handed", -1, SQLITE_STATIC);
+    change(set);
 }
 
 int main(int count, char **words) {
     if (count < 6) fail("words");
     if (sqlite3_open(words[2], &db) != SQLITE_OK) fail(words[2]);
-    run("PRAGMA journal_mode = WAL; PRAGMA synchronous = FULL; PRAGMA foreign_keys = ON");
+    run("PRAGMA journal_mode = WAL; PRAGMA synchronous = FULL; PRAGMA foreign_keys = ON; SELECT count(*) FROM about");
+    long long opened = spent();
     sqlite3_db_config(db, SQLITE_DBCONFIG_NO_CKPT_ON_CLOSE, 1, NULL);
     in = fopen(words[3], "rb");
     out = fopen(words[4], "wb");
@@ -195,6 +228,7 @@ int main(int count, char **words) {
     if (strcmp(words[1], "receive") == 0) receive(atoi(words[5]));
     else send_file(atoi(words[5]), atoi(words[6]));
     fclose(out);
+    printf("%lld %lld\n", opened, spent());
     sqlite3_close_v2(db);
     return 0;
 }
