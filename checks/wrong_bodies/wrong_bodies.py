@@ -2,7 +2,7 @@
 """Tries wrong bodies: edits of crates/CRATE/must-fail/ and of checks/wrong_bodies/CRATE/ alike, of which the prover must refuse each.
 
     checks/wrong_bodies/wrong_bodies.py [--jobs N] [CRATE ..]  tries all of these crates, or of all, and writes down in the ledger each crate whose edits were all refused
-    checks/wrong_bodies/wrong_bodies.py CRATE/NAME ..          tries these alone, and writes nothing down
+    checks/wrong_bodies/wrong_bodies.py CRATE/NAME ..          tries these alone, and writes the crate down where the ledger has it without them
     checks/wrong_bodies/wrong_bodies.py --record [CRATE ..]    as the first; an edit that names no refusal gets the line of what refused it, for a person to read over
     checks/wrong_bodies/wrong_bodies.py --fits                 says whether each edit can be applied to the text that it turns
     checks/wrong_bodies/wrong_bodies.py --ledger               says whether each crate with edits is what it was when all of them were refused
@@ -382,11 +382,11 @@ def fit():
     return len(edits) + lost, lost
 
 
-def sum_of(crate):
-    """The sum of a crate's sources and of its edits, wherever they stand."""
+def sum_of(crate, without=()):
+    """The sum of a crate's sources and of its edits, wherever they stand, without the edits of these names."""
     folder = ROOT / "crates" / crate
     files = {str(it.relative_to(folder)): it for part in PARTS for it in (folder / part).rglob("*") if it.is_file()}
-    files.update({it.name: it for it in edits_of([crate])})
+    files.update({it.name: it for it in edits_of([crate]) if it.stem not in without})
     total = hashlib.sha256()
     for name in sorted(files):
         total.update(f"{name} {hashlib.sha256(files[name].read_bytes()).hexdigest()}\n".encode())
@@ -409,6 +409,12 @@ def write_line(crate):
     lines = lines_of_ledger()
     lines[crate] = [str(len(edits_of([crate]))), today().isoformat(), sum_of(crate)]
     LEDGER.write_text("".join(f"{' '.join([it, *lines[it]])}\n" for it in sorted(lines)), encoding="utf-8")
+
+
+def is_new_alone(crate, names):
+    """Whether the ledger has the crate as it is without the edits of these names, so that no other is left to be tried."""
+    stems = {it.partition("/")[2] for it in names}
+    return lines_of_ledger().get(crate, [])[::2] == [str(len(edits_of([crate])) - len(stems)), sum_of(crate, stems)]
 
 
 def crates_with_edits():
@@ -440,7 +446,7 @@ def try_and_write(named, jobs, is_recording):
     for crate in dict.fromkeys(it.partition("/")[0] for it in named or crates_with_edits()):
         some = [it for it in named if it.startswith(f"{crate}/")]
         tried.append(try_crate(crate, jobs, is_recording, some))
-        if not some and not tried[-1][1]:
+        if not tried[-1][1] and (not some or is_new_alone(crate, some)):
             write_line(crate)
     return tried
 
