@@ -1,7 +1,8 @@
 #!/bin/bash
-# A supplier and a car maker as two stations on this machine, each a service of its own with its own database. A dispatch note goes one
-# way and a schedule the other; within the schedule the supplier's station is killed, and the next call goes on where it stopped; end
-# responses go back both ways, and the register is shown by http. It prints each command and what the program says.
+# A supplier and a car maker as two stations on this machine, each a `run` that holds its own database and is asked by the commands
+# beside it. A dispatch note goes one way and a schedule the other; within the schedule the supplier's station is killed, and the next
+# call goes on where it stopped; end responses go back both ways, and the register is shown over HTTP. It prints each command and what
+# the program says.
 set -euo pipefail
 root=$(cd "$(dirname "$0")/.." && pwd)
 if [ -z "${OFTP_STATION-}" ]; then
@@ -11,28 +12,29 @@ if [ -z "${OFTP_STATION-}" ]; then
 fi
 program=${OFTP_STATION:-$program}
 room=$(mktemp -d)
-services=()
-trap 'kill -9 "${services[@]}" 2> /dev/null || true; rm -rf "$room"' EXIT
+stations=()
+trap 'kill -9 "${stations[@]}" 2> /dev/null || true; rm -rf "$room"' EXIT
 cd "$room"
 
 say() {
     printf '\n# %s\n' "$*"
 }
 
-# Prints a command and runs it. What is refused, or fails in a session, ends the example no more than what is done.
+# Prints a command and runs it. What is refused, or fails in a session, ends the example no more than what is done; what takes longer than
+# two minutes does.
 give() {
     local status=0
     echo "\$ oftp_station $*"
-    "$program" "$@" || status=$?
+    timeout 120 "$program" "$@" || status=$?
     if [ "$status" -gt 1 ]; then exit "$status"; fi
 }
 
 # Fails where a report of a register doesn't have this text.
 has() {
-    "$program" report --db "$1" "$2" | grep -qF -- "$3" || { echo "the report $2 of $1 doesn't say $3"; exit 1; }
+    timeout 120 "$program" report --db "$1" "$2" | grep -qF -- "$3" || { echo "the report $2 of $1 doesn't say $3"; exit 1; }
 }
 
-# So many ports that nothing listens on, below those that the machine gives to whoever connects, so that none is taken before a service
+# So many ports that nothing listens on, below those that the machine gives to whoever connects, so that none is taken before a station
 # listens on it.
 free_ports() {
     python3 -c 'import os, socket, sys
@@ -58,30 +60,39 @@ until_holds() {
     done
 }
 
-# Waits until a port is listened on.
-await() {
-    until_holds grep -q "$(printf ':%04X 00000000:0000 0A' "$1")" /proc/net/tcp
+# How often a station has said that it is ready.
+times_ready() {
+    grep -cx ready "$1.lines" || true
 }
 
-# Starts a station's service, whose lines go to a file, those of faults too.
+# Whether a station has said so more often than this.
+is_ready() {
+    [ "$(times_ready "$1")" -gt "$2" ]
+}
+
+# Starts a station with these options more, whose lines go to a file, those of faults too.
 serve() {
-    echo "\$ oftp_station listen --db $1.db --book $1.toml --port $2 --sessions 1000000 &"
-    "$program" listen --db "$1.db" --book "$1.toml" --port "$2" --sessions 1000000 >> "$1.lines" 2>&1 &
-    service=$!
-    services+=("$service")
+    local name=$1 before
+    shift
+    echo "\$ oftp_station run --db $name.db --book $name.toml $* &"
+    touch "$name.lines"
+    before=$(times_ready "$name")
+    "$program" run --db "$name.db" --book "$name.toml" "$@" >> "$name.lines" 2>&1 &
+    station=$!
+    stations+=("$station")
     disown
-    await "$2"
+    until_holds is_ready "$name" "$before"
 }
 
 # Whether the files of the supplier's database have half a megabyte of the schedule.
 is_within() {
-    [ "$(cat supplier.db* | wc -c)" -gt 700000 ]
+    [ "$(cat supplier.db supplier.db-wal | wc -c)" -gt 700000 ]
 }
 
-# Kills the service within the schedule.
+# Kills the station that was started last within the schedule.
 kill_within() {
     until_holds is_within
-    kill -9 "$service"
+    kill -9 "$station"
 }
 
 read -r supplier_port carmaker_port http_port < <(free_ports 3)
@@ -92,13 +103,13 @@ done
 printf 'DESADV %05d\r\n' {1..400} > dispatch_note
 seq -f 'DELFOR %09.0f' 1 120000 > schedule
 
-say 'Both stations listen. Their operators hand files in meanwhile, a dispatch note and a schedule of 2 MB.'
-serve carmaker "$carmaker_port"
-serve supplier "$supplier_port"
+say 'Both stations run. Their operators hand files in meanwhile, a dispatch note and a schedule of 2 MB.'
+serve carmaker --port "$carmaker_port"
+serve supplier --port "$supplier_port"
 give submit --db supplier.db --book supplier.toml --dataset DISPATCH.1 --date 20240201 --time 0700000001 --to O0177CARMAKER --format U dispatch_note
 give submit --db carmaker.db --book carmaker.toml --dataset SCHEDULE.1 --date 20240201 --time 0600000001 --to O0013SUPPLIER --format U schedule
 
-say "The car maker calls. While the schedule comes, the supplier's station is killed by SIGKILL."
+say "The car maker's station calls. While the schedule comes, the supplier's station is killed by SIGKILL."
 kill_within &
 killer=$!
 give call --db carmaker.db --book carmaker.toml --partner O0013SUPPLIER
@@ -107,8 +118,8 @@ has supplier.db in ',open,'
 give report --db supplier.db in
 give release --db supplier.db --book supplier.toml 1
 
-say 'The service starts again, and the car maker calls again: the schedule goes on behind the rows that were kept, and then the note comes.'
-serve supplier "$supplier_port"
+say 'It starts again, and the car maker calls again: the schedule goes on behind the rows that were kept, and then the note comes.'
+serve supplier --port "$supplier_port" --http-port "$http_port"
 give call --db carmaker.db --book carmaker.toml --partner O0013SUPPLIER
 give report --db supplier.db in
 give fetch --db supplier.db 1 fetched
@@ -127,16 +138,12 @@ give report --db carmaker.db out
 has supplier.db out ',delivered,'
 has carmaker.db out ',delivered,'
 
-say 'What a browser on the local network would show.'
-echo "\$ oftp_station http --db supplier.db --port $http_port &"
-"$program" http --db supplier.db --port "$http_port" &
-services+=("$!")
-await "$http_port"
+say 'What a browser on this machine would show.'
 echo "\$ GET http://127.0.0.1:$http_port/in"
 python3 -c 'import sys, urllib.request
 print(urllib.request.urlopen(sys.argv[1], timeout=60).read().decode())' "http://127.0.0.1:$http_port/in"
 
-say "What the services said: of the supplier's, and of the car maker's."
+say "What the stations said of their sessions: the supplier's, and the car maker's."
 cat supplier.lines
 echo --
 cat carmaker.lines

@@ -22,10 +22,8 @@ happened to the pair is printed too, and what is left is kept. The last line is 
 import argparse
 import contextlib
 import random
-import re
 import select
 import socket
-import struct
 import subprocess
 import sys
 import tempfile
@@ -37,23 +35,20 @@ from pathlib import Path
 sys.path.insert(0, str(Path(__file__).resolve().parents[1] / "lib"))
 
 import killed
-import oftp
 import tables
 from killed import Wrong
-from program import ROOT
+from pairs import STAMP, answered, book_of, local_form, promised, settings_of, taken_back
+from passage import Passage, Trouble, Usual
 from staying import Services, held_port
 
 PAIRS = 4
 ROUNDS_OF_A_LIFE = 24
 FILES = 10
-MOST = 20_000
 LONG = 60
 # What has to come. Where some of it hasn't when the time is up, lives of so many seconds follow, for so many at most.
 SECONDS_MORE = 10
 LONGEST = 300
 WANTED = ["commands killed", "programs killed", "connections broken", "transfers that went on"]
-IDENTITY = ["dataset", "date", "time", "originator", "destination"]
-STAMP = ["--date", "20240201", "--time", "0800000001"]
 # How a session may end: between two stations none breaks the protocol.
 ENDS = ["end: own 00", "end: partner 00", "end: input", "fault: 1 read", "fault: 2 write"]
 # How the call ends whose connection was reset before the program saw that it was made.
@@ -77,233 +72,28 @@ class Station(killed.Station):
     def look(self):
         """What it holds now. Nothing that was answered is taken back, and each file is as it was handed in."""
         before, self.held = self.held, tables.read(self.database)
-        why = tables.unfit(self.held) or self.taken_back(before)
+        why = tables.unfit(self.held) or taken_back(before, self.held)
         if why:
             raise Wrong(f"{self.name}: {why}")
         for file in self.held["out_file"]:
             if tables.bodies(self.held, "out_file", file["no"]) != self.given[file["no"]]:
                 raise Wrong(f"{self.name}: file {file['no']} isn't the one that was handed in")
 
-    def taken_back(self, before):
-        """Why less is held than before, or None."""
-        for table, rank in (("in_file", rank_in), ("out_file", rank_out), ("issued", rank_issued), ("received", rank_in)):
-            now = {entry["no"]: entry for entry in self.held[table]}
-            for entry in before[table]:
-                if entry["no"] not in now or rank(now[entry["no"]]) < rank(entry):
-                    return f"{entry} of {table} is {now.get(entry['no'])}"
-        return None
-
-
-def rank_in(entry):
-    return entry.get("state") == "whole"
-
-
-def rank_out(entry):
-    return {"handed": 1, "delivered": 2, "returned": 2}.get(entry["state"], 0)
-
-
-def rank_issued(entry):
-    return entry["sent"]
-
-
-# ---- what two stations promise
-
-
-def by_identity(held, table):
-    return {tuple(entry[name] for name in IDENTITY): entry for entry in held[table]}
-
-
-def promised(sender, receiver):
-    """Why the promise of two stations doesn't hold in this direction, or None. The first two are what is promised; the third is more."""
-    there = by_identity(receiver, "in_file")
-    for identity, file in by_identity(sender, "out_file").items():
-        came = there.pop(identity, None)
-        why = content(sender, file, receiver, came) or responses(file, receiver, came) or beginning(sender, file, receiver, came)
-        if why:
-            return f"{why}: {file}, and there {came}"
-    for came in there.values():
-        return f"a file came that wasn't sent: {came}"
-    return None
-
-
-def content(sender, file, receiver, came):
-    """A file that is handed over is whole at the receiver, and one that is whole there is the sender's, with equal rows."""
-    is_whole = came is not None and came["state"] == "whole"
-    if file["state"] in ("handed", "delivered", "returned") and not is_whole:
-        return "handed over, and not whole"
-    if not is_whole:
-        return None
-    if (file["format"], file["longest"]) != (came["format"], came["longest"]):
-        return "whole in another format"
-    return None if rows_here(sender, "out_file", file) == rows_here(receiver, "in_file", came) else "whole with other rows"
-
-
-def responses(file, receiver, came):
-    """A delivered file has an end response issued there, and a returned one a negative end response."""
-    kind = {"delivered": "EERP", "returned": "NERP"}.get(file["state"])
-    issued = [] if came is None else [row["kind"] for row in receiver["issued"] if row["no"] == came["no"]]
-    return None if kind is None or kind in issued else f"{file['state']}, and there {issued} is issued"
-
-
-def beginning(sender, file, receiver, came):
-    """What came so far begins the file."""
-    if came is None:
-        return None
-    kept = rows_here(receiver, "in_file", came)
-    return None if rows_here(sender, "out_file", file)[: len(kept)] == kept else "the rows kept don't begin the file"
-
-
-def answered(sender, receiver):
-    """Why a response that came isn't one that was issued, word by word, or None."""
-    files = by_identity(receiver, "in_file")
-    issued = {row["no"]: row for row in receiver["issued"]}
-    notes = {row["no"]: (row["creator"], row["note"]) for row in sender["received_note"]}
-    for row in sender["received"]:
-        came = files.get(tuple(row[name] for name in IDENTITY))
-        there = issued.get(came["no"]) if came else None
-        if there is None or (row["kind"], row["reason"]) != (there["kind"], there["reason"]):
-            return f"{row} came, and {there} is issued"
-        if row["kind"] == "NERP" and notes[row["no"]] != (row["destination"], there["note"]):
-            return f"{notes[row['no']]} came, and {there} is issued"
-    return None
-
-
-def rows_here(held, table, file):
-    return tables.bodies(held, table, file["no"])
-
 
 # ---- a session, and what becomes of it
 
 
-class Side:
-    """What one program says in a session: its octets so far, where its frames begin, and how many octets have passed on."""
-
-    def __init__(self, name, source, sink, said):
-        self.name = name
-        self.source = source
-        self.sink = sink
-        self.said = said
-        self.octets = bytearray()
-        self.begins = [0]
-        self.passed = self.frames = 0
-        self.is_silent = False
-
-    def hear(self):
-        """What it says next, and nothing where it has ended."""
-        try:
-            piece = self.source.recv(8192)
-        except ConnectionError:
-            piece = b""
-        self.octets += piece
-        while len(self.octets) >= self.begins[-1] + 4:
-            begin = self.begins[-1]
-            self.begins.append(begin + int.from_bytes(self.octets[begin + 1 : begin + 4], "big"))
-        return piece
-
-    def place(self, trouble):
-        """How many octets pass before this trouble, and whether that is known yet: where not, up to where they may pass."""
-        if trouble.octets is not None:
-            return trouble.octets, True
-        if len(self.begins) <= trouble.frame + 1:
-            return self.begins[min(trouble.frame, len(self.begins) - 1)], False
-        begin, end = self.begins[trouble.frame : trouble.frame + 2]
-        return begin + int(trouble.share * (end - begin)), True
-
-    def say(self, end):
-        """Passes on all that stands before this place, and tells of each frame that is out."""
-        piece = b"" if self.is_silent else bytes(self.octets[self.passed : end])
-        self.passed += len(piece)
-        try:
-            self.sink.sendall(piece)
-        except ConnectionError:
-            pass  # the program there has ended
-        while len(self.begins) > self.frames + 1 and self.begins[self.frames + 1] <= self.passed:
-            begin, end = self.begins[self.frames : self.frames + 2]
-            self.said.tell(self.name, bytes(self.octets[begin:end]))
-            self.frames += 1
-
-    def fall_silent(self):
-        """It has ended: what it still said passes on, and then the end."""
-        self.say(len(self.octets))
-        try:
-            self.sink.shutdown(socket.SHUT_WR)
-        except OSError:
-            pass  # the program there has ended too
-
-
-class Said:
-    """The frames of a session in the order in which they were out, in words; the DATA of a file and the CDT between them are counted."""
-
-    def __init__(self):
-        self.lines = []
-
-    def tell(self, name, frame):
-        kind = oftp.KIND_OF.get(chr(frame[4]))
-        if kind not in ("DATA", "CDT"):
-            self.lines.append(f"    {name}: {oftp.shown(frame)}")
-            return
-        if not self.lines or not isinstance(self.lines[-1], Counter):
-            self.lines.append(Counter())
-        self.lines[-1][kind] += 1
-
-    def words(self, sides):
-        """All lines, and how much is out of a frame that isn't."""
-        cut = [f"    {side.name}: {side.passed - side.begins[side.frames]} octets of a frame" for side in sides]
-        return [line if isinstance(line, str) else f"    {line['DATA']} DATA, {line['CDT']} CDT" for line in self.lines] + cut
-
-
-class Trouble:
-    """What is done to a session, and when: after so many seconds, or at a place in what one of both says."""
-
-    def __init__(self, chance, usual):
-        self.what = chance.choice(["closes", "resets", "silences", "kills the caller", "kills the listener", "kills both"])
-        self.side = chance.randrange(2)
-        self.seconds = self.octets = None
-        self.frame = chance.choice([chance.randint(0, 6), chance.randint(0, usual.frames)])
-        self.share = chance.choice([0, chance.random()])
-        self.delay = chance.choice([0, chance.uniform(0, 0.02)])
-        when = chance.choice(["seconds", "octets", "frame", "frame"])
-        if when == "octets":
-            self.octets = chance.randint(0, usual.octets)
-        elif when == "seconds":
-            self.seconds, self.delay = chance.uniform(0, 1.05 * usual.seconds), 0
-
-    def __str__(self):
-        side = ["caller", "listener"][self.side]
-        if self.seconds is not None:
-            return f"{self.what} after {self.seconds:.3f} s"
-        place = f"{self.octets} octets" if self.octets is not None else f"{self.share:.2f} of frame {self.frame}"
-        return f"{self.what} {1000 * self.delay:.0f} ms after {place} of the {side}"
-
-
-class Usual:
-    """What a session of this pair usually takes."""
-
-    def __init__(self):
-        self.seconds, self.octets, self.frames = 0.3, 2000, 20
-
-    def learn(self, seconds, sides):
-        self.seconds = (self.seconds + seconds) / 2
-        self.octets = max(200, (self.octets + max(side.passed for side in sides)) // 2)
-        self.frames = max(6, (self.frames + max(len(side.begins) for side in sides)) // 2)
-
-
-class Session:
+class Session(Passage):
     """A session: one station calls and the other listens, each a process, and all that they say passes here. Where the services of the
     second one stay, its process is there before, and is never killed."""
 
     def __init__(self, post, port, caller, listener, troubles):
+        super().__init__(troubles)
         self.post = post
         self.service = listener.services.listen if listener.services else None
         self.port = self.service.port if self.service else port
-        self.begin = time.monotonic()
         self.words = [caller.words("call", "--partner", caller.partner), listener.words("listen", "--port", str(self.port))]
-        self.troubles = list(troubles)
         self.killed = set()
-        self.sides = []
-        self.said = Said()
-        self.is_open = True
-        self.is_broken = False
 
     def play(self):
         """It answers the line that each program told, the caller's first."""
@@ -312,9 +102,7 @@ class Session:
         self.programs = [self.start(1), self.start(0)][::-1]
         try:
             self.connect()
-            while self.sides and self.is_open:
-                self.step()
-            self.hang_up()
+            self.pass_all()
             return [self.ended(place) for place in range(2)]
         finally:
             for program in self.programs[:1] if self.service else self.programs:
@@ -333,10 +121,7 @@ class Session:
             self.kill(0)
             self.kill(1)
             return
-        for end in ends:
-            end.settimeout(LONG)
-        self.sides = [Side("caller", *ends, self.said), Side("listener", *ends[::-1], self.said)]
-        self.open = list(self.sides)
+        self.join(*ends)
 
     def until(self, found):
         """What is found once it is there, or None where a program has ended."""
@@ -357,74 +142,11 @@ class Session:
             time.sleep(0.005)
             return None
 
-    def step(self):
-        """Waits for what one of both says, or for what is due, and passes it on."""
-        self.do_timely()
-        if not self.is_open:
-            return
-        is_silent = any(side.is_silent for side in self.sides)
-        wait = 0.1 if is_silent else self.wait()
-        ready, _, _ = select.select([side.source for side in self.open], [], [], wait)
-        self.is_open = bool(ready) or not is_silent
-        if not ready and wait == LONG:
-            raise Wrong("nothing passes any more")
-        for side in [side for side in self.open if side.source in ready]:
-            self.pass_on(side)
-
-    def wait(self):
-        """How many seconds there are until something is due."""
-        due = [self.begin + trouble.seconds - time.monotonic() for trouble in self.troubles if trouble.seconds is not None]
-        return min([LONG, *(max(0, seconds) for seconds in due)])
-
-    def pass_on(self, side):
-        """Takes what one of both says, and passes on as much as stands before the next trouble."""
-        if not self.is_open:
-            return
-        piece = side.hear()
-        while self.is_open:
-            here = [it for it in self.troubles if it.seconds is None and self.sides[it.side] is side]
-            trouble = min(here, key=lambda it: side.place(it)[0], default=None)
-            place, is_known = side.place(trouble) if trouble else (len(side.octets), False)
-            side.say(place)
-            if not is_known or place > side.passed:
-                break
-            self.do(trouble)
-        if not piece and self.is_open:
-            side.fall_silent()
-            self.open.remove(side)
-            self.is_open = bool(self.open)
-
-    def do_timely(self):
-        for trouble in [it for it in self.troubles if it.seconds is not None and self.begin + it.seconds <= time.monotonic()]:
-            self.do(trouble)
-
-    def do(self, trouble):
-        if trouble.delay:
-            trouble.seconds, trouble.delay = time.monotonic() - self.begin + trouble.delay, 0
-            return
-        self.troubles.remove(trouble)
-        self.is_broken = True
-        if trouble.what in ("closes", "resets"):
-            self.hang_up(is_reset=trouble.what == "resets")
-        elif trouble.what == "silences" and self.sides:
-            self.sides[trouble.side].is_silent = True
-        if trouble.what in ("kills the caller", "kills both"):
-            self.kill(0)
-        if trouble.what in ("kills the listener", "kills both"):
-            self.kill(1)
-
     def kill(self, place):
         """Kills a program. In the place of a service that stays it is the one who calls."""
         place = 0 if self.service else place
         self.programs[place].kill()
         self.killed.add(place)
-
-    def hang_up(self, ends=None, is_reset=False):
-        self.is_open = False
-        for end in [side.source for side in self.sides] if ends is None else ends:
-            if is_reset:
-                end.setsockopt(socket.SOL_SOCKET, socket.SO_LINGER, struct.pack("ii", 1, 0))
-            end.close()
 
     def ended(self, place):
         """The line that a program told, or that it was killed."""
@@ -450,30 +172,6 @@ class Session:
 
 
 # ---- the life of a pair
-
-
-def local_form(chance, form, longest):
-    """A file as an operator hands it in, and its rows."""
-    if form in "UT":
-        octets = chance.randbytes(chance.choice([0, 1, 700, 5000, MOST]))
-        return octets, killed.rows_of(octets)
-    count = chance.choice([0, 1, 12, min(400, MOST // longest)])
-    sizes = [longest if form == "F" else chance.randint(0, longest) for _ in range(count)]
-    rows = [chance.randbytes(size) for size in sizes]
-    return b"".join((f"{len(row):05}".encode() if form == "V" else b"") + row for row in rows), rows
-
-
-def book_of(name, settings, port):
-    """A book of examples/ with these settings, in which the partner is called at this port."""
-    text = (ROOT / "examples" / name / "book.toml").read_text()
-    for key, value in settings.items():
-        text = re.sub(f"^{key} = \\w+", f"{key} = {value}", text, flags=re.MULTILINE)
-    return re.sub(r"127\.0\.0\.1:\d+", f"127.0.0.1:{port}", text)
-
-
-def settings_of(chance):
-    restart = chance.choice(["true", "true", "true", "false"])
-    return {"buffer": chance.choice([128, 1024, 4096]), "credit": chance.choice([1, 2, 9]), "restart": restart}
 
 
 class Staying:

@@ -3,37 +3,44 @@
 
     checks/faults/two_stations.py [--every N]              the connection breaks after each Nth octet in turn, 29 where there is no number
     checks/faults/two_stations.py --stops [--every N]      the supplier is killed at each Nth of its calls on its database instead
+    checks/faults/two_stations.py --residents ..           the same, where both stations hold their databases: `run`, which is asked to call
 
 The car maker has a file of 2,500 octets for the supplier. One round is: a session begun by the car maker; the supplier's operator
 releases the file, if it is there; a session begun by the supplier. In the first round the connection breaks once so many octets have
-passed, in either direction, or one of the supplier's three programs is killed before it writes, syncs or cuts a file of its database;
-the second round is whole. Then the file is delivered at the car maker, whole at the supplier, and there is one response for it at
-either side, whatever broke. `--stops` wants a C compiler. The last line is `N passed, M failed`.
+passed, in either direction, or one of the supplier's three programs is killed before it writes, syncs or cuts a file of its database (of
+one that holds it that is one program, from its opening on); the second round is whole. Then the file is delivered at the car maker, whole at the
+supplier, and there is one response for it at either side, whatever broke. `--stops` wants a C compiler. The last line is `N passed, M failed`.
 """
 
 import argparse
+import contextlib
 import os
 import select
 import shutil
+import socket
 import subprocess
 import sys
 import tempfile
 from concurrent.futures import ThreadPoolExecutor
 from pathlib import Path
+from typing import NamedTuple
 
 sys.path.insert(0, str(Path(__file__).resolve().parents[1] / "lib"))
 
 import tables
+from pairs import book_of
+from passage import Passage
 from program import PROGRAM, ROOT
 from row_files import content
+from services import LONG, Wrong
 from shims import compile_library, stopping
+from staying import held_port
 
 FILE = content(0, 2500)
+# How a call may end, by its status and its line.
+WHOLE = [(0, "end: own 00"), (0, "end: partner 00")]
+BROKEN = [*WHOLE, (0, "end: input"), (1, "fault: 1 read"), (1, "fault: 2 write"), (1, "fault: 8 socket"), (1, "fault: 3 office")]
 IDENTITY = ["--dataset", "ASN.0001", "--date", "20240131", "--time", "1015300001"]
-
-
-class Wrong(Exception):
-    """What is left isn't what it should be."""
 
 
 class Stop:
@@ -47,7 +54,10 @@ class Stop:
 
 
 class Station:
-    """A station: its database, its book, the other one's code, and where it is stopped."""
+    """A station: its database, its book, the other one's code, and where it is stopped. It is a program for each session and each command."""
+
+    # How many of its programs can be stopped.
+    stopped = 3
 
     def __init__(self, room, name, other, stop=None):
         self.database = room / name
@@ -70,11 +80,111 @@ class Station:
         words = [PROGRAM, command, "--db", self.database, "--book", self.book, *rest]
         return subprocess.run(words, capture_output=True, check=False, timeout=60, env=self.environment())
 
+    def begin(self):
+        """It begins to run, where that isn't for one session alone."""
+
+    def end(self):
+        """It ends."""
+
+    def meet(self, called, octets):
+        """A session with the other one, which breaks once so many octets have passed, where there is a number. It answers how many passed."""
+        return join(self, called, octets)
+
     def begin_session(self, is_caller, given, answer):
         role = ["--role", "initiator", "--partner", self.other] if is_caller else []
         words = [PROGRAM, "feed", "--db", self.database, "--book", self.book, *role, f"/dev/fd/{given}", f"/dev/fd/{answer}"]
         pipes = {"stdout": subprocess.PIPE, "stderr": subprocess.PIPE}
         return subprocess.Popen(words, pass_fds=[given, answer], env=self.environment(), **pipes)
+
+
+class Resident(Station):
+    """A station that holds its database: one program, which commands ask. It calls the other one through this script."""
+
+    stopped = 1
+
+    def __init__(self, room, name, other, stop=None):
+        super().__init__(room, name, other, stop)
+        self.post = socket.create_server(("127.0.0.1", 0))
+        self.book = room / f"{name}.toml"
+        self.book.write_text(book_of(name, {}, self.post.getsockname()[1]))
+        self.holder = held_port()
+        self.port = self.holder.getsockname()[1]
+        self.run = None
+
+    def begin(self):
+        if self.run and self.run.poll() is None:
+            return
+        words = [PROGRAM, "run", "--db", self.database, "--book", self.book, "--port", str(self.port)]
+        self.run = subprocess.Popen(words, stdout=subprocess.PIPE, stderr=subprocess.PIPE, env=self.environment())
+        ready, _, _ = select.select([self.run.stdout], [], [], LONG)
+        if (not ready or self.run.stdout.readline() != b"ready\n") and not self.is_stopped():
+            raise Wrong(f"{self.database.name} doesn't start")
+
+    def end(self):
+        if self.run:
+            self.run.kill()
+            self.run.communicate()
+        self.post.close()
+        self.holder.close()
+
+    def meet(self, called, octets):
+        words = [PROGRAM, "call", "--db", self.database, "--book", self.book, "--partner", self.other]
+        passage = Counted(octets)
+        with subprocess.Popen(words, stdout=subprocess.PIPE, stderr=subprocess.PIPE) as command:
+            try:
+                passage.carry(self.awaited(command), called.port)
+                out, err = command.communicate(timeout=LONG)
+            finally:
+                command.kill()
+        is_broken = self.is_stopped() or called.is_stopped() or passage.is_broken
+        ended = (command.returncode, (out + err).decode().strip())
+        if ended not in (BROKEN if is_broken else WHOLE):
+            raise Wrong(f"a call ended by {ended}")
+        return passage.passed
+
+    def awaited(self, command):
+        """The connection of the call that a command asks for, or None where it ends without one."""
+        while command.poll() is None:
+            ready, _, _ = select.select([self.post], [], [], 0.01)
+            if ready:
+                return self.post.accept()[0]
+        return None
+
+
+class Counted(Passage):
+    """A connection that breaks once so many octets have passed, in either direction, where there is a number."""
+
+    def __init__(self, most):
+        super().__init__([])
+        self.most = most
+        self.passed = 0
+
+    def carry(self, end, port):
+        """Joins this connection, if there is one, with one to the station that is called, and passes on what both say."""
+        if end is None:
+            return
+        try:
+            other = socket.create_connection(("127.0.0.1", port))
+        except ConnectionRefusedError:
+            end.close()  # the station was stopped
+            return
+        self.join(end, other)
+        self.pass_all()
+
+    def pass_on(self, side):
+        if not self.is_open:
+            return
+        piece, before = side.hear(), side.passed
+        most = len(side.octets) if self.most is None else before + self.most - self.passed
+        side.say(min(len(side.octets), most))
+        self.passed += side.passed - before
+        if self.passed == self.most:
+            self.is_broken = True
+            self.hang_up()
+        elif not piece:
+            side.fall_silent()
+            self.open.remove(side)
+            self.is_open = bool(self.open)
 
 
 def join(caller, called, octets):
@@ -127,31 +237,43 @@ def pass_on(ends, octets):
 
 def play_round(car_maker, supplier, octets):
     """One round, which breaks once so many octets have passed, where there is a number. It answers how many passed."""
-    passed = join(car_maker, supplier, octets)
+    car_maker.begin()
+    supplier.begin()
+    passed = car_maker.meet(supplier, octets)
     supplier.give("release", "1")
     if octets is None or passed == octets:
-        return passed + join(supplier, car_maker, None)
-    return passed + join(supplier, car_maker, octets - passed)
+        return passed + supplier.meet(car_maker, None)
+    return passed + supplier.meet(car_maker, octets - passed)
 
 
-def play(room, first, octets, stop=None):
-    """Both rounds, over databases of their own, and what is left then. It answers how many octets passed in the first."""
-    with tempfile.TemporaryDirectory(dir=room) as path:
-        folder = Path(path)
-        for end in ("", "-wal"):
-            if Path(f"{first}{end}").exists():
-                shutil.copyfile(f"{first}{end}", folder / f"carmaker{end}")
-        car_maker = Station(folder, "carmaker", "O0013SUPPLIER")
-        if stop is not None:
-            stop.reached = folder / "reached"
-        supplier = Station(folder, "supplier", "O0177CARMAKER", stop)
-        passed = play_round(car_maker, supplier, octets)
-        if stop is not None and not supplier.is_stopped():
-            return None
-        if octets is not None or stop is not None:
-            play_round(car_maker, supplier, None)
-        check(tables.read(car_maker.database), tables.read(supplier.database))
-        return passed
+class Setting(NamedTuple):
+    """What each case begins with: a folder, the car maker's database with its file, and what the stations are."""
+
+    room: Path
+    first: Path
+    kind: type
+
+    def play(self, octets, stop=None):
+        """Both rounds, over databases of their own, and what is left then. It answers how many octets passed in the first."""
+        with tempfile.TemporaryDirectory(dir=self.room) as path, contextlib.ExitStack() as stack:
+            folder = Path(path)
+            for end in ("", "-wal"):
+                if Path(f"{self.first}{end}").exists():
+                    shutil.copyfile(f"{self.first}{end}", folder / f"carmaker{end}")
+            car_maker = self.kind(folder, "carmaker", "O0013SUPPLIER")
+            stack.callback(car_maker.end)
+            if stop is not None:
+                stop.reached = folder / "reached"
+            supplier = self.kind(folder, "supplier", "O0177CARMAKER", stop)
+            stack.callback(supplier.end)
+            passed = play_round(car_maker, supplier, octets)
+            if stop is not None and not supplier.is_stopped():
+                return None
+            supplier.stop = None
+            if octets is not None or stop is not None:
+                play_round(car_maker, supplier, None)
+            check(tables.read(car_maker.database), tables.read(supplier.database))
+            return passed
 
 
 def check(at_car_maker, at_supplier):
@@ -173,38 +295,38 @@ def check(at_car_maker, at_supplier):
         raise Wrong(f"the car maker's responses: {at_car_maker['received']}, {at_car_maker['issued']}")
 
 
-def told(room, first, octets):
+def told(setting, octets):
     """Why a case came out otherwise, or None."""
     try:
-        play(room, first, octets)
-    except (Wrong, tables.Damaged, subprocess.SubprocessError) as why:
+        setting.play(octets)
+    except (Wrong, OSError, tables.Damaged, subprocess.SubprocessError) as why:
         return f"broken after {octets} octets: {why}"
     return None
 
 
-def told_of_stop(room, first, stop):
+def told_of_stop(setting, stop):
     """Whether there is such a call, and why the case came out otherwise, or None."""
     try:
-        return play(room, first, None, stop) is not None, None
-    except (Wrong, tables.Damaged, subprocess.SubprocessError) as why:
+        return setting.play(None, stop) is not None, None
+    except (Wrong, OSError, tables.Damaged, subprocess.SubprocessError) as why:
         return True, f"program {stop.program} of the supplier, killed at call {stop.call}: {why}"
 
 
-def break_each(room, first, whole, every, players):
+def break_each(setting, whole, every, players):
     """Breaks the connection after each of these octets. It answers how many cases there are, and why some came out otherwise."""
     places = range(1, whole, every)
-    return len(places), [why for why in players.map(lambda octets: told(room, first, octets), places) if why]
+    return len(places), [why for why in players.map(lambda octets: told(setting, octets), places) if why]
 
 
-def stop_each(room, first, every, players):
+def stop_each(setting, every, players):
     """Kills each program of the supplier at each of these calls. It answers how many cases there are, and why some came out otherwise."""
-    library = compile_library(room, "stop_calls")
+    library = compile_library(setting.room, "stop_calls")
     cases, faults = 0, []
-    for program in (1, 2, 3):
+    for program in range(1, setting.kind.stopped + 1):
         at, is_there = 1, True
         while is_there:
             calls = range(at, at + 16 * every, every)
-            tried = list(players.map(lambda call: told_of_stop(room, first, Stop(library, program, call)), calls))
+            tried = list(players.map(lambda call: told_of_stop(setting, Stop(library, program, call)), calls))
             reached = [why for was_reached, why in tried if was_reached]
             cases, faults = cases + len(reached), faults + [why for why in reached if why]
             at, is_there = at + 16 * every, len(reached) == len(calls)
@@ -218,6 +340,7 @@ def main():
     parser = argparse.ArgumentParser(description=__doc__.splitlines()[0])
     parser.add_argument("--every", type=int, default=29)
     parser.add_argument("--stops", action="store_true")
+    parser.add_argument("--residents", action="store_true")
     given = parser.parse_args()
     with tempfile.TemporaryDirectory() as path:
         room = Path(path)
@@ -226,13 +349,14 @@ def main():
         done = Station(room, "carmaker", "O0013SUPPLIER").give("submit", *IDENTITY, "--to", "O0013SUPPLIER", "--format", "U", room / "file")
         if done.stdout != b"done: submit 1\n":
             raise SystemExit(f"the file isn't submitted: {done}")
-        whole = play(room, first, None)
+        setting = Setting(room, first, Resident if given.residents else Station)
+        whole = setting.play(None)
         print(f"{whole} octets pass in a round that doesn't break")
         with ThreadPoolExecutor(max_workers=os.cpu_count()) as players:
             if given.stops:
-                cases, faults = stop_each(room, first, given.every, players)
+                cases, faults = stop_each(setting, given.every, players)
             else:
-                cases, faults = break_each(room, first, whole, given.every, players)
+                cases, faults = break_each(setting, whole, given.every, players)
     print("".join(f"{why}\n" for why in faults), end="")
     print(f"{cases + 1 - len(faults)} passed, {len(faults)} failed")
     return 1 if faults else 0

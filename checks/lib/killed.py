@@ -73,6 +73,14 @@ class Station:
 
     def until_killed(self, name, words, **how):
         """Runs a command and kills it after a random time, or lets it end. It answers its standard output, and whether it was killed."""
+        status, out, err = self.end_of(name, words, **how)
+        if status not in (0, -9):
+            raise Wrong(f"{name}: status {status}, {out!r}, {err!r}")
+        self.kills += status == -9
+        return out, status == -9
+
+    def end_of(self, name, words, **how):
+        """Runs a command and kills it after a random time, or lets it end. It answers its status, and both outputs."""
         usual = self.usual_time.setdefault(name, 0.3)
         begin = time.monotonic()
         with subprocess.Popen(words, stdout=subprocess.PIPE, stderr=subprocess.PIPE, **how) as program:
@@ -86,10 +94,7 @@ class Station:
                 time.sleep(self.chance.uniform(0, 0.003))
             program.kill()
             out, err = program.communicate()
-        if program.returncode not in (0, -9):
-            raise Wrong(f"{name}: status {program.returncode}, {out!r}, {err!r}")
-        self.kills += program.returncode == -9
-        return out, program.returncode == -9
+        return program.returncode, out, err
 
     def session(self, name, octets, *role):
         """A session with these octets, in pieces of random sizes, through a pipe or over a socket. It answers the commands that came out,
@@ -172,8 +177,13 @@ def write_pieces(sink, octets, chance):
     os.close(sink)
 
 
+def sockets_of(folder, names):
+    """Those of these names in a folder that are sockets, which can't be copied."""
+    return [name for name in names if (Path(folder) / name).is_socket()]
+
+
 def keep(room):
     """Keeps what is left, for whoever looks into it."""
     kept = tempfile.mkdtemp(prefix="killed_")
-    shutil.copytree(room, kept, dirs_exist_ok=True)
+    shutil.copytree(room, kept, dirs_exist_ok=True, ignore=sockets_of)
     return kept

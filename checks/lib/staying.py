@@ -1,9 +1,10 @@
-"""`listen` and `http` as services that stay for as long as a check runs, those who call them, and what they hold: descriptors and memory.
+"""`run`, `listen` and `http` as services that stay for as long as a check runs, those who call them, and what they hold: descriptors and memory.
 
 Behind each caller a service holds the very descriptors that it held before the first. Its memory goes up and down with the sizes of the
 databases that it opens for its callers, and of what is given back the allocator keeps some, which hides what is lost for a while. So before
 the first caller and behind the last one a service has the same small tasks over a new database, and what it has of memory within them and behind
-them is compared: at the end it is at most so many KiB (`MORE`) above what it was at the beginning.
+them is compared: at the end it is at most so many KiB (`MORE`) above what it was at the beginning. A station that holds its database has no new
+one for that. It keeps pages of the one that it has, so it may have as much more as that has grown by, up to so many KiB (`PAGES`).
 """
 
 import os
@@ -15,13 +16,15 @@ from pathlib import Path
 
 import oftp
 from listing_files import END, ask, body_of, reply_of
-from services import CARMAKER, LONG, Service, Wrong, expect
+from services import CARMAKER, LONG, Resident, Service, Wrong, expect
 
 # A service that stays is given more callers than come.
 CALLERS = "1000000"
 # Code of the program that runs for the first time is read in, and the allocator keeps some of the greatest database that was opened, once
 # and for all: some 2 MiB of one of 8 MB.
 MORE = 4096
+# How much of its database a station that holds it keeps: 2,000 pages.
+PAGES = 8000
 # How many of the same tasks it has at the beginning and at the end. The first half warm it up.
 TASKS = 20
 # How many seconds a service may take to be done with a caller who has its answer.
@@ -90,34 +93,25 @@ def is_heard(port):
 # ---- services
 
 
-class Staying(Service):
-    """A service that stays, with what it holds. Its task is what it does for one who has nothing else to do with it."""
+class Stays:
+    """What a service that stays holds. Its task is what it does for one who has nothing else to do with it."""
 
-    def __init__(self, room, command, task, *words, **how):
-        self.command = command
-        self.task = task
-        self.callers = 0
-        self.holder = held_port()
-        super().__init__(room, command, *words, port=self.holder.getsockname()[1], **how)
-        try:
-            self.wait_until_heard()
-            self.descriptors = descriptors_of(self.program.pid)
-            self.memory = self.measure()
-        except (Wrong, OSError):
-            self.leave()
-            raise
+    # Each has these, beside its `program`, its `database` and its `port`.
+    command = task = descriptors = memory = None
+    callers = 0
 
-    def wait_until_heard(self):
+    def begin(self):
+        """Waits until it is heard, and looks at what it holds before its first caller."""
         until = time.monotonic() + LONG
         while not is_heard(self.port):
             if self.program.poll() is not None or time.monotonic() > until:
                 raise Wrong(f"{self.command} isn't heard")
             time.sleep(0.01)
+        self.descriptors = descriptors_of(self.program.pid)
+        self.memory = self.measure()
 
     def measure(self):
-        """What it has of memory at most within the same tasks over a new database, and behind them."""
-        for end in ("", "-wal"):
-            Path(f"{self.database}{end}").unlink(missing_ok=True)
+        """What it has of memory at most within the same tasks, and behind them."""
         for number in range(TASKS):
             if number == TASKS // 2:
                 forget_peak(self.program.pid)
@@ -138,28 +132,75 @@ class Staying(Service):
                 raise Wrong(f"{self.command} holds {now} behind {self.callers} callers, and held {self.descriptors} before them")
             time.sleep(0.002)
 
-    def settle(self):
-        """Ends it. It answers what it held, in words, and what is wrong: that this is more than at the beginning, or what it told beside the lines
-        that were asked for."""
-        try:
-            memory = self.measure()
-        except (Wrong, OSError) as why:
-            return f"{self.command}: {self.callers} callers", [str(why)]
-        self.program.kill()
-        whys = [f"{self.command} told {told!r}" for told in self.rest() if told]
+    def compared(self, may_grow=0):
+        """What it held, in words, and what is wrong: that this is more than at the beginning, and than what it may have grown by. The next time it
+        is compared with what it has now."""
+        memory = self.measure()
         told = (
             f"{self.command}: {self.callers} callers, {len(self.descriptors)} descriptors before and behind each; KiB of memory "
             f"within and behind the same tasks: {self.memory} before them, {memory} behind"
         )
-        if any(now > before + MORE for before, now in zip(self.memory, memory)):
-            whys.append(f"too much memory: {told}")
-        return told, whys
+        is_much = any(now > before + MORE + may_grow for before, now in zip(self.memory, memory))
+        self.memory = memory
+        return told, [f"too much memory: {told}"] if is_much else []
+
+
+class Staying(Stays, Service):
+    """A service that opens its database anew for each caller, and stays."""
+
+    def __init__(self, room, command, task, *words, **how):
+        self.command = command
+        self.task = task
+        self.holder = held_port()
+        super().__init__(room, command, *words, port=self.holder.getsockname()[1], **how)
+        try:
+            self.begin()
+        except (Wrong, OSError):
+            self.leave()
+            raise
+
+    def measure(self):
+        """What it has of memory over a new database."""
+        for end in ("", "-wal"):
+            Path(f"{self.database}{end}").unlink(missing_ok=True)
+        return super().measure()
+
+    def settle(self):
+        """Ends it. It answers what it held, in words, and what is wrong with that, or with what it told beside the lines that were asked for."""
+        try:
+            told, whys = self.compared()
+        except (Wrong, OSError) as why:
+            return f"{self.command}: {self.callers} callers", [str(why)]
+        self.program.kill()
+        return told, [*(f"{self.command} told {line!r}" for line in self.rest() if line), *whys]
 
     def leave(self):
         """Ends it, whatever it has told."""
         self.program.kill()
         self.program.wait()
         self.holder.close()
+
+
+class StayingStation(Stays, Resident):
+    """A station that holds its database, and stays. Its lines go to a file, which it is given as its output."""
+
+    command = "run"
+
+    def __init__(self, room, task, *words, **how):
+        self.task = task
+        super().__init__(room, *words, **how)
+
+    def begin(self):
+        super().begin()
+        self.size = self.kibi()
+
+    def kibi(self):
+        """How many KiB its database has."""
+        return sum(path.stat().st_size for end in ("", "-wal") if (path := Path(f"{self.database}{end}")).exists()) // 1024
+
+    def compared(self, may_grow=0):
+        before, self.size = self.size, self.kibi()
+        return super().compared(may_grow + min(PAGES, max(0, self.size - before)))
 
 
 class Services:

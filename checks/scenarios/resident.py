@@ -24,7 +24,9 @@ sys.path.insert(0, str(Path(__file__).resolve().parents[1] / "lib"))
 
 import one_file
 import row_files
+import staying
 import tables
+from pairs import book_of
 from program import PROGRAM
 from services import BOOK, CARMAKER, LONG, Resident, Wrong, expect, free_port, rest_of
 
@@ -182,6 +184,47 @@ def long_path(room):
         expect((done.returncode, done.stderr), (0, b""), "a report through a link")
 
 
+def second_station_takes_over(room):
+    """A station that waits for the database of another one has it once that one is killed, with its socket, under another name of the database
+    too."""
+    link = room / "link"
+    with Resident(room) as first:
+        link.symlink_to(first.database)
+        words = [PROGRAM, "run", "--db", link, "--book", BOOK, "--port", str(free_port())]
+        with subprocess.Popen(words, stdout=subprocess.PIPE, stderr=subprocess.PIPE) as second:
+            time.sleep(1)
+            expect(given(first, "report", "in")[0], 0, "a report while another station waits")
+            expect(second.poll(), None, "whether it waits")
+            first.program.kill()
+            try:
+                expect(second.stdout.readline(), b"ready\n", "the first line of the second station")
+                expect(given(first, "init"), (0, b"done: init\n", b""), "init")
+                expect(Path(f"{link}-station").exists(), False, "whether a socket is beside the link")
+            finally:
+                second.kill()
+
+
+def two_at_once(room):
+    """Of stations that begin at once over one database one serves, and the others give up."""
+    stations = [Resident(room) for _ in range(4)]
+    try:
+        until = time.monotonic() + LONG
+        while sum(station.program.poll() is None for station in stations) > 1 and time.monotonic() < until:
+            time.sleep(0.02)
+        serving = [station for station in stations if station.program.poll() is None]
+        expect(len(serving), 1, "how many serve")
+        expect(serving[0].line(), "ready", "the first line")
+        for station in stations:
+            if station not in serving:
+                station.ends(1, b"fault: 6 store 1\n")
+        expect(given(serving[0], "report", "in")[0], 0, "a report")
+        play(serving[0], NOTHING_WAITING)
+    finally:
+        for station in stations:
+            station.program.kill()
+            station.program.wait()
+
+
 def request_of(*words):
     spelled = [struct.pack(">I", len(word)) + word for word in words]
     return struct.pack(">I", len(words)) + b"".join(spelled)
@@ -313,14 +356,116 @@ def command_waits_for_a_session(room):
             expect((told(program)[0], program.returncode), (0, 0), "the report")
 
 
+RIGHT = {
+    "a partner": b"".join(octets for side, octets in ONE_OCTET.steps if side == "in"),
+    "a command": request_of(b"", b"", b"report", b"--db=d", b"in"),
+    "a request": b"GET /in HTTP/1.1\r\n\r\n",
+}
+
+
+def callers_of(service, port):
+    """How each of the three sockets is connected to, by who should call there."""
+    request = lambda: socket.create_connection(("127.0.0.1", port), timeout=LONG)
+    return {"a partner": service.caller, "a command": service.client, "a request": request}
+
+
+def everybody_is_served(service, port):
+    """A session, a command and a request go at once."""
+    begin = time.monotonic()
+    play(service, NOTHING_WAITING)
+    expect(given(service, "report", "in")[0], 0, "a report")
+    expect(get(port, "/in")[0], 200, "a list")
+    within(begin, 0, "a session, a report and a list")
+
+
+def say_and_leave(connect, octets, is_reset):
+    """One who says this, and then nothing more, or resets the connection."""
+    with connect() as caller, contextlib.suppress(ConnectionError):
+        if is_reset:
+            caller.setsockopt(socket.SOL_SOCKET, socket.SO_LINGER, struct.pack("ii", 1, 0))
+        caller.sendall(octets)
+        if not is_reset:
+            caller.shutdown(socket.SHUT_WR)
+            rest_of(caller)
+
+
+def false_octets_at_each_socket(room):
+    """What isn't meant for a socket, zeros, anything at all, half of what is right, and resets end nothing at any of the three."""
+    port = free_port()
+    with Resident(room, "--http-port", str(port), "--admission", "1") as service:
+        for who, connect in callers_of(service, port).items():
+            others = [octets for other, octets in RIGHT.items() if other != who]
+            for octets in [*others, bytes(20_000), os.urandom(20_000), RIGHT[who][:9], b""]:
+                for is_reset in (False, True):
+                    say_and_leave(connect, octets, is_reset)
+        time.sleep(2)
+        with service.caller() as caller:
+            caller.sendall(NOTHING_WAITING.joined("in"))
+            caller.shutdown(socket.SHUT_WR)
+            expect(rest_of(caller), NOTHING_WAITING.joined("out"), "the station sent")
+        strange = list(iter(service.line, f"session {CARMAKER} in: {NOTHING_WAITING.end[1].strip()}"))
+        expect(len(strange) >= 6, True, f"whether {strange} are lines of strangers")
+        expect([line for line in strange if not line.startswith(("session - in: end: ", "session - in: fault: "))], [], "the lines of strangers")
+        everybody_is_served(service, port)
+    expect(tables.read(service.database)["in_file"], [], "the files")
+
+
+def slow_callers_at_each_socket(room):
+    """Callers who drip what is right, an octet at a time, delay nobody, at each of the three sockets; and the last of them is heard."""
+    port = free_port()
+    with Resident(room, "--http-port", str(port), "--admission", "60") as service, contextlib.ExitStack() as stack:
+        slow = [(stack.enter_context(connect()), RIGHT[who]) for who, connect in callers_of(service, port).items() for _ in range(20)]
+        took = []
+        for at in range(8):
+            for caller, octets in slow:
+                caller.sendall(octets[at : at + 1])
+            begin = time.monotonic()
+            everybody_is_served(service, port)
+            took.append(time.monotonic() - begin)
+        if min(took) > 1:
+            raise Wrong(f"beside slow callers a session, a report and a list took {min(took):.1f} s at least")
+        for caller, octets in slow[20:]:
+            caller.sendall(octets[8:])
+            expect(rest_of(caller)[:1] in (READY, b"H"), True, "what one who dripped is answered")
+
+
+def silent_callers_at_each_socket(room):
+    """Eighty callers who say nothing at each of the three sockets, more than there are places for commands and for requests: whoever comes
+    behind them is served, a request once the others' ten seconds are over."""
+    port = free_port()
+    with Resident(room, "--http-port", str(port), "--admission", "60") as service, contextlib.ExitStack() as stack:
+        begin = time.monotonic()
+        for connect in callers_of(service, port).values():
+            for _ in range(80):
+                stack.enter_context(connect())
+        everybody_is_served(service, port)
+        within(begin, 12, "who came behind them")
+
+
+def partner_who_reads_nothing(room):
+    """A partner who is let in, asks for the file that waits for it and takes nothing of it has the patience, and the station goes on."""
+    port = free_port()
+    book, file = room / "book", room / "file"
+    book.write_text(one_file.BOOK.format(buffer=16384, credit=99))
+    file.write_bytes(bytes(one_file.MEBI * 2))
+    with Resident(room, "--http-port", str(port), "--patience", "2", book=book) as service:
+        expect(given(service, "submit", *IDENTITY, file)[0], 0, "submit")
+        with service.caller(is_narrow=True) as partner:
+            opening = one_file.frame_of("SSID", code=CARMAKER, password="CARPW", buffer="16384", credit="99", mode="B")
+            partner.sendall(opening + one_file.frame_of("CD") + one_file.frame_of("SFPA", count="0"))
+            expect(service.line(), f"session {CARMAKER} in: fault: 2 write", "the line")
+        expect(get(port, "/out")[0], 200, "a list")
+        expect(given(service, "report", "out")[0], 0, "a report")
+
+
 def book_with(room, address):
     book = room / "book"
     book.write_text(BOOK.read_text().replace("127.0.0.1:3305", address))
     return book
 
 
-def call(service, book, *words):
-    words = [PROGRAM, "call", "--db", service.database, "--book", book, "--partner", CARMAKER, *words]
+def call(service, book, *words, partner=CARMAKER):
+    words = [PROGRAM, "call", "--db", service.database, "--book", book, "--partner", partner, *words]
     return subprocess.Popen(words, stdout=subprocess.PIPE, stderr=subprocess.PIPE)
 
 
@@ -381,6 +526,38 @@ def partner_who_does_not_answer(room):
             expect(told(program), (1, b"", b"fault: 8 socket\n"), "the call")
         if not 3.5 <= time.monotonic() - begin <= 4 + SOON:
             raise Wrong(f"the call took {time.monotonic() - begin:.1f} s")
+
+
+def two_that_call_each_other(room):
+    """Two stations that call each other at the same moment are free again once the patience is over at the latest, and then their files go."""
+    other = {"carmaker": "supplier", "supplier": "carmaker"}
+    ports = {name: free_port() for name in other}
+    stations = []
+    for name in other:
+        (room / name).mkdir()
+        book = room / name / "book"
+        book.write_text(book_of(name, {}, ports[other[name]]))
+        stations.append(Resident(room / name, book=book, port=ports[name]))
+    with stations[0], stations[1]:
+        for station in stations:
+            station.program.send_signal(signal.SIGSTOP)
+        codes = ("O0013SUPPLIER", CARMAKER)
+        asked = [call(it, it.database.parent / "book", "--patience", "2", partner=code) for it, code in zip(stations, codes)]
+        until_connected(asked)
+        begin = time.monotonic()
+        for station in stations:
+            station.program.send_signal(signal.SIGCONT)
+        lines = [told(program)[1:] for program in asked]
+        within(begin, 2, "both calls")
+        strange = [line for line in lines if line not in ((b"", b"fault: 1 read\n"), (b"end: partner 00\n", b""), (b"end: own 00\n", b""), (b"end: input\n", b""))]
+        expect(strange, [], "how the calls ended")
+        file = room / "file"
+        file.write_bytes(b"A")
+        words = ["--dataset", "INV.1", "--date", "20240201", "--time", "0800000001", "--to", "O0013SUPPLIER", "--format", "U", file]
+        done = told(begun(stations[0], "submit", "--book", stations[0].database.parent / "book", *words))
+        expect(done, (0, b"done: submit 1\n", b""), "submit")
+        expect(told(call(stations[0], stations[0].database.parent / "book", partner="O0013SUPPLIER"))[0], 0, "a call afterwards")
+        expect(given(stations[1], "fetch", "1", room / "fetched"), (0, b"done: fetch 1\n", b""), "fetch")
 
 
 def clock(room):
@@ -493,6 +670,148 @@ def killed_within_a_command(room):
             expect(told(program), (1, b"", b"fault: 3 office\n"), "the call")
 
 
+def with_files(room, count):
+    """A database with so many whole files of one octet."""
+    with Resident(room, "--jobs", str(count)) as service:
+        octets = ONE_OCTET.joined("in")
+        for number in range(1, count + 1):
+            with service.caller() as caller:
+                caller.sendall(octets.replace(b"ASN.0001", b"ASN.%04d" % number))
+                caller.shutdown(socket.SHUT_WR)
+                rest_of(caller)
+            service.line()
+        service.ends()
+
+
+def killed_before_it_hears_a_command(room):
+    """Each command whose station is killed before it has heard the request says so, and has done nothing."""
+    file, fetched = room / "file", room / "fetched"
+    file.write_bytes(b"A")
+    with_files(room, 2)
+    with Resident(room) as service:
+        service.program.send_signal(signal.SIGSTOP)
+        asked = [
+            begun(service, "init"),
+            begun(service, "submit", "--book", BOOK, *IDENTITY, file),
+            begun(service, "release", "--book", BOOK, "1"),
+            begun(service, "refuse", "--book", BOOK, "2", "12", "no"),
+            begun(service, "fetch", "1", fetched),
+            begun(service, "report", "in"),
+            begun(service, "call", "--book", BOOK, "--partner", CARMAKER),
+        ]
+        until_connected(asked)
+        service.program.kill()
+        for program in asked:
+            expect(told(program), (1, b"", b"fault: 3 office\n"), f"{program.args[1]} of a station that is killed")
+    expect_untouched(room, service.database)
+
+
+def begun(service, command, *words):
+    """A command over the database of the service, which goes on."""
+    return subprocess.Popen([PROGRAM, command, "--db", service.database, *words], stdout=subprocess.PIPE, stderr=subprocess.PIPE)
+
+
+def until_connected(programs):
+    """Waits until each of these commands has connected to the station that it asks."""
+    until = time.monotonic() + LONG
+    for program in programs:
+        while not any(where.startswith("socket:") for where in staying.descriptors_of(program.pid).values()):
+            if time.monotonic() > until or program.poll() is not None:
+                raise Wrong(f"{program.args[1]} doesn't connect")
+            time.sleep(0.01)
+    # A socket is there a moment before it is connected.
+    time.sleep(0.3)
+
+
+def expect_untouched(room, database):
+    found = tables.read(database)
+    expect((found["out_file"], found["issued"], tables.unfit(found)), ([], [], None), "what was asked of a station that was killed")
+    expect([path.name for path in room.iterdir() if path.name.startswith((".oftp_station_", "fetched"))], [], "the files")
+
+
+def false_station(room, answer):
+    """What each command comes to whose station says this behind its request, and is gone. Nothing is asked of the database."""
+    path = room / "database-station"
+    path.unlink(missing_ok=True)
+    with socket.socket(socket.AF_UNIX) as listener:
+        listener.bind(str(path))
+        listener.listen()
+        listener.settimeout(LONG)
+
+        def serve():
+            with listener.accept()[0] as client, contextlib.suppress(ConnectionError):
+                client.settimeout(LONG)
+                client.sendall(answer[:1])
+                if answer:
+                    client.recv(4)
+                    client.sendall(answer[1:])
+                    client.shutdown(socket.SHUT_WR)
+                    rest_of(client)
+
+        with ThreadPoolExecutor(max_workers=1) as runners:
+            for words in (["submit", "--book", BOOK, *IDENTITY, room / "file"], ["fetch", "1", room / "fetched"], ["report", "in"]):
+                served = runners.submit(serve)
+                command, *rest = words
+                words = [PROGRAM, command, "--db", room / "database", *rest]
+                done = subprocess.run(words, capture_output=True, timeout=LONG, check=False)
+                served.result()
+                yield command, (done.returncode, done.stdout, done.stderr)
+
+
+def answers_that_are_cut(room):
+    """A command whose station is gone within its answer, at any octet, or answers what is none, says that it is gone: no line but a report's
+    is printed, and no file is made."""
+    (room / "file").write_bytes(b"A")
+    with_files(room, 1)
+    piece = struct.pack(">BI", 3, 2) + b"AB" + struct.pack(">BI", 1, 7) + b"done: 1"
+    whole = READY + piece + b"\0\0"
+    answers = [whole[:size] for size in range(len(whole))]
+    answers += [b"2" + whole[1:], READY + struct.pack(">BI", 4, 1) + b"A\0\0", READY + struct.pack(">BI", 1, 65537) + bytes(65537) + b"\0\0"]
+    for answer in answers:
+        for command, came in false_station(room, answer):
+            printed = b"done: 1" if command == "report" and len(answer) >= len(whole) - 2 and answer[:1] == READY and answer in whole else b""
+            expect(came, (1, printed, b"fault: 3 office\n"), f"{command}, answered by {answer[:40]!r}")
+            expect((room / "fetched").exists(), False, "whether a file is made")
+    expect_untouched(room, room / "database")
+
+
+def killed_while_files_are_answered(room):
+    """Of files that are fetched, released and refused while the station is killed, each response that was told is there, once, and none that
+    nobody asked for; what was fetched is whole."""
+    files = 60
+    with_files(room, files)
+    is_killed = threading.Event()
+    told_of, cut = {}, []
+
+    def answer(number):
+        kind, words = ("EERP", ["release", str(number)]) if number % 2 else ("NERP", ["refuse", str(number), "12", "no"])
+        fetched = room / f"fetched_{number}"
+        for asked in (["fetch", str(number), fetched], words):
+            if is_killed.is_set():
+                break
+            done = given(service, *asked)
+            if done[0] != 0:
+                cut.append(done)
+            elif asked is words:
+                told_of[number] = kind
+        if len(told_of) >= files // 2:
+            is_killed.set()
+        return fetched.read_bytes() if fetched.exists() else b"A"
+
+    with Resident(room) as service:
+        with ThreadPoolExecutor(max_workers=8) as runners:
+            came = [runners.submit(answer, number) for number in range(1, files + 1)]
+            expect(is_killed.wait(LONG), True, f"whether half of them were answered, of which {cut} weren't")
+            service.program.kill()
+        expect({it.result() for it in came}, {b"A"}, "what was fetched")
+    expect(set(cut) <= {(1, b"", b"fault: 3 office\n")}, True, f"whether {cut} says that the station is gone")
+    found = tables.read(service.database)
+    issued = {row["no"]: row["kind"] for row in found["issued"]}
+    expect((tables.unfit(found), len(issued)), (None, len(found["issued"])), "the tables")
+    expect({number: issued.get(number) for number in told_of}, told_of, "the responses that were told")
+    expect({number for number, kind in issued.items() if kind != ("EERP" if number % 2 else "NERP")}, set(), "responses nobody asked for")
+
+
 def killed_while_files_are_submitted(room):
     """What was answered before a kill is there, and each command was answered or says that it isn't known."""
     file = room / "file"
@@ -557,6 +876,8 @@ CASES = [
     stale_socket,
     file_in_the_place_of_the_socket,
     two_stations,
+    second_station_takes_over,
+    two_at_once,
     faults_in_order,
     long_path,
     false_clients,
@@ -568,11 +889,19 @@ CASES = [
     command_waits_for_a_session,
     calls,
     partner_who_does_not_answer,
+    two_that_call_each_other,
     clock,
     requests,
     slow_requests,
     request_that_is_not_read,
+    false_octets_at_each_socket,
+    slow_callers_at_each_socket,
+    silent_callers_at_each_socket,
+    partner_who_reads_nothing,
     killed_within_a_command,
+    killed_before_it_hears_a_command,
+    answers_that_are_cut,
+    killed_while_files_are_answered,
     killed_while_files_are_submitted,
     stopped_within_a_session,
     nothing_to_print_to,
