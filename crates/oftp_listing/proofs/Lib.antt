@@ -1,6 +1,7 @@
 pub mod Asking
 pub mod HeadLemmas
 pub mod HidingLemmas
+pub mod ListedUnits
 pub mod Listings
 pub mod RowLemmas
 pub mod Reporting

@@ -1,5 +1,5 @@
 -- The text of a list, which grows by an object for each entry.
-use Rattle.std.proofs.Common.{◌≡◌, ℕ, ◌+◌, ◌<◌, ◌≤◌, Bool, true, false, add-one, subst, List, [], ◌∷◌, ◌++◌, length, map, take, get_or, Ok, refl, ap, sym, ◌∙◌, append_assoc, append-nil, codes}
+use Rattle.std.proofs.Common.{◌≡◌, ℕ, ◌+◌, ◌<◌, ◌≤◌, arith, Bool, true, false, add-one, subst, zero, suc, List, [], ◌∷◌, ◌++◌, length, map, take, get_or, slice_get, Some, Ok, refl, ap, sym, ◌∙◌, append_assoc, append-nil, codes}
 use Rattle.std.proofs.Math.Seq.{take-suc}
 use Rattle.std.proofs.lemmas.List.{map-append, take_all}
 use Rattle.serde_json.specs.Data.{Data}
@@ -10,6 +10,7 @@ use Rattle.serde_json.specs.Written.{comma_if, compact_text, items_text}
 use Rattle.oftp_register.specs.Register.{Register}
 use Rattle.oftp_register.specs.Offices.{View, LooksUp}
 use Rattle.oftp_listing.specs.Finding.{Finds, IsDataBehind}
+use Rattle.oftp_listing.specs.InsideListed.{IsAmong}
 use Rattle.oftp_listing.specs.Objects.{members}
 use Rattle.oftp_listing.specs.Texts.{Asks, list_of}
 use Rattle.oftp_listing.proofs.Asking.{asks_on, asks_once}
@@ -65,6 +66,15 @@ pub record IsListing {E : Type 0} (all : Register → List E) (object : Register
 pub take_next : {E : Type 0} (entries : List E) (i : ℕ) (e : E) → i < length entries → e ≡ get_or entries i e → take (i + 1) entries ≡ take i entries ++ e ∷ []
 take_next entries i e within is = rw add-one (take-suc entries i e within ∙ ap (λ (x : _). take i entries ++ x ∷ []) (sym is))
 
+-- the next is one of them
+pub is_there : {E : Type 0} (entries : List E) (i : ℕ) (e : E) → i < length entries → e ≡ get_or entries i e → slice_get entries i ≡ Some e
+is_there [] i e within is = absurd (omega (arith, within))
+is_there (x ∷ entries) zero e within is = ap Some (sym is)
+is_there (x ∷ entries) (suc i) e within is = is_there entries i e (omega (arith, within)) is
+
+pub is_among : {E : Type 0} (entries : List E) (i : ℕ) (e : E) → i < length entries → e ≡ get_or entries i e → IsAmong e entries
+is_among entries i e within is = (i, is_there entries i e within is)
+
 -- nothing is listed yet
 pub listing_begins : {E : Type 0} (all : Register → List E) (object : Register → E → Data) (old now : View) (told : List E) (front : List ℕ)
     → LooksUp (λ r (x : List E). x ≡ all r) old now (Ok told) → IsListing all object old now told [] front (front ++ 91 ∷ []) false
@@ -86,12 +96,18 @@ told_first {Tells = Tells} old now new x asks untold looks k s =
     let stood = asks.stays untold before s in
     subst (λ r. Tells r x) (asks.register before s (now.opens stood)) (looks.answer k stood)
 
+-- what is told of an entry of the list is told of the register that the office had at first
+pub told_among : {E : Type 0} {Tells : Register → ℕ → Type 0} (all : Register → List E) (old now new : View) (told : List E) (e : E) (n : ℕ) → Asks old now → now.told ≡ old.told
+    → (now.clean → old.stands → told ≡ all old.register) → IsAmong e told → LooksUp (λ r n. IsAmong e (all r) → Tells r n) now new (Ok n) → new.clean → old.stands → Tells old.register n
+told_among all old now new told e n asks untold whole among looks k s = told_first old now new n asks untold looks k s (subst (IsAmong e) (whole (looks.clean k) s) among)
+
 -- one entry more, beside which the office told a number
 pub listing_on : {E : Type 0} (all : Register → List E) (beside : Register → E → ℕ) (made : E → ℕ → Data) (old now new : View) (told entries : List E)
     (front text : List ℕ) (later : Bool) (e : E) (n : ℕ) (d : Data) (longer : List ℕ)
-    → IsListing all (λ r e. made e (beside r e)) old now told entries front text later → LooksUp (λ r n. n ≡ beside r e) now new (Ok n) → d ≡ made e n
+    → IsListing all (λ r e. made e (beside r e)) old now told entries front text later → IsAmong e told
+    → LooksUp (λ r n. IsAmong e (all r) → n ≡ beside r e) now new (Ok n) → d ≡ made e n
     → longer ≡ text ++ (comma_if later ++ compact_text d) → IsListing all (λ r e. made e (beside r e)) old new told (entries ++ e ∷ []) front longer true
-listing_on {E = E} all beside made old now new told entries front text later e n d longer l looks is grown = record {
+listing_on {E = E} all beside made old now new told entries front text later e n d longer l among looks is grown = record {
   asks = asks_on old now new l.asks l.untold (asks_once now new (Ok n) looks);
   untold = looks.counts ∙ l.untold;
   whole = λ k s. l.whole (looks.clean k) s;
@@ -103,7 +119,8 @@ listing_on {E = E} all beside made old now new told entries front text later e n
   later' = later_on l.objects d;
   right = λ k s.
       let object : E → Data = λ e. made e (beside old.register e) in
-      ap (λ ds. ds ++ d ∷ []) (l.right (looks.clean k) s) ∙ ap (λ x. map object entries ++ x ∷ []) (is ∙ ap (made e) (told_first old now new n l.asks l.untold looks k s))
+      ap (λ ds. ds ++ d ∷ []) (l.right (looks.clean k) s)
+      ∙ ap (λ x. map object entries ++ x ∷ []) (is ∙ ap (made e) (told_among {Tells = λ r n. n ≡ beside r e} all old now new told e n l.asks l.untold l.whole among looks k s))
       ∙ sym (map-append object entries (e ∷ []));
 }
 

@@ -1,12 +1,15 @@
 -- Inside: what is listed and reported of each kind of entries, for the trait of src/listed.rt.
-use Rattle.std.specs.Prelude.{ℕ, List}
+use Rattle.std.specs.Prelude.{◌≡◌, ℕ, List, length, slice_get, Some}
 use Rattle.serde_json.specs.Data.{Data}
-use Rattle.oftp_register.specs.LookUps.{list_in, list_issued, list_out, list_received, look_out, units_of}
+use Rattle.oftp_vfile.specs.declared.format.Format.{Format}
+use Rattle.oftp_register.specs.LookUps.{file_rows, list_in, list_issued, list_out, list_received, look_out, units_of}
 use Rattle.oftp_register.specs.Register.{Register}
+use Rattle.oftp_register.specs.Units.{file_format}
 use Rattle.oftp_register.specs.declared.entries.IncomingEntry.{IncomingEntry}
 use Rattle.oftp_register.specs.declared.entries.IssuedEntry.{IssuedEntry}
 use Rattle.oftp_register.specs.declared.entries.OutgoingEntry.{OutgoingEntry}
 use Rattle.oftp_register.specs.declared.entries.ReceivedEntry.{ReceivedEntry}
+use Rattle.oftp_register.specs.declared.entries.Side.{Side}
 use Rattle.oftp_register.specs.declared.entries.Side.TheVariants.{Incoming, Outgoing}
 use Rattle.oftp_listing.specs.Objects.{incoming_object, issued_object, outgoing_object, received_object}
 use Rattle.oftp_listing.specs.Reports.{incoming_fields, issued_fields, line, outgoing_fields, received_fields}
@@ -42,3 +45,11 @@ issued_responses = record { entries = list_issued; beside = λ _ _. 0; object = 
 -- responses that came, each with the number of the file that it answers
 abbrev pub received_responses : EntryKind ReceivedEntry
 received_responses = record { entries = list_received; beside = λ r e. no_of (look_out r e.response.identity); object = received_object; fields = received_fields }
+
+-- it is one of these
+abbrev pub IsAmong : {E : Type 0} → E → List E → Type 0
+IsAmong e es = (at : ℕ) × (slice_get es at ≡ Some e)
+
+-- the file with a number has this format, this longest record and so many rows
+abbrev pub IsListed : Register → Side → ℕ → Format → ℕ → ℕ → Type 0
+IsListed r which n format longest rows = (Some (format, longest) ≡ file_format r which n) × (rows ≡ length (file_rows r which n))

@@ -12,6 +12,7 @@ mod object;
 mod reply;
 mod reports;
 mod route;
+mod units;
 
 pub use fault::ListFault;
 pub use laws::content_is_hidden;

@@ -5,7 +5,7 @@ ghost use Rattle.serde_json.specs.View.{view};
 ghost use Rattle.serde_json.specs.Written.{has_float};
 ghost use Rattle.oftp_register.specs.Offices.{LooksUp};
 ghost use Rattle.oftp_listing.specs.declared.fault.ListFault.TheVariants.{Memory};
-ghost use Rattle.oftp_listing.specs.InsideListed.{EntryKind, incoming_files, issued_responses, outgoing_files, received_responses};
+ghost use Rattle.oftp_listing.specs.InsideListed.{EntryKind, IsAmong, incoming_files, issued_responses, outgoing_files, received_responses};
 ghost use Rattle.oftp_listing.specs.Reports.{line};
 ghost use Rattle.oftp_listing.specs.Texts.{no_of};
 
@@ -15,6 +15,7 @@ use crate::object::{
     incoming_members, issued_members, object_of, outgoing_members, received_members,
 };
 use crate::reports::{incoming_details, issued_details, line, outgoing_details, received_details};
+use crate::units::ask_units;
 use oftp_register::{
     IncomingEntry, IssuedEntry, Office, OfficeFault, OutgoingEntry, ReceivedEntry, Side,
 };
@@ -34,6 +35,10 @@ pub(crate) trait Listed: Sized {
     /// The number that is shown with an entry.
     fn ask_beside<O: Office>(&self, office: &mut O) -> Result<u64, OfficeFault>
         ensures looks { LooksUp (λ r number. number ≡ kind.beside r self.now) (O.view office.old) (O.view office.new) result };
+
+    /// The number that is shown with an entry of the list that the office told.
+    fn ask_in_list<O: Office>(&self, office: &mut O) -> Result<u64, OfficeFault>
+        ensures looks { LooksUp (λ r number. IsAmong self.now (kind.entries r) → number ≡ kind.beside r self.now) (O.view office.old) (O.view office.new) result };
 
     /// Its object in the listing.
     ///
@@ -65,6 +70,17 @@ impl Listed for IncomingEntry {
         office.units_of(Side::Incoming, self.no)
     }
 
+    fn ask_in_list<O: Office>(&self, office: &mut O) -> Result<u64, OfficeFault> {
+        ask_units(
+            office,
+            Side::Incoming,
+            self.no,
+            self.format,
+            self.longest,
+            self.rows,
+        )
+    }
+
     fn to_object(&self, alloc: Global, number: u64) -> Result<Value, AllocError> {
         object_of(alloc, &incoming_members(self, number))
     }
@@ -83,6 +99,17 @@ impl Listed for OutgoingEntry {
 
     fn ask_beside<O: Office>(&self, office: &mut O) -> Result<u64, OfficeFault> {
         office.units_of(Side::Outgoing, self.no)
+    }
+
+    fn ask_in_list<O: Office>(&self, office: &mut O) -> Result<u64, OfficeFault> {
+        ask_units(
+            office,
+            Side::Outgoing,
+            self.no,
+            self.format,
+            self.longest,
+            self.rows,
+        )
     }
 
     fn to_object(&self, alloc: Global, number: u64) -> Result<Value, AllocError> {
@@ -105,6 +132,10 @@ impl Listed for IssuedEntry {
     }
 
     fn ask_beside<O: Office>(&self, _office: &mut O) -> Result<u64, OfficeFault> {
+        Ok(0)
+    }
+
+    fn ask_in_list<O: Office>(&self, _office: &mut O) -> Result<u64, OfficeFault> {
         Ok(0)
     }
 
@@ -139,6 +170,10 @@ impl Listed for ReceivedEntry {
     fn ask_beside<O: Office>(&self, office: &mut O) -> Result<u64, OfficeFault> {
         let file = office.look_out(&self.response.identity)?;
         Ok(no_of(&file))
+    }
+
+    fn ask_in_list<O: Office>(&self, office: &mut O) -> Result<u64, OfficeFault> {
+        self.ask_beside(office)
     }
 
     fn to_object(&self, alloc: Global, number: u64) -> Result<Value, AllocError> {

@@ -49,7 +49,7 @@ fn add_list<E: Listed + Drop, O: Office>(
     text.extend_from_slice(b"[")?;
     let mut later = false;
     for entry in &entries {
-        let beside = entry.ask_beside(office)?;
+        let beside = entry.ask_in_list(office)?;
         let object = entry.to_object(alloc, beside)?;
         add_object(alloc, &object, later, &mut text)?;
         later = true;

@@ -169,7 +169,7 @@ fn add_lines<E: Listed + Drop, O: Office>(
     let entries = E::list(office)?;
     let mut text = front;
     for entry in &entries {
-        let beside = entry.ask_beside(office)?;
+        let beside = entry.ask_in_list(office)?;
         text.extend_from_slice(entry.to_line(alloc, beside)?.as_slice())?;
     }
     Ok(text)

@@ -1,5 +1,5 @@
 use Rattle.std.proofs.Common.{◌∙◌, arith}
-use Rattle.oftp_listing.proofs.Listings.{listing_finds, listing_on, listing_shows, take_next}
+use Rattle.oftp_listing.proofs.Listings.{is_among, listing_finds, listing_on, listing_shows, take_next}
 use Rattle.oftp_listing.proofs.listing.add_list.Goals as goal
 
 pub loop-entry-preserved : goal.loop-entry-preserved
@@ -7,7 +7,7 @@ loop-entry-preserved g c =
     let e = c.entry-item.result in
     rw (take_next _ c.loop-entry.entry-index e c.loop-entry-test.true c.entry-item.is)
     (listing_on g.E.Listed.kind.entries g.E.Listed.kind.beside g.E.Listed.kind.object _ _ _ _ _ _ _ _ e c.in_ok-beside.beside _ _
-    c.loop-entry.invariant c.in_ok-beside.ensures.looks c.in_ok-object.ensures.object c.in_ok-add_object.ensures)
+    c.loop-entry.invariant (is_among _ c.loop-entry.entry-index e c.loop-entry-test.true c.entry-item.is) c.in_ok-beside.ensures.looks c.in_ok-object.ensures.object c.in_ok-add_object.ensures)
 
 pub returns-clause-finds : goal.returns-clause-finds
 returns-clause-finds g c = record {

@@ -1,0 +1,58 @@
+//! How many octets the rows of a file have that the office told in a list.
+
+ghost use Rattle.std.specs.Prelude.{◌≡◌, ◌≤◌, length};
+ghost use Rattle.oftp_vfile.specs.VirtualFile.{units_in};
+ghost use Rattle.oftp_register.specs.LookUps.{file_rows, units_of};
+ghost use Rattle.oftp_register.specs.Offices.{LooksUp};
+ghost use Rattle.oftp_register.specs.Units.{units_in_blocks};
+ghost use Rattle.oftp_register.specs.declared.fit.TheConstants.{MOST_UNITS};
+ghost use Rattle.oftp_listing.specs.InsideListed.{IsListed};
+
+use oftp_register::{Office, OfficeFault, Side};
+use oftp_vfile::{BLOCK, Format, Rows};
+
+// How many octets these rows have, where there is one at most.
+fn octets_of(rows: &Rows) -> u64
+    ensures { length rows.now ≤ 1 → result ≡ units_in rows.now }
+{
+    match rows.as_slice().first() {
+        None => 0,
+        Some(row) => row.len() as u64,
+    }
+}
+
+// How many octets the rows of a file have, where there are so many and all but the last are full blocks. The last alone is asked for.
+fn ask_blocks<O: Office>(office: &mut O, side: Side, no: u64, rows: u64) -> Result<u64, OfficeFault>
+    ensures looks { LooksUp (λ r units. rows ≡ length (file_rows r side no) → units_in_blocks (file_rows r side no) ≤ MOST_UNITS → units ≡ units_in_blocks (file_rows r side no))
+        (O.view office.old) (O.view office.new) result }
+{
+    let full = rows.saturating_sub(1);
+    let last = office.rows_of(side, no, full, 1)?;
+    Ok(
+        full.saturating_mul(BLOCK as u64)
+            .saturating_add(octets_of(&last)),
+    )
+}
+
+/// How many octets the rows of a file have that the office told in a list, with its number, its format, its longest record in octets
+/// and the number of its rows. In F none of its rows is asked for, in U and T the last one, and in V the office measures each.
+///
+/// # Errors
+///
+/// Those of the office.
+pub(crate) fn ask_units<O: Office>(
+    office: &mut O,
+    side: Side,
+    no: u64,
+    format: Format,
+    longest: u32,
+    rows: u64,
+) -> Result<u64, OfficeFault>
+    ensures looks { LooksUp (λ r units. IsListed r side no format longest rows → units ≡ units_of r side no) (O.view office.old) (O.view office.new) result }
+{
+    match format {
+        Format::Fixed => Ok(rows.saturating_mul(u64::from(longest))),
+        Format::Variable => office.units_of(side, no),
+        Format::Unstructured | Format::Text => ask_blocks(office, side, no, rows),
+    }
+}
