@@ -31,6 +31,14 @@ beginning r faults = record {
   holds = λ content register. content ≡ register;
 }
 
+-- what a list answers behind a job that answers this: a fault of the job's ports doesn't end it
+abbrev pub list_answer : {T : Type 0} → Result T RunFault → Result ⊤ RunFault
+list_answer (Ok x) = Ok tt
+list_answer (Err fault.Read) = Ok tt
+list_answer (Err fault.Write) = Ok tt
+list_answer (Err fault.Office) = Err fault.Office
+list_answer (Err fault.Memory) = Err fault.Memory
+
 -- the sessions among jobs that were done bring parts of the file
 abbrev pub BringAll : File → Identity → Register → List Entry → Type 0
 BringAll file identity r [] = ⊤
