@@ -65,6 +65,7 @@ CHECKS = [
     Check("two residents", "python3 checks/faults/two_residents.py", "two that hold their databases, with operators, cut off and killed at random"),
     Check("two services", "python3 checks/faults/two_services.py", "two stations as processes, cut off and killed at random moments"),
     Check("kills", "python3 checks/faults/kill_at_random.py", "the program, killed at random moments"),
+    Check("backups", "python3 checks/faults/backups.py", "backups while files are handed in, and either program is killed"),
     Check("random sessions", "python3 checks/scenarios/fuzz.py --seconds 20", "random sessions, over the program and over a model of a station"),
     Check("command lines", "python3 checks/scenarios/command_lines.py", "command lines, with what each prints, makes and leaves"),
     Check("listing", "python3 checks/scenarios/listing.py", "requests for what a database holds, and reports of it"),

@@ -83,6 +83,9 @@ class Station:
     def begin(self):
         """It begins to run, where that isn't for one session alone."""
 
+    def end_of_stop(self):
+        """Its program, which was stopped, has ended."""
+
     def end(self):
         """It ends."""
 
@@ -119,6 +122,9 @@ class Resident(Station):
         ready, _, _ = select.select([self.run.stdout], [], [], LONG)
         if (not ready or self.run.stdout.readline() != b"ready\n") and not self.is_stopped():
             raise Wrong(f"{self.database.name} doesn't start")
+
+    def end_of_stop(self):
+        self.run.wait(LONG)
 
     def end(self):
         if self.run:
@@ -267,8 +273,10 @@ class Setting(NamedTuple):
             supplier = self.kind(folder, "supplier", "O0177CARMAKER", stop)
             stack.callback(supplier.end)
             passed = play_round(car_maker, supplier, octets)
-            if stop is not None and not supplier.is_stopped():
-                return None
+            if stop is not None:
+                if not supplier.is_stopped():
+                    return None
+                supplier.end_of_stop()
             supplier.stop = None
             if octets is not None or stop is not None:
                 play_round(car_maker, supplier, None)

@@ -20,7 +20,7 @@ BAD = 2
 DATABASE = ("db", "db-wal")
 # What a station that holds the database has in its folder, and the commands that ask it.
 HELD = {*DATABASE, "db-station"}
-ASKING = ("init", "submit", "release", "refuse", "fetch", "report", "call")
+ASKING = ("init", "submit", "release", "refuse", "fetch", "report", "backup", "call")
 # The words before a text that is taken as it stands.
 TEXTS = ("line", "bad", "out", "err")
 

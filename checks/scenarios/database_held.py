@@ -142,6 +142,7 @@ CASES = [
     (case, SessionHolds, ["report", "in"], 2),
     (case, ScriptHolds, ["release", "--book", BOOK, "1"], None),
     (case, ScriptHolds, ["report", "out"], 4),
+    (case, ScriptHolds, ["backup", "nowhere/copy"], None),
     (is_locked_for_others, SessionHolds, ["sqlite3"], 0),
 ]
 

@@ -8,6 +8,7 @@ else said not to be. Beside that, content that is longer than that of any file w
 is `N passed, M failed`.
 """
 
+import fcntl
 import os
 import shutil
 import signal
@@ -141,6 +142,46 @@ def replaced_with_its_owner(room):
             expect((about.st_uid, about.st_gid, mode_of(file)), (USER, kept_group, kept), f"a file of group {group}")
 
 
+def copied_as_the_database_is(room):
+    """A backup is its user's alone where the database is, and else has the permissions of the database, whatever it replaces and the umask is."""
+    receive(room)
+    for mask in MASKS:
+        for mode in (0o600, 0o640, 0o660):
+            (room / "db").chmod(mode)
+            expect_done(run(room, "backup", "--db", "db", "copy", mask=mask), "done: backup")
+            expect(mode_of(room / "copy"), mode, f"a copy of a database of mode {mode:o} under {mask:o}")
+            (room / "copy").chmod(0o644)
+    expect(sorted(path.name for path in room.iterdir()), ["copy", "db", "db-wal", "given"], "the files")
+
+
+def copied_with_its_owner(room):
+    """A backup that the superuser takes belongs to the database's user and group. Another user takes none into a folder that isn't his."""
+    if os.geteuid() != 0:
+        raise NotTried("the superuser: backups of other users")
+    receive(room)
+    for name in ("db", "db-wal"):
+        os.chown(room / name, USER, GROUP)
+    expect_done(run(room, "backup", "--db", "db", "copy"), "done: backup")
+    about = (room / "copy").stat()
+    expect((about.st_uid, about.st_gid, mode_of(room / "copy")), (USER, GROUP, 0o600), "the copy")
+    with tempfile.TemporaryDirectory(dir="/tmp") as path:
+        home = Path(path)
+        shutil.copy(PROGRAM, home / "program")
+        (home / "program").chmod(0o755)
+        (home / "own").mkdir()
+        for name in ("db", "db-wal"):
+            shutil.copy(room / name, home / "own" / name)
+            os.chown(home / "own" / name, USER, GROUP)
+        os.chown(home / "own", USER, GROUP)
+        home.chmod(0o755)
+        (home / "old").write_bytes(b"OLD")
+        for to, told in (("copy", (1, b"", b"fault: 7 file\n")), ("old", (1, b"", b"fault: 7 file\n")), ("own/copy", (0, b"done: backup\n", b""))):
+            words = [home / "program", "backup", "--db", "own/db", to]
+            done = subprocess.run(words, cwd=home, capture_output=True, timeout=LONG, check=False, user=USER, group=GROUP, extra_groups=[])
+            expect((done.returncode, done.stdout, done.stderr), told, f"a backup to {to}")
+        expect((home / "old").read_bytes(), b"OLD", "the file that isn't his")
+
+
 # ---- drafts
 
 
@@ -216,6 +257,20 @@ def drafts_left_by_a_kill(room):
     expect(drafts_in(room), [f"{DRAFT}notes"], "the drafts at the end")
 
 
+def logs_of_drafts(room):
+    """With the draft of a backup that was killed its log is removed, and with one that is still written it isn't."""
+    receive(room)
+    for number in (1, 2):
+        (room / f"{DRAFT}{number}").write_bytes(b"a copy")
+        (room / f"{DRAFT}{number}-wal").write_bytes(b"its log")
+    with open(room / f"{DRAFT}2", "rb") as living:
+        fcntl.flock(living, fcntl.LOCK_EX)
+        expect_done(run(room, "backup", "--db", "db", "copy"), "done: backup")
+        expect(drafts_in(room), [f"{DRAFT}2", f"{DRAFT}2-wal"], "the drafts beside a backup")
+    expect_done(run(room, "fetch", "--db", "db", "1", "fetched"), "done: fetch 1")
+    expect(drafts_in(room), [], "the drafts at the end")
+
+
 def names_of_drafts_taken(room):
     """Who bears a thousand names of drafts keeps nobody from a fetch."""
     receive(room)
@@ -271,8 +326,11 @@ CASES = [
     fetched_as_the_umask_says,
     replaced_as_it_was,
     replaced_with_its_owner,
+    copied_as_the_database_is,
+    copied_with_its_owner,
     draft_of_one_user,
     drafts_left_by_a_kill,
+    logs_of_drafts,
     names_of_drafts_taken,
     too_long,
 ]

@@ -3,7 +3,7 @@
 
     checks/scenarios/resident.py [WORD ..]       all cases, or those whose names have one of these words
 
-Each case has a port and a database of its own, and all run at once, so it takes some twenty seconds. The last line is `N passed, M failed`.
+Each case has a port and a database of its own, and all run at once, so it takes some forty seconds. The last line is `N passed, M failed`.
 """
 
 import contextlib
@@ -342,18 +342,83 @@ def silent_partner(room):
         play(service, ONE_OCTET)
 
 
-def command_waits_for_a_session(room):
-    """A command that comes within a session waits for its end, longer than a database is waited for."""
-    with Resident(room) as service, service.caller() as caller:
-        caller.sendall(SSID)
-        time.sleep(0.5)
-        words = [PROGRAM, "report", "--db", service.database, "in"]
-        with subprocess.Popen(words, stdout=subprocess.PIPE, stderr=subprocess.PIPE) as program:
-            time.sleep(12)
-            expect(program.poll(), None, "whether the report waits")
-            caller.shutdown(socket.SHUT_WR)
-            expect(service.line(), f"session {CARMAKER} in: end: input", "the line")
-            expect((told(program)[0], program.returncode), (0, 0), "the report")
+def started(service, command, *words):
+    """A command over the database of the service, which isn't waited for."""
+    book = ["--book", BOOK] if command in ("submit", "release", "refuse") else []
+    words = [PROGRAM, command, "--db", service.database, *book, *words]
+    return subprocess.Popen(words, stdout=subprocess.PIPE, stderr=subprocess.PIPE)
+
+
+def heard(connection, octets):
+    """Reads these octets, and no more."""
+    come = b""
+    while len(come) < len(octets):
+        piece = connection.recv(len(octets) - len(come))
+        if not piece:
+            raise Wrong(f"the station sent {come!r} and closed")
+        come += piece
+    expect(come, octets, "the station sent")
+
+
+def look_up_all(service, port, room):
+    """Each way to look something up, of which none waits for anybody."""
+    begin = time.monotonic()
+    expect(given(service, "report", "in")[0], 0, "a report")
+    expect(given(service, "fetch", "1", room / "fetched"), (0, b"done: fetch 1\n", b""), "fetch")
+    expect(given(service, "init"), (0, b"done: init\n", b""), "init")
+    status, body = get(port, "/in")
+    expect((status, b"ASN.0001" in body), (200, True), "the list")
+    expect(get(port, "/")[0], 200, "the page")
+    within(begin, 2, "the look-ups")
+
+
+def look_ups_within_a_session(room):
+    """Between two pieces of a partner's octets, look-ups are answered. What changes something waits for the session's end, longer than a
+    database is waited for, and is done before the next session."""
+    port = free_port()
+    file = room / "file"
+    file.write_bytes(b"A")
+    session = session_of("receiving/file_in_one_session")
+    octets = [piece.replace(b"ASN.0001", b"ASN.0002") for side, piece in session.steps if side == "in"]
+    with Resident(room, "--http-port", str(port)) as service, service.caller() as caller, service.caller() as next_caller:
+        play(service, ONE_OCTET)
+        caller.sendall(octets[0])
+        begun = GREETING + session.steps[2][1]
+        heard(caller, begun)
+        look_up_all(service, port, room)
+        with started(service, "submit", *IDENTITY, file) as submit, started(service, "release", "1") as release:
+            next_caller.sendall(NOTHING_WAITING.joined("in"))
+            for piece in octets[1:-1]:
+                # Half a frame, and then the other half.
+                caller.sendall(piece[:3])
+                expect(get(port, "/in/1")[0], 200, "an entry")
+                caller.sendall(piece[3:])
+            look_up_all(service, port, room)
+            time.sleep(11)
+            expect((submit.poll(), release.poll()), (None, None), "whether they wait")
+            look_up_all(service, port, room)
+            caller.sendall(octets[-1])
+            expect(service.line(), f"session {CARMAKER} in: {session.end[1].strip()}", "the line")
+            expect(told(submit), (0, b"done: submit 1\n", b""), "submit")
+            expect(told(release), (0, b"done: release 1\n", b""), "release")
+        expect(begun + rest_of(caller), session.joined("out"), "the station sent")
+        next_caller.shutdown(socket.SHUT_WR)
+        expect(b"ASN.0001" in rest_of(next_caller), True, "whether the next session has the end response")
+        expect(service.line(), f"session {CARMAKER} in: end: input", "the line")
+
+
+def partners_who_keep_open(room):
+    """Partners who don't close behind the station's last word keep nobody waiting, and can read it."""
+    with Resident(room) as service, contextlib.ExitStack() as stack:
+        begin = time.monotonic()
+        callers = [stack.enter_context(service.caller()) for _ in range(10)]
+        for caller in callers:
+            caller.sendall(WRONG.joined("in"))
+            expect(service.line() + "\n", f"session - in: {WRONG.end[1]}", "the line")
+        play(service, NOTHING_WAITING)
+        within(begin, 5, "a session behind them")
+        for caller in callers:
+            expect(rest_of(caller), WRONG.joined("out"), "the station sent")
 
 
 RIGHT = {
@@ -456,6 +521,76 @@ def partner_who_reads_nothing(room):
             expect(service.line(), f"session {CARMAKER} in: fault: 2 write", "the line")
         expect(get(port, "/out")[0], 200, "a list")
         expect(given(service, "report", "out")[0], 0, "a report")
+
+
+# ---- backups
+
+
+def begin_backup(client):
+    """Asks for a backup, and waits until the database's files may be copied."""
+    client.recv(1)
+    client.sendall(request_of(b"", b"", b"backup", b"--db=d", b"f"))
+    sign = b""
+    while len(sign) < 9 and (piece := client.recv(9 - len(sign))):
+        sign += piece
+    expect(sign, struct.pack(">BI", 3, 4) + b"copy", "what tells that the files may be copied")
+
+
+def backups(room):
+    """A backup is a job, and has the register as it stands."""
+    file, copy = room / "file", room / "copy"
+    file.write_bytes(bytes(300_000))
+    with Resident(room, "--jobs", "3") as service:
+        play(service, ONE_OCTET)
+        expect(given(service, "submit", *IDENTITY, file), (0, b"done: submit 1\n", b""), "submit")
+        expect(given(service, "backup", copy), (0, b"done: backup\n", b""), "the backup")
+        service.ends()
+    expect(tables.read(copy), tables.read(service.database), "the tables")
+    expect(sorted(path.name for path in room.iterdir()), ["copy", "database", "database-wal", "file"], "the files")
+
+
+def backup_holds_still(room):
+    """While a command copies the database's files no job is done, and who asks by HTTP or calls isn't kept waiting."""
+    port, file = free_port(), room / "file"
+    file.write_bytes(b"A")
+    with Resident(room, "--http-port", str(port)) as service, service.client() as client:
+        begin_backup(client)
+        words = [PROGRAM, "submit", "--db", service.database, "--book", BOOK, *IDENTITY, file]
+        with subprocess.Popen(words, stdout=subprocess.PIPE, stderr=subprocess.PIPE) as program:
+            time.sleep(2)
+            expect(program.poll(), None, "whether the file waits")
+            expect(get(port, "/out"), (200, b"[]"), "the list")
+            with service.caller() as caller:
+                expect(caller.recv(len(GREETING)), GREETING, "the greeting")
+            client.shutdown(socket.SHUT_WR)
+            expect(answer_of(client), ({}, 0), "the answer")
+            expect(told(program), (0, b"done: submit 1\n", b""), "the file")
+
+
+def backup_of_who_is_gone(room):
+    """A command that is gone while it copies, or says what it may not, keeps nobody waiting."""
+    with Resident(room) as service:
+        for octets in (b"", b"A"):
+            with service.client() as client:
+                begin_backup(client)
+                client.sendall(octets)
+            begin = time.monotonic()
+            expect(given(service, "report", "in")[0], 0, "a report")
+            within(begin, 0, "the report")
+
+
+def backup_that_takes_too_long(room):
+    """A command that copies for longer than half a minute is told so, and keeps nobody waiting any longer."""
+    with Resident(room) as service, service.client() as client:
+        begin_backup(client)
+        begin = time.monotonic()
+        expect(given(service, "report", "in")[0], 0, "a report")
+        within(begin, 30, "the report")
+        expect(time.monotonic() - begin > 28, True, "whether the report waits")
+        expect(answer_of(client), ({2: b"fault: 7 file\n"}, 1), "the answer")
+
+
+# ---- calls
 
 
 def book_with(room, address):
@@ -886,7 +1021,12 @@ CASES = [
     clients_that_read_nothing,
     strangers,
     silent_partner,
-    command_waits_for_a_session,
+    look_ups_within_a_session,
+    partners_who_keep_open,
+    backups,
+    backup_holds_still,
+    backup_of_who_is_gone,
+    backup_that_takes_too_long,
     calls,
     partner_who_does_not_answer,
     two_that_call_each_other,

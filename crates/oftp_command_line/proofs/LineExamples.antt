@@ -7,9 +7,9 @@ use Rattle.oftp_vfile.specs.declared.format.Format.TheVariants as format
 use Rattle.oftp_command_line.specs.Arguments.{taken}
 use Rattle.oftp_command_line.specs.FeedLine.{feed_app}
 use Rattle.oftp_command_line.specs.Files.{FilesSaid}
-use Rattle.oftp_command_line.specs.Line.{Said, line_named, line_of_words, said_call, said_check, said_feed, said_fetch, said_http, said_init, said_listen, said_migrate, said_refuse, said_release, said_report, said_run, said_show, said_submit}
+use Rattle.oftp_command_line.specs.Line.{Said, line_named, line_of_words, said_backup, said_call, said_check, said_feed, said_fetch, said_http, said_init, said_listen, said_migrate, said_refuse, said_release, said_report, said_run, said_show, said_submit}
 use Rattle.oftp_command_line.specs.OperatorLines.{refuse_app, release_app, submit_app}
-use Rattle.oftp_command_line.specs.RegisterLines.{fetch_app, report_app}
+use Rattle.oftp_command_line.specs.RegisterLines.{backup_app, fetch_app, report_app}
 use Rattle.oftp_command_line.specs.ServiceLines.{call_app, http_app, listen_app, run_app}
 use Rattle.oftp_command_line.specs.Terms.{EntranceSaid, TermsSaid}
 use Rattle.oftp_command_line.specs.declared.line.commands.feed.Side.TheVariants.{Initiator, Responder}
@@ -196,6 +196,24 @@ report_lines : AreRead (
     ∷ [])
 unfolding clap_on_literals report_app line_named taken
 report_lines = refl
+
+-- lines of `backup`
+backup_lines : AreRead (
+    -- `backup` takes the database and a file
+    asks (codes "backup --db=d f") (said_backup (record { database = codes "d"; to = codes "f" }))
+    -- in any order
+    ∷ asks (codes "backup f --db d") (said_backup (record { database = codes "d"; to = codes "f" }))
+    -- it does without no file
+    ∷ bad (codes "backup --db=d")
+    -- and without no database
+    ∷ bad (codes "backup f")
+    -- it takes one file alone
+    ∷ bad (codes "backup --db=d f g")
+    -- and no book
+    ∷ bad (codes "backup --db=d --book=b f")
+    ∷ [])
+unfolding clap_on_literals backup_app line_named taken
+backup_lines = refl
 
 -- lines of `show`
 show_lines : AreRead (

@@ -5,7 +5,7 @@ use Rattle.oftp_command_line.specs.Arguments.{given, named, taken}
 use Rattle.oftp_command_line.specs.FeedLine.{FeedSaid, feed_app, feed_in, feed_said}
 use Rattle.oftp_command_line.specs.FileLines.{check_app, init_app, migrate_app, show_app}
 use Rattle.oftp_command_line.specs.OperatorLines.{RefuseSaid, ReleaseSaid, SubmitSaid, refuse_app, refuse_said, refuse_with, release_app, release_said, release_with, submit_app, submit_in, submit_said}
-use Rattle.oftp_command_line.specs.RegisterLines.{FetchSaid, ReportSaid, fetch_app, fetch_said, fetch_with, report_app, report_in, report_said}
+use Rattle.oftp_command_line.specs.RegisterLines.{BackupSaid, FetchSaid, ReportSaid, backup_app, backup_said, backup_with, fetch_app, fetch_said, fetch_with, report_app, report_in, report_said}
 use Rattle.oftp_command_line.specs.ServiceLines.{CallSaid, HttpSaid, ListenSaid, RunSaid, call_app, call_said, call_with, http_app, http_said, http_with, listen_app, listen_said, listen_with, run_app, run_said, run_with}
 use Rattle.oftp_command_line.specs.declared.line.Line.{Line}
 use Rattle.oftp_command_line.specs.declared.line.Line.TheVariants as line
@@ -22,6 +22,7 @@ pub data Said : Type 0 where
   said_refuse : RefuseSaid → Said
   said_fetch : FetchSaid → Said
   said_report : ReportSaid → Said
+  said_backup : BackupSaid → Said
   said_show : Text → Said
   said_feed : FeedSaid → Said
   said_run : RunSaid → Said
@@ -39,6 +40,7 @@ said (line.Release r) = said_release (release_said r)
 said (line.Refuse r) = said_refuse (refuse_said r)
 said (line.Fetch f) = said_fetch (fetch_said f)
 said (line.Report r) = said_report (report_said r)
+said (line.Backup b) = said_backup (backup_said b)
 said (line.Show input) = said_show input.now
 said (line.Feed f) = said_feed (feed_said f)
 said (line.Run r) = said_run (run_said r)
@@ -52,7 +54,7 @@ name_of = named ((codes "init", name.Init) ∷ (codes "migrate", name.Migrate)
     ∷ (codes "check", name.Check) ∷ (codes "submit", name.Submit)
     ∷ (codes "release", name.Release) ∷ (codes "refuse", name.Refuse)
     ∷ (codes "fetch", name.Fetch) ∷ (codes "report", name.Report)
-    ∷ (codes "show", name.Show)
+    ∷ (codes "backup", name.Backup) ∷ (codes "show", name.Show)
     ∷ (codes "feed", name.Feed) ∷ (codes "run", name.Run)
     ∷ (codes "listen", name.Listen) ∷ (codes "call", name.Call) ∷ (codes "http", name.Http) ∷ [])
 
@@ -66,6 +68,7 @@ app_named name.Release = release_app
 app_named name.Refuse = refuse_app
 app_named name.Fetch = fetch_app
 app_named name.Report = report_app
+app_named name.Backup = backup_app
 app_named name.Show = show_app
 app_named name.Feed = feed_app
 app_named name.Run = run_app
@@ -84,6 +87,7 @@ said_by name.Release rows = Some (said_release (release_with rows))
 said_by name.Refuse rows = Some (said_refuse (refuse_with rows))
 said_by name.Fetch rows = Some (said_fetch (fetch_with rows))
 said_by name.Report rows = option_map said_report (report_in rows)
+said_by name.Backup rows = Some (said_backup (backup_with rows))
 said_by name.Show rows = Some (said_show (given (codes "in") rows))
 said_by name.Feed rows = option_map said_feed (feed_in rows)
 said_by name.Run rows = Some (said_run (run_with rows))

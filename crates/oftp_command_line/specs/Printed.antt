@@ -11,7 +11,7 @@ use Rattle.oftp_listing.specs.declared.fault.ListFault.TheVariants as list
 use Rattle.oftp_command_line.specs.declared.outcome.Fault.{Fault}
 use Rattle.oftp_command_line.specs.declared.outcome.Fault.TheVariants.{Run, Book, Store, File, Socket}
 use Rattle.oftp_command_line.specs.declared.outcome.Outcome.{Outcome}
-use Rattle.oftp_command_line.specs.declared.outcome.Outcome.TheVariants.{Initiated, Migrated, Checked, Ended, Fetched, Unknown, WrongState}
+use Rattle.oftp_command_line.specs.declared.outcome.Outcome.TheVariants.{Initiated, Migrated, Checked, Ended, Fetched, BackedUp, Unknown, WrongState}
 
 -- the line on standard error
 abbrev pub fault_line : Fault → List ℕ
@@ -46,6 +46,7 @@ outcome_line (Ended (Own reason)) = codes "end: own " ++ two_digits (session_num
 outcome_line (Ended (Partner number)) = codes "end: partner " ++ two_digits number
 outcome_line (Ended Input) = codes "end: input"
 outcome_line (Fetched number) = codes "done: fetch " ++ decimal number
+outcome_line BackedUp = codes "done: backup"
 outcome_line Unknown = codes "refused: 2 unknown"
 outcome_line WrongState = codes "refused: 3 state"
 
@@ -56,5 +57,6 @@ is_refusal Migrated = false
 is_refusal (Checked count) = false
 is_refusal (Ended how) = false
 is_refusal (Fetched number) = false
+is_refusal BackedUp = false
 is_refusal Unknown = true
 is_refusal WrongState = true

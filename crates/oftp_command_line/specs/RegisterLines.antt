@@ -1,9 +1,10 @@
--- The command lines of `fetch` and `report`, which take something out of the database.
+-- The command lines of `fetch`, `report` and `backup`, which take something out of the database.
 use Rattle.std.specs.Prelude.{ℕ, List, [], ◌∷◌, Option, codes, option_map}
 use Rattle.clap.specs.Words.{App, Row, Text}
 use Rattle.oftp_listing.specs.declared.reports.ReportKind.{ReportKind}
 use Rattle.oftp_listing.specs.declared.reports.ReportKind.TheVariants.{Incoming, Outgoing, Issued, Received}
 use Rattle.oftp_command_line.specs.Arguments.{app_with, file_number, given, named, number, own_database, word}
+use Rattle.oftp_command_line.specs.declared.line.commands.registers.Backup.{Backup}
 use Rattle.oftp_command_line.specs.declared.line.commands.registers.Fetch.{Fetch}
 use Rattle.oftp_command_line.specs.declared.line.commands.registers.Report.{Report}
 
@@ -54,3 +55,20 @@ report_with kind rows = record { database = given (codes "db") rows; kind = kind
 -- the same, of the kind that they name: none where they name no kind of report
 abbrev pub report_in : List Row → Option ReportSaid
 report_in rows = option_map (λ kind. report_with kind rows) (kind_of (given (codes "kind") rows))
+
+-- what `backup` is asked for
+pub record BackupSaid : Type 0 where
+  pub database : Text
+  pub to : Text
+
+-- the same, of the command that was read
+abbrev pub backup_said : Backup → BackupSaid
+backup_said b = record { database = b.database.now; to = b.to.now }
+
+-- `backup`, as the parser is told of it
+unfoldable pub backup_app : App
+backup_app = app_with (codes "backup") (own_database ∷ word (codes "to") ∷ [])
+
+-- what `backup` is asked for by these values
+abbrev pub backup_with : List Row → BackupSaid
+backup_with rows = record { database = given (codes "db") rows; to = given (codes "to") rows }

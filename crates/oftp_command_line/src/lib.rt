@@ -5,7 +5,7 @@ mod line;
 mod outcome;
 
 pub use line::{
-    Call, Entrance, Feed, Fetch, Files, Http, Line, LineFault, Listen, Refuse, Release, Report,
-    Run, SessionTerms, Side, Submit, line_of,
+    Backup, Call, Entrance, Feed, Fetch, Files, Http, Line, LineFault, Listen, Refuse, Release,
+    Report, Run, SessionTerms, Side, Submit, line_of,
 };
 pub use outcome::{Fault, Outcome, write_line};

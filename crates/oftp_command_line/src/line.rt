@@ -12,7 +12,7 @@ mod values;
 pub use commands::feed::{Feed, Side};
 pub use commands::files::Files;
 pub use commands::operators::{Refuse, Release, Submit};
-pub use commands::registers::{Fetch, Report};
+pub use commands::registers::{Backup, Fetch, Report};
 pub use commands::services::{Call, Http, Listen, Run};
 pub use commands::terms::{Entrance, SessionTerms};
 use commands::{NAMES, Name};
@@ -47,6 +47,8 @@ pub enum Line<'a> {
     Fetch(Fetch<'a>),
     /// What the database holds is told.
     Report(Report<'a>),
+    /// The database is copied to a file.
+    Backup(Backup<'a>),
     /// What one side of a session sent is told in words.
     Show {
         /// The file that holds its octets.

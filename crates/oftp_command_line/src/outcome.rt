@@ -75,6 +75,8 @@ pub enum Outcome {
     Ended(End),
     /// The incoming file of this number was written.
     Fetched(u64),
+    /// The database was copied.
+    BackedUp,
     /// What the line names isn't there.
     Unknown,
     /// The file isn't in the state that the command asks for.
@@ -87,7 +89,7 @@ impl Outcome {
         ensures { result ≡ is_refusal self.now }
     {
         match self {
-            Outcome::Initiated | Outcome::Migrated => false,
+            Outcome::Initiated | Outcome::Migrated | Outcome::BackedUp => false,
             Outcome::Checked(_) | Outcome::Ended(_) | Outcome::Fetched(_) => false,
             Outcome::Unknown | Outcome::WrongState => true,
         }
@@ -112,6 +114,7 @@ impl fmt::Display for Outcome {
             }
             Outcome::Ended(End::Input) => f.write_str("end: input"),
             Outcome::Fetched(no) => write!(f, "done: fetch {no}"),
+            Outcome::BackedUp => f.write_str("done: backup"),
             Outcome::Unknown => f.write_str("refused: 2 unknown"),
             Outcome::WrongState => f.write_str("refused: 3 state"),
         }

@@ -1,6 +1,7 @@
 //! The commands.
 
 mod asking;
+mod backups;
 mod content;
 mod drafts;
 mod fetching;
@@ -75,6 +76,7 @@ fn shared_database<'a>(line: &Line<'a>) -> Option<&'a str> {
         Line::Call(call) => Some(call.files.database),
         Line::Fetch(fetch) => Some(fetch.database),
         Line::Report(report) => Some(report.database),
+        Line::Backup(backup) => Some(backup.database),
         Line::Init { database } => Some(*database),
         _ => None,
     }
@@ -111,6 +113,7 @@ fn ask(
         Line::Refuse(refuse) => asking.respond(&refuse.files, out, err),
         Line::Fetch(fetch) => asking.fetch(fetch, out, err),
         Line::Report(_) => asking.report(out, err),
+        Line::Backup(backup) => asking.back_up(backup, out, err),
         Line::Call(call) => asking.call(call, out, err),
         _ => asking.ask_alone(out, err),
     }
@@ -136,6 +139,7 @@ fn carry_out_alone(
         Line::Migrate { database } => tell(registers::migrate(rt, database)?, out),
         Line::Check { book } => tell(check(rt, book)?, out),
         Line::Fetch(fetch) => tell(fetching::fetch(rt, fetch)?, out),
+        Line::Backup(backup) => tell(backups::back_up(rt, backup)?, out),
         Line::Feed(feed) => tell(sessions::feed(rt, feed)?, out),
         Line::Show { input } => Ok(if showing::show(rt, input, out)? {
             DONE

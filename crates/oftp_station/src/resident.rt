@@ -2,10 +2,13 @@
 
 mod answers;
 mod asked;
+mod attending;
 mod calling;
 mod calls;
 mod clients;
 mod clock;
+mod commands;
+mod copying;
 mod jobs;
 mod listing;
 mod place;

@@ -23,7 +23,9 @@ use feed::{feed_arguments, feed_read};
 use operators::{
     refuse_arguments, refuse_read, release_arguments, release_read, submit_arguments, submit_read,
 };
-use registers::{fetch_arguments, fetch_read, report_arguments, report_read};
+use registers::{
+    backup_arguments, backup_read, fetch_arguments, fetch_read, report_arguments, report_read,
+};
 use services::{
     call_arguments, call_read, http_arguments, http_read, listen_arguments, listen_read,
     run_arguments, run_read,
@@ -31,7 +33,7 @@ use services::{
 use std::alloc::{AllocError, Global};
 
 /// The names of all commands, in the order in which texts have them.
-pub(super) const NAMES: [Name; 14] = [
+pub(super) const NAMES: [Name; 15] = [
     Name::Init,
     Name::Migrate,
     Name::Check,
@@ -40,6 +42,7 @@ pub(super) const NAMES: [Name; 14] = [
     Name::Refuse,
     Name::Fetch,
     Name::Report,
+    Name::Backup,
     Name::Show,
     Name::Feed,
     Name::Run,
@@ -59,6 +62,7 @@ pub(super) enum Name {
     Refuse,
     Fetch,
     Report,
+    Backup,
     Show,
     Feed,
     Run,
@@ -81,6 +85,7 @@ impl Name {
             "refuse" => Some(Name::Refuse),
             "fetch" => Some(Name::Fetch),
             "report" => Some(Name::Report),
+            "backup" => Some(Name::Backup),
             "show" => Some(Name::Show),
             "feed" => Some(Name::Feed),
             "run" => Some(Name::Run),
@@ -115,6 +120,7 @@ impl Name {
             Name::Refuse => self.taking(alloc, &refuse_arguments()),
             Name::Fetch => self.taking(alloc, &fetch_arguments()),
             Name::Report => self.taking(alloc, &report_arguments()),
+            Name::Backup => self.taking(alloc, &backup_arguments()),
             Name::Show => self.taking(alloc, &[input()]),
             Name::Feed => self.taking(alloc, &feed_arguments()),
             Name::Run => self.taking(alloc, &run_arguments()),
@@ -150,6 +156,7 @@ impl Name {
             Name::Refuse => Ok(Line::Refuse(refuse_read(matches))),
             Name::Fetch => Ok(Line::Fetch(fetch_read(matches))),
             Name::Report => report_read(alloc, matches).map(Line::Report),
+            Name::Backup => Ok(Line::Backup(backup_read(matches))),
             Name::Show => Ok(Line::Show {
                 input: given(matches, "in"),
             }),

@@ -1,10 +1,15 @@
 //! The office over a database's files, and what the program has it do.
 
-use oftp_durable::{operate_durable, serve_durable};
-use oftp_engine::{End, Operator, Port, Role, RunFault, Told};
+ghost use Rattle.std.specs.Prelude.{◌≢◌, OnOk};
+ghost use Rattle.oftp_session.specs.Standings.{Broken};
+
+use oftp_command_line::Fault;
+use oftp_durable::{do_next_durable, go_on_durable, operate_durable, serve_durable};
+use oftp_engine::{Conversation, End, Job, Operator, Port, Role, RunFault, Told};
 use oftp_listing::{ListFault, Reply, ReportKind, answer, report};
 use oftp_partners::Book;
 use oftp_register::Office;
+use oftp_session::Ending;
 use oftp_store::SqlOffice;
 use sqlite::{Alter, FileFrom, FileStore, Unknown};
 use std::alloc::Global;
@@ -16,7 +21,7 @@ pub(super) type FileOffice = SqlOffice<FileStore<FileFrom<Unknown>>>;
 /// The office over a database's files, which are given up when it is dropped.
 ///
 /// It hides what store it is over. A function that drops a [`FileOffice`], or calls what is generic over offices with one, is proved
-/// with all that the store is; this is so for two functions here, and for none that has a `DatabaseOffice`.
+/// with all that the store is; this is so for three functions here, and for none that has a `DatabaseOffice`.
 pub struct DatabaseOffice {
     office: FileOffice,
 }
@@ -52,6 +57,18 @@ impl DatabaseOffice {
         DatabaseOffice { office }
     }
 
+    /// Brings what the log holds into the database's file, so that it is the whole of the database, and gives both up.
+    ///
+    /// # Errors
+    /// The disk failed, or has no room.
+    pub fn close(self) -> Result<(), Fault> {
+        let DatabaseOffice { office } = self;
+        match office.into_conn().close() {
+            Ok(()) => Ok(()),
+            Err(_) => Err(Fault::File),
+        }
+    }
+
     /// Lends the office to an errand over a store.
     fn lend<E: StoreErrand>(&mut self, errand: E) -> E::Outcome {
         errand.run_over(&mut self.office)
@@ -78,6 +95,28 @@ impl DatabaseOffice {
             reader,
             writer,
         })
+    }
+
+    /// Goes on with a conversation, as [`go_on_durable`] does. It must not be called after a fault.
+    pub fn go_on<W: Write>(
+        &mut self,
+        conversation: &mut Conversation<'_>,
+        writer: &mut Port<W>,
+    ) -> Result<Option<Ending>, RunFault>
+        requires { conversation.old.seen.standing ≢ Broken }
+        ensures { OnOk result (conversation.new.seen.standing ≢ Broken) }
+    {
+        go_on_durable(conversation, &mut self.office, writer)
+    }
+
+    /// Does the next job of a list that grows, as [`do_next_durable`] does.
+    pub fn do_next<R: Read, W: Write>(
+        &mut self,
+        alloc: Global,
+        book: &Book,
+        job: &mut Job<'_, R, W>,
+    ) -> Result<(), RunFault> {
+        self.lend(Next { alloc, book, job })
     }
 
     /// Does what an operator wants, as [`operate_durable`] does.
@@ -149,6 +188,22 @@ impl<R: Read, W: Write> StoreErrand for Session<'_, R, W> {
             writer,
         } = self;
         serve_durable(alloc, office, book, role, reader, writer)
+    }
+}
+
+/// The next job of a list that grows.
+struct Next<'a, 'b, R, W> {
+    alloc: Global,
+    book: &'a Book,
+    job: &'a mut Job<'b, R, W>,
+}
+
+impl<R: Read, W: Write> StoreErrand for Next<'_, '_, R, W> {
+    type Outcome = Result<(), RunFault>;
+
+    fn run_over<S: Alter>(self, office: &mut SqlOffice<S>) -> Result<(), RunFault> {
+        let Next { alloc, book, job } = self;
+        do_next_durable(alloc, office, book, job)
     }
 }
 

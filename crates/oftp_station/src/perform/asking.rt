@@ -1,5 +1,6 @@
 //! Commands that have the station do what they ask, where one runs over their database. They read and make the files themselves.
 
+use crate::perform::backups::DatabaseCopy;
 use crate::perform::content::read_content;
 use crate::perform::fetching::make_file_of;
 use crate::perform::files::read_book_octets;
@@ -8,10 +9,11 @@ use crate::perform::{DONE, FAILED, tell};
 use crate::resident::SocketPlace;
 use crate::tracing::Trace;
 use oftp_channel::{AnswerPart, HearFault, Outlet, fits, read_part, read_ready, write_request};
-use oftp_command_line::{Call, Fault, Fetch, Files, Outcome, Submit};
+use oftp_command_line::{Backup, Call, Fault, Fetch, Files, Outcome, Submit};
 use oftp_engine::{Port, RunFault};
 use std::alloc::Global;
 use std::io::{self, Write};
+use std::net::Shutdown;
 use std::os::unix::net::UnixStream;
 
 /// The station is gone, or says what no station says: what was asked is done or not done.
@@ -91,6 +93,35 @@ impl<'a> Asking<'a> {
         }
         print(line.as_slice(), out)?;
         Ok(status)
+    }
+
+    /// Takes a backup. The station does no job while the database's files are copied, and the copy is finished after that.
+    pub(super) fn back_up(
+        self,
+        backup: &Backup<'_>,
+        out: &mut impl Write,
+        err: &mut impl Write,
+    ) -> Result<u8, Fault> {
+        let copy = DatabaseCopy::begun(self.rt, backup)?;
+        let mut copying = Copying {
+            asking: self,
+            database: backup.database,
+            copy: &copy,
+            written: Err(GONE),
+        };
+        let asked = self.ask(&[], &[], &mut io::sink(), err, &mut copying);
+        let written = copying.written;
+        match asked {
+            Ok(status) if status == DONE => tell(copy.finish(self.rt, written)?, out),
+            Ok(status) => {
+                copy.give_up(self.rt);
+                Ok(status)
+            }
+            Err(fault) => {
+                copy.give_up(self.rt);
+                Err(fault)
+            }
+        }
     }
 
     /// Has a partner called.
@@ -213,6 +244,28 @@ fn flush(out: &mut impl Write) -> Result<(), Fault> {
 fn print(line: &[u8], out: &mut impl Write) -> Result<(), Fault> {
     put(line, out)?;
     flush(out)
+}
+
+/// The writer of what tells that the database's files may be copied. They are copied then, and the station is told once that is done.
+#[derive(Clone, Copy)]
+struct Copying<'a> {
+    asking: Asking<'a>,
+    database: &'a str,
+    copy: &'a DatabaseCopy,
+    written: Result<(), Fault>,
+}
+
+impl Write for Copying<'_> {
+    fn write(&mut self, told: &[u8]) -> io::Result<usize> {
+        self.written = self.copy.write(self.asking.rt, self.database);
+        // A station that is gone answers nothing.
+        let _ = self.asking.stream.shutdown(Shutdown::Write);
+        Ok(told.len())
+    }
+
+    fn flush(&mut self) -> io::Result<()> {
+        Ok(())
+    }
 }
 
 /// The writer of what a session's trace is to have. A trace that isn't asked for takes it, too.

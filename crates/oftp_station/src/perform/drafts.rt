@@ -107,7 +107,7 @@ fn is_draft(name: &str) -> bool {
     }
 }
 
-/// Removes a draft that no process has locked.
+/// Removes a draft that no process has locked, and before it the log of one that is a database's copy.
 fn remove_left(rt: &HostRuntime, path: &str) {
     // What a link leads to isn't opened, nor a device or a pipe.
     if !is_file(rt, path) {
@@ -117,7 +117,20 @@ fn remove_left(rt: &HostRuntime, path: &str) {
         return;
     };
     if file.try_lock().is_ok() && bears(rt, &file, path) {
+        remove_log(rt, path);
         let _ = fs::remove_file(rt, path);
+    }
+}
+
+/// The path of the log of a draft that is a database's copy.
+pub(super) fn log_of(rt: &HostRuntime, path: &str) -> Result<String, Fault> {
+    format!(in rt.alloc(); "{path}-wal").map_err(|_| Fault::MEMORY)
+}
+
+/// Removes the log of a draft, where there is one.
+pub(super) fn remove_log(rt: &HostRuntime, path: &str) {
+    if let Ok(log) = log_of(rt, path) {
+        let _ = fs::remove_file(rt, log.as_str());
     }
 }
 

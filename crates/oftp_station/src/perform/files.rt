@@ -1,12 +1,17 @@
 //! The files that a line names.
 
+use crate::perform::drafts::folder_of;
 use oftp_command_line::Fault;
 use oftp_partners::{self as partners, Book, BookFault};
 use std::alloc::Global;
 use std::fs::{self, Metadata, OpenFile};
 use std::io::{self, ErrorKind};
 use std::os::unix::fs::MetadataExt;
+use std::path::Path;
 use std::rt::Files;
+
+/// What stands behind a database's name in those of the files beside it: its log, those that sqlite3 makes, and the socket of its station.
+const BESIDE: [&str; 4] = ["-wal", "-shm", "-journal", "-station"];
 
 /// The book of a file.
 pub(super) fn read_book<R: Files + AllocGlobal>(rt: &R, path: &str) -> Result<Book, Fault> {
@@ -79,4 +84,30 @@ pub(super) fn is_of_database<R: Files + AllocGlobal>(
     let real = fs::canonicalize(rt, database).map_err(|error| file_fault(&error))?;
     let log = format!(in rt.alloc(); "{}-wal", real.as_str()).map_err(|_| Fault::MEMORY)?;
     Ok(is_at(rt, about, real.as_str())? || is_at(rt, about, log.as_str())?)
+}
+
+/// Whether a path is the name of a file beside a database, of one that may come to be there, too.
+pub(super) fn is_beside_database(
+    rt: &HostRuntime,
+    path: Path<'_>,
+    database: &str,
+) -> Result<bool, Fault> {
+    let real = fs::canonicalize(rt, database).map_err(|error| file_fault(&error))?;
+    let folder = fs::canonicalize(rt, folder_of(path)).map_err(|error| file_fault(&error))?;
+    let real = real.as_path();
+    if folder.as_str() != folder_of(real) {
+        return Ok(false);
+    }
+    Ok(match (path.file_name(), real.file_name()) {
+        (Some(name), Some(own)) => is_behind(name, own),
+        _ => false,
+    })
+}
+
+/// Whether a name is that of a database with what stands behind it in those of the files beside it.
+fn is_behind(name: &str, own: &str) -> bool {
+    match name.strip_prefix(own) {
+        Some(ending) => BESIDE.contains(&ending),
+        None => false,
+    }
 }

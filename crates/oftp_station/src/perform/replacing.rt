@@ -2,7 +2,7 @@
 
 use crate::access::Access;
 use crate::perform::drafts::{Draft, folder_of, new_draft, usual_mode};
-use crate::perform::files::{file_fault, is_of_database};
+use crate::perform::files::{file_fault, is_beside_database, is_of_database};
 use oftp_command_line::Fault;
 use std::fs::{self, File, OpenOptions};
 use std::io::{self, ErrorKind};
@@ -25,23 +25,40 @@ pub(super) struct Name {
     access: Access,
 }
 
+impl Name {
+    /// The name's path.
+    pub(super) fn path(&self) -> &str {
+        self.path.as_str()
+    }
+
+    /// The same name, whose new file is to be had as this says.
+    pub(super) fn with_access(self, access: Access) -> Name {
+        let Name { path, access: _ } = self;
+        Name { path, access }
+    }
+}
+
 /// The place of a path where a file may be written: no folder, and no file of the database.
 pub(super) fn place_of(rt: &HostRuntime, path: &str, database: &str) -> Result<Place, Fault> {
     match OpenOptions::new().write(true).open(rt, path) {
         Ok(file) => place_of_file(rt, file, path, database),
-        Err(error) if error.kind() == ErrorKind::NotFound => new_place(rt, path),
+        Err(error) if error.kind() == ErrorKind::NotFound => new_place(rt, path, database),
         Err(error) => Err(file_fault(&error)),
     }
 }
 
-/// The place of a name that no file bears. A link that leads nowhere isn't replaced.
-fn new_place(rt: &HostRuntime, path: &str) -> Result<Place, Fault> {
+/// The place of a name that no file bears. A link that leads nowhere isn't replaced, and a name that a file beside the database may come to
+/// have isn't given.
+fn new_place(rt: &HostRuntime, path: &str, database: &str) -> Result<Place, Fault> {
     match fs::symlink_metadata(rt, path) {
         Ok(_) => return Err(Fault::File),
         Err(error) if error.kind() == ErrorKind::NotFound => {}
         Err(error) => return Err(file_fault(&error)),
     }
     let path = PathBuf::from_str(rt.alloc(), path).map_err(|_| Fault::MEMORY)?;
+    if is_beside_database(rt, path.as_path(), database)? {
+        return Err(Fault::File);
+    }
     let access = Access::of_mode(usual_mode(rt, path.as_path())?);
     Ok(Place::Name(Name { path, access }))
 }

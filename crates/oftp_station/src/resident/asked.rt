@@ -6,10 +6,11 @@ use crate::resident::answers::Answer;
 use crate::resident::calls::Wanted;
 use oftp_channel::Outlet;
 use oftp_command_line::{Call, Fault, Line, Outcome, Submit, line_of};
-use oftp_engine::{Operator, Port, RunFault, Submission, write_content};
+use oftp_engine::{CallJob, Job, Operator, Port, RunFault, Submission, write_content};
 use oftp_listing::ReportKind;
 use oftp_register::Office;
 use std::alloc::Global;
+use std::io;
 use std::time::Duration;
 
 /// What a command asks: its words, and the octets of the files that it read for them.
@@ -29,6 +30,8 @@ pub(super) enum Task {
     Failed(Option<Vec<u8>>),
     /// A partner is to be called for it.
     Calls(Wanted),
+    /// It copies the database's files itself, while no job is done.
+    Copies,
     /// It is nothing that a command asks.
     Nothing,
 }
@@ -51,6 +54,14 @@ impl Asked {
         })
     }
 
+    /// Whether it is done at once, also within a session: it changes nothing, or is nothing that a command asks.
+    pub(super) fn is_look_up(&self, alloc: Global) -> bool {
+        match line_of(alloc, self.words.as_slice()) {
+            Ok(line) => matches!(&line, Line::Report(_) | Line::Fetch(_) | Line::Init { .. }),
+            Err(_) => true,
+        }
+    }
+
     /// Does what is asked over an office.
     pub(super) fn carry_out(&self, rt: &HostRuntime, office: &mut DatabaseOffice) -> Task {
         let alloc = rt.alloc();
@@ -59,6 +70,7 @@ impl Asked {
                 Ok(wanted) => Task::Calls(wanted),
                 Err(fault) => Task::Answered(Answer::new(alloc).ended(Err(fault))),
             },
+            Ok(Line::Backup(_)) => Task::Copies,
             Ok(line) => {
                 let mut answer = Answer::new(alloc);
                 let outcome = self.carry_out_line(alloc, office, &line, &mut answer);
@@ -99,11 +111,11 @@ impl Asked {
         let status = match line {
             Line::Submit(submit) => {
                 let operator = Operator::Submit(self.submission(submit));
-                self.operate(alloc, office, &operator, answer)?
+                self.operate(alloc, office, operator, answer)?
             }
             Line::Release(release) => {
                 let operator = Operator::Release { no: release.no };
-                self.operate(alloc, office, &operator, answer)?
+                self.operate(alloc, office, operator, answer)?
             }
             Line::Refuse(refuse) => {
                 let operator = Operator::Refuse {
@@ -111,7 +123,7 @@ impl Asked {
                     reason: refuse.reason,
                     text: refuse.text,
                 };
-                self.operate(alloc, office, &operator, answer)?
+                self.operate(alloc, office, operator, answer)?
             }
             Line::Report(what) => report(alloc, office, what.kind, answer)?,
             Line::Fetch(fetch) => send_file(alloc, office, fetch.no, answer)?,
@@ -121,21 +133,30 @@ impl Asked {
         Ok(Some(status))
     }
 
-    /// Does what an operator wants of an office.
-    fn operate(
+    /// Does what an operator wants of an office, as the next job of the list that the station does.
+    fn operate<'a>(
         &self,
         alloc: Global,
         office: &mut DatabaseOffice,
-        operator: &Operator<'_>,
+        operator: Operator<'a>,
         answer: &mut Answer,
     ) -> Result<u8, Fault> {
         let book = book_of(alloc, self.book.as_slice())?;
-        let mut port = Port::new(Vec::new(alloc), 0);
-        let told = office
-            .operate(alloc, &book, operator, &mut port)
-            .map_err(Fault::Run)?;
-        answer.add(Outlet::Output, port.into_inner().as_slice())?;
-        Ok(status_of(told))
+        let mut job = job_of(alloc, operator);
+        office.do_next(alloc, &book, &mut job).map_err(Fault::Run)?;
+        match &job {
+            Job::Call(
+                CallJob {
+                    writer,
+                    result: Some(Ok(told)),
+                    ..
+                },
+            ) => {
+                answer.add(Outlet::Output, writer.inner().as_slice())?;
+                Ok(status_of(*told))
+            }
+            _ => Err(Fault::Run(RunFault::Write)),
+        }
     }
 
     /// What is submitted.
@@ -151,6 +172,11 @@ impl Asked {
             content: self.content.as_slice(),
         }
     }
+}
+
+/// What an operator wants, as a job whose line is kept. It has no reader.
+fn job_of<'a>(alloc: Global, operator: Operator<'a>) -> Job<'a, io::Empty, Vec<u8>> {
+    Job::call(operator, Port::new(Vec::new(alloc), 0))
 }
 
 /// Adds a report to an answer.

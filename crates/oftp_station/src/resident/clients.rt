@@ -2,7 +2,7 @@
 
 use crate::resident::watch::Watch;
 use crate::sockets::passes;
-use oftp_channel::{lacking, read_request, write_ready};
+use oftp_channel::{LONGEST_PIECE, Outlet, lacking, read_request, write_piece, write_ready};
 use oftp_command_line::Fault;
 use oftp_engine::Port;
 use std::alloc::Global;
@@ -18,6 +18,9 @@ const PIECE: usize = 16_384;
 /// How many pieces of one command are read before it's the others' turn.
 const MOST_PIECES: usize = 64;
 
+/// What tells a command that it may copy the database's files.
+const COPY: &[u8] = b"copy";
+
 /// How a command stands.
 #[derive(Clone, Copy, PartialEq, Eq)]
 enum Standing {
@@ -27,6 +30,10 @@ enum Standing {
     Waits,
     /// Its request is carried out.
     IsServed,
+    /// It copies the database's files.
+    Copies,
+    /// It has copied them, or is gone.
+    HasCopied,
     /// Its answer goes.
     IsAnswered,
     /// It is gone, or asked for nothing that can be done, or has its answer.
@@ -135,6 +142,9 @@ impl Clients {
             if client.standing == Standing::Asks && client.hear() {
                 is_more = true;
             }
+            if client.standing == Standing::Copies {
+                client.hear_end();
+            }
         }
         self.clear();
         is_more
@@ -164,6 +174,28 @@ impl Clients {
         }
     }
 
+    /// Lets the command of a number, if it is still there, copy the database's files.
+    pub(super) fn let_copy(&mut self, number: u64) {
+        for client in &mut self.clients {
+            if client.number == number {
+                client.let_copy();
+                return;
+            }
+        }
+    }
+
+    /// The number of the command that copies the database's files, if one does, and whether it has done so.
+    pub(super) fn copying(&self) -> Option<(u64, bool)> {
+        for client in &self.clients {
+            match &client.standing {
+                Standing::Copies => return Some((client.number, false)),
+                Standing::HasCopied => return Some((client.number, true)),
+                _ => {}
+            }
+        }
+        None
+    }
+
     /// Sends what goes of the answers at once.
     pub(super) fn send(&mut self) {
         for client in &mut self.clients {
@@ -174,11 +206,12 @@ impl Clients {
         self.clear();
     }
 
-    /// Whether an answer isn't out yet.
+    /// Whether an answer isn't out yet, or somebody copies the database's files.
     pub(super) fn is_answering(&self) -> bool {
         for client in &self.clients {
-            if client.standing == Standing::IsAnswered {
-                return true;
+            match &client.standing {
+                Standing::IsAnswered | Standing::Copies | Standing::HasCopied => return true,
+                _ => {}
             }
         }
         false
@@ -227,6 +260,28 @@ impl Client {
         let request = requested(alloc, self.heard.as_slice());
         self.heard = Vec::new(alloc);
         request
+    }
+
+    /// Lets it copy the database's files. It tells that it has done so by writing no more.
+    fn let_copy(&mut self) {
+        let is_told = COPY.len() <= LONGEST_PIECE
+            && write_piece(&mut Port::new(&self.stream, 0), Outlet::Content, COPY);
+        self.standing = if is_told {
+            Standing::Copies
+        } else {
+            Standing::IsDone
+        };
+    }
+
+    /// Hears whether it still copies the database's files.
+    fn hear_end(&mut self) {
+        let mut octet = [0; 1];
+        let mut stream = &self.stream;
+        self.standing = match stream.read(&mut octet) {
+            Ok(0) => Standing::HasCopied,
+            Err(error) if is_passing(&error) => Standing::Copies,
+            _ => Standing::IsDone,
+        };
     }
 
     /// Takes its answer. Without one it is done with.

@@ -1,13 +1,15 @@
-//! The jobs: a command, a session with a caller, and one with a partner who was called.
+//! The jobs that are sessions: with a caller, and with a partner who was called.
 
 use crate::database::DatabaseOffice;
 use crate::resident::answers::answer_of_call;
-use crate::resident::asked::{Asked, Task};
+use crate::resident::attending::Attending;
 use crate::resident::calling::book_of_call;
 use crate::resident::calls::{Called, Wanted};
 use crate::resident::session_lines::{Way, settle, tell_caller};
 use crate::resident::turns::Resident;
-use crate::sockets::{Station, dial, part, serve_caller};
+use crate::sockets::{
+    Caller, Connection, Station, Trouble, part, serve_called, serve_caller, tell_end,
+};
 use crate::tracing::Trace;
 use oftp_command_line::Fault;
 use oftp_engine::{End, RunFault};
@@ -16,29 +18,6 @@ use std::net::TcpStream;
 use std::time::Instant;
 
 impl Resident<'_> {
-    /// Carries out the next request of a command, if there is one.
-    pub(super) fn serve_command(&mut self, office: &mut DatabaseOffice) -> Result<bool, Fault> {
-        let Some((client, words)) = self.clients.next_request() else {
-            return Ok(false);
-        };
-        let rt = self.rt;
-        let task = match Asked::of(rt.alloc(), words) {
-            Some(asked) => asked.carry_out(rt, office),
-            None => Task::Nothing,
-        };
-        match task {
-            Task::Answered(answer) => self.clients.answer(client, answer),
-            Task::Failed(answer) => {
-                self.clients.answer(client, answer);
-                self.clients.send();
-                return Err(Fault::Run(RunFault::Office));
-            }
-            Task::Calls(wanted) => return self.want_call(client, wanted),
-            Task::Nothing => self.clients.answer(client, None),
-        }
-        Ok(true)
-    }
-
     /// Serves the caller whose turn it is, if there is one.
     pub(super) fn serve_caller(
         &mut self,
@@ -60,13 +39,39 @@ impl Resident<'_> {
             None => None,
         };
         let begun = Instant::now(rt);
-        let served = serve_caller(rt, &caller, &self.station, office);
-        part(rt, &caller.connection, &self.station, &served);
+        let station = self.station;
+        let mut desk = Attending {
+            resident: self,
+            office,
+        };
+        let served = serve_caller(rt, &caller, &station, &mut desk);
+        let Caller { connection, .. } = caller;
+        self.part_from(connection, &station, &served);
         if let Ok(begun) = begun {
             self.waiting.stand_still(begun);
         }
         tell_caller(out, code, served)?;
         Ok(true)
+    }
+
+    /// Appends how a session ended to its trace. Where the station had the last word, the partner is left the time to read it, beside all
+    /// else; but it is waited for where the program ends.
+    fn part_from(
+        &mut self,
+        connection: Connection,
+        station: &Station<'_>,
+        served: &Result<End, Trouble>,
+    ) {
+        match served {
+            Err(Trouble::OfService(Fault::Run(RunFault::Office))) => {
+                part(self.rt, &connection, station, served);
+            }
+            Ok(End::Own(_)) => {
+                tell_end(station, served);
+                self.leaving.take_in(connection);
+            }
+            _ => tell_end(station, served),
+        }
     }
 
     /// Serves the partner who was called, if there is one.
@@ -107,7 +112,7 @@ impl Resident<'_> {
 
     /// One session with a partner who was called over this stream, if there is one.
     fn converse(
-        &self,
+        &mut self,
         stream: Result<TcpStream, Fault>,
         wanted: &Wanted,
         trace: &Trace<'_>,
@@ -129,6 +134,16 @@ impl Resident<'_> {
                 self.station.trace
             },
         };
-        dial(self.rt, stream, partner, &station, office)
+        let Ok(connection) = Connection::new(stream, station.patience) else {
+            return Err(Fault::Run(RunFault::Read));
+        };
+        let rt = self.rt;
+        let mut desk = Attending {
+            resident: self,
+            office,
+        };
+        let served = serve_called(rt, &connection, partner, &station, &mut desk);
+        self.part_from(connection, &station, &served);
+        served.map_err(Trouble::fault)
     }
 }

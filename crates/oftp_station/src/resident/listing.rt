@@ -1,4 +1,4 @@
-//! Requests by HTTP, which are answered between the jobs.
+//! Requests by HTTP, which are answered between the jobs, and within a session where it waits.
 
 use crate::database::DatabaseOffice;
 use crate::resident::replies::{Hosts, reply_to};

@@ -4,15 +4,16 @@ use crate::database::DatabaseOffice;
 use crate::resident::calls::Calls;
 use crate::resident::clients::Clients;
 use crate::resident::clock::Clock;
+use crate::resident::commands::Deferred;
 use crate::resident::session_lines::tell_caller;
 use crate::resident::visitors::Visitors;
 use crate::resident::watch::Watch;
-use crate::sockets::{Arrival, Station, Waiting};
+use crate::sockets::{Arrival, Leaving, Station, Waiting};
 use oftp_command_line::{Fault, write_line};
 use std::io::{self, Write};
 use std::net::TcpListener;
 use std::os::unix::net::UnixListener;
-use std::time::Duration;
+use std::time::{Duration, Instant};
 
 /// How many milliseconds it is waited at most where somebody has a limited time.
 const TICK: u64 = 100;
@@ -56,6 +57,14 @@ pub(super) enum Again {
 }
 
 impl Again {
+    /// How long it may be waited where somebody has a limited time.
+    pub(super) fn tick(self) -> Duration {
+        Duration::from_millis(match self {
+            Again::AtOnce => 0,
+            Again::Soon | Again::Never => TICK,
+        })
+    }
+
     /// The sooner of both.
     fn or(self, other: Again) -> Again {
         match (self, other) {
@@ -78,6 +87,14 @@ pub(super) struct Resident<'a> {
     pub(super) calls: Calls<'a>,
     pub(super) clock: Option<Clock<'a>>,
     pub(super) watch: Watch,
+    // Who is left the time to read the last word.
+    pub(super) leaving: Leaving<'a>,
+    // What came within a session and waits for its end, in the order in which it came.
+    pub(super) deferred: Vec<Deferred>,
+    // How many jobs were done.
+    pub(super) done: u64,
+    // Since when a command copies the database's files, if one does.
+    pub(super) copied_since: Option<Instant>,
     // The kind of the last job.
     last: u8,
 }
@@ -106,6 +123,10 @@ pub fn reside(
         calls: Calls::new(rt),
         clock: Clock::new(rt, station.book, bench.codes, bench.interval)?,
         watch,
+        leaving: Leaving::new(rt),
+        deferred: Vec::new(rt.alloc()),
+        done: 0,
+        copied_since: None,
         last: 0,
     };
     write_line(out, &"ready")?;
@@ -127,18 +148,18 @@ fn watch_over(rt: &HostRuntime, bench: &Bench<'_>) -> io::Result<Watch> {
 }
 
 impl Resident<'_> {
-    /// Does jobs until there were as many as are wanted, and their answers are out.
+    /// Does jobs until there were as many as are wanted, their answers are out, and nobody is left the time to read them.
     fn work(&mut self, office: &mut DatabaseOffice, out: &mut impl Write) -> Result<(), Fault> {
-        let mut done = 0u64;
         for _ in 0..u64::MAX {
             let again = self.take_in(office, out)?;
-            let is_enough = self.bench.jobs > 0 && done >= self.bench.jobs;
-            let has_worked = !is_enough && self.next_job(office, out)?;
+            let is_enough = self.bench.jobs > 0 && self.done >= self.bench.jobs;
+            let is_copied = self.is_copied();
+            let has_worked = !is_enough && !is_copied && self.next_job(office, out)?;
             if has_worked {
-                done = done.saturating_add(1);
+                self.count_job();
             }
             self.clients.send();
-            if is_enough && !self.clients.is_answering() {
+            if is_enough && !self.clients.is_answering() && self.leaving.is_empty() {
                 break;
             }
             let has_begun = self.calls.begin_next(&self.watch);
@@ -148,6 +169,11 @@ impl Resident<'_> {
             }
         }
         Ok(())
+    }
+
+    /// Counts a job that was done.
+    pub(super) fn count_job(&mut self) {
+        self.done = self.done.saturating_add(1);
     }
 
     /// How long it may be waited.
@@ -171,7 +197,11 @@ impl Resident<'_> {
 
     /// Whether somebody has a limited time.
     fn has_limits(&self) -> bool {
-        !self.waiting.is_empty() || !self.calls.is_empty() || !self.visitors.is_empty()
+        !self.waiting.is_empty()
+            || !self.calls.is_empty()
+            || !self.visitors.is_empty()
+            || !self.leaving.is_empty()
+            || self.copied_since.is_some()
     }
 
     /// Takes in who has called and who has connected, hears the commands, answers requests, and calls whom the clock has called.
@@ -180,7 +210,15 @@ impl Resident<'_> {
         office: &mut DatabaseOffice,
         out: &mut impl Write,
     ) -> Result<Again, Fault> {
-        let mut again = self.welcome_callers(out)?;
+        let callers = self.welcome_callers(out)?;
+        let again = callers.or(self.hear(office)?);
+        self.call_due(office)?;
+        Ok(again)
+    }
+
+    /// Takes in who has connected, hears the commands, and answers requests. It changes nothing of the register.
+    pub(super) fn hear(&mut self, office: &mut DatabaseOffice) -> Result<Again, Fault> {
+        let mut again = Again::Never;
         if self.clients.welcome(self.bench.commands, &self.watch)? {
             again = Again::Soon;
         }
@@ -190,7 +228,7 @@ impl Resident<'_> {
         if let Some(requests) = self.bench.requests {
             again = again.or(self.answer_requests(requests, office)?);
         }
-        self.call_due(office)?;
+        self.leaving.go_on();
         Ok(again)
     }
 
@@ -214,12 +252,15 @@ impl Resident<'_> {
         }
     }
 
-    /// Does the next job, if there is one: none of a kind where another kind waits.
+    /// Does the next job, if there is one: first what came within a session, and then none of a kind where another kind waits.
     fn next_job(
         &mut self,
         office: &mut DatabaseOffice,
         out: &mut impl Write,
     ) -> Result<bool, Fault> {
+        if self.serve_deferred(office)? {
+            return Ok(true);
+        }
         for _ in 0..KINDS {
             self.last = self.last.wrapping_add(1) % KINDS;
             let is_done = match self.last {

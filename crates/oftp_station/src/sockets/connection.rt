@@ -1,6 +1,8 @@
 //! A connection, whose partner isn't waited for without a limit.
 
 use crate::sockets::moments::Timed;
+use libc::net::POLLIN;
+use libc::types::pollfd;
 use std::io::{self, ErrorKind, Read, Write};
 use std::net::{Shutdown, TcpStream};
 use std::os::fd::{AsRawFd, RawFd};
@@ -10,10 +12,10 @@ use std::time::Duration;
 const MOST_CALLS: u32 = 1_000;
 
 /// How many octets are dropped before a connection is closed, at most.
-const MOST_DROPPED: u64 = 16_777_216;
+pub(super) const MOST_DROPPED: u64 = 16_777_216;
 
 /// How many seconds they are waited for, at most.
-const FAREWELL: u64 = 5;
+pub(super) const FAREWELL: u64 = 5;
 
 /// A connection. Each read and each write fails where the partner keeps still for longer than the limit.
 #[derive(Drop)]
@@ -42,9 +44,24 @@ impl Connection {
         self.stream.set_nonblocking(!waits)
     }
 
+    /// Whether a read waits for nobody: something came, or the connection has ended.
+    pub(super) fn is_heard(&self) -> bool {
+        let mut asked = [pollfd {
+            fd: self.stream.as_raw_fd(),
+            events: POLLIN,
+            revents: 0,
+        }];
+        libc::net::poll(&mut asked, 0) > 0
+    }
+
+    /// Says that all is written.
+    pub(super) fn end_writing(&self) -> io::Result<()> {
+        self.stream.shutdown(Shutdown::Write)
+    }
+
     /// Says that all is written, and drops what the partner still sends, so that no reset takes away what it hasn't read yet.
     pub(super) fn part(&self, rt: &HostRuntime) -> io::Result<()> {
-        self.stream.shutdown(Shutdown::Write)?;
+        self.end_writing()?;
         let mut rest = Timed::new(rt, self, Duration::from_secs(FAREWELL))?.take(MOST_DROPPED);
         io::copy(&mut rest, &mut io::sink())?;
         Ok(())

@@ -6,7 +6,7 @@ use std::time::{Duration, Instant};
 
 /// How long a connection is waited for: so long in all, and no longer than the patience at each read and each write.
 #[derive(Clone, Copy)]
-pub(super) struct Term<'a> {
+pub struct Term<'a> {
     rt: &'a HostRuntime,
     connection: &'a Connection,
     begun: Instant,
@@ -30,6 +30,23 @@ impl<'a> Term<'a> {
             length,
             patience,
         }
+    }
+
+    /// Whether a read waits for nobody: the partner has said something, or the connection has ended.
+    pub fn is_heard(&self) -> bool {
+        self.connection.is_heard()
+    }
+
+    /// How long the partner may go on to keep still, which has done so since a moment. There is nothing once that is over.
+    pub fn left(&self, since: Instant) -> Option<Duration> {
+        let whole = self
+            .length
+            .saturating_sub(self.begun.elapsed(self.rt).ok()?);
+        let left = match self.patience {
+            Some(patience) => whole.min(patience.saturating_sub(since.elapsed(self.rt).ok()?)),
+            None => whole,
+        };
+        if left.is_zero() { None } else { Some(left) }
     }
 
     /// The connection, which waits no longer than what is left.

@@ -15,6 +15,19 @@ use std::io::{Read, Write};
 use std::net::{TcpListener, TcpStream};
 use std::time::{Duration, Instant};
 
+/// The wire to a partner.
+#[derive(Drop)]
+pub struct Wire<'a, R, W> {
+    /// What the partner has said already.
+    pub heard: &'a [u8],
+    /// What it says then.
+    pub reader: R,
+    /// What it is told.
+    pub writer: W,
+    /// How long it is waited for.
+    pub term: Term<'a>,
+}
+
 /// What a session is served over.
 pub trait Desk {
     /// Serves a session.
@@ -26,8 +39,7 @@ pub trait Desk {
         rt: &HostRuntime,
         role: Role<'_>,
         station: &Station<'_>,
-        reader: R,
-        writer: W,
+        wire: Wire<'_, R, W>,
     ) -> Result<End, Trouble>;
 }
 
@@ -41,11 +53,10 @@ impl Desk for Opened {
         rt: &HostRuntime,
         role: Role<'_>,
         station: &Station<'_>,
-        reader: R,
-        writer: W,
+        wire: Wire<'_, R, W>,
     ) -> Result<End, Trouble> {
         let mut office = database::open_if_free(rt, station.database, PATIENCE)?;
-        office.converse(rt, role, station, reader, writer)
+        office.converse(rt, role, station, wire)
     }
 }
 
@@ -55,10 +66,15 @@ impl Desk for DatabaseOffice {
         rt: &HostRuntime,
         role: Role<'_>,
         station: &Station<'_>,
-        reader: R,
-        writer: W,
+        wire: Wire<'_, R, W>,
     ) -> Result<End, Trouble> {
-        let (mut reader, mut writer) = ports_of(reader, writer);
+        let Wire {
+            heard,
+            reader,
+            writer,
+            ..
+        } = wire;
+        let (mut reader, mut writer) = ports_of(heard.chain(reader), writer);
         let end = self.serve(rt.alloc(), station.book, role, &mut reader, &mut writer)?;
         Ok(end)
     }
@@ -156,16 +172,17 @@ pub fn part(
     station: &Station<'_>,
     served: &Result<End, Trouble>,
 ) {
-    if let Some(trace) = station.trace {
-        tell_end(trace, served);
-    }
+    tell_end(station, served);
     if let Ok(End::Own(_)) | Err(Trouble::OfService(Fault::Run(RunFault::Office))) = served {
         let _ = connection.part(rt);
     }
 }
 
-/// Appends how a session ended to its trace.
-fn tell_end(trace: &Trace<'_>, served: &Result<End, Trouble>) {
+/// Appends how a session ended to its trace, if it has one.
+pub fn tell_end(station: &Station<'_>, served: &Result<End, Trouble>) {
+    let Some(trace) = station.trace else {
+        return;
+    };
     match served {
         Ok(end) => trace.tell(&Outcome::Ended(*end)),
         Err(trouble) => {
@@ -176,7 +193,7 @@ fn tell_end(trace: &Trace<'_>, served: &Result<End, Trouble>) {
 }
 
 /// One session with a partner who was called.
-fn serve_called<D: Desk>(
+pub fn serve_called<D: Desk>(
     rt: &HostRuntime,
     connection: &Connection,
     partner: &Partner,
@@ -191,8 +208,12 @@ fn serve_called<D: Desk>(
         rt,
         Role::Initiator(partner),
         station,
-        Traced::reader(Timed::of(term), station.trace),
-        Traced::writer(Timed::of(term), station.trace),
+        Wire {
+            heard: &[],
+            reader: Traced::reader(Timed::of(term), station.trace),
+            writer: Traced::writer(Timed::of(term), station.trace),
+            term,
+        },
     )
 }
 
@@ -230,8 +251,12 @@ pub fn serve_caller<D: Desk>(
                 rt,
                 Role::Responder,
                 station,
-                heard.as_slice().chain(Within::new(&mut reader, whole)),
-                Skipping::new(&mut writer, said),
+                Wire {
+                    heard: heard.as_slice(),
+                    reader: Within::new(&mut reader, whole),
+                    writer: Skipping::new(&mut writer, said),
+                    term: whole,
+                },
             )
         }
     }

@@ -1,10 +1,10 @@
-//! The commands `fetch` and `report`, which take something out of the database.
-#![tactic(auto, using(crate::proofs::Values::has_text), unfolding(crate::specs::RegisterLines::fetch_app, crate::specs::RegisterLines::report_app))]
+//! The commands `fetch`, `report` and `backup`, which take something out of the database.
+#![tactic(auto, using(crate::proofs::Values::has_text), unfolding(crate::specs::RegisterLines::fetch_app, crate::specs::RegisterLines::report_app, crate::specs::RegisterLines::backup_app))]
 
 ghost use Rattle.std.specs.Prelude.{◌≡◌, IfErr, IfOk, None, Some, codes, true};
 ghost use Rattle.oftp_command_line.specs.Arguments.{HasValues, values_in};
 ghost use Rattle.oftp_command_line.specs.Fault.{is_bad};
-ghost use Rattle.oftp_command_line.specs.RegisterLines.{fetch_app, fetch_said, fetch_with, report_app, report_in, report_said};
+ghost use Rattle.oftp_command_line.specs.RegisterLines.{backup_app, backup_said, backup_with, fetch_app, fetch_said, fetch_with, report_app, report_in, report_said};
 ghost use Rattle.oftp_command_line.specs.Told.{app_told};
 
 use crate::line::LineFault;
@@ -83,4 +83,32 @@ pub(super) fn report_read<'a>(
         database: given(matches, "db"),
         kind: choice(alloc, matches, "kind", "<KIND>", KINDS)?,
     })
+}
+
+/// The command `backup`, which copies the database as it stands.
+#[derive(Clone, Copy)]
+pub struct Backup<'a> {
+    /// The file that holds the database.
+    pub database: &'a str,
+    /// The file that is given the copy.
+    pub to: &'a str,
+}
+
+/// The arguments of `backup`.
+pub(super) fn backup_arguments<'a>() -> [Argument<'a>; 2]
+    ensures { app_told (codes "backup") result ≡ backup_app }
+{
+    let to = "The file that is given the copy";
+    [own_database(), word("to", "TO", to)]
+}
+
+/// What `backup` is asked for by the values of its options and words.
+pub(super) fn backup_read<'a>(matches: &ArgMatches<'a>) -> Backup<'a>
+    requires { HasValues backup_app (values_in matches.now) }
+    ensures { backup_said result ≡ backup_with (values_in matches.now) }
+{
+    Backup {
+        database: given(matches, "db"),
+        to: given(matches, "to"),
+    }
 }

@@ -18,6 +18,7 @@ impl Name {
             Name::Refuse => "refuse",
             Name::Fetch => "fetch",
             Name::Report => "report",
+            Name::Backup => "backup",
             Name::Show => "show",
             Name::Feed => "feed",
             Name::Run => "run",
@@ -40,6 +41,7 @@ impl Name {
                 "oftp_station refuse --db <DATABASE> --book <BOOK> <NO> <REASON> <TEXT>",
             Name::Fetch => "oftp_station fetch --db <DATABASE> <NO> <FILE>",
             Name::Report => "oftp_station report --db <DATABASE> <KIND>",
+            Name::Backup => "oftp_station backup --db <DATABASE> <TO>",
             Name::Show => "oftp_station show <IN>",
             Name::Feed =>
                 "oftp_station feed [--db <DATABASE>] --book <BOOK> [--role <ROLE>] [--partner <CODE>] [--trace <FILE>] <IN> <OUT>",
@@ -68,6 +70,7 @@ impl Name {
             Name::Refuse => "Says that an incoming file wasn't delivered",
             Name::Fetch => "Writes an incoming file in its local form to file FILE",
             Name::Report => "Tells what the database holds, as comma-separated values",
+            Name::Backup => "Copies the database as it stands to file TO",
             Name::Show => "Prints the commands in file IN, a line each, up to the first fault",
             Name::Feed => "Plays one session from the octets of file IN to file OUT",
             Name::Run => "Serves partners and commands by day and night, one after another",

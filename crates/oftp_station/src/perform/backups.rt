@@ -1,0 +1,144 @@
+//! The command `backup`, which copies a database as it stands to one file.
+
+use crate::access::{Access, make_private};
+use crate::database::{self, PATIENCE};
+use crate::perform::drafts::{Draft, log_of, remove_log};
+use crate::perform::files::{file_fault, open_input};
+use crate::perform::replacing::{Name, Place, draft_of, place_of, settle};
+use oftp_command_line::{Backup, Fault, Outcome};
+use std::fs::{self, File};
+use std::io::{ErrorKind, Read, Write};
+
+/// How many octets are copied at once.
+const PIECE: usize = 16_384;
+
+/// What stands behind a database's name in those of the files that are read with it.
+const READ_WITH_IT: [&str; 2] = ["-wal", "-journal"];
+
+/// Copies a database to a file. Nobody else changes it meanwhile: it is open here.
+pub(super) fn back_up(rt: &HostRuntime, line: &Backup<'_>) -> Result<Outcome, Fault> {
+    let office = database::open(rt, line.database, PATIENCE)?;
+    let copy = DatabaseCopy::begun(rt, line)?;
+    let written = copy.write(rt, line.database);
+    drop(office);
+    copy.finish(rt, written)
+}
+
+/// A copy of a database, which is a draft until it is whole.
+#[derive(Drop)]
+pub(super) struct DatabaseCopy {
+    name: Name,
+    draft: Draft,
+}
+
+impl DatabaseCopy {
+    /// The copy to the file that a line names, of which nothing is written yet.
+    pub(super) fn begun(rt: &HostRuntime, line: &Backup<'_>) -> Result<DatabaseCopy, Fault> {
+        let name = name_of(rt, line)?;
+        let draft = draft_of(rt, &name)?;
+        Ok(DatabaseCopy { name, draft })
+    }
+
+    /// Writes what the files of a database hold. Nobody may change them meanwhile: then what is written is what a kill would leave.
+    pub(super) fn write(&self, rt: &HostRuntime, database: &str) -> Result<(), Fault> {
+        let real = fs::canonicalize(rt, database).map_err(|error| file_fault(&error))?;
+        pour(rt, real.as_str(), &self.draft.file)?;
+        let log = log_of(rt, real.as_str())?;
+        if !is_there(rt, log.as_str())? {
+            return Ok(());
+        }
+        let copied = log_of(rt, self.draft.path.as_str())?;
+        let copied = make_private(rt, copied.as_str()).map_err(|error| file_fault(&error))?;
+        pour(rt, log.as_str(), &copied)
+    }
+
+    /// Gives the copy its name, once it was written and opened as a station opens it. Where it wasn't it is removed.
+    pub(super) fn finish(
+        self,
+        rt: &HostRuntime,
+        written: Result<(), Fault>,
+    ) -> Result<Outcome, Fault> {
+        let DatabaseCopy { name, draft } = self;
+        let united = unite(rt, &name, &draft, written);
+        remove_log(rt, draft.path.as_str());
+        settle(rt, draft, &name, united)?;
+        Ok(Outcome::BackedUp)
+    }
+
+    /// Removes the copy.
+    pub(super) fn give_up(self, rt: &HostRuntime) {
+        let _ = self.finish(rt, Err(Fault::File));
+    }
+}
+
+/// Opens a copy that was written, which tests it, and brings what its log holds into its one file.
+fn unite(
+    rt: &HostRuntime,
+    name: &Name,
+    draft: &Draft,
+    written: Result<(), Fault>,
+) -> Result<(), Fault> {
+    written?;
+    database::open(rt, draft.path.as_str(), 0)?.close()?;
+    refuse_logged(rt, name)
+}
+
+/// The name that a copy is to bear, with the access that the database has. No device has one, nor a file of a database.
+fn name_of(rt: &HostRuntime, line: &Backup<'_>) -> Result<Name, Fault> {
+    let about = fs::metadata(rt, line.database).map_err(|error| file_fault(&error))?;
+    if is_there(rt, line.to)? && !is_file(rt, line.to)? {
+        return Err(Fault::File);
+    }
+    match place_of(rt, line.to, line.database)? {
+        Place::Device(_) => Err(Fault::File),
+        Place::Name(name) => {
+            refuse_logged(rt, &name)?;
+            Ok(name.with_access(Access::of_file(&about)))
+        }
+    }
+}
+
+/// A name beside which a log lies, or a journal, is that of another database. It would be read into the copy.
+fn refuse_logged(rt: &HostRuntime, name: &Name) -> Result<(), Fault> {
+    for ending in READ_WITH_IT {
+        let path = name.path();
+        let beside = format!(in rt.alloc(); "{path}{ending}").map_err(|_| Fault::MEMORY)?;
+        if is_there(rt, beside.as_str())? {
+            return Err(Fault::File);
+        }
+    }
+    Ok(())
+}
+
+/// Whether anything bears a name.
+fn is_there(rt: &HostRuntime, path: &str) -> Result<bool, Fault> {
+    match fs::symlink_metadata(rt, path) {
+        Ok(_) => Ok(true),
+        Err(error) if error.kind() == ErrorKind::NotFound => Ok(false),
+        Err(error) => Err(file_fault(&error)),
+    }
+}
+
+/// Whether a name is that of a regular file, or leads to one.
+fn is_file(rt: &HostRuntime, path: &str) -> Result<bool, Fault> {
+    match fs::metadata(rt, path) {
+        Ok(about) => Ok(about.is_file()),
+        Err(error) => Err(file_fault(&error)),
+    }
+}
+
+/// Writes all that a file holds to another.
+fn pour(rt: &HostRuntime, from: &str, to: &File) -> Result<(), Fault> {
+    let mut from = open_input(rt, from)?;
+    let mut to = to;
+    let mut piece = [0; PIECE];
+    for _ in 0..u64::MAX {
+        let count = from.read(&mut piece).map_err(|error| file_fault(&error))?;
+        if count == 0 {
+            break;
+        }
+        to.write_all(&piece[..count])
+            .map_err(|error| file_fault(&error))?;
+    }
+    Ok(())
+}
