@@ -8,8 +8,12 @@ use std::test::Fail;
 
 mod answers;
 mod asking;
+mod conversing;
 mod durable;
+mod growing;
+mod growing_over_files;
 mod hearing;
+mod keeping;
 mod lists;
 mod noting;
 mod operators;

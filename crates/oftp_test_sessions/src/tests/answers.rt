@@ -13,22 +13,30 @@ use std::alloc::{AllocError, Global};
 use std::process::Abort;
 use std::test::Fail;
 
-const THREE_OCTETS: Submission<'static> = Submission {
+pub(crate) const THREE_OCTETS: Submission<'static> = Submission {
     description: "",
     content: b"ABC",
     ..FILE
 };
 
 /// The partner's ready message and its SSID.
-const GREETING: &[u8] =
+pub(crate) const GREETING: &[u8] =
     b"\x10\0\0\x17IODETTE FTP READY \r\x10\0\0\x41X5O0177CARMAKER            CARPW   00128BNYN002N            \r";
 
 /// The station's SSID, and SFID with the size and the original size of one block, from row 0 on.
-const OFFER: &[u8] = b"\x10\0\0\x41X5O0013SUPPLIER            SUPPW   00128BNYN002N            \r\
+pub(crate) const OFFER: &[u8] =
+    b"\x10\0\0\x41X5O0013SUPPLIER            SUPPW   00128BNYN002N            \r\
       \x10\0\0\xa9HABC                          202401311015300001        O0177CARMAKER            O0013SUPPLIER            U00000\
       0000000000001000000000000100000000000000000\
       00000\
       0N000";
+
+/// SFPA from row 0 on, EFPA and ESID 00.
+pub(crate) const TAKES: &[u8] = b"\x10\0\0\x16200000000000000000\x10\0\0\x064N\x10\0\0\x0bF00000\r";
+
+/// DATA, EFID and CD.
+pub(crate) const SENT: &[u8] =
+    b"\x10\0\0\x09D\x83ABC\x10\0\0\x27T0000000000000000000000000000000003\x10\0\0\x05R";
 
 /// What the partner answers, what the station says behind its offer, how the session ends and how far the file has come.
 #[derive(Clone, Copy, Drop)]
@@ -67,7 +75,7 @@ fn answers(
     Ok(())
 }
 
-fn joined(alloc: Global, first: &[u8], second: &[u8]) -> Result<Vec<u8>, AllocError> {
+pub(crate) fn joined(alloc: Global, first: &[u8], second: &[u8]) -> Result<Vec<u8>, AllocError> {
     let mut all = first.to_vec(alloc)?;
     all.extend_from_slice(second)?;
     Ok(all)
@@ -75,10 +83,10 @@ fn joined(alloc: Global, first: &[u8], second: &[u8]) -> Result<Vec<u8>, AllocEr
 
 fn table() -> [Answer<'static>; 3] {
     [
-        // SFPA from row 0 on, EFPA and ESID 00: DATA, EFID and CD go out, and the file is handed over.
+        // The file goes out, and is handed over.
         Answer {
-            heard: b"\x10\0\0\x16200000000000000000\x10\0\0\x064N\x10\0\0\x0bF00000\r",
-            said: b"\x10\0\0\x09D\x83ABC\x10\0\0\x27T0000000000000000000000000000000003\x10\0\0\x05R",
+            heard: TAKES,
+            said: SENT,
             end: End::Partner(Count::new(0)),
             state: OutgoingState::Handed,
         },

@@ -102,8 +102,9 @@ fn works<S: Alter + Drop>(
 // The files of the database at a path.
 const FILES: [&str; 2] = ["stations_test.db", "stations_test.db-wal"];
 
-fn remove_files(rt: &HostRuntime) {
-    for name in FILES {
+/// Removes the files of a database.
+pub(crate) fn remove_files(rt: &HostRuntime, files: &[&str; 2]) {
+    for name in files {
         let _ = fs::remove_file(rt, name);
     }
 }
@@ -116,24 +117,25 @@ fn list(rt: &HostRuntime, book: &Book, jobs: &mut [AnyJob<'_>]) -> Option<Result
     }
 }
 
-type AtFiles = SqlOffice<FileStore<FileFrom<Unknown>>>;
+pub(crate) type AtFiles = SqlOffice<FileStore<FileFrom<Unknown>>>;
 
-fn open(rt: &HostRuntime) -> Result<AtFiles, Fail> {
-    open_durable(rt, FILES[0], LIMITS, Unknown).map_err(|_| "not opened".into())
+/// Opens the office of a database's files.
+pub(crate) fn open(rt: &HostRuntime, files: &[&str; 2]) -> Result<AtFiles, Fail> {
+    open_durable(rt, files[0], LIMITS, Unknown).map_err(|_| "not opened".into())
 }
 
 /// A list is done over the files at a path, and its file is there when they are opened again. Over new files an office works.
 #[test]
 fn over_files(rt: HostRuntime) -> Result<(), Fail> {
     let alloc = rt.alloc();
-    remove_files(&rt);
+    remove_files(&rt, &FILES);
     let book = read(alloc, BOOK)?;
     let mut jobs = [call(alloc, Operator::Submit(FILE))];
     assert_eq!(rt; list(&rt, &book, &mut jobs), Some(Ok(())));
     assert_eq!(rt; answer(&jobs[0]), Some(Ok(Told::Done)));
-    assert_eq!(rt; files_again(alloc, open(&rt)?)?, 1);
-    remove_files(&rt);
-    works(alloc, &rt, open(&rt)?)?;
-    remove_files(&rt);
+    assert_eq!(rt; files_again(alloc, open(&rt, &FILES)?)?, 1);
+    remove_files(&rt, &FILES);
+    works(alloc, &rt, open(&rt, &FILES)?)?;
+    remove_files(&rt, &FILES);
     Ok(())
 }

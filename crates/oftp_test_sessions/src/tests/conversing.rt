@@ -1,0 +1,131 @@
+//! A session over a database that hears its partner in three pieces, while others look at the register. The octets are spelled by hand from
+//! RFC 5024.
+
+ghost use Rattle.std.specs.Prelude.{◌≢◌, OnOk};
+ghost use Rattle.oftp_session.specs.Standings.{Broken};
+
+use super::BOOK;
+use super::durable::{AtFiles, open, remove_files};
+use super::hearing::{Line, hear};
+use super::keeping::kept;
+use super::noting::Noting;
+use oftp_durable::go_on_durable;
+use oftp_engine::{Conversation, Port, Role, RunFault};
+use oftp_partners::{Book, read};
+use oftp_session::Ending;
+use oftp_wire::Count;
+use std::alloc::Global;
+use std::process::Abort;
+use std::test::Fail;
+
+/// The partner's SSID, SFID of a file in V, DATA of two records, of which the second has no octet, DATA of a third one, EFID and ESID 00. It
+/// is cut within the password, and within the header of the last DATA.
+const PIECES: [&[u8]; 3] = [
+    b"\x10\0\0\x41X5O0177CARMAKER            CAR",
+    b"PW   00128BNYN002N            \r\
+      \x10\0\0\xa9HABC                          202401311015300001        O0013SUPPLIER            O0177CARMAKER            V00003\
+      0000000000001000000000000100000000000000000\
+      00000\
+      0N000\
+      \x10\0\0\x09D\x83ABC\x10\0\0\x06D\x80\x10\0\0",
+    b"\x08D\x82DE\x10\0\0\x27T0000000000000000300000000000000005\x10\0\0\x0bF00000\r",
+];
+
+/// The station's ready message and its SSID, SFPA from row 0 on, CDT for two DATA, and EFPA.
+const SAID: &[u8] =
+    b"\x10\0\0\x17IODETTE FTP READY \r\x10\0\0\x41X5O0013SUPPLIER            SUPPW   00128BNYN002N            \r\
+      \x10\0\0\x16200000000000000000\x10\0\0\x07C  \x10\0\0\x064N";
+
+/// Behind CDT the two records are kept.
+const MEANWHILE: &str =
+    "in 1 Open 2 ABC 20240131 1015300001 O0177CARMAKER O0013SUPPLIER Variable 3 |ABC|\n";
+
+const WHOLE: &str =
+    "in 1 Whole 3 ABC 20240131 1015300001 O0177CARMAKER O0013SUPPLIER Variable 3 |ABC||DE\n";
+
+/// What a conversation came to.
+#[derive(Drop)]
+struct Talk {
+    /// How it ended, behind each piece.
+    ends: [Option<Ending>; 3],
+    /// What the office kept before the last piece.
+    meanwhile: String,
+    said: Vec<u8>,
+}
+
+// Hears a piece, and goes on.
+fn take(
+    conversation: &mut Conversation<'_>,
+    office: &mut AtFiles,
+    writer: &mut Port<Vec<u8>>,
+    piece: &[u8],
+) -> Result<Option<Ending>, RunFault>
+    requires { conversation.old.seen.standing ≢ Broken }
+    ensures { OnOk result (conversation.new.seen.standing ≢ Broken) }
+{
+    conversation.hear(piece)?;
+    go_on_durable(conversation, office, writer)
+}
+
+// Hears the pieces, with a look at the register behind the second.
+fn converse(alloc: Global, office: AtFiles, book: &Book) -> Result<Talk, Fail> {
+    let mut office = office;
+    let mut conversation = Conversation::new(alloc, book, Role::Responder);
+    let mut writer = Port::new(Vec::new(alloc), 0);
+    let [first, second, third] = PIECES;
+    let one = take(&mut conversation, &mut office, &mut writer, first)?;
+    let two = take(&mut conversation, &mut office, &mut writer, second)?;
+    let meanwhile = kept(alloc, &mut office)?;
+    let three = take(&mut conversation, &mut office, &mut writer, third)?;
+    Ok(Talk {
+        ends: [one, two, three],
+        meanwhile,
+        said: writer.into_inner(),
+    })
+}
+
+// It waited behind two pieces, and the partner ended it without a fault.
+fn is_heard(talk: &Talk) -> bool {
+    talk.ends == [None, None, Some(Ending::Partner(Count::new(0)))]
+        && talk.meanwhile.as_str() == MEANWHILE
+        && talk.said.as_slice() == SAID
+}
+
+// What is left where a session in memory hears all pieces at once. It says the same.
+fn left_at_once(alloc: Global, rt: &impl Abort, book: &Book) -> Result<String, Fail> {
+    let mut octets = Vec::new(alloc);
+    for piece in PIECES {
+        octets.extend_from_slice(piece)?;
+    }
+    let mut office = Noting::new(alloc, None);
+    let line = Line::of(octets.as_slice());
+    let heard = hear(alloc, &mut office, book, Role::Responder, line, 1_000_000);
+    assert!(rt; heard.said.as_slice() == SAID);
+    Ok(kept(alloc, &mut office)?)
+}
+
+// The files of the database at a path.
+const FILES: [&str; 2] = ["conversation_test.db", "conversation_test.db-wal"];
+
+// What is found where the files are opened again.
+fn found_again(rt: &HostRuntime) -> Result<String, Fail> {
+    let mut office = open(rt, &FILES)?;
+    Ok(kept(rt.alloc(), &mut office)?)
+}
+
+/// Behind the second piece it waits, and the register is looked at. At its end the database has what a session leaves that hears all at
+/// once.
+#[test]
+fn conversation_over_a_database(rt: HostRuntime) -> Result<(), Fail> {
+    let alloc = rt.alloc();
+    let book = read(alloc, BOOK)?;
+    remove_files(&rt, &FILES);
+    let talk = converse(alloc, open(&rt, &FILES)?, &book)?;
+    assert!(rt; is_heard(&talk));
+    let found = found_again(&rt)?;
+    assert_eq!(rt; found.as_str(), WHOLE);
+    let at_once = left_at_once(alloc, &rt, &book)?;
+    assert_eq!(rt; found.as_str(), at_once.as_str());
+    remove_files(&rt, &FILES);
+    Ok(())
+}

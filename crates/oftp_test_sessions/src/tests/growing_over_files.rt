@@ -1,0 +1,100 @@
+//! A list of jobs over a database that grows by one job at a time. The expected octets are spelled by hand from RFC 5024.
+
+use super::BOOK;
+use super::operators::{FILE, LIMITS};
+use oftp_durable::{do_next_durable, open_durable};
+use oftp_engine::{End, Job, Operator, Port, Refusal, Role, RunFault, Told};
+use oftp_partners::{Book, read};
+use oftp_register::Office;
+use oftp_store::SqlOffice;
+use sqlite::{Alter, Unknown};
+use std::alloc::Global;
+use std::fs;
+use std::process::Abort;
+use std::test::Fail;
+
+/// The station's ready message.
+const READY: &[u8] = b"\x10\0\0\x17IODETTE FTP READY \r";
+
+type AnyJob<'a> = Job<'a, &'static [u8], Vec<u8>>;
+
+// What the next job comes to, once it is done: a session's end or a call's, and what it has out.
+#[derive(Drop)]
+enum Done {
+    Session(Option<Result<End, RunFault>>, Vec<u8>),
+    Call(Option<Result<Told, RunFault>>, Vec<u8>),
+}
+
+fn done<S: Alter>(
+    alloc: Global,
+    office: &mut SqlOffice<S>,
+    book: &Book,
+    job: AnyJob<'_>,
+) -> Result<Done, RunFault> {
+    let mut job = job;
+    do_next_durable(alloc, office, book, &mut job)?;
+    Ok(match job {
+        Job::Session(session) => Done::Session(session.result, session.writer.into_inner()),
+        Job::Call(call) => Done::Call(call.result, call.writer.into_inner()),
+    })
+}
+
+// A call of an operator.
+fn call<'a>(alloc: Global, operator: Operator<'a>) -> AnyJob<'a> {
+    Job::call(operator, Port::new(Vec::new(alloc), 0))
+}
+
+// A session in which the partner says nothing.
+fn silence<'a>(alloc: Global) -> AnyJob<'a> {
+    let nothing: &[u8] = b"";
+    Job::session(
+        Role::Responder,
+        Port::new(nothing, 1_000),
+        Port::new(Vec::new(alloc), 0),
+    )
+}
+
+// A call, a session and a call that is refused are done one by one, and each has its answer.
+fn grows<S: Alter>(alloc: Global, rt: &impl Abort, office: &mut SqlOffice<S>) -> Result<(), Fail> {
+    let book = read(alloc, BOOK)?;
+    let submit = call(alloc, Operator::Submit(FILE));
+    let Ok(Done::Call(told, line)) = done(alloc, office, &book, submit) else {
+        return Err("not submitted".into());
+    };
+    assert_eq!(rt; told, Some(Ok(Told::Done)));
+    assert!(rt; line.as_slice() == "done: submit 1\n".as_bytes());
+    let Ok(Done::Session(end, said)) = done(alloc, office, &book, silence(alloc)) else {
+        return Err("not served".into());
+    };
+    assert_eq!(rt; end, Some(Ok(End::Input)));
+    assert!(rt; said.as_slice() == READY);
+    let release = call(alloc, Operator::Release { no: 1 });
+    let Ok(Done::Call(told, _)) = done(alloc, office, &book, release) else {
+        return Err("not carried out".into());
+    };
+    assert_eq!(rt; told, Some(Ok(Told::Refused(Refusal::Unknown))));
+    Ok(())
+}
+
+// The files of the database at a path.
+const FILES: [&str; 2] = ["growing_test.db", "growing_test.db-wal"];
+
+fn remove_files(rt: &HostRuntime) {
+    for name in FILES {
+        let _ = fs::remove_file(rt, name);
+    }
+}
+
+/// Jobs are done as they come, over a database's files.
+#[test]
+fn jobs_as_they_come(rt: HostRuntime) -> Result<(), Fail> {
+    let alloc = rt.alloc();
+    remove_files(&rt);
+    let Ok(mut office) = open_durable(&rt, FILES[0], LIMITS, Unknown) else {
+        return Err("not opened".into());
+    };
+    grows(alloc, &rt, &mut office)?;
+    assert_eq!(rt; office.list_out()?.len(), 1);
+    remove_files(&rt);
+    Ok(())
+}
