@@ -4,9 +4,10 @@
     checks/scenarios/documents.py
 
 Each command of docs/COMMANDS.md is one that the program has, and the other way round; its line there names the options that its `--help`
-names. Its reasons are those that the page for people knows. The blocks below README's heading "A day .." and below "The first day" of docs/OPERATING.md are typed as they stand there, each in a folder
-of its own, with ports that are free: what stands behind a `$` prints the lines below it. Where stunnel isn't there, the first day ends before
-it. Where `rt` is there, the documents name its logic. The last line is `N passed, M failed`.
+names. Its reasons are those that the page for people knows. README.md and the table of docs/ARCHITECTURE.md name the crates that there are. The
+blocks below README's heading "A day .." and below "The first day" of docs/OPERATING.md are typed as they stand there, each in a folder of its
+own, with ports that are free: what stands behind a `$` prints the lines below it. Where stunnel isn't there, the first day ends before it. Where
+`rt` is there, the documents name its logic. The last line is `N passed, M failed`.
 """
 
 import os
@@ -27,6 +28,7 @@ from services import LONG, Wrong, expect, free_port
 README = ROOT / "README.md"
 COMMANDS = ROOT / "docs/COMMANDS.md"
 OPERATING = ROOT / "docs/OPERATING.md"
+ARCHITECTURE = ROOT / "docs/ARCHITECTURE.md"
 # A command's line of the table: its name, and what stands behind it.
 LINE = re.compile(r"^\| `\./oftp_station ([a-z]+)((?:[^`|]|\\\|)*)` \|", re.M)
 OPTION = re.compile(r"--[a-z][a-z-]*")
@@ -58,6 +60,15 @@ def options_are_told():
     for name, words in LINE.findall(COMMANDS.read_text(encoding="utf-8")):
         options = set(OPTION.findall(said(name, "--help"))) - {"--help"}
         expect(set(OPTION.findall(words)), options, f"the options of {name} in docs/COMMANDS.md")
+
+
+def crates_are_told():
+    """The crates of the documents are those of crates.txt."""
+    crates = set(re.findall(r"^(\w+):", (ROOT / "crates.txt").read_text(encoding="utf-8"), re.M))
+    table = set(re.findall(r"^\| (oftp_\w+) \|", ARCHITECTURE.read_text(encoding="utf-8"), re.M))
+    expect(table, crates, "the crates of docs/ARCHITECTURE.md")
+    layout = README.read_text(encoding="utf-8").partition("\n## Layout")[2].partition("\n## ")[0]
+    expect(set(re.findall(r"oftp_\w+", layout)), crates, "the crates of README.md")
 
 
 def reasons_are_told():
@@ -186,7 +197,7 @@ def kit_is_told():
         expect(named, {logic}, f"the toolchain of {name}")
 
 
-CASES = [commands_are_told, options_are_told, reasons_are_told, day_goes_as_shown, first_day_goes_as_shown, kit_is_told]
+CASES = [commands_are_told, options_are_told, crates_are_told, reasons_are_told, day_goes_as_shown, first_day_goes_as_shown, kit_is_told]
 
 
 def main():
