@@ -25,7 +25,7 @@ enum Done {
     Call(Option<Result<Told, RunFault>>, Vec<u8>),
 }
 
-fn done<S: Alter>(
+fn carried_out<S: Alter>(
     alloc: Global,
     office: &mut SqlOffice<S>,
     book: &Book,
@@ -58,18 +58,18 @@ fn silence<'a>(alloc: Global) -> AnyJob<'a> {
 fn grows<S: Alter>(alloc: Global, rt: &impl Abort, office: &mut SqlOffice<S>) -> Result<(), Fail> {
     let book = read(alloc, BOOK)?;
     let submit = call(alloc, Operator::Submit(FILE));
-    let Ok(Done::Call(told, line)) = done(alloc, office, &book, submit) else {
+    let Ok(Done::Call(told, line)) = carried_out(alloc, office, &book, submit) else {
         return Err("not submitted".into());
     };
     assert_eq!(rt; told, Some(Ok(Told::Done)));
     assert!(rt; line.as_slice() == "done: submit 1\n".as_bytes());
-    let Ok(Done::Session(end, said)) = done(alloc, office, &book, silence(alloc)) else {
+    let Ok(Done::Session(end, said)) = carried_out(alloc, office, &book, silence(alloc)) else {
         return Err("not served".into());
     };
     assert_eq!(rt; end, Some(Ok(End::Input)));
     assert!(rt; said.as_slice() == READY);
     let release = call(alloc, Operator::Release { no: 1 });
-    let Ok(Done::Call(told, _)) = done(alloc, office, &book, release) else {
+    let Ok(Done::Call(told, _)) = carried_out(alloc, office, &book, release) else {
         return Err("not carried out".into());
     };
     assert_eq!(rt; told, Some(Ok(Told::Refused(Refusal::Unknown))));
