@@ -7,7 +7,8 @@ Registers of 10 and 100 MiB in two files, and of 1,000 and 10,000 files that cam
 one of 1 GiB and one of 100,000 files. Over each, `run` does what operators and partners have it do, each act several times over, and a line
 says what one takes on average: the seconds of the processor that the station took, and those of the command that asked it. What answers
 the same, however large the register, may take at most MOST times what it takes over the least one; a list may take MOST times as long as its
-entries are more, and a session LOOK longer for each file, since it looks for what is next past all that is answered. With `--whole` a line also says what the same act takes as a program of its own, with its opening, how much memory it has
+entries are more. A file that goes out may take LOOK longer for each file that is there: each looks for what is next past all that is answered,
+which is more than is wanted. With `--whole` a line also says what the same act takes as a program of its own, with its opening, how much memory it has
 then, and what plain C over libsqlite3 (`plain_store.c`, `plain_register.c`) takes for it over the same database without opening it. With
 `--assert` it fails where one takes longer. The last line is `N passed, M failed`.
 """
@@ -33,7 +34,7 @@ from program import PROGRAM, ROOT
 # How many times as much something may take than over the least register (2 is wanted), and the seconds that may be chance.
 MOST = 3
 NOISE = 0.002
-LOOK = 0.000_000_5
+LOOK = 0.000_000_25
 SMALL = 10 * 1024
 # How often each small act is done.
 OFTEN = 20
@@ -54,7 +55,7 @@ class Register(NamedTuple):
 
 class Act(NamedTuple):
     """Something that is done: its name, what does it, how often it is done, whether it answers with all entries, of how many parts one time is,
-    and whether it is a session.
+    and whether it looks for what is next past all that is answered, each time.
 
     `do` is given a station and how often it was done before: a `Held` one, which answers the seconds of the processor that the command
     took, or an `Alone` one, which answers what a program of its own took. `plain` says the words for plain C."""
@@ -65,7 +66,7 @@ class Act(NamedTuple):
     often: int = OFTEN
     is_list: bool = False
     parts: int = 1
-    is_session: bool = False
+    looks_each_time: bool = False
 
 
 class Room:
@@ -208,7 +209,7 @@ def listed(kind):
 ACTS = [
     Act("submit of 10 KB", submit, lambda it: ["plain_register", "submit", it.room.content, "NEW"]),
     # Before responses wait, which would go out first.
-    Act("10 KB go out", lambda it, at: it.session(*taken_answers(it.files, 1)), lambda it: it.send(), 1, parts=OFTEN, is_session=True),
+    Act("10 KB go out", lambda it, at: it.session(*taken_answers(it.files, 1)), lambda it: it.send(), 1, parts=OFTEN, looks_each_time=True),
     Act(
         "release",
         lambda it, at: it.command("release", "--book", it.room.book, str(released(it, at))),
@@ -226,7 +227,7 @@ ACTS = [
     ),
     Act("GET /in/NO", lambda it, at: it.request(f"/in/{released(it, at)}"), lambda it: ["plain_register", "show", "in", released(it, 0)]),
     Act("GET /out/NO", lambda it, at: it.request(f"/out/{it.register.went + 1}"), lambda it: ["plain_register", "show", "out", it.register.went + 1]),
-    Act("10 KB come in", lambda it, at: it.session(*file_of(f"CAME.{at}", SMALL)), lambda it: it.receive(*file_of("CAME", SMALL)), is_session=True),
+    Act("10 KB come in", lambda it, at: it.session(*file_of(f"CAME.{at}", SMALL)), lambda it: it.receive(*file_of("CAME", SMALL))),
     Act("report in", lambda it, at: it.command("report", "in"), listed("in"), 3, True),
     Act("report out", lambda it, at: it.command("report", "out"), listed("out"), 3, True),
     Act("report issued", lambda it, at: it.command("report", "issued"), listed("issued"), 3, True),
@@ -235,7 +236,7 @@ ACTS = [
     Act("GET /out", lambda it, at: it.request("/out"), listed("out"), 3, True),
     Act("GET /responses", lambda it, at: it.request("/responses"), listed("received"), 3, True),
     # Behind the others, since an opening takes longer then.
-    Act("8 MiB come in", lambda it, at: it.session(*file_of(f"LARGE.{3 + at}", 8 * MEBI)), lambda it: it.receive(*file_of("LARGE.3", 8 * MEBI)), 2, is_session=True),
+    Act("8 MiB come in", lambda it, at: it.session(*file_of(f"LARGE.{3 + at}", 8 * MEBI)), lambda it: it.receive(*file_of("LARGE.3", 8 * MEBI)), 2),
 ]
 
 
@@ -256,7 +257,7 @@ def cost_of(station, act):
 def may_take(act, least, register):
     """How long an act may take, where it takes so long over the least register of its kind."""
     times = register.times if act.is_list else 1
-    look = LOOK * (register.came + register.went) if act.is_session else 0
+    look = LOOK * (register.came + register.went) if act.looks_each_time else 0
     return MOST * times * least + look + NOISE
 
 
