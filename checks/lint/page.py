@@ -1,6 +1,6 @@
 #!/usr/bin/env python3
-"""Holds the page, crates/oftp_station/src/page.html, to what a browser is told of it, to the words of the crates, and to its copy for the
-program, crates/oftp_station/src/page.rt.
+"""Holds the page, crates/oftp_resident/src/page.html, to what a browser is told of it, to the words of the crates, and to its copy for the
+program, crates/oftp_resident/src/page.rt.
 
     checks/lint/page.py            compares, prints each thing that differs, and `N passed, M failed`
     checks/lint/page.py --write    writes the sums of its script and its style into the page, and the copy
@@ -20,8 +20,8 @@ sys.path.insert(0, str(Path(__file__).resolve().parents[1] / "lib"))
 
 from program import ROOT
 
-PAGE = ROOT / "crates/oftp_station/src/page.html"
-COPY = ROOT / "crates/oftp_station/src/page.rt"
+PAGE = ROOT / "crates/oftp_resident/src/page.html"
+COPY = ROOT / "crates/oftp_resident/src/page.rt"
 REASONS = ROOT / "crates/oftp_wire/specs/Reasons.antt"
 NAMES = ROOT / "crates/oftp_listing/specs/Names.antt"
 # What a policy has to say, beside the sums.

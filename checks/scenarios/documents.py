@@ -32,7 +32,7 @@ ARCHITECTURE = ROOT / "docs/ARCHITECTURE.md"
 # A command's line of the table: its name, and what stands behind it.
 LINE = re.compile(r"^\| `\./oftp_station ([a-z]+)((?:[^`|]|\\\|)*)` \|", re.M)
 OPTION = re.compile(r"--[a-z][a-z-]*")
-PAGE = ROOT / "crates/oftp_station/src/page.html"
+PAGE = ROOT / "crates/oftp_resident/src/page.html"
 # A reason with its words, in a document and in the page.
 REASON = re.compile(r"(?:\| |, )(\d\d) ([a-z][a-z' ]*[a-z])")
 REASON_OF_PAGE = re.compile(r'"(\d\d)": "([^"]+)"')

@@ -4,7 +4,7 @@
     checks/scenarios/page.py [--pictures FOLDER] [--page FILE] [NAME ..]     cases below by their names; all where none is named
     checks/scenarios/page.py [--pictures FOLDER] --base URL                  the page and the lists that somebody serves there
 
-The page is crates/oftp_station/src/page.html, or FILE, and most lists are made (`checks/lib/page_lists.py`): a server of this script gives
+The page is crates/oftp_resident/src/page.html, or FILE, and most lists are made (`checks/lib/page_lists.py`): a server of this script gives
 both, and counts what it is asked. In two cases the built program answers, from databases of rows/listing: `http` gives the lists, and `run`
 the page too. The browser finds no address but this machine's. `--pictures` writes pictures of what is shown. Without a browser nothing is
 tried. The last line is `N passed, M failed`; before it stands the time for 10,000 files.
@@ -30,7 +30,7 @@ from program import ROOT
 from row_files import ROWS, Bad
 from services import Resident, Service, Wrong, expect, free_port
 
-PAGE = ROOT / "crates/oftp_station/src/page.html"
+PAGE = ROOT / "crates/oftp_resident/src/page.html"
 WIDTHS = (1024, 400)
 HEIGHT = 800
 # What a page may ask its station for.

@@ -2,23 +2,19 @@
 
 mod file;
 mod office;
+mod serving;
 
 use file::make_file;
-pub use office::{DatabaseOffice, Errand};
+pub use office::DatabaseOffice;
 use oftp_command_line::Fault;
 use oftp_durable::open_durable;
+use oftp_files::LIMITS;
 use oftp_store::{PathFault, StoreFault, migrate_at};
-use oftp_vfile::Limits;
+pub use serving::Opened;
 use sqlite::Unknown;
 use std::fs;
 use std::io::ErrorKind;
 use std::time::{Clock, Duration};
-
-/// How much a register may hold.
-pub const LIMITS: Limits = Limits {
-    files: 1_000_000,
-    octets: 67_108_864,
-};
 
 /// How often a database that another program has open is tried again: ten seconds long.
 pub const PATIENCE: u32 = 200;

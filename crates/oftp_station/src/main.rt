@@ -1,15 +1,8 @@
 //! A station of the ODETTE File Transfer Protocol 2 (RFC 5024).
 #![tactic(auto)]
 
-mod access;
 mod database;
-mod page;
 mod perform;
-mod ports;
-mod resident;
-mod sockets;
-mod tracing;
-mod transcript;
 
 use perform::{perform, tell_unread};
 use std::process::ExitCode;

@@ -2,32 +2,19 @@
 
 mod asking;
 mod backups;
-mod content;
-mod drafts;
 mod fetching;
-mod files;
 mod operators;
 mod registers;
-mod replacing;
 mod services;
 mod sessions;
-mod showing;
-mod traces;
 
 use asking::{Asking, reached};
-pub use fetching::entry_to_fetch;
-pub use files::book_of;
 use oftp_command_line::{Fault, Line, LineFault, Outcome, line_of, write_line};
-use oftp_engine::Told;
-pub use services::patience_of;
+use oftp_files::{read_book, show};
+use oftp_resident::{DONE, FAILED, status_of, tell};
 use std::io::{self, ErrorKind, Write};
 
-/// The exit status of a command that is done.
-pub const DONE: u8 = 0;
-
-/// That of one that was refused, or failed.
-pub const FAILED: u8 = 1;
-
+/// The exit status of a bad command line.
 const BAD_LINE: u8 = 2;
 
 /// Carries out the command that the words after the program's name are. Its line goes to `out`, and the line of a fault or the
@@ -141,11 +128,7 @@ fn carry_out_alone(
         Line::Fetch(fetch) => tell(fetching::fetch(rt, fetch)?, out),
         Line::Backup(backup) => tell(backups::back_up(rt, backup)?, out),
         Line::Feed(feed) => tell(sessions::feed(rt, feed)?, out),
-        Line::Show { input } => Ok(if showing::show(rt, input, out)? {
-            DONE
-        } else {
-            FAILED
-        }),
+        Line::Show { input } => Ok(if show(rt, input, out)? { DONE } else { FAILED }),
         Line::Call(call) => tell(services::call(rt, call)?, out),
         Line::Run(run) => {
             services::run(rt, run, out)?;
@@ -164,20 +147,6 @@ fn carry_out_alone(
 
 /// Reads the book, and counts its partners.
 fn check(rt: &HostRuntime, book: &str) -> Result<Outcome, Fault> {
-    let book = files::read_book(rt, book)?;
+    let book = read_book(rt, book)?;
     Ok(Outcome::Checked(book.count()))
-}
-
-/// Writes how a command came out, and answers the exit status.
-pub fn tell(outcome: Outcome, out: &mut impl Write) -> Result<u8, Fault> {
-    write_line(out, &outcome)?;
-    Ok(if outcome.is_refusal() { FAILED } else { DONE })
-}
-
-/// The exit status of a call of the operator, whose line is out.
-pub fn status_of(told: Told) -> u8 {
-    match told {
-        Told::Done => DONE,
-        Told::Refused(_) => FAILED,
-    }
 }

@@ -1,6 +1,6 @@
 //! The file that a database is kept in.
 
-use crate::access::make_private;
+use oftp_files::make_private;
 
 /// The path under which SQLite keeps nothing.
 const UNKEPT: &str = ":memory:";

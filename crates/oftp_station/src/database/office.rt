@@ -6,9 +6,8 @@ ghost use Rattle.oftp_session.specs.Standings.{Broken};
 use oftp_command_line::Fault;
 use oftp_durable::{do_next_durable, go_on_durable, operate_durable, serve_durable};
 use oftp_engine::{Conversation, End, Job, Operator, Port, Role, RunFault, Told};
-use oftp_listing::{ListFault, Reply, ReportKind, answer, report};
 use oftp_partners::Book;
-use oftp_register::Office;
+use oftp_resident::{Errand, HeldOffice};
 use oftp_session::Ending;
 use oftp_store::SqlOffice;
 use sqlite::{Alter, FileFrom, FileStore, Unknown};
@@ -31,15 +30,6 @@ impl Drop for DatabaseOffice {
         let DatabaseOffice { office } = self;
         let _ = office;
     }
-}
-
-/// What is done with an office, whatever it keeps its register in.
-pub trait Errand {
-    /// What it comes to.
-    type Outcome;
-
-    /// Does it.
-    fn run<O: Office>(self, office: &mut O) -> Self::Outcome;
 }
 
 /// What is done with an office over a store, whatever store it is.
@@ -74,11 +64,6 @@ impl DatabaseOffice {
         errand.run_over(&mut self.office)
     }
 
-    /// Does what can be done with any office.
-    pub fn run<E: Errand>(&mut self, errand: E) -> E::Outcome {
-        self.lend(AnyStore(errand))
-    }
-
     /// Serves a session, as [`serve_durable`] does.
     pub fn serve<R: Read, W: Write>(
         &mut self,
@@ -97,28 +82,6 @@ impl DatabaseOffice {
         })
     }
 
-    /// Goes on with a conversation, as [`go_on_durable`] does. It must not be called after a fault.
-    pub fn go_on<W: Write>(
-        &mut self,
-        conversation: &mut Conversation<'_>,
-        writer: &mut Port<W>,
-    ) -> Result<Option<Ending>, RunFault>
-        requires { conversation.old.seen.standing ≢ Broken }
-        ensures { OnOk result (conversation.new.seen.standing ≢ Broken) }
-    {
-        go_on_durable(conversation, &mut self.office, writer)
-    }
-
-    /// Does the next job of a list that grows, as [`do_next_durable`] does.
-    pub fn do_next<R: Read, W: Write>(
-        &mut self,
-        alloc: Global,
-        book: &Book,
-        job: &mut Job<'_, R, W>,
-    ) -> Result<(), RunFault> {
-        self.lend(Next { alloc, book, job })
-    }
-
     /// Does what an operator wants, as [`operate_durable`] does.
     pub fn operate<W: Write>(
         &mut self,
@@ -134,24 +97,31 @@ impl DatabaseOffice {
             writer,
         })
     }
+}
 
-    /// Writes a report, as [`report`] does.
-    pub fn report<W: Write>(
-        &mut self,
-        alloc: Global,
-        kind: ReportKind,
-        writer: &mut Port<W>,
-    ) -> Result<(), ListFault> {
-        self.run(Reporting {
-            alloc,
-            kind,
-            writer,
-        })
+impl HeldOffice for DatabaseOffice {
+    fn run<E: Errand>(&mut self, errand: E) -> E::Outcome {
+        self.lend(AnyStore(errand))
     }
 
-    /// Answers a request, as [`answer`] does.
-    pub fn answer(&mut self, alloc: Global, request: &[u8]) -> Result<Reply, ListFault> {
-        self.run(Request { alloc, request })
+    fn go_on<W: Write>(
+        &mut self,
+        conversation: &mut Conversation<'_>,
+        writer: &mut Port<W>,
+    ) -> Result<Option<Ending>, RunFault>
+        requires { conversation.old.seen.standing ≢ Broken }
+        ensures { OnOk result (conversation.new.seen.standing ≢ Broken) }
+    {
+        go_on_durable(conversation, &mut self.office, writer)
+    }
+
+    fn do_next<R: Read, W: Write>(
+        &mut self,
+        alloc: Global,
+        book: &Book,
+        job: &mut Job<'_, R, W>,
+    ) -> Result<(), RunFault> {
+        self.lend(Next { alloc, book, job })
     }
 }
 
@@ -226,40 +196,5 @@ impl<W: Write> StoreErrand for Call<'_, W> {
             writer,
         } = self;
         operate_durable(alloc, office, book, operator, writer)
-    }
-}
-
-/// A report that is written.
-struct Reporting<'a, W> {
-    alloc: Global,
-    kind: ReportKind,
-    writer: &'a mut Port<W>,
-}
-
-impl<W: Write> Errand for Reporting<'_, W> {
-    type Outcome = Result<(), ListFault>;
-
-    fn run<O: Office>(self, office: &mut O) -> Result<(), ListFault> {
-        let Reporting {
-            alloc,
-            kind,
-            writer,
-        } = self;
-        report(alloc, kind, office, writer)
-    }
-}
-
-/// A request that is answered.
-struct Request<'a> {
-    alloc: Global,
-    request: &'a [u8],
-}
-
-impl Errand for Request<'_> {
-    type Outcome = Result<Reply, ListFault>;
-
-    fn run<O: Office>(self, office: &mut O) -> Result<Reply, ListFault> {
-        let Request { alloc, request } = self;
-        answer(alloc, request, office)
     }
 }

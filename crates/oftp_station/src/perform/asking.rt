@@ -1,16 +1,13 @@
 //! Commands that have the station do what they ask, where one runs over their database. They read and make the files themselves.
 
 use crate::perform::backups::DatabaseCopy;
-use crate::perform::content::read_content;
 use crate::perform::fetching::make_file_of;
-use crate::perform::files::read_book_octets;
 use crate::perform::services::trace_of;
-use crate::perform::{DONE, FAILED, tell};
-use crate::resident::SocketPlace;
-use crate::tracing::Trace;
 use oftp_channel::{AnswerPart, HearFault, Outlet, fits, read_part, read_ready, write_request};
 use oftp_command_line::{Backup, Call, Fault, Fetch, Files, Outcome, Submit};
 use oftp_engine::{Port, RunFault};
+use oftp_files::{Trace, read_book_octets, read_content};
+use oftp_resident::{DONE, SocketPlace, tell};
 use std::alloc::Global;
 use std::io::{self, Write};
 use std::net::Shutdown;

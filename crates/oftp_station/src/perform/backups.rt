@@ -1,11 +1,11 @@
 //! The command `backup`, which copies a database as it stands to one file.
 
-use crate::access::{Access, make_private};
 use crate::database::{self, PATIENCE};
-use crate::perform::drafts::{Draft, log_of, remove_log};
-use crate::perform::files::{file_fault, open_input};
-use crate::perform::replacing::{Name, Place, draft_of, place_of, settle};
 use oftp_command_line::{Backup, Fault, Outcome};
+use oftp_files::{
+    Access, Draft, Name, Place, draft_of, file_fault, log_of, make_private, open_input, place_of,
+    remove_log, settle,
+};
 use std::fs::{self, File};
 use std::io::{ErrorKind, Read, Write};
 

@@ -1,17 +1,14 @@
 //! The command `fetch`, which writes an incoming file in its local form.
 
-use crate::database::{self, Errand, PATIENCE};
-use crate::perform::files::file_fault;
-use crate::perform::replacing::{Place, draft_of, place_of, settle};
+use crate::database::{self, PATIENCE};
 use oftp_command_line::{Fault, Fetch, Outcome};
 use oftp_engine::{Port, RunFault, write_content};
-use oftp_register::{IncomingEntry, IncomingState, Office};
+use oftp_files::{Place, draft_of, file_fault, place_of, settle};
+use oftp_register::{IncomingEntry, Office};
+use oftp_resident::{Errand, HeldOffice, entry_to_fetch};
 use std::alloc::Global;
 use std::fs::File;
 use std::io::Write;
-
-/// Any fault of a look-up is one of the office.
-const OFFICE: Fault = Fault::Run(RunFault::Office);
 
 /// Writes a whole incoming file of a database to a file.
 pub(super) fn fetch(rt: &HostRuntime, line: &Fetch<'_>) -> Result<Outcome, Fault> {
@@ -46,19 +43,6 @@ fn fetch_from<O: Office>(
             Ok(Outcome::Fetched(entry.no))
         }
         Err(refusal) => Ok(refusal),
-    }
-}
-
-/// The whole incoming file of this number, or the refusal where there is none.
-pub fn entry_to_fetch<O: Office>(
-    office: &mut O,
-    no: u64,
-) -> Result<Result<IncomingEntry, Outcome>, Fault> {
-    match office.in_by_no(no) {
-        Ok(Some(entry)) if entry.state == IncomingState::Whole => Ok(Ok(entry)),
-        Ok(Some(_)) => Ok(Err(Outcome::WrongState)),
-        Ok(None) => Ok(Err(Outcome::Unknown)),
-        Err(_) => Err(OFFICE),
     }
 }
 

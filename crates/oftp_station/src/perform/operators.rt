@@ -1,10 +1,9 @@
 //! The commands `submit`, `release` and `refuse`, which are calls of the operator.
 
 use crate::database::{self, DatabaseOffice, PATIENCE};
-use crate::perform::content::read_content;
-use crate::perform::files::read_book;
 use oftp_command_line::{Fault, Files, Refuse, Release, Submit};
 use oftp_engine::{Operator, Port, Submission, Told};
+use oftp_files::{read_book, read_content};
 use oftp_partners::Book;
 use std::io::Write;
 

@@ -3,6 +3,7 @@
 use crate::database::{self, PATIENCE};
 use oftp_command_line::{Fault, Outcome, Report};
 use oftp_engine::Port;
+use oftp_resident::report_to;
 use std::io::Write;
 
 /// Opens a database, making its tables.
@@ -24,6 +25,6 @@ pub(super) fn write_report(
     out: &mut impl Write,
 ) -> Result<(), Fault> {
     let mut office = database::open(rt, what.database, PATIENCE)?;
-    office.report(rt.alloc(), what.kind, &mut Port::new(out, 0))?;
+    report_to(rt.alloc(), &mut office, what.kind, &mut Port::new(out, 0))?;
     Ok(())
 }

@@ -1,26 +1,16 @@
 //! The commands `run`, `listen`, `call` and `http`, over sockets.
 
-use crate::database::{self, DatabaseOffice, PATIENCE};
-use crate::perform::files::{read_book, read_book_octets};
-use crate::perform::traces::open_trace;
-use crate::resident::{Bench, SocketPlace, codes_of, reside};
-use crate::sockets::{
-    Opened, Reception, Station, bound, connected, dial, http_on, listen_on, socket_fault,
-};
-use crate::tracing::Trace;
+use crate::database::{self, DatabaseOffice, Opened, PATIENCE};
 use oftp_command_line::{Call, Entrance, Fault, Files, Http, Listen, Outcome, Run, SessionTerms};
+use oftp_files::{Trace, open_trace, read_book, read_book_octets};
 use oftp_partners::Book;
+use oftp_resident::{Bench, SocketPlace, codes_of, reside};
+use oftp_sockets::{
+    Reception, Station, bound, connected, dial, http_on, listen_on, patience_of, socket_fault,
+};
 use std::alloc::Global;
 use std::io::Write;
 use std::time::Duration;
-
-/// How long a partner may keep still. Zero seconds are no limit.
-pub fn patience_of(seconds: u64) -> Option<Duration> {
-    match seconds {
-        0 => None,
-        _ => Some(Duration::from_secs(seconds)),
-    }
-}
 
 /// The trace that the line of a service asks for.
 pub(super) fn trace_of<'a>(
@@ -39,13 +29,11 @@ fn admission_of(entrance: &Entrance<'_>, terms: &SessionTerms<'_>) -> Duration {
 /// What the sessions of a service are served from.
 fn station_of<'a>(
     book: &'a Book,
-    files: &Files<'a>,
-    terms: &SessionTerms<'a>,
+    terms: &SessionTerms<'_>,
     trace: Option<&'a Trace<'a>>,
 ) -> Station<'a> {
     Station {
         book,
-        database: files.database,
         patience: patience_of(terms.patience),
         longest: Duration::from_secs(terms.longest),
         trace,
@@ -58,7 +46,7 @@ pub(super) fn run(rt: &HostRuntime, line: &Run<'_>, out: &mut impl Write) -> Res
     let (octets, book) = read_book_octets(rt, line.files.book)?;
     let mut office = database::open(rt, line.files.database, PATIENCE)?;
     let trace = trace_of(rt, &line.files, &line.terms)?;
-    let station = station_of(&book, &line.files, &line.terms, trace.as_ref());
+    let station = station_of(&book, &line.terms, trace.as_ref());
     run_over(rt, line, &station, octets.as_slice(), &mut office, out)
 }
 
@@ -124,8 +112,11 @@ pub(super) fn listen(
         sessions: line.sessions,
         admission: admission_of(&line.entrance, &line.terms),
     };
-    let station = station_of(&book, &line.files, &line.terms, trace.as_ref());
-    listen_on(rt, &reception, &station, out, err)
+    let station = station_of(&book, &line.terms, trace.as_ref());
+    let mut desk = Opened {
+        database: line.files.database,
+    };
+    listen_on(rt, &reception, &station, &mut desk, out, err)
 }
 
 /// Calls a partner for one session.
@@ -136,14 +127,20 @@ pub(super) fn call(rt: &HostRuntime, line: &Call<'_>) -> Result<Outcome, Fault> 
     };
     database::make(rt, line.files.database)?;
     let trace = trace_of(rt, &line.files, &line.terms)?;
-    let station = station_of(&book, &line.files, &line.terms, trace.as_ref());
+    let station = station_of(&book, &line.terms, trace.as_ref());
     let stream = connected(rt, partner.address.as_str(), station.patience)?;
-    dial(rt, stream, partner, &station, &mut Opened).map(Outcome::Ended)
+    let mut desk = Opened {
+        database: line.files.database,
+    };
+    dial(rt, stream, partner, &station, &mut desk).map(Outcome::Ended)
 }
 
 /// Answers requests for what a database holds. The fault of one caller is written to `err`.
 pub(super) fn http(rt: &HostRuntime, line: &Http<'_>, err: &mut impl Write) -> Result<(), Fault> {
     database::make(rt, line.database)?;
     let listener = bound(rt, line.address, line.port)?;
-    http_on(rt, &listener, line.requests, line.database, err)
+    let mut replies = Opened {
+        database: line.database,
+    };
+    http_on(rt, &listener, line.requests, &mut replies, err)
 }

@@ -1,16 +1,15 @@
 //! The command `feed`, one session from file to file.
 
-use crate::database::{self, DatabaseOffice, LIMITS, PATIENCE};
-use crate::perform::files::{
-    are_of_one_file, file_fault, is_at, is_of_database, open_input, read_book,
-};
-use crate::perform::traces::open_trace;
-use crate::ports::ports_of;
-use crate::tracing::{Trace, Traced};
+use crate::database::{self, DatabaseOffice, PATIENCE};
 use oftp_command_line::{Fault, Feed, Outcome, Side};
 use oftp_engine::{End, Port, Role, RunFault, serve_in_memory};
+use oftp_files::{
+    LIMITS, Trace, Traced, are_of_one_file, file_fault, is_at, is_of_database, open_input,
+    open_trace, read_book,
+};
 use oftp_partners::{Book, Partner};
 use oftp_register::PlainOffice;
+use oftp_sockets::ports_of;
 use std::fs::{self, File, Metadata, OpenFile};
 use std::io::ErrorKind;
 use std::rt::Files;

@@ -1,0 +1,37 @@
+//! The partner book that a line names.
+
+use crate::files::file_fault;
+use oftp_command_line::Fault;
+use oftp_partners::{self as partners, Book, BookFault};
+use std::alloc::Global;
+use std::fs::{self, OpenFile};
+use std::rt::Files;
+
+/// The book of a file.
+pub fn read_book<R: Files + AllocGlobal>(rt: &R, path: &str) -> Result<Book, Fault> {
+    let octets = fs::read(rt, path).map_err(|error| file_fault(&error))?;
+    book_of(rt.alloc(), octets.as_slice())
+}
+
+/// The octets of a book's file, and the book that they are.
+pub fn read_book_octets(rt: &HostRuntime, path: &str) -> Result<(Vec<u8>, Book), Fault> {
+    let octets = fs::read(rt, path).map_err(|error| file_fault(&error))?;
+    let book = book_of(rt.alloc(), octets.as_slice())?;
+    Ok((octets, book))
+}
+
+/// The book that the octets of a file are.
+pub fn book_of(alloc: Global, octets: &[u8]) -> Result<Book, Fault> {
+    let Ok(text) = str::from_utf8(octets) else {
+        return Err(Fault::Book(BookFault::NotToml));
+    };
+    partners::read(alloc, text).map_err(book_fault)
+}
+
+/// Want of memory is no fault of the book.
+fn book_fault(fault: BookFault) -> Fault {
+    match fault {
+        BookFault::Memory => Fault::MEMORY,
+        other => Fault::Book(other),
+    }
+}

@@ -1,0 +1,46 @@
+//! The command `show`: what one side of a session sent, in words.
+
+use crate::files::{file_fault, open_input};
+use crate::transcript::Transcript;
+use oftp_command_line::Fault;
+use oftp_engine::RunFault;
+use std::alloc::AllocError;
+use std::io::{Read, Write};
+
+/// How many octets are read at once.
+const PIECE: usize = 4_096;
+
+/// Writes a line for each command of a file of octets, up to the first fault, and answers whether there is none.
+pub fn show(rt: &HostRuntime, input: &str, out: &mut impl Write) -> Result<bool, Fault> {
+    let mut input = open_input(rt, input)?;
+    let mut transcript = Transcript::new(rt.alloc());
+    let mut piece = [0; PIECE];
+    for _ in 0..u64::MAX {
+        let count = input.read(&mut piece).map_err(|error| file_fault(&error))?;
+        let Ok(lines) = lines_of(rt, &mut transcript, &piece[..count]) else {
+            return Err(Fault::MEMORY);
+        };
+        if out.write_all(lines.as_bytes()).is_err() {
+            return Err(Fault::Run(RunFault::Write));
+        }
+        if count == 0 || transcript.is_faulty() {
+            break;
+        }
+    }
+    Ok(!transcript.is_faulty())
+}
+
+/// The lines that a piece adds. No piece is the end.
+fn lines_of(
+    rt: &HostRuntime,
+    transcript: &mut Transcript,
+    piece: &[u8],
+) -> Result<String, AllocError> {
+    let mut lines = String::new(rt.alloc());
+    if piece.is_empty() {
+        transcript.end("", &mut lines)?;
+    } else {
+        transcript.take(piece, "", &mut lines)?;
+    }
+    Ok(lines)
+}

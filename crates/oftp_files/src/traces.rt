@@ -1,0 +1,47 @@
+//! The traces that lines ask for.
+
+use crate::files::{file_fault, is_at, is_of_database};
+use crate::tracing::Trace;
+use oftp_command_line::Fault;
+use std::fs::{self, Metadata};
+use std::io::ErrorKind;
+
+/// The trace in the file at a path, where there is one. A file that the session needs, one of these or of the database, isn't
+/// written; a device loses nothing.
+pub fn open_trace<'a>(
+    rt: &'a HostRuntime,
+    path: Option<&str>,
+    needed: &[&str],
+    database: Option<&str>,
+) -> Result<Option<Trace<'a>>, Fault> {
+    let Some(path) = path else {
+        return Ok(None);
+    };
+    match fs::metadata(rt, path) {
+        Ok(about) if about.is_file() && is_needed(rt, &about, needed, database)? => {
+            return Err(Fault::File);
+        }
+        Err(error) if error.kind() != ErrorKind::NotFound => return Err(file_fault(&error)),
+        _ => {}
+    }
+    let trace = Trace::open(rt, path).map_err(|error| file_fault(&error))?;
+    Ok(Some(trace))
+}
+
+/// Whether this is of one of the files, or of a file of the database.
+fn is_needed(
+    rt: &HostRuntime,
+    about: &Metadata,
+    needed: &[&str],
+    database: Option<&str>,
+) -> Result<bool, Fault> {
+    for path in needed {
+        if is_at(rt, about, path)? {
+            return Ok(true);
+        }
+    }
+    match database {
+        Some(path) => is_of_database(rt, about, path),
+        None => Ok(false),
+    }
+}

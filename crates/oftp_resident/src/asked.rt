@@ -1,0 +1,258 @@
+//! What commands ask, and what is done for them over the office.
+
+use crate::answers::Answer;
+use crate::calls::Wanted;
+use crate::office::{Errand, HeldOffice, report_to};
+use crate::statuses::{DONE, status_of, tell};
+use oftp_channel::Outlet;
+use oftp_command_line::{Call, Fault, Line, Outcome, Submit, line_of};
+use oftp_engine::{CallJob, Job, Operator, Port, RunFault, Submission, write_content};
+use oftp_files::book_of;
+use oftp_listing::ReportKind;
+use oftp_register::{IncomingEntry, IncomingState, Office};
+use oftp_sockets::patience_of;
+use std::alloc::Global;
+use std::io;
+use std::time::Duration;
+
+/// What a command asks: its words, and the octets of the files that it read for them.
+#[derive(Drop)]
+pub(super) struct Asked {
+    book: Vec<u8>,
+    content: Vec<u8>,
+    words: Vec<String>,
+}
+
+/// What comes of it.
+#[derive(Drop)]
+pub(super) enum Task {
+    /// It is answered so. Where there is no answer, there was no memory for it.
+    Answered(Option<Vec<u8>>),
+    /// It is answered so, and the office has failed.
+    Failed(Option<Vec<u8>>),
+    /// A partner is to be called for it.
+    Calls(Wanted),
+    /// It copies the database's files itself, while no job is done.
+    Copies,
+    /// It is nothing that a command asks.
+    Nothing,
+}
+
+impl Asked {
+    /// What is asked by the octets of a request: the book, the content, and then the words.
+    pub(super) fn of(alloc: Global, request: Vec<Vec<u8>>) -> Option<Asked> {
+        let mut parts = request.into_iter();
+        let book = parts.next()?;
+        let content = parts.next()?;
+        let mut words = Vec::new(alloc);
+        for part in parts {
+            let word = String::from_utf8(part).ok()?;
+            words.push(word).ok()?;
+        }
+        Some(Asked {
+            book,
+            content,
+            words,
+        })
+    }
+
+    /// Whether it is done at once, also within a session: it changes nothing, or is nothing that a command asks.
+    pub(super) fn is_look_up(&self, alloc: Global) -> bool {
+        match line_of(alloc, self.words.as_slice()) {
+            Ok(line) => matches!(&line, Line::Report(_) | Line::Fetch(_) | Line::Init { .. }),
+            Err(_) => true,
+        }
+    }
+
+    /// Does what is asked over an office.
+    pub(super) fn carry_out(&self, rt: &HostRuntime, office: &mut impl HeldOffice) -> Task {
+        let alloc = rt.alloc();
+        match line_of(alloc, self.words.as_slice()) {
+            Ok(Line::Call(call)) => match self.call(alloc, &call) {
+                Ok(wanted) => Task::Calls(wanted),
+                Err(fault) => Task::Answered(Answer::new(alloc).ended(Err(fault))),
+            },
+            Ok(Line::Backup(_)) => Task::Copies,
+            Ok(line) => {
+                let mut answer = Answer::new(alloc);
+                let outcome = self.carry_out_line(alloc, office, &line, &mut answer);
+                match outcome {
+                    Ok(None) => Task::Nothing,
+                    Ok(Some(status)) => Task::Answered(answer.ended(Ok(status))),
+                    Err(Fault::Run(RunFault::Office)) => {
+                        Task::Failed(answer.ended(Err(Fault::Run(RunFault::Office))))
+                    }
+                    Err(fault) => Task::Answered(answer.ended(Err(fault))),
+                }
+            }
+            Err(_) => Task::Nothing,
+        }
+    }
+
+    /// Who is to be called.
+    fn call(&self, alloc: Global, call: &Call<'_>) -> Result<Wanted, Fault> {
+        let book = book_of(alloc, self.book.as_slice())?;
+        let code = String::from_str(alloc, call.partner).map_err(|_| Fault::MEMORY)?;
+        Ok(Wanted {
+            book: Some(book),
+            code,
+            patience: patience_of(call.terms.patience),
+            longest: Duration::from_secs(call.terms.longest),
+            is_traced: call.terms.trace.is_some(),
+        })
+    }
+
+    /// Does what a line asks over an office, and answers its exit status. There is none for a line that no command asks.
+    fn carry_out_line(
+        &self,
+        alloc: Global,
+        office: &mut impl HeldOffice,
+        line: &Line<'_>,
+        answer: &mut Answer,
+    ) -> Result<Option<u8>, Fault> {
+        let status = match line {
+            Line::Submit(submit) => {
+                let operator = Operator::Submit(self.submission(submit));
+                self.operate(alloc, office, operator, answer)?
+            }
+            Line::Release(release) => {
+                let operator = Operator::Release { no: release.no };
+                self.operate(alloc, office, operator, answer)?
+            }
+            Line::Refuse(refuse) => {
+                let operator = Operator::Refuse {
+                    no: refuse.no,
+                    reason: refuse.reason,
+                    text: refuse.text,
+                };
+                self.operate(alloc, office, operator, answer)?
+            }
+            Line::Report(what) => report(alloc, office, what.kind, answer)?,
+            Line::Fetch(fetch) => send_file(alloc, office, fetch.no, answer)?,
+            Line::Init { .. } => tell_in(alloc, Outcome::Initiated, answer)?,
+            _ => return Ok(None),
+        };
+        Ok(Some(status))
+    }
+
+    /// Does what an operator wants of an office, as the next job of the list that the station does.
+    fn operate<'a>(
+        &self,
+        alloc: Global,
+        office: &mut impl HeldOffice,
+        operator: Operator<'a>,
+        answer: &mut Answer,
+    ) -> Result<u8, Fault> {
+        let book = book_of(alloc, self.book.as_slice())?;
+        let mut job = job_of(alloc, operator);
+        office.do_next(alloc, &book, &mut job).map_err(Fault::Run)?;
+        match &job {
+            Job::Call(
+                CallJob {
+                    writer,
+                    result: Some(Ok(told)),
+                    ..
+                },
+            ) => {
+                answer.add(Outlet::Output, writer.inner().as_slice())?;
+                Ok(status_of(*told))
+            }
+            _ => Err(Fault::Run(RunFault::Write)),
+        }
+    }
+
+    /// What is submitted.
+    fn submission<'a>(&'a self, submit: &Submit<'a>) -> Submission<'a> {
+        Submission {
+            dataset: submit.dataset,
+            date: submit.date,
+            time: submit.time,
+            to: submit.to,
+            format: submit.format,
+            longest: submit.longest,
+            description: submit.description,
+            content: self.content.as_slice(),
+        }
+    }
+}
+
+/// What an operator wants, as a job whose line is kept. It has no reader.
+fn job_of<'a>(alloc: Global, operator: Operator<'a>) -> Job<'a, io::Empty, Vec<u8>> {
+    Job::call(operator, Port::new(Vec::new(alloc), 0))
+}
+
+/// Adds a report to an answer.
+fn report(
+    alloc: Global,
+    office: &mut impl HeldOffice,
+    kind: ReportKind,
+    answer: &mut Answer,
+) -> Result<u8, Fault> {
+    let mut port = Port::new(Vec::new(alloc), 0);
+    let reported = report_to(alloc, office, kind, &mut port);
+    answer.add(Outlet::Output, port.into_inner().as_slice())?;
+    match reported {
+        Ok(()) => Ok(DONE),
+        Err(fault) => Err(Fault::from(fault)),
+    }
+}
+
+/// Adds a whole incoming file to an answer, and the line that tells it.
+fn send_file(
+    alloc: Global,
+    office: &mut impl HeldOffice,
+    no: u64,
+    answer: &mut Answer,
+) -> Result<u8, Fault> {
+    let (content, outcome) = office.run(Fetching { alloc, no })?;
+    answer.add(Outlet::Content, content.as_slice())?;
+    tell_in(alloc, outcome, answer)
+}
+
+/// Adds the line of an outcome to an answer, and answers the exit status.
+fn tell_in(alloc: Global, outcome: Outcome, answer: &mut Answer) -> Result<u8, Fault> {
+    let mut line = Vec::new(alloc);
+    let status = tell(outcome, &mut line)?;
+    answer.add(Outlet::Output, line.as_slice())?;
+    Ok(status)
+}
+
+/// The whole incoming file of this number, or the refusal where there is none.
+///
+/// # Errors
+/// The office failed.
+pub fn entry_to_fetch<O: Office>(
+    office: &mut O,
+    no: u64,
+) -> Result<Result<IncomingEntry, Outcome>, Fault> {
+    match office.in_by_no(no) {
+        Ok(Some(entry)) if entry.state == IncomingState::Whole => Ok(Ok(entry)),
+        Ok(Some(_)) => Ok(Err(Outcome::WrongState)),
+        Ok(None) => Ok(Err(Outcome::Unknown)),
+        Err(_) => Err(Fault::Run(RunFault::Office)),
+    }
+}
+
+/// An incoming file that is fetched.
+#[derive(Clone, Copy)]
+struct Fetching {
+    alloc: Global,
+    no: u64,
+}
+
+impl Errand for Fetching {
+    type Outcome = Result<(Vec<u8>, Outcome), Fault>;
+
+    fn run<O: Office>(self, office: &mut O) -> Result<(Vec<u8>, Outcome), Fault> {
+        let Fetching { alloc, no } = self;
+        let mut port = Port::new(Vec::new(alloc), 0);
+        let outcome = match entry_to_fetch(office, no)? {
+            Ok(entry) => {
+                write_content(alloc, office, &entry, &mut port).map_err(Fault::Run)?;
+                Outcome::Fetched(entry.no)
+            }
+            Err(refusal) => refusal,
+        };
+        Ok((port.into_inner(), outcome))
+    }
+}

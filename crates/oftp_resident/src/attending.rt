@@ -1,0 +1,141 @@
+//! A session of the resident station. Between two pieces of the partner's octets the station waits for all sockets, and looks things up for
+//! whoever asks.
+
+ghost use Rattle.std.specs.Prelude.{◌≢◌, OnOk};
+ghost use Rattle.oftp_session.specs.Standings.{Broken};
+
+use crate::office::HeldOffice;
+use crate::turns::{Again, Resident};
+use oftp_command_line::Fault;
+use oftp_engine::{Conversation, End, Port, Role, RunFault};
+use oftp_sockets::{Desk, Station, Term, Trouble, Wire, ports_of};
+use std::io::{Read, Write};
+use std::time::Instant;
+
+/// How many octets of the partner are read at once, at most.
+const PIECE: usize = 4_096;
+
+/// What a session of the resident station is served over: its office, and those who ask meanwhile.
+#[derive(Drop)]
+pub(super) struct Attending<'r, 'a, O> {
+    /// The station.
+    pub(super) resident: &'r mut Resident<'a>,
+    /// Its office.
+    pub(super) office: &'r mut O,
+}
+
+/// How a partner is waited for.
+#[derive(Clone, Copy)]
+struct Wait<'a> {
+    // How many of its octets are at hand: for these nobody is waited for.
+    at_hand: u64,
+    term: Term<'a>,
+}
+
+impl<O: HeldOffice> Desk for Attending<'_, '_, O> {
+    fn converse<R: Read + Drop, W: Write + Drop>(
+        &mut self,
+        rt: &HostRuntime,
+        role: Role<'_>,
+        station: &Station<'_>,
+        wire: Wire<'_, R, W>,
+    ) -> Result<End, Trouble> {
+        let Wire {
+            heard,
+            reader,
+            writer,
+            term,
+        } = wire;
+        let wait = Wait {
+            at_hand: heard.len() as u64,
+            term,
+        };
+        let (mut reader, mut writer) = ports_of(heard.chain(reader), writer);
+        let mut conversation = Conversation::new(rt.alloc(), station.book, role);
+        self.talk(&mut conversation, &mut reader, &mut writer, wait)
+    }
+}
+
+impl<O: HeldOffice> Attending<'_, '_, O> {
+    /// Goes through a session to its end.
+    fn talk<R: Read, W: Write>(
+        &mut self,
+        conversation: &mut Conversation<'_>,
+        reader: &mut Port<R>,
+        writer: &mut Port<W>,
+        wait: Wait<'_>,
+    ) -> Result<End, Trouble>
+        requires { conversation.old.seen.standing ≢ Broken }
+    {
+        'pieces: for _ in 0..u64::MAX {
+            if let Some(end) = self.go_on(conversation, reader, writer, wait)? {
+                return Ok(end);
+            }
+        }
+        Err(Trouble::from(Fault::Socket))
+    }
+
+    /// Goes on with a session as far as its octets reach, and has it hear the next ones. It answers how the session ended, if it did.
+    fn go_on<R: Read, W: Write>(
+        &mut self,
+        conversation: &mut Conversation<'_>,
+        reader: &mut Port<R>,
+        writer: &mut Port<W>,
+        wait: Wait<'_>,
+    ) -> Result<Option<End>, Trouble>
+        requires { conversation.old.seen.standing ≢ Broken }
+        ensures { OnOk result (conversation.new.seen.standing ≢ Broken) }
+    {
+        if let Some(ending) = self.office.go_on(conversation, writer)? {
+            return Ok(Some(End::from(ending)));
+        }
+        if reader.moved() >= wait.at_hand {
+            self.attend(wait.term)?;
+        }
+        let mut piece = [0; PIECE];
+        match reader.read(&mut piece) {
+            None => Err(Trouble::from(RunFault::Read)),
+            Some(0) => Ok(Some(End::Input)),
+            Some(count) => {
+                conversation.hear(&piece[..count])?;
+                Ok(None)
+            }
+        }
+    }
+
+    /// Waits until the partner has said something, and answers those who look something up meanwhile.
+    ///
+    /// # Errors
+    /// The partner has kept still for too long, or the service ends.
+    fn attend(&mut self, term: Term<'_>) -> Result<(), Trouble> {
+        let Ok(since) = Instant::now(self.resident.rt) else {
+            return Err(Trouble::from(RunFault::Read));
+        };
+        for _ in 0..u64::MAX {
+            let again = self.look_around()?;
+            if term.is_heard() {
+                break;
+            }
+            let Some(left) = term.left(since) else {
+                return Err(Trouble::from(RunFault::Read));
+            };
+            if self
+                .resident
+                .watch
+                .wait(Some(again.tick().min(left)))
+                .is_err()
+            {
+                return Err(Trouble::from(Fault::Socket));
+            }
+        }
+        Ok(())
+    }
+
+    /// Answers those who look something up, as far as nobody is waited for.
+    fn look_around(&mut self) -> Result<Again, Fault> {
+        let again = self.resident.hear(self.office)?;
+        self.resident.answer_look_ups(self.office)?;
+        self.resident.clients.send();
+        Ok(again)
+    }
+}

@@ -1,0 +1,81 @@
+//! Whom the station has called: for commands, and by the clock.
+
+use crate::answers::answer_of_call;
+use crate::calls::Wanted;
+use crate::office::HeldOffice;
+use crate::turns::Resident;
+use oftp_command_line::Fault;
+use oftp_partners::Book;
+
+impl Resident<'_> {
+    /// Calls each partner for whom something is next, where the clock has struck. One who is still called isn't called once more.
+    pub(super) fn call_due(&mut self, office: &mut impl HeldOffice) -> Result<(), Fault> {
+        let Some(clock) = &mut self.clock else {
+            return Ok(());
+        };
+        if !clock.strikes() {
+            return Ok(());
+        }
+        for place in 0..self.bench.codes.len() {
+            let is_due = match &self.clock {
+                Some(clock) => clock.is_due(place, office)?,
+                None => None,
+            };
+            if is_due == Some(true) {
+                self.call_by_clock(place);
+            }
+        }
+        Ok(())
+    }
+
+    /// Calls the partner at a place of the book. Where there is no memory for it, it is called when the clock strikes again.
+    fn call_by_clock(&mut self, place: usize) {
+        let Some(code) = self.bench.codes.get(place) else {
+            return;
+        };
+        if self.calls.has(code.as_str()) {
+            return;
+        }
+        let Ok(code) = String::from_str(self.rt.alloc(), code.as_str()) else {
+            return;
+        };
+        let wanted = Wanted {
+            book: None,
+            code,
+            patience: self.station.patience,
+            longest: self.station.longest,
+            is_traced: false,
+        };
+        let _ = self.want(None, wanted);
+    }
+
+    /// Has a partner called.
+    fn want(&mut self, client: Option<u64>, wanted: Wanted) -> Result<(), Fault> {
+        let address = {
+            let book = book_of_call(&wanted, self.station.book);
+            let Some(partner) = book.partner(wanted.code.as_bytes()) else {
+                return Err(Fault::Socket);
+            };
+            String::from_str(self.rt.alloc(), partner.address.as_str()).map_err(|_| Fault::MEMORY)?
+        };
+        self.calls.want(client, wanted, address)
+    }
+
+    /// Has a partner called for a command. It is a job once the call has come to an end.
+    pub(super) fn want_call(&mut self, client: u64, wanted: Wanted) -> Result<bool, Fault> {
+        let Err(fault) = self.want(Some(client), wanted) else {
+            return Ok(false);
+        };
+        let answer = answer_of_call(self.rt.alloc(), &[], &Err(fault));
+        self.clients.answer(client, answer);
+        Ok(true)
+    }
+}
+
+/// The book by which a partner is called.
+pub(super) fn book_of_call<'a>(wanted: &'a Wanted, own: &'a Book) -> &'a Book {
+    match &wanted.book {
+        Some(book) => book,
+        None => own,
+    }
+}

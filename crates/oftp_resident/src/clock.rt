@@ -1,0 +1,144 @@
+//! The clock of the station's own calls: whom it calls, and when.
+
+use crate::office::{Errand, HeldOffice};
+use oftp_command_line::Fault;
+use oftp_engine::RunFault;
+use oftp_partners::{Book, Partner};
+use oftp_register::{Cursor, Name, Office};
+use oftp_wire::Mode;
+use std::alloc::Global;
+use std::time::{Duration, Instant};
+
+/// The partners in their order, and when they were last looked at.
+#[derive(Drop)]
+pub(super) struct Clock<'a> {
+    rt: &'a HostRuntime,
+    book: &'a Book,
+    codes: &'a [String],
+    every: Duration,
+    since: Instant,
+}
+
+impl<'a> Clock<'a> {
+    /// The clock that strikes each time so long has passed, from now on. There is none where no time is between.
+    ///
+    /// # Errors
+    /// No clock tells the time.
+    pub(super) fn new(
+        rt: &'a HostRuntime,
+        book: &'a Book,
+        codes: &'a [String],
+        every: Duration,
+    ) -> Result<Option<Clock<'a>>, Fault> {
+        if every.is_zero() {
+            return Ok(None);
+        }
+        let Ok(since) = Instant::now(rt) else {
+            return Err(Fault::Socket);
+        };
+        Ok(Some(Clock {
+            rt,
+            book,
+            codes,
+            every,
+            since,
+        }))
+    }
+
+    /// How long it is until it strikes.
+    pub(super) fn left(&self) -> Duration {
+        match self.since.elapsed(self.rt) {
+            Ok(passed) => self.every.saturating_sub(passed),
+            Err(_) => self.every,
+        }
+    }
+
+    /// Starts anew where it has struck, and answers whether it has.
+    pub(super) fn strikes(&mut self) -> bool {
+        if !self.left().is_zero() {
+            return false;
+        }
+        self.since = Instant::now(self.rt).unwrap_or(self.since);
+        true
+    }
+
+    /// Whether something is next for the partner at a place of the book. There is no answer where no partner has it.
+    ///
+    /// # Errors
+    /// The office failed.
+    pub(super) fn is_due(
+        &self,
+        place: usize,
+        office: &mut impl HeldOffice,
+    ) -> Result<Option<bool>, Fault> {
+        let Some(code) = self.codes.get(place) else {
+            return Ok(None);
+        };
+        match self.book.partner(code.as_bytes()) {
+            Some(partner) if partner.mode != Mode::Receive => office
+                .run(Looking { partner })
+                .map(Some),
+            _ => Ok(Some(false)),
+        }
+    }
+
+    /// The code of the partner at a place.
+    pub(super) fn code(&self, place: usize) -> Option<&'a str> {
+        match self.codes.get(place) {
+            Some(code) => Some(code.as_str()),
+            None => None,
+        }
+    }
+}
+
+/// A partner for whom something may be next.
+#[derive(Clone, Copy)]
+struct Looking<'a> {
+    partner: &'a Partner,
+}
+
+impl Errand for Looking<'_> {
+    type Outcome = Result<bool, Fault>;
+
+    fn run<O: Office>(self, office: &mut O) -> Result<bool, Fault> {
+        let Looking { partner } = self;
+        let code = Name::of(&partner.code.field());
+        let first = Cursor {
+            response: 0,
+            file: 0,
+        };
+        match office.next_item(&code, first, true) {
+            Ok(item) => Ok(item.is_some()),
+            Err(_) => Err(Fault::Run(RunFault::Office)),
+        }
+    }
+}
+
+/// The codes of the partners of a book, in their order, from its text.
+pub fn codes_of(alloc: Global, octets: &[u8]) -> Result<Vec<String>, Fault> {
+    let mut codes = Vec::new(alloc);
+    let Ok(text) = str::from_utf8(octets) else {
+        return Ok(codes);
+    };
+    let Ok(table) = toml::table_from_str(alloc, text) else {
+        return Err(Fault::MEMORY);
+    };
+    let Some(partners) = table.get("partner") else {
+        return Ok(codes);
+    };
+    let Some(partners) = partners.as_array() else {
+        return Ok(codes);
+    };
+    for partner in partners {
+        if let Some(code) = code_in(partner) {
+            let code = String::from_str(alloc, code).map_err(|_| Fault::MEMORY)?;
+            codes.push(code).map_err(|_| Fault::MEMORY)?;
+        }
+    }
+    Ok(codes)
+}
+
+/// The code in the table of a partner.
+fn code_in(partner: &toml::Value) -> Option<&str> {
+    partner.as_table()?.get("code")?.as_str()
+}

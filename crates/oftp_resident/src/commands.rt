@@ -1,0 +1,105 @@
+//! The commands' requests: carried out in their turn, and within a session those that only look something up.
+
+use crate::asked::{Asked, Task};
+use crate::office::HeldOffice;
+use crate::turns::{MOST_AT_ONCE, Resident};
+use oftp_command_line::Fault;
+use oftp_engine::RunFault;
+
+/// What came within a session and waits for its end.
+#[derive(Drop)]
+pub(super) struct Deferred {
+    // The number of the command that asks it.
+    client: u64,
+    asked: Asked,
+}
+
+impl Resident<'_> {
+    /// Carries out the next request of a command, if there is one.
+    pub(super) fn serve_command(&mut self, office: &mut impl HeldOffice) -> Result<bool, Fault> {
+        let Some((client, request)) = self.clients.next_request() else {
+            return Ok(false);
+        };
+        let asked = Asked::of(self.rt.alloc(), request);
+        self.carry_out(client, asked.as_ref(), office)
+    }
+
+    /// Carries out the next request that waited for the end of a session, if one did.
+    pub(super) fn serve_deferred(&mut self, office: &mut impl HeldOffice) -> Result<bool, Fault> {
+        for _ in 0..MOST_AT_ONCE {
+            let Some(Deferred { client, asked }) = self.next_deferred() else {
+                break;
+            };
+            if self.carry_out(client, Some(&asked), office)? {
+                return Ok(true);
+            }
+        }
+        Ok(false)
+    }
+
+    /// Carries out the requests that only look something up, and has the others wait for the end of the session.
+    pub(super) fn answer_look_ups(&mut self, office: &mut impl HeldOffice) -> Result<(), Fault> {
+        let alloc = self.rt.alloc();
+        for _ in 0..MOST_AT_ONCE {
+            let Some((client, request)) = self.clients.next_request() else {
+                break;
+            };
+            match Asked::of(alloc, request) {
+                Some(asked) => self.answer_or_defer(client, asked, office)?,
+                None => self.clients.answer(client, None),
+            }
+        }
+        Ok(())
+    }
+
+    /// Carries out what only looks something up. What doesn't waits; where there is no memory for that, its connection is closed.
+    fn answer_or_defer(
+        &mut self,
+        client: u64,
+        asked: Asked,
+        office: &mut impl HeldOffice,
+    ) -> Result<(), Fault> {
+        if asked.is_look_up(self.rt.alloc()) {
+            if self.carry_out(client, Some(&asked), office)? {
+                self.count_job();
+            }
+        } else if self.deferred.push(Deferred { client, asked }).is_err() {
+            self.clients.answer(client, None);
+        }
+        Ok(())
+    }
+
+    /// What waited for the end of a session, and came first.
+    fn next_deferred(&mut self) -> Option<Deferred> {
+        if self.deferred.is_empty() {
+            None
+        } else {
+            Some(self.deferred.remove(0))
+        }
+    }
+
+    /// Carries out what the command of a number asks, and answers whether that was a job. A call is none before it has come to an end.
+    fn carry_out(
+        &mut self,
+        client: u64,
+        asked: Option<&Asked>,
+        office: &mut impl HeldOffice,
+    ) -> Result<bool, Fault> {
+        let task = match asked {
+            Some(asked) => asked.carry_out(self.rt, office),
+            None => Task::Nothing,
+        };
+        match task {
+            Task::Answered(answer) => self.clients.answer(client, answer),
+            Task::Failed(answer) => {
+                self.clients.answer(client, answer);
+                self.clients.send();
+                return Err(Fault::Run(RunFault::Office));
+            }
+            Task::Calls(wanted) => return self.want_call(client, wanted),
+            Task::Copies => self.let_copy(client),
+            Task::Nothing => self.clients.answer(client, None),
+        }
+        Ok(true)
+    }
+}

@@ -1,0 +1,148 @@
+//! The jobs that are sessions: with a caller, and with a partner who was called.
+
+use crate::answers::answer_of_call;
+use crate::attending::Attending;
+use crate::calling::book_of_call;
+use crate::calls::{Called, Wanted};
+use crate::office::HeldOffice;
+use crate::session_lines::{Way, settle, tell_caller};
+use crate::turns::Resident;
+use oftp_command_line::Fault;
+use oftp_engine::{End, RunFault};
+use oftp_files::Trace;
+use oftp_sockets::{
+    Caller, Connection, Station, Trouble, part, serve_called, serve_caller, tell_end,
+};
+use std::io::Write;
+use std::net::TcpStream;
+use std::time::Instant;
+
+impl Resident<'_> {
+    /// Serves the caller whose turn it is, if there is one.
+    pub(super) fn serve_caller(
+        &mut self,
+        office: &mut impl HeldOffice,
+        out: &mut impl Write,
+    ) -> Result<bool, Fault> {
+        let rt = self.rt;
+        let caller = match self.waiting.due(&self.station) {
+            Ok(Some(caller)) => caller,
+            Ok(None) => return Ok(false),
+            Err(trouble) => {
+                tell_caller(out, None, Err(trouble))?;
+                return Ok(false);
+            }
+        };
+        let code = caller.code(rt.alloc());
+        let code = match &code {
+            Some(code) => Some(code.as_str()),
+            None => None,
+        };
+        let begun = Instant::now(rt);
+        let station = self.station;
+        let mut desk = Attending {
+            resident: self,
+            office,
+        };
+        let served = serve_caller(rt, &caller, &station, &mut desk);
+        let Caller { connection, .. } = caller;
+        self.part_from(connection, &station, &served);
+        if let Ok(begun) = begun {
+            self.waiting.stand_still(begun);
+        }
+        tell_caller(out, code, served)?;
+        Ok(true)
+    }
+
+    /// Appends how a session ended to its trace. Where the station had the last word, the partner is left the time to read it, beside all
+    /// else; but it is waited for where the program ends.
+    fn part_from(
+        &mut self,
+        connection: Connection,
+        station: &Station<'_>,
+        served: &Result<End, Trouble>,
+    ) {
+        match served {
+            Err(Trouble::OfService(Fault::Run(RunFault::Office))) => {
+                part(self.rt, &connection, station, served);
+            }
+            Ok(End::Own(_)) => {
+                tell_end(station, served);
+                self.leaving.take_in(connection);
+            }
+            _ => tell_end(station, served),
+        }
+    }
+
+    /// Serves the partner who was called, if there is one.
+    pub(super) fn serve_called(
+        &mut self,
+        office: &mut impl HeldOffice,
+        out: &mut impl Write,
+    ) -> Result<bool, Fault> {
+        let Some(called) = self.calls.next_called(&self.watch) else {
+            return Ok(false);
+        };
+        let rt = self.rt;
+        let Called {
+            client,
+            wanted,
+            stream,
+        } = called;
+        let begun = Instant::now(rt);
+        let trace = Trace::kept(rt);
+        let ended = self.converse(stream, &wanted, &trace, office);
+        if let Ok(begun) = begun {
+            self.waiting.stand_still(begun);
+        }
+        let told = trace.into_kept();
+        self.answer_call(client, told.as_slice(), &ended);
+        settle(out, Some(wanted.code.as_str()), Way::Out, ended)?;
+        Ok(true)
+    }
+
+    /// Answers the command that wanted a call, if one did.
+    fn answer_call(&mut self, client: Option<u64>, trace: &[u8], ended: &Result<End, Fault>) {
+        if let Some(client) = client {
+            let answer = answer_of_call(self.rt.alloc(), trace, ended);
+            self.clients.answer(client, answer);
+            self.clients.send();
+        }
+    }
+
+    /// One session with a partner who was called over this stream, if there is one.
+    fn converse(
+        &mut self,
+        stream: Result<TcpStream, Fault>,
+        wanted: &Wanted,
+        trace: &Trace<'_>,
+        office: &mut impl HeldOffice,
+    ) -> Result<End, Fault> {
+        let stream = stream?;
+        let book = book_of_call(wanted, self.station.book);
+        let Some(partner) = book.partner(wanted.code.as_bytes()) else {
+            return Err(Fault::Socket);
+        };
+        let station = Station {
+            book,
+            patience: wanted.patience,
+            longest: wanted.longest,
+            trace: if wanted.is_traced {
+                Some(trace)
+            } else {
+                self.station.trace
+            },
+        };
+        let Ok(connection) = Connection::new(stream, station.patience) else {
+            return Err(Fault::Run(RunFault::Read));
+        };
+        let rt = self.rt;
+        let mut desk = Attending {
+            resident: self,
+            office,
+        };
+        let served = serve_called(rt, &connection, partner, &station, &mut desk);
+        self.part_from(connection, &station, &served);
+        served.map_err(Trouble::fault)
+    }
+}

@@ -1,0 +1,30 @@
+//! The resident station: it holds an office, and does everything over it, one job after another.
+#![tactic(auto)]
+
+mod answers;
+mod asked;
+mod attending;
+mod calling;
+mod calls;
+mod clients;
+mod clock;
+mod commands;
+mod copying;
+mod jobs;
+mod listing;
+mod office;
+mod page;
+mod place;
+mod replies;
+mod session_lines;
+mod statuses;
+mod turns;
+mod visitors;
+mod watch;
+
+pub use asked::entry_to_fetch;
+pub use clock::codes_of;
+pub use office::{Errand, HeldOffice, answer_from, report_to};
+pub use place::SocketPlace;
+pub use statuses::{DONE, FAILED, status_of, tell};
+pub use turns::{Bench, reside};

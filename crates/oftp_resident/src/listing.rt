@@ -1,0 +1,60 @@
+//! Requests by HTTP, which are answered between the jobs, and within a session where it waits.
+
+use crate::office::HeldOffice;
+use crate::replies::{Hosts, reply_to};
+use crate::turns::{Again, MOST_AT_ONCE, Resident};
+use crate::visitors::Request;
+use oftp_command_line::Fault;
+use oftp_engine::RunFault;
+use oftp_listing::ListFault;
+use oftp_sockets::Arrival;
+use std::net::TcpListener;
+
+impl Resident<'_> {
+    /// Takes in who asks by HTTP, and answers whose request is whole.
+    pub(super) fn answer_requests(
+        &mut self,
+        listener: &TcpListener,
+        office: &mut impl HeldOffice,
+    ) -> Result<Again, Fault> {
+        self.visitors.go_on();
+        let again = match self.visitors.welcome(listener, &self.watch)? {
+            Arrival::Later => Again::Soon,
+            _ => Again::Never,
+        };
+        self.visitors.go_on();
+        let mut has_answered = false;
+        for _ in 0..MOST_AT_ONCE {
+            let Some(request) = self.visitors.next_request() else {
+                break;
+            };
+            self.answer_request(request, office)?;
+            has_answered = true;
+        }
+        Ok(if has_answered { Again::AtOnce } else { again })
+    }
+
+    /// Answers a request. Where memory runs out its connection is closed.
+    fn answer_request(
+        &mut self,
+        request: Request,
+        office: &mut impl HeldOffice,
+    ) -> Result<(), Fault> {
+        let Request {
+            place,
+            octets,
+            address,
+        } = request;
+        let name = match self.bench.host {
+            Some(name) => Some(name.as_str()),
+            None => None,
+        };
+        let hosts = Hosts { address, name };
+        match reply_to(self.rt.alloc(), office, hosts, octets.as_slice()) {
+            Ok(reply) => self.visitors.answer(place, reply),
+            Err(ListFault::Office) => return Err(Fault::Run(RunFault::Office)),
+            Err(_) => {}
+        }
+        Ok(())
+    }
+}

@@ -1,0 +1,133 @@
+//! The replies to requests by HTTP: the page, what the register holds, or that the caller asks another host.
+
+use crate::office::{HeldOffice, answer_from};
+use crate::page::PAGE;
+use httparse::Status;
+use httparse::spans::{EMPTY_HEADER_SPAN, HeaderSpan, Span, parse_request};
+use oftp_listing::ListFault;
+use std::alloc::{AllocError, Global};
+use std::net::IpAddr;
+
+/// How many fields a head may have.
+const MOST_FIELDS: usize = 64;
+
+/// The reply to a request for another host.
+const OTHER_HOST: &[u8] =
+    b"HTTP/1.1 400 Bad Request\r\nContent-Type: application/json\r\nContent-Length: 13\r\nConnection: close\r\n\r\n{\"error\":400}";
+
+/// Whom a request may ask: the machine by the address that was called, `localhost`, or a name.
+#[derive(Clone, Copy)]
+pub(super) struct Hosts<'a> {
+    /// The address that was called.
+    pub(super) address: Option<IpAddr>,
+    /// The name, if there is one.
+    pub(super) name: Option<&'a str>,
+}
+
+/// The reply to a request.
+///
+/// # Errors
+/// Memory ran out, or the office failed.
+pub(super) fn reply_to(
+    alloc: Global,
+    office: &mut impl HeldOffice,
+    hosts: Hosts<'_>,
+    request: &[u8],
+) -> Result<Vec<u8>, ListFault> {
+    match goal_of(hosts, request) {
+        Asked::OtherHost => Ok(Vec::from_slice(alloc, OTHER_HOST)?),
+        Asked::Page => Ok(page(alloc)?),
+        Asked::Register => {
+            let reply = answer_from(alloc, office, request)?;
+            Ok(Vec::from_slice(alloc, reply.octets())?)
+        }
+    }
+}
+
+/// The reply that is the page.
+fn page(alloc: Global) -> Result<Vec<u8>, AllocError> {
+    let head = format!(in alloc;
+        "HTTP/1.1 200 OK\r\nContent-Type: text/html; charset=utf-8\r\nContent-Length: {}\r\nConnection: close\r\n\r\n",
+        PAGE.len()
+    )?;
+    let mut reply = Vec::from_slice(alloc, head.as_bytes())?;
+    reply.extend_from_slice(PAGE.as_bytes())?;
+    Ok(reply)
+}
+
+/// What a request asks.
+#[derive(Clone, Copy)]
+enum Asked {
+    /// Another host.
+    OtherHost,
+    /// The page.
+    Page,
+    /// The register, or nothing that there is.
+    Register,
+}
+
+/// What a request asks, as far as that isn't the register's.
+fn goal_of(hosts: Hosts<'_>, request: &[u8]) -> Asked {
+    let mut fields = [EMPTY_HEADER_SPAN; MOST_FIELDS];
+    let Ok(Status::Complete(head)) = parse_request(request, &mut fields) else {
+        return Asked::Register;
+    };
+    for field in &fields {
+        if is_other_host(hosts, request, *field) {
+            return Asked::OtherHost;
+        }
+    }
+    if part(request, head.method) == b"GET".as_slice()
+        && part(request, head.path) == b"/".as_slice()
+    {
+        Asked::Page
+    } else {
+        Asked::Register
+    }
+}
+
+/// The octets of a part.
+fn part(request: &[u8], span: Span) -> &[u8] {
+    request.get(span.start..span.end).unwrap_or(&[])
+}
+
+/// Whether a field names another host.
+fn is_other_host(hosts: Hosts<'_>, request: &[u8], field: HeaderSpan) -> bool {
+    if !part(request, field.name).eq_ignore_ascii_case(b"host") {
+        return false;
+    }
+    match str::from_utf8(part(request, field.value)) {
+        Ok(value) => !is_host(hosts, host_of(value)),
+        Err(_) => true,
+    }
+}
+
+/// The host in the value of the field, without its port.
+fn host_of(value: &str) -> &str {
+    if let Some(rest) = value.strip_prefix('[') {
+        return match rest.split_once(']') {
+            Some((host, _)) => host,
+            None => value,
+        };
+    }
+    match value.split_once(':') {
+        Some((host, _)) => host,
+        None => value,
+    }
+}
+
+/// Whether a host is this one.
+fn is_host(hosts: Hosts<'_>, host: &str) -> bool {
+    if host.as_bytes().eq_ignore_ascii_case(b"localhost") {
+        return true;
+    }
+    if let Some(name) = hosts.name
+        && host.as_bytes().eq_ignore_ascii_case(name.as_bytes())
+    {
+        return true;
+    }
+    match (host.parse::<IpAddr>(), hosts.address) {
+        (Ok(asked), Some(address)) => asked == address,
+        _ => false,
+    }
+}

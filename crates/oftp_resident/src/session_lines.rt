@@ -1,0 +1,88 @@
+//! The lines that the resident station prints of its sessions.
+
+use oftp_command_line::{Fault, Outcome, write_line};
+use oftp_engine::{End, RunFault};
+use oftp_sockets::Trouble;
+use std::fmt;
+use std::io::Write;
+
+/// Who called whom.
+#[derive(Clone, Copy)]
+pub(super) enum Way {
+    /// The partner called.
+    In,
+    /// The station called.
+    Out,
+}
+
+/// The line of a session: the partner's code, who called, and how it ended.
+#[derive(Clone, Copy)]
+struct SessionLine<'a> {
+    code: &'a str,
+    way: Way,
+    ended: Result<End, Fault>,
+}
+
+impl fmt::Display for SessionLine<'_> {
+    fn fmt<W: fmt::Write>(&self, f: &mut fmt::Formatter<W>) -> fmt::Result {
+        let way = match self.way {
+            Way::In => "in",
+            Way::Out => "out",
+        };
+        write!(f, "session {} {way}: ", self.code)?;
+        match self.ended {
+            Ok(end) => write!(f, "{}", Outcome::Ended(end)),
+            Err(fault) => write!(f, "{fault}"),
+        }
+    }
+}
+
+/// Writes the line of a session with the partner of this code. A caller who wasn't let in has none.
+///
+/// # Errors
+/// `out` told a fault.
+fn tell_session(
+    out: &mut impl Write,
+    code: Option<&str>,
+    way: Way,
+    ended: Result<End, Fault>,
+) -> Result<(), Fault> {
+    let code = code.unwrap_or("-");
+    write_line(out, &SessionLine { code, way, ended })
+}
+
+/// Writes the line of a session.
+///
+/// # Errors
+/// `out` told a fault, or the office did within the session.
+pub(super) fn settle(
+    out: &mut impl Write,
+    code: Option<&str>,
+    way: Way,
+    ended: Result<End, Fault>,
+) -> Result<(), Fault> {
+    let has_failed = is_of_office(&ended);
+    tell_session(out, code, way, ended)?;
+    if has_failed {
+        Err(Fault::Run(RunFault::Office))
+    } else {
+        Ok(())
+    }
+}
+
+/// Whether the office failed.
+fn is_of_office(ended: &Result<End, Fault>) -> bool {
+    matches!(ended, Err(Fault::Run(RunFault::Office)))
+}
+
+/// Writes the line of a session with a caller.
+///
+/// # Errors
+/// As [`settle`].
+pub(super) fn tell_caller(
+    out: &mut impl Write,
+    code: Option<&str>,
+    served: Result<End, Trouble>,
+) -> Result<(), Fault> {
+    settle(out, code, Way::In, served.map_err(Trouble::fault))
+}

@@ -1,0 +1,28 @@
+//! The exit statuses of commands.
+
+use oftp_command_line::{Fault, Outcome, write_line};
+use oftp_engine::Told;
+use std::io::Write;
+
+/// The exit status of a command that is done.
+pub const DONE: u8 = 0;
+
+/// That of one that was refused, or failed.
+pub const FAILED: u8 = 1;
+
+/// Writes how a command came out, and answers the exit status.
+///
+/// # Errors
+/// `out` told a fault.
+pub fn tell(outcome: Outcome, out: &mut impl Write) -> Result<u8, Fault> {
+    write_line(out, &outcome)?;
+    Ok(if outcome.is_refusal() { FAILED } else { DONE })
+}
+
+/// The exit status of a call of the operator, whose line is out.
+pub fn status_of(told: Told) -> u8 {
+    match told {
+        Told::Done => DONE,
+        Told::Refused(_) => FAILED,
+    }
+}

@@ -1,0 +1,214 @@
+//! The admission of a caller: a session up to the station's SSID, which lets the caller in. No database is opened for it.
+
+use crate::ports::ports_of;
+use oftp_command_line::Fault;
+use oftp_engine::{End, Role, RunFault, serve_in_memory};
+use oftp_files::LIMITS;
+use oftp_partners::Book;
+use oftp_register::PlainOffice;
+use std::alloc::Global;
+use std::io::{self, ErrorKind, Read, Write};
+
+/// How many octets stand before a command in its frame.
+const HEADER: usize = 4;
+
+/// What an SSID begins with (RFC 5024, 5.3.2).
+const SSID: u8 = b'X';
+
+/// How an admission came out.
+#[derive(Drop)]
+pub(super) enum Admission {
+    /// The caller isn't let in: its session ended.
+    Ended(End),
+    /// The caller is let in.
+    LetIn(Opening),
+}
+
+/// What went over a connection before a caller is let in.
+#[derive(Drop)]
+pub(super) struct Opening {
+    /// What the caller said, and perhaps more behind its SSID.
+    pub(super) heard: Vec<u8>,
+    /// How many octets the station said.
+    pub(super) said: u64,
+}
+
+/// Serves a session up to the station's SSID, over an empty register. No step before it looks at the register or changes it.
+///
+/// # Errors
+/// A fault of the session. Want of memory is one, too.
+pub(super) fn admit<R: Read + Drop, W: Write + Drop>(
+    alloc: Global,
+    book: &Book,
+    reader: R,
+    writer: W,
+) -> Result<Admission, RunFault> {
+    let (mut reader, mut writer) = ports_of(Recorded::new(alloc, reader), Gate::new(writer));
+    let mut office = PlainOffice::new(alloc, LIMITS);
+    let ended = serve_in_memory(
+        alloc,
+        &mut office,
+        book,
+        Role::Responder,
+        &mut reader,
+        &mut writer,
+    );
+    let said = writer.moved();
+    let Recorded {
+        heard,
+        is_whole,
+        ..
+    } = reader.into_inner();
+    if !is_whole {
+        return Err(RunFault::Memory);
+    }
+    if writer.inner().has_held {
+        return Ok(Admission::LetIn(Opening { heard, said }));
+    }
+    ended.map(Admission::Ended)
+}
+
+/// What the octets that a caller has said come to.
+#[derive(Clone, Copy)]
+pub(super) enum Said {
+    /// They are no whole command yet.
+    TooLittle,
+    /// They end the session.
+    Farewell,
+    /// They let the caller in.
+    Password,
+}
+
+/// Looks what these octets of a caller come to, and answers nobody.
+pub(super) fn judged(alloc: Global, book: &Book, octets: &[u8]) -> Result<Said, Fault> {
+    match admit(alloc, book, octets, io::sink()) {
+        Ok(Admission::Ended(End::Input)) => Ok(Said::TooLittle),
+        Ok(Admission::Ended(_)) => Ok(Said::Farewell),
+        Ok(Admission::LetIn(_)) => Ok(Said::Password),
+        Err(fault) => Err(Fault::Run(fault)),
+    }
+}
+
+/// Says the greeting of a session, and answers how many octets it has.
+///
+/// # Errors
+/// It can't be written.
+pub(super) fn greet<W: Write + Drop>(
+    alloc: Global,
+    book: &Book,
+    writer: W,
+) -> Result<u64, RunFault> {
+    let (mut reader, mut writer) = ports_of(io::empty(), writer);
+    let mut office = PlainOffice::new(alloc, LIMITS);
+    serve_in_memory(
+        alloc,
+        &mut office,
+        book,
+        Role::Responder,
+        &mut reader,
+        &mut writer,
+    )?;
+    Ok(writer.moved())
+}
+
+/// A reader that keeps what it gave.
+#[derive(Drop)]
+struct Recorded<R> {
+    reader: R,
+    heard: Vec<u8>,
+    // Whether there was memory for all of it.
+    is_whole: bool,
+}
+
+impl<R> Recorded<R> {
+    /// The reader, which gave nothing yet.
+    fn new(alloc: Global, reader: R) -> Recorded<R> {
+        Recorded {
+            reader,
+            heard: Vec::new(alloc),
+            is_whole: true,
+        }
+    }
+}
+
+impl<R: Read> Read for Recorded<R> {
+    fn read(&mut self, piece: &mut [u8]) -> io::Result<usize> {
+        let count = self.reader.read(piece)?;
+        if self.heard.extend_from_slice(&piece[..count]).is_err() {
+            self.is_whole = false;
+            return Err(io::Error::from(ErrorKind::OutOfMemory));
+        }
+        Ok(count)
+    }
+}
+
+/// A writer of frames that holds an SSID back.
+#[derive(Drop)]
+struct Gate<W> {
+    writer: W,
+    // How many octets of a frame that was begun are left.
+    left: usize,
+    has_held: bool,
+}
+
+impl<W> Gate<W> {
+    /// The writer, before the first frame.
+    fn new(writer: W) -> Gate<W> {
+        Gate {
+            writer,
+            left: 0,
+            has_held: false,
+        }
+    }
+}
+
+impl<W: Write> Write for Gate<W> {
+    fn write(&mut self, piece: &[u8]) -> io::Result<usize> {
+        if self.left == 0 {
+            if piece.get(HEADER) == Some(&SSID) {
+                self.has_held = true;
+                return Err(io::Error::from(ErrorKind::PermissionDenied));
+            }
+            self.left = piece.len();
+        }
+        let count = self.writer.write(piece)?;
+        self.left = self.left.saturating_sub(count);
+        Ok(count)
+    }
+
+    fn flush(&mut self) -> io::Result<()> {
+        self.writer.flush()
+    }
+}
+
+/// A writer that leaves out the first octets, which are out already.
+#[derive(Drop)]
+pub(super) struct Skipping<W> {
+    writer: W,
+    left: u64,
+}
+
+impl<W> Skipping<W> {
+    /// The writer, which leaves out so many octets.
+    pub(super) fn new(writer: W, left: u64) -> Skipping<W> {
+        Skipping { writer, left }
+    }
+}
+
+impl<W: Write> Write for Skipping<W> {
+    fn write(&mut self, piece: &[u8]) -> io::Result<usize> {
+        if self.left == 0 {
+            return self.writer.write(piece);
+        }
+        let mut count = piece.len();
+        if self.left < count as u64 {
+            count = self.left as usize;
+        }
+        self.left -= count as u64;
+        Ok(count)
+    }
+
+    fn flush(&mut self) -> io::Result<()> {
+        self.writer.flush()
+    }
+}

@@ -1,0 +1,26 @@
+//! Connections to partners and to who asks by HTTP: they are accepted, admitted, waited for and given up. What a session or a request is served
+//! from is the caller's ([`Desk`], [`Replies`]).
+#![tactic(auto)]
+
+mod addresses;
+mod admission;
+mod callers;
+mod connection;
+mod leaving;
+mod moments;
+mod ports;
+mod requests;
+mod sessions;
+mod waiting;
+
+pub use addresses::{bound, connected, passes, socket_fault};
+pub use callers::Trouble;
+pub use connection::Connection;
+pub use leaving::Leaving;
+pub use moments::{Term, patience_of};
+pub use ports::ports_of;
+pub use requests::{MOST_REQUEST_OCTETS, REQUEST_SECONDS, Replies, http_on, is_whole};
+pub use sessions::{
+    Desk, Reception, Station, Wire, dial, listen_on, part, serve_called, serve_caller, tell_end,
+};
+pub use waiting::{Arrival, Caller, Waiting};

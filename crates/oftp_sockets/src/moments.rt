@@ -1,0 +1,133 @@
+//! Reads and writes up to a moment.
+
+use crate::connection::Connection;
+use std::io::{self, ErrorKind, Read, Write};
+use std::time::{Duration, Instant};
+
+/// How long a partner may keep still, of so many seconds. Zero seconds are no limit.
+pub fn patience_of(seconds: u64) -> Option<Duration> {
+    match seconds {
+        0 => None,
+        _ => Some(Duration::from_secs(seconds)),
+    }
+}
+
+/// How long a connection is waited for: so long in all, and no longer than the patience at each read and each write.
+#[derive(Clone, Copy)]
+pub struct Term<'a> {
+    rt: &'a HostRuntime,
+    connection: &'a Connection,
+    begun: Instant,
+    length: Duration,
+    patience: Option<Duration>,
+}
+
+impl<'a> Term<'a> {
+    /// The term of a connection that began at a moment. Without a patience it has its length alone.
+    pub(super) fn new(
+        rt: &'a HostRuntime,
+        connection: &'a Connection,
+        begun: Instant,
+        length: Duration,
+        patience: Option<Duration>,
+    ) -> Term<'a> {
+        Term {
+            rt,
+            connection,
+            begun,
+            length,
+            patience,
+        }
+    }
+
+    /// Whether a read waits for nobody: the partner has said something, or the connection has ended.
+    pub fn is_heard(&self) -> bool {
+        self.connection.is_heard()
+    }
+
+    /// How long the partner may go on to keep still, which has done so since a moment. There is nothing once that is over.
+    pub fn left(&self, since: Instant) -> Option<Duration> {
+        let whole = self
+            .length
+            .saturating_sub(self.begun.elapsed(self.rt).ok()?);
+        let left = match self.patience {
+            Some(patience) => whole.min(patience.saturating_sub(since.elapsed(self.rt).ok()?)),
+            None => whole,
+        };
+        if left.is_zero() { None } else { Some(left) }
+    }
+
+    /// The connection, which waits no longer than what is left.
+    fn hurried(&self) -> io::Result<&'a Connection> {
+        let left = self.length.saturating_sub(self.begun.elapsed(self.rt)?);
+        if left.is_zero() {
+            return Err(io::Error::from(ErrorKind::TimedOut));
+        }
+        let limit = match self.patience {
+            Some(patience) if patience < left => patience,
+            _ => left,
+        };
+        self.connection.set_limit(Some(limit))?;
+        Ok(self.connection)
+    }
+}
+
+/// A connection that is read and written within its term, and then fails.
+#[derive(Drop)]
+pub(super) struct Timed<'a> {
+    term: Term<'a>,
+}
+
+impl<'a> Timed<'a> {
+    /// The connection from now on, for so long.
+    pub(super) fn new(
+        rt: &'a HostRuntime,
+        connection: &'a Connection,
+        length: Duration,
+    ) -> io::Result<Timed<'a>> {
+        let begun = Instant::now(rt)?;
+        Ok(Timed::of(Term::new(rt, connection, begun, length, None)))
+    }
+
+    /// The connection for as long as its term.
+    pub(super) fn of(term: Term<'a>) -> Timed<'a> {
+        Timed { term }
+    }
+}
+
+impl Read for Timed<'_> {
+    fn read(&mut self, piece: &mut [u8]) -> io::Result<usize> {
+        self.term.hurried()?.read(piece)
+    }
+}
+
+impl Write for Timed<'_> {
+    fn write(&mut self, piece: &[u8]) -> io::Result<usize> {
+        self.term.hurried()?.write(piece)
+    }
+
+    fn flush(&mut self) -> io::Result<()> {
+        Ok(())
+    }
+}
+
+/// A reader over a connection, which fails behind the connection's term.
+#[derive(Drop)]
+pub(super) struct Within<'a, R> {
+    reader: R,
+    term: Term<'a>,
+}
+
+impl<'a, R> Within<'a, R> {
+    /// The reader within a term.
+    pub(super) fn new(reader: R, term: Term<'a>) -> Within<'a, R> {
+        Within { reader, term }
+    }
+}
+
+impl<R: Read> Read for Within<'_, R> {
+    fn read(&mut self, piece: &mut [u8]) -> io::Result<usize> {
+        self.term.hurried()?;
+        self.reader.read(piece)
+    }
+}

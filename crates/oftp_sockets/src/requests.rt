@@ -1,0 +1,160 @@
+//! Requests over sockets.
+
+ghost use Rattle.std.specs.Prelude.{◌≤◌, IfOk, IfSome, length};
+
+use crate::addresses::accepted;
+use crate::callers::{Trouble, settled};
+use crate::connection::Connection;
+use crate::moments::Timed;
+use oftp_command_line::Fault;
+use oftp_files::LIMITS;
+use oftp_listing::{ListFault, Reply, answer};
+use oftp_register::PlainOffice;
+use std::alloc::Global;
+use std::io::{self, Read, Write};
+use std::net::{TcpListener, TcpStream};
+use std::time::Duration;
+
+/// How many octets of a request are read: one more than a head may have.
+pub const MOST_REQUEST_OCTETS: usize = 8_193;
+
+/// How many seconds a request may take to come, and its reply to go.
+pub const REQUEST_SECONDS: u64 = 10;
+
+/// What requests are answered from.
+pub trait Replies {
+    /// The reply to a request, of which it matters what the register holds.
+    ///
+    /// # Errors
+    /// The trouble of who asks, or of the service.
+    fn reply_to(&mut self, rt: &HostRuntime, request: &[u8]) -> Result<Reply, Trouble>;
+}
+
+/// Answers so many requests, one connection each. Where the trouble is of one who asks alone, the connection is closed without a reply, and
+/// a line to `err` says so.
+///
+/// # Errors
+/// Any other fault: of what they are answered from, of memory or of the listener.
+pub fn http_on<A: Replies>(
+    rt: &HostRuntime,
+    listener: &TcpListener,
+    requests: u64,
+    replies: &mut A,
+    err: &mut impl Write,
+) -> Result<(), Fault> {
+    for _ in 0..requests {
+        let stream = accepted(rt, listener)?;
+        settled(serve(rt, stream, replies), err)?;
+    }
+    Ok(())
+}
+
+/// Answers one request. A connection that fails, or ends before the head is whole, is closed without a reply.
+fn serve<A: Replies>(rt: &HostRuntime, stream: TcpStream, replies: &mut A) -> Result<(), Trouble> {
+    let Ok(connection) = Connection::new(stream, None) else {
+        return Ok(());
+    };
+    let mut octets = [0; MOST_REQUEST_OCTETS];
+    let Some(count) = hear(rt, &connection, &mut octets)? else {
+        return Ok(());
+    };
+    let reply = reply_to(rt, &octets[..count], replies)?;
+    let _ = send(rt, &connection, &reply);
+    Ok(())
+}
+
+/// Reads a request into the room for it, and answers how many octets it has. There is none where the input ends before its head is whole.
+fn hear(
+    rt: &HostRuntime,
+    connection: &Connection,
+    octets: &mut [u8],
+) -> Result<Option<usize>, Fault>
+    ensures { IfOk result (λ heard. IfSome heard (λ count. count ≤ length octets.new)) }
+{
+    let Ok(mut reader) = timed(rt, connection) else {
+        return Ok(None);
+    };
+    let mut count = 0;
+    'octets: while count < octets.len() {
+        match reader.read(&mut octets[count..]) {
+            Ok(more) if more > 0 => count += more,
+            _ => return Ok(None),
+        }
+        if is_whole(rt.alloc(), &octets[..count])? {
+            return Ok(Some(count));
+        }
+    }
+    Ok(Some(count))
+}
+
+/// Whether a request can be answered. What the answer is doesn't count yet, so the database isn't opened for it.
+pub fn is_whole(alloc: Global, request: &[u8]) -> Result<bool, Fault> {
+    match answer(alloc, request, &mut PlainOffice::new(alloc, LIMITS)) {
+        Ok(_) => Ok(true),
+        Err(ListFault::Incomplete) => Ok(false),
+        Err(fault) => Err(Fault::from(fault)),
+    }
+}
+
+/// The reply to a request. What it is answered from is asked only where it matters what the register holds.
+fn reply_to<A: Replies>(
+    rt: &HostRuntime,
+    request: &[u8],
+    replies: &mut A,
+) -> Result<Reply, Trouble> {
+    match reply_of_any(rt.alloc(), request)? {
+        Some(reply) => Ok(reply),
+        None => replies.reply_to(rt, request),
+    }
+}
+
+/// The reply that is the same whatever a register holds, if there is one: to octets that are no request, to a target that nothing fits,
+/// and to another method than GET for a list.
+fn reply_of_any(alloc: Global, request: &[u8]) -> Result<Option<Reply>, Fault> {
+    let reply = answer(alloc, request, &mut PlainOffice::new(alloc, LIMITS))?;
+    if is_of_any(reply.octets(), request) {
+        Ok(Some(reply))
+    } else {
+        Ok(None)
+    }
+}
+
+/// Whether the reply from an empty register is that from any. It says of a list alone that the method isn't allowed.
+fn is_of_any(reply: &[u8], request: &[u8]) -> bool {
+    reply.starts_with(b"HTTP/1.1 400")
+        || reply.starts_with(b"HTTP/1.1 405")
+        || reply.starts_with(b"HTTP/1.1 404") && !may_name_entry(request)
+}
+
+/// Whether a request may ask for one entry. No method has a slash, so the first one begins the target, if any does.
+fn may_name_entry(request: &[u8]) -> bool {
+    for at in 0..request.len() {
+        if request[at] == b'/' {
+            let target = &request[at..];
+            return is_of_number(target, b"/in/") || is_of_number(target, b"/out/");
+        }
+    }
+    false
+}
+
+/// Whether a text begins so, with the first digit of a number behind it.
+fn is_of_number(text: &[u8], beginning: &[u8]) -> bool {
+    let Some(rest) = text.strip_prefix(beginning) else {
+        return false;
+    };
+    match rest.first() {
+        Some(octet) => *octet != b'0' && octet.is_ascii_digit(),
+        None => false,
+    }
+}
+
+/// The connection for as long as a request may take to come, or its reply to go.
+fn timed<'a>(rt: &'a HostRuntime, connection: &'a Connection) -> io::Result<Timed<'a>> {
+    Timed::new(rt, connection, Duration::from_secs(REQUEST_SECONDS))
+}
+
+/// Sends a reply, and leaves the caller the time to read it.
+fn send(rt: &HostRuntime, connection: &Connection, reply: &Reply) -> io::Result<()> {
+    timed(rt, connection)?.write_all(reply.octets())?;
+    connection.part(rt)
+}

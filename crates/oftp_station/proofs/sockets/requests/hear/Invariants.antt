@@ -1,9 +1,0 @@
-use Rattle.std.proofs.Common.{◌-◌, ◌≤◌, length}
-use Rattle.oftp_station.proofs.sockets.requests.hear.Given as goal
-
--- the octets so far are in the room for them
-abbrev pub invariant-octets : goal.invariant-octets
-invariant-octets l = l.count ≤ length l.octets
-
-abbrev pub decreases-octets : goal.decreases-octets
-decreases-octets l = length l.octets - l.count
