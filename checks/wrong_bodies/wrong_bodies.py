@@ -28,7 +28,7 @@ Each word has to be among what refused the edit; others may be there too. An edi
 can't be applied or doesn't compile; where nothing refuses it but that a proof names what it took away; and where it names no refusal, or another.
 
 The ledger, checks/wrong_bodies/ledger.txt, has a line for each crate with edits: the sum of its src/, specs/, proofs/ and edits when all were
-refused, how many, and the day. A crate that changed since is to be tried again. The sum says nothing of the crates below: a contract there can turn
+refused, how many, and the day. A crate that changed since, in more than its comments, is to be tried again. The sum says nothing of the crates below: a contract there can turn
 what refuses an edit, and so can another toolchain. That is what the try of the day is for, by which each crate is tried again in turn. It takes some
 minutes: a crate whose edits take longer is tried in parts, another each time.
 The last line is `N passed, M failed`.
@@ -52,6 +52,8 @@ from program import ROOT
 
 LEDGER = ROOT / "checks" / "wrong_bodies" / "ledger.txt"
 PARTS = ("src", "specs", "proofs")
+# What a line of comment begins with, by the ending of a file's name.
+COMMENTS = {".rt": b"//", ".antt": b"--"}
 # After how many seconds of a processor the try of the day begins no other check.
 DAY = 300
 # What a proof says where an edit took away a name that it cites, and what then rests on that proof.
@@ -382,14 +384,21 @@ def fit():
     return len(edits) + lost, lost
 
 
+def code_of(path):
+    """The octets of a file without its lines of comment alone, which the prover doesn't read."""
+    mark = COMMENTS.get(path.suffix)
+    lines = path.read_bytes().splitlines(keepends=True)
+    return b"".join(it for it in lines if not mark or not it.lstrip().startswith(mark))
+
+
 def sum_of(crate, without=()):
-    """The sum of a crate's sources and of its edits, wherever they stand, without the edits of these names."""
+    """The sum of a crate's sources and of its edits, wherever they stand, without the edits of these names. Comments don't count."""
     folder = ROOT / "crates" / crate
     files = {str(it.relative_to(folder)): it for part in PARTS for it in (folder / part).rglob("*") if it.is_file()}
     files.update({it.name: it for it in edits_of([crate]) if it.stem not in without})
     total = hashlib.sha256()
     for name in sorted(files):
-        total.update(f"{name} {hashlib.sha256(files[name].read_bytes()).hexdigest()}\n".encode())
+        total.update(f"{name} {hashlib.sha256(code_of(files[name])).hexdigest()}\n".encode())
     return total.hexdigest()
 
 
