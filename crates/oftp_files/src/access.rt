@@ -67,6 +67,9 @@ impl Access {
 
     /// Gives it to a file, as far as this process may. Where it may not give the group, the group that the file has may do no more than
     /// anyone.
+    ///
+    /// # Errors
+    /// Any of the machine's, but not that this process may not give away a file. The file may have part of the access then.
     pub fn give_to(self, file: &File) -> io::Result<()> {
         let mut mode = self.mode;
         if let Some(owner) = self.owner {

@@ -8,12 +8,18 @@ use std::fs::{self, OpenFile};
 use std::rt::Files;
 
 /// The book of a file.
+///
+/// # Errors
+/// [`Fault::File`] where the file can't be read; those of [`book_of`].
 pub fn read_book<R: Files + AllocGlobal>(rt: &R, path: &str) -> Result<Book, Fault> {
     let octets = fs::read(rt, path).map_err(|error| file_fault(&error))?;
     book_of(rt.alloc(), octets.as_slice())
 }
 
 /// The octets of a book's file, and the book that they are.
+///
+/// # Errors
+/// Those of [`read_book`].
 pub fn read_book_octets(rt: &HostRuntime, path: &str) -> Result<(Vec<u8>, Book), Fault> {
     let octets = fs::read(rt, path).map_err(|error| file_fault(&error))?;
     let book = book_of(rt.alloc(), octets.as_slice())?;
@@ -21,6 +27,9 @@ pub fn read_book_octets(rt: &HostRuntime, path: &str) -> Result<(Vec<u8>, Book),
 }
 
 /// The book that the octets of a file are.
+///
+/// # Errors
+/// [`Fault::Book`] where they are no book, with what is wrong in it; [`Fault::MEMORY`].
 pub fn book_of(alloc: Global, octets: &[u8]) -> Result<Book, Fault> {
     let Ok(text) = str::from_utf8(octets) else {
         return Err(Fault::Book(BookFault::NotToml));

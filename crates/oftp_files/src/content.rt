@@ -18,6 +18,9 @@ const PIECE: usize = 4_096;
 
 /// The content of a file. More than any file that is kept may have is held no further than that shows, and so that it's a file of its format
 /// where the whole is one: in F records as many octets too long, in V up to the end of a record. A device is judged by what is held of it.
+///
+/// # Errors
+/// [`Fault::File`] where the file can't be read, or is a folder; [`Fault::MEMORY`].
 pub fn read_content(rt: &HostRuntime, submit: &Submit<'_>) -> Result<Vec<u8>, Fault> {
     let file = open_input(rt, submit.file)?;
     let about = file.metadata().map_err(|error| file_fault(&error))?;

@@ -123,6 +123,9 @@ fn remove_left(rt: &HostRuntime, path: &str) {
 }
 
 /// The path of the log of a draft that is a database's copy.
+///
+/// # Errors
+/// [`Fault::MEMORY`].
 pub fn log_of(rt: &HostRuntime, path: &str) -> Result<String, Fault> {
     format!(in rt.alloc(); "{path}-wal").map_err(|_| Fault::MEMORY)
 }

@@ -21,6 +21,9 @@ pub fn file_fault(error: &io::Error) -> Fault {
 }
 
 /// A file to be read, which is no folder.
+///
+/// # Errors
+/// [`Fault::File`] where it can't be opened, or is a folder; [`Fault::MEMORY`].
 pub fn open_input<R: Files>(rt: &R, path: &str) -> Result<R::File, Fault> {
     let file = fs::open(rt, path).map_err(|error| file_fault(&error))?;
     let about = file.metadata().map_err(|error| file_fault(&error))?;
@@ -36,6 +39,9 @@ pub fn are_of_one_file(one: &Metadata, other: &Metadata) -> bool {
 }
 
 /// Whether this is of the file at a path. Where there is none it isn't.
+///
+/// # Errors
+/// [`Fault::File`] where it can't be found out what is there; [`Fault::MEMORY`].
 pub fn is_at<R: Files>(rt: &R, about: &Metadata, path: &str) -> Result<bool, Fault> {
     match fs::metadata(rt, path) {
         Ok(other) => Ok(are_of_one_file(about, &other)),
@@ -45,6 +51,9 @@ pub fn is_at<R: Files>(rt: &R, about: &Metadata, path: &str) -> Result<bool, Fau
 }
 
 /// Whether this is of a database's own files: the database, or the log beside it.
+///
+/// # Errors
+/// [`Fault::File`] where the database isn't there, or it can't be found out what its files are; [`Fault::MEMORY`].
 pub fn is_of_database<R: Files + AllocGlobal>(
     rt: &R,
     about: &Metadata,

@@ -39,6 +39,9 @@ impl Name {
 }
 
 /// The place of a path where a file may be written: no folder, and no file of the database.
+///
+/// # Errors
+/// [`Fault::File`] where nothing may be written there, with nothing made; [`Fault::MEMORY`].
 pub fn place_of(rt: &HostRuntime, path: &str, database: &str) -> Result<Place, Fault> {
     match OpenOptions::new().write(true).open(rt, path) {
         Ok(file) => place_of_file(rt, file, path, database),
@@ -78,11 +81,18 @@ fn place_of_file(rt: &HostRuntime, file: File, path: &str, database: &str) -> Re
 }
 
 /// An empty draft beside the file that it is to be. Until it is that, nobody else may read it.
+///
+/// # Errors
+/// [`Fault::File`] where none can be made; [`Fault::MEMORY`].
 pub fn draft_of(rt: &HostRuntime, name: &Name) -> Result<Draft, Fault> {
     new_draft(rt, name.path.as_path())
 }
 
-/// A draft that was written takes its name; one that wasn't is removed.
+/// A draft that was written takes its name, and the disk has both before this returns; one that wasn't is removed.
+///
+/// # Errors
+/// The fault of the writing; or [`Fault::File`] where the draft can't be synced or take the name, and it is removed then. Where only the
+/// folder can't be synced, the file has its name already.
 pub fn settle(
     rt: &HostRuntime,
     draft: Draft,

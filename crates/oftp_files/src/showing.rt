@@ -11,6 +11,9 @@ use std::io::{Read, Write};
 const PIECE: usize = 4_096;
 
 /// Writes a line for each command of a file of octets, up to the first fault, and answers whether there is none.
+///
+/// # Errors
+/// [`Fault::File`] where the file can't be read; [`RunFault::Write`] where `out` told a fault; [`Fault::MEMORY`].
 pub fn show(rt: &HostRuntime, input: &str, out: &mut impl Write) -> Result<bool, Fault> {
     let mut input = open_input(rt, input)?;
     let mut transcript = Transcript::new(rt.alloc());

@@ -8,6 +8,9 @@ use std::io::ErrorKind;
 
 /// The trace in the file at a path, where there is one. A file that the session needs, one of these or of the database, isn't
 /// written; a device loses nothing.
+///
+/// # Errors
+/// [`Fault::File`] where it is such a file, or can't be made or written; [`Fault::MEMORY`].
 pub fn open_trace<'a>(
     rt: &'a HostRuntime,
     path: Option<&str>,

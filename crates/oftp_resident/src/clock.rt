@@ -114,7 +114,10 @@ impl Errand for Looking<'_> {
     }
 }
 
-/// The codes of the partners of a book, in their order, from its text.
+/// The codes of the partners of a book, in their order, from its text. A text that is no book has none.
+///
+/// # Errors
+/// [`Fault::MEMORY`].
 pub fn codes_of(alloc: Global, octets: &[u8]) -> Result<Vec<String>, Fault> {
     let mut codes = Vec::new(alloc);
     let Ok(text) = str::from_utf8(octets) else {

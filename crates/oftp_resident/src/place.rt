@@ -67,6 +67,9 @@ impl SocketPlace {
     }
 
     /// Removes the socket's file. Another file of its name stays.
+    ///
+    /// # Errors
+    /// Any of the machine's, but not that there is none.
     pub fn remove(&self, rt: &HostRuntime) -> io::Result<()> {
         match fs::symlink_metadata(rt, self.path.as_str()) {
             Ok(found) if found.file_type().is_socket() => fs::remove_file(rt, self.path.as_str()),

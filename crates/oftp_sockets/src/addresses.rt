@@ -19,12 +19,18 @@ const PASSING: [i32; 16] = [
 const PAUSE: u64 = 100;
 
 /// The listener on a port of one of the machine's addresses. The same port can be bound again at once.
+///
+/// # Errors
+/// [`Fault::Socket`] where it can't be bound; [`Fault::MEMORY`].
 pub fn bound(rt: &HostRuntime, address: &str, port: u16) -> Result<TcpListener, Fault> {
     TcpListener::bind(rt, (address, port)).map_err(|error| socket_fault(&error))
 }
 
 /// The stream to an address, which is a host and a port. Each address that the host's name stands for is tried for so long; without a
 /// limit, for as long as the machine does. Where none answers, the last one says why.
+///
+/// # Errors
+/// [`Fault::Socket`] where none can be reached, or the name stands for none; [`Fault::MEMORY`].
 pub fn connected(
     rt: &HostRuntime,
     address: &str,

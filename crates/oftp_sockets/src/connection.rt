@@ -25,6 +25,9 @@ pub struct Connection {
 
 impl Connection {
     /// The connection of a stream. Without a limit the partner is waited for as long as it takes.
+    ///
+    /// # Errors
+    /// The machine doesn't set the stream's options. It is closed then.
     pub fn new(stream: TcpStream, limit: Option<Duration>) -> io::Result<Connection> {
         // An answer is written at once, whatever the partner has yet to acknowledge.
         stream.set_nodelay(true)?;

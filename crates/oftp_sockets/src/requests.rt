@@ -88,6 +88,9 @@ fn hear(
 }
 
 /// Whether a request can be answered. What the answer is doesn't count yet, so the database isn't opened for it.
+///
+/// # Errors
+/// [`Fault::MEMORY`].
 pub fn is_whole(alloc: Global, request: &[u8]) -> Result<bool, Fault> {
     match answer(alloc, request, &mut PlainOffice::new(alloc, LIMITS)) {
         Ok(_) => Ok(true),

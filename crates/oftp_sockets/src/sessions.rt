@@ -154,6 +154,9 @@ pub fn tell_end(station: &Station<'_>, served: &Result<End, Trouble>) {
 }
 
 /// One session with a partner who was called.
+///
+/// # Errors
+/// The trouble of the session, of the desk, or that no clock tells the time.
 pub fn serve_called<D: Desk>(
     rt: &HostRuntime,
     connection: &Connection,
@@ -179,6 +182,9 @@ pub fn serve_called<D: Desk>(
 }
 
 /// One session with a caller. Nothing is asked of the desk before the caller is to be let in.
+///
+/// # Errors
+/// The trouble of the session or of the desk.
 pub fn serve_caller<D: Desk>(
     rt: &HostRuntime,
     caller: &Caller,

@@ -33,17 +33,27 @@ enum Opening {
 
 /// Opens the office that a database holds, and makes its tables where it is empty or isn't there. Where another program has it open,
 /// it is tried again as often as `patience` says.
+///
+/// # Errors
+/// [`Fault::Store`], also where another program still has it open.
 pub fn open(rt: &HostRuntime, path: &str, patience: u32) -> Result<DatabaseOffice, Fault> {
     open_if_free(rt, path, patience).map_err(store_fault)
 }
 
 /// Opens the database that the line names, so that its tables are made, and gives it up.
+///
+/// # Errors
+/// Those of [`open`].
 pub fn make(rt: &HostRuntime, path: &str) -> Result<(), Fault> {
     open(rt, path, PATIENCE)?;
     Ok(())
 }
 
 /// Opens it as [`open`] does, and tells a database that is still held apart from one that fails.
+///
+/// # Errors
+/// [`PathFault::Held`] where another program still has it open; [`PathFault::Unkept`] where nothing would be kept of it;
+/// [`PathFault::Store`] for what the store told.
 pub fn open_if_free(
     rt: &HostRuntime,
     path: &str,
@@ -54,6 +64,9 @@ pub fn open_if_free(
 }
 
 /// Brings a database to schema 2, with the same patience. One that isn't there isn't made.
+///
+/// # Errors
+/// [`Fault::Store`]; where none is there, as for one of another schema.
 pub fn migrate(rt: &HostRuntime, path: &str, patience: u32) -> Result<DatabaseOffice, Fault> {
     match fs::metadata(rt, path) {
         Err(error) if error.kind() == ErrorKind::NotFound => {

@@ -65,6 +65,9 @@ impl DatabaseOffice {
     }
 
     /// Serves a session, as [`serve_durable`] does.
+    ///
+    /// # Errors
+    /// Those of [`serve_durable`].
     pub fn serve<R: Read, W: Write>(
         &mut self,
         alloc: Global,
@@ -83,6 +86,9 @@ impl DatabaseOffice {
     }
 
     /// Does what an operator wants, as [`operate_durable`] does.
+    ///
+    /// # Errors
+    /// Those of [`operate_durable`].
     pub fn operate<W: Write>(
         &mut self,
         alloc: Global,
