@@ -1,0 +1,101 @@
+#!/usr/bin/env python3
+"""Compares the bounds that the documents tell with the constants and the defaults of the code.
+
+    checks/lint/bounds.py
+
+A line of BOUNDS names a document, a pattern that finds the sentence there, and for each number in it where the code has it. A sentence that isn't
+found fails too. The last line is `N passed, M failed`.
+"""
+
+import re
+import sys
+from pathlib import Path
+
+sys.path.insert(0, str(Path(__file__).resolve().parents[1] / "lib"))
+
+from program import ROOT
+
+WORDS = {"five": 5, "ten": 10, "a million": 1_000_000, "a day": 86_400}
+MIB = 1_048_576
+
+
+def constant(path, name):
+    """The value of a constant, or of a field of one."""
+    text = (ROOT / "crates" / path).read_text(encoding="utf-8")
+    found = re.search(rf"\b{name}(?:: \w+ =|:) ([\d_]+)[,;]", text)
+    if not found:
+        raise LookupError(f"crates/{path} has no {name}")
+    return int(found[1].replace("_", ""))
+
+
+def default(name):
+    """The number that an option of the command line has where it isn't given."""
+    path = "oftp_command_line/src/line/arguments.rt"
+    found = re.search(rf'defaulted\({name}, "(\d+)"', (ROOT / "crates" / path).read_text(encoding="utf-8"))
+    if not found:
+        raise LookupError(f"crates/{path} has no default of {name}")
+    return int(found[1])
+
+
+OCTETS = constant("oftp_files/src/limits.rt", "octets")
+FILES = constant("oftp_files/src/limits.rt", "files")
+RECORDS = constant("oftp_vfile/src/format.rt", "MOST_ROWS")
+RECORD = constant("oftp_vfile/src/format.rt", "LONGEST_RECORD")
+LINE = "oftp_command_line/src/line/arguments.rt"
+LOCKED = constant("oftp_station/src/database.rt", "PATIENCE") * constant("oftp_station/src/database.rt", "PAUSE") // 1000
+WAITING = constant("oftp_sockets/src/waiting.rt", "MOST_WAITING")
+REQUEST = constant("oftp_sockets/src/requests.rt", "REQUEST_SECONDS")
+DROPPED = constant("oftp_sockets/src/connection.rt", "MOST_DROPPED") // MIB
+FAREWELL = constant("oftp_sockets/src/connection.rt", "FAREWELL")
+VISITORS = constant("oftp_resident/src/visitors.rt", "MOST_VISITORS")
+PIECE = constant("oftp_engine/src/serving.rt", "PIECE")
+FIRST_ROWS = constant("oftp_session/src/sending.rt", "FIRST_ROWS")
+ADMISSION = constant(LINE, "MOST_ADMISSION")
+DURATION = constant(LINE, "MOST_DURATION")
+PATIENCE = constant(LINE, "MOST_PATIENCE")
+CALLERS = constant(LINE, "MOST_CALLERS")
+INTERVAL = constant(LINE, "MOST_INTERVAL")
+
+N = r"([\d,]+|five|ten|a million|a day)"
+BOUNDS = [
+    ("README.md", rf"up to {N} MiB and {N} records", (OCTETS // MIB, RECORDS)),
+    ("docs/COMMANDS.md", rf"more than {N} octets or {N} records, or {N} files are here", (OCTETS, RECORDS, FILES)),
+    ("docs/COMMANDS.md", rf"A second program waits for {N} seconds at most", (LOCKED,)),
+    ("docs/COMMANDS.md", rf"After {N} seconds the session ends with\s+`fault: 6 store 1`", (LOCKED,)),
+    ("docs/COMMANDS.md", rf"every SECONDS seconds \(1 to {N}; 0 is never\)", (INTERVAL,)),
+    ("docs/COMMANDS.md", rf"and {N} requests at most are open at once", (VISITORS,)),
+    ("docs/COMMANDS.md", rf"\(`--sessions`, `--requests`\) is 1 by default, and {N}\s+at most", (CALLERS,)),
+    ("docs/COMMANDS.md", rf"The default is {N}, and 1 to {N} \({N}\) are allowed", (default('"admission"'), ADMISSION, 86_400)),
+    ("docs/COMMANDS.md", rf"Up to {N} callers wait side by side", (WAITING,)),
+    ("docs/COMMANDS.md", rf"The default is {N} and the most is {N}; 0 is no timeout", (default('"patience"'), PATIENCE)),
+    ("docs/COMMANDS.md", rf"to 1 to {N} seconds, by default {N}\.", (DURATION, default('"longest"'))),
+    ("docs/COMMANDS.md", rf"still sends, {N} MiB and {N} seconds at most", (DROPPED, FAREWELL)),
+    ("docs/COMMANDS.md", rf"must arrive within {N} seconds, and its reply must be out within another {N}\.", (REQUEST, REQUEST)),
+    ("docs/OPERATING.md", rf"then has {N} seconds to send a code and a password", (default('"admission"'),)),
+    ("docs/OPERATING.md", rf"as long as no more than {N} of them wait. A partner who comes after {N} waits", (WAITING, WAITING)),
+    ("docs/PARTNER.md", rf"{N} octets and {N} records at most", (OCTETS, RECORDS)),
+    ("docs/PARTNER.md", rf"Records of F and V have up to {N} octets", (RECORD,)),
+    ("docs/ARCHITECTURE.md", rf"a piece of at most {N} octets", (PIECE,)),
+    ("docs/ARCHITECTURE.md", rf"asks the office for {N} records of the file", (FIRST_ROWS,)),
+]
+
+
+def number(told):
+    """The number that a document tells, in digits or in words."""
+    return WORDS[told] if told in WORDS else int(told.replace(",", ""))
+
+
+def main():
+    failed = 0
+    for name, pattern, wanted in BOUNDS:
+        text = (ROOT / name).read_text(encoding="utf-8")
+        found = [tuple(number(it) for it in match.groups()) for match in re.finditer(pattern, text)]
+        if not found or any(it != wanted for it in found):
+            failed += 1
+            print(f"{name}: the code has {wanted} and not {found} where it says: {pattern}")
+    print(f"{len(BOUNDS) - failed} passed, {failed} failed")
+    return 1 if failed else 0
+
+
+if __name__ == "__main__":
+    sys.exit(main())
