@@ -1,5 +1,5 @@
 -- Command lines that are written out, in a table for each command: a line, and what it asks for.
-use Rattle.std.proofs.Common.{◌≡◌, ◌==◌, ◌++◌, ℕ, List, Option, refl, [], ◌∷◌, Some, None, codes, if◌then◌else◌, map}
+use Rattle.std.proofs.Common.{◌≡◌, ◌==◌, ◌++◌, ℕ, Bool, List, Option, refl, [], ◌∷◌, Some, None, codes, false, if◌then◌else◌, map, true}
 use Rattle.clap.proofs.OnLiterals.{clap_on_literals}
 use Rattle.oftp_listing.specs.declared.reports.ReportKind.TheVariants.{Incoming, Issued, Outgoing, Received}
 use Rattle.oftp_vfile.specs.declared.format.Format.{Format}
@@ -7,7 +7,8 @@ use Rattle.oftp_vfile.specs.declared.format.Format.TheVariants as format
 use Rattle.oftp_command_line.specs.Arguments.{taken}
 use Rattle.oftp_command_line.specs.FeedLine.{feed_app}
 use Rattle.oftp_command_line.specs.Files.{FilesSaid}
-use Rattle.oftp_command_line.specs.Line.{Said, line_named, line_of_words, said_backup, said_call, said_check, said_feed, said_fetch, said_http, said_init, said_listen, said_migrate, said_refuse, said_release, said_report, said_run, said_show, said_submit}
+use Rattle.oftp_command_line.specs.FolderLines.{collect_app, offer_app}
+use Rattle.oftp_command_line.specs.Line.{Said, line_named, line_of_words, said_backup, said_call, said_check, said_collect, said_feed, said_fetch, said_http, said_init, said_listen, said_migrate, said_offer, said_refuse, said_release, said_report, said_run, said_show, said_submit}
 use Rattle.oftp_command_line.specs.OperatorLines.{refuse_app, release_app, submit_app}
 use Rattle.oftp_command_line.specs.RegisterLines.{backup_app, fetch_app, report_app}
 use Rattle.oftp_command_line.specs.ServiceLines.{call_app, http_app, listen_app, run_app}
@@ -129,6 +130,38 @@ submit_lines : AreRead (
 unfolding clap_on_literals submit_app line_named taken
 submit_lines = refl
 
+-- what a folder's files are offered for: to p, in this format and of records of such a length
+abbrev offer_asked : Format → ℕ → Said
+offer_asked f longest = said_offer (record { files = d_and_b; to = codes "p"; folder = codes "f"; format = f; longest = longest })
+
+-- lines of `offer`
+offer_lines : AreRead (
+    -- `offer` is of unstructured files, where no more is said
+    asks (codes "offer --db=d --book=b --to=p --from=f") (offer_asked format.Unstructured 0)
+    -- options come in any order
+    ∷ asks (codes "offer --longest 80 --from f --format=F --to p --book=b --db d") (offer_asked format.Fixed 80)
+    -- V is a format
+    ∷ asks (codes "offer --db=d --book=b --to=p --from=f --format=V --longest=99999") (offer_asked format.Variable 99999)
+    -- T is a format
+    ∷ asks (codes "offer --db=d --book=b --to=p --from=f --format=T") (offer_asked format.Text 0)
+    -- no format has this letter
+    ∷ bad (codes "offer --db=d --book=b --to=p --from=f --format=u")
+    -- a length has a bound
+    ∷ bad (codes "offer --db=d --book=b --to=p --from=f --longest=100000")
+    -- it does without no partner
+    ∷ bad (codes "offer --db=d --book=b --from=f")
+    -- without no folder
+    ∷ bad (codes "offer --db=d --book=b --to=p")
+    -- and without no book
+    ∷ bad (codes "offer --db=d --to=p --from=f")
+    -- it takes no word
+    ∷ bad (codes "offer --db=d --book=b --to=p --from=f w")
+    -- and no name of a file
+    ∷ bad (codes "offer --db=d --book=b --to=p --from=f --dataset=n")
+    ∷ [])
+unfolding clap_on_literals offer_app line_named taken
+offer_lines = refl
+
 -- lines of `release`
 release_lines : AreRead (
     -- `release` takes a number
@@ -178,6 +211,36 @@ fetch_lines : AreRead (
     ∷ [])
 unfolding clap_on_literals fetch_app line_named taken
 fetch_lines = refl
+
+-- what is collected in a folder, and whether it is released
+abbrev collect_asked : Bool → Said
+collect_asked releases = said_collect (record { files = d_and_b; folder = codes "f"; releases = releases })
+
+-- lines of `collect`
+collect_lines : AreRead (
+    -- `collect` releases nothing, where no more is said
+    asks (codes "collect --db=d --book=b --to=f") (collect_asked false)
+    -- it releases where that is said
+    ∷ asks (codes "collect --db=d --book=b --to=f --release") (collect_asked true)
+    -- in any order
+    ∷ asks (codes "collect --release --to f --book b --db d") (collect_asked true)
+    -- to release takes no value
+    ∷ bad (codes "collect --db=d --book=b --to=f --release=true")
+    -- nor a word
+    ∷ bad (codes "collect --db=d --book=b --to=f --release true")
+    -- it is said once
+    ∷ bad (codes "collect --db=d --book=b --to=f --release --release")
+    -- it does without no folder
+    ∷ bad (codes "collect --db=d --book=b")
+    -- without no book
+    ∷ bad (codes "collect --db=d --to=f")
+    -- and without no database
+    ∷ bad (codes "collect --book=b --to=f")
+    -- it takes no number of a file
+    ∷ bad (codes "collect --db=d --book=b --to=f 7")
+    ∷ [])
+unfolding clap_on_literals collect_app line_named taken
+collect_lines = refl
 
 -- lines of `report`
 report_lines : AreRead (

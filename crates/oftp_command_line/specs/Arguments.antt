@@ -6,7 +6,7 @@ use Rattle.std.specs.Str.Parse.{IsNumeral, digits_value, without_leading_plus}
 use Rattle.clap.specs.Words.{App, Kinds, Row, Rule, Text, fault_of, first_of, found_of, matches_of, new_app, new_rule, one_of, rows_of, with_rule}
 use Rattle.clap.specs.Walk.{is_empty}
 use Rattle.clap.specs.declared.builder.ArgAction.{ArgAction}
-use Rattle.clap.specs.declared.builder.ArgAction.TheVariants.{Set}
+use Rattle.clap.specs.declared.builder.ArgAction.TheVariants.{Set, SetTrue}
 use Rattle.clap.specs.declared.builder.value_parser.ValueParser.{ValueParser}
 use Rattle.clap.specs.declared.builder.value_parser.ValueParser.TheVariants.{Unsigned}
 use Rattle.clap.specs.declared.parser.matches.ArgMatches.{ArgMatches}
@@ -25,6 +25,10 @@ needed id = record (word id) { long = Some id }
 -- an option that may be missing, and takes one value
 abbrev pub optional : Text → Rule
 optional id = record (new_rule id) { long = Some id; action = Some Set; value_names = 1 }
+
+-- an option that takes no value, and may be missing
+abbrev pub flag : Text → Rule
+flag id = record (optional id) { action = Some SetTrue }
 
 -- an option with a default
 abbrev pub defaulted : Text → Text → Rule
@@ -116,6 +120,10 @@ given id rows = unwrap_or (first_of id rows) []
 -- the number that this value is, in decimal digits, which a plus may precede
 abbrev pub number : Text → List Row → ℕ
 number id rows = digits_value 10 (without_leading_plus (given id rows))
+
+-- whether an option that takes no value was given
+abbrev pub is_given : Text → List Row → Bool
+is_given id rows = bytes_eq (given id rows) (codes "true")
 
 -- what has this name
 abbrev pub named : {X : Type 0} → List (Text × X) → Text → Option X

@@ -3,6 +3,7 @@ pub mod Fault
 pub mod FeedLine
 pub mod FileLines
 pub mod Files
+pub mod FolderLines
 pub mod Line
 pub mod OperatorLines
 pub mod Printed

@@ -4,6 +4,7 @@ use Rattle.clap.specs.Words.{App, Row, Text}
 use Rattle.oftp_command_line.specs.Arguments.{given, named, taken}
 use Rattle.oftp_command_line.specs.FeedLine.{FeedSaid, feed_app, feed_in, feed_said}
 use Rattle.oftp_command_line.specs.FileLines.{check_app, init_app, migrate_app, show_app}
+use Rattle.oftp_command_line.specs.FolderLines.{CollectSaid, OfferSaid, collect_app, collect_said, collect_with, offer_app, offer_in, offer_said}
 use Rattle.oftp_command_line.specs.OperatorLines.{RefuseSaid, ReleaseSaid, SubmitSaid, refuse_app, refuse_said, refuse_with, release_app, release_said, release_with, submit_app, submit_in, submit_said}
 use Rattle.oftp_command_line.specs.RegisterLines.{BackupSaid, FetchSaid, ReportSaid, backup_app, backup_said, backup_with, fetch_app, fetch_said, fetch_with, report_app, report_in, report_said}
 use Rattle.oftp_command_line.specs.ServiceLines.{CallSaid, HttpSaid, ListenSaid, RunSaid, call_app, call_said, call_with, http_app, http_said, http_with, listen_app, listen_said, listen_with, run_app, run_said, run_with}
@@ -18,9 +19,11 @@ pub data Said : Type 0 where
   said_migrate : Text → Said
   said_check : Text → Said
   said_submit : SubmitSaid → Said
+  said_offer : OfferSaid → Said
   said_release : ReleaseSaid → Said
   said_refuse : RefuseSaid → Said
   said_fetch : FetchSaid → Said
+  said_collect : CollectSaid → Said
   said_report : ReportSaid → Said
   said_backup : BackupSaid → Said
   said_show : Text → Said
@@ -36,9 +39,11 @@ said (line.Init database) = said_init database.now
 said (line.Migrate database) = said_migrate database.now
 said (line.Check book) = said_check book.now
 said (line.Submit s) = said_submit (submit_said s)
+said (line.Offer o) = said_offer (offer_said o)
 said (line.Release r) = said_release (release_said r)
 said (line.Refuse r) = said_refuse (refuse_said r)
 said (line.Fetch f) = said_fetch (fetch_said f)
+said (line.Collect c) = said_collect (collect_said c)
 said (line.Report r) = said_report (report_said r)
 said (line.Backup b) = said_backup (backup_said b)
 said (line.Show input) = said_show input.now
@@ -51,9 +56,9 @@ said (line.Http h) = said_http (http_said h)
 -- the command's name that a text is
 abbrev pub name_of : Text → Option Name
 name_of = named ((codes "init", name.Init) ∷ (codes "migrate", name.Migrate)
-    ∷ (codes "check", name.Check) ∷ (codes "submit", name.Submit)
+    ∷ (codes "check", name.Check) ∷ (codes "submit", name.Submit) ∷ (codes "offer", name.Offer)
     ∷ (codes "release", name.Release) ∷ (codes "refuse", name.Refuse)
-    ∷ (codes "fetch", name.Fetch) ∷ (codes "report", name.Report)
+    ∷ (codes "fetch", name.Fetch) ∷ (codes "collect", name.Collect) ∷ (codes "report", name.Report)
     ∷ (codes "backup", name.Backup) ∷ (codes "show", name.Show)
     ∷ (codes "feed", name.Feed) ∷ (codes "run", name.Run)
     ∷ (codes "listen", name.Listen) ∷ (codes "call", name.Call) ∷ (codes "http", name.Http) ∷ [])
@@ -64,9 +69,11 @@ app_named name.Init = init_app
 app_named name.Migrate = migrate_app
 app_named name.Check = check_app
 app_named name.Submit = submit_app
+app_named name.Offer = offer_app
 app_named name.Release = release_app
 app_named name.Refuse = refuse_app
 app_named name.Fetch = fetch_app
+app_named name.Collect = collect_app
 app_named name.Report = report_app
 app_named name.Backup = backup_app
 app_named name.Show = show_app
@@ -83,9 +90,11 @@ said_by name.Init rows = Some (said_init (given (codes "db") rows))
 said_by name.Migrate rows = Some (said_migrate (given (codes "db") rows))
 said_by name.Check rows = Some (said_check (given (codes "book") rows))
 said_by name.Submit rows = option_map said_submit (submit_in rows)
+said_by name.Offer rows = option_map said_offer (offer_in rows)
 said_by name.Release rows = Some (said_release (release_with rows))
 said_by name.Refuse rows = Some (said_refuse (refuse_with rows))
 said_by name.Fetch rows = Some (said_fetch (fetch_with rows))
+said_by name.Collect rows = Some (said_collect (collect_with rows))
 said_by name.Report rows = option_map said_report (report_in rows)
 said_by name.Backup rows = Some (said_backup (backup_with rows))
 said_by name.Show rows = Some (said_show (given (codes "in") rows))

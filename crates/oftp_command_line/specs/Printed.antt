@@ -8,6 +8,8 @@ use Rattle.oftp_engine.specs.declared.serving.End.TheVariants.{Own, Partner, Inp
 use Rattle.oftp_engine.specs.declared.serving.RunFault.TheVariants.{Read, Write, Office, Memory}
 use Rattle.oftp_listing.specs.declared.fault.ListFault.{ListFault}
 use Rattle.oftp_listing.specs.declared.fault.ListFault.TheVariants as list
+use Rattle.oftp_command_line.specs.declared.outcome.Carried.{Carried}
+use Rattle.oftp_command_line.specs.declared.outcome.Carried.TheVariants.{Collected, Offered, Refused}
 use Rattle.oftp_command_line.specs.declared.outcome.Fault.{Fault}
 use Rattle.oftp_command_line.specs.declared.outcome.Fault.TheVariants.{Run, Book, Store, File, Socket}
 use Rattle.oftp_command_line.specs.declared.outcome.Outcome.{Outcome}
@@ -49,6 +51,12 @@ outcome_line (Fetched number) = codes "done: fetch " ++ decimal number
 outcome_line BackedUp = codes "done: backup"
 outcome_line Unknown = codes "refused: 2 unknown"
 outcome_line WrongState = codes "refused: 3 state"
+
+-- the line on standard output for a file of a folder
+abbrev pub carried_line : Carried → List ℕ
+carried_line (Collected number name) = codes "done: collect " ++ (decimal number ++ (codes " " ++ name.now))
+carried_line (Offered number name) = codes "done: offer " ++ (decimal number ++ (codes " " ++ name.now))
+carried_line (Refused why name) = why.now ++ (codes " " ++ name.now)
 
 -- the command was refused
 abbrev pub is_refusal : Outcome → Bool

@@ -2,11 +2,13 @@
 use Rattle.std.specs.Prelude.{ℕ, Bool, IsSome, List, Option, None, Some, codes, false, fold, map, true}
 use Rattle.std.specs.Borrow.{Bor}
 use Rattle.clap.specs.Words.{App, Row, Rule, Text, first_of, new_app, with_rule}
+use Rattle.clap.specs.declared.builder.ArgAction.{ArgAction}
+use Rattle.clap.specs.declared.builder.ArgAction.TheVariants.{Set, SetTrue}
 use Rattle.oftp_command_line.specs.Arguments as spec
 use Rattle.oftp_command_line.specs.Arguments.{IsNumber}
 use Rattle.oftp_command_line.specs.declared.line.arguments.Argument.{Argument}
 use Rattle.oftp_command_line.specs.declared.line.arguments.Kind.{Kind}
-use Rattle.oftp_command_line.specs.declared.line.arguments.Kind.TheVariants.{Word, Needed, Optional, Defaulted}
+use Rattle.oftp_command_line.specs.declared.line.arguments.Kind.TheVariants.{Word, Needed, Optional, Flag, Defaulted}
 use Rattle.oftp_command_line.specs.declared.line.arguments.TheConstants.{MOST_ADMISSION, MOST_DURATION, MOST_PATIENCE, MOST_PORT}
 use Rattle.oftp_command_line.specs.declared.line.commands.Name.{Name}
 use Rattle.oftp_command_line.specs.declared.line.commands.Name.TheVariants as name
@@ -16,13 +18,23 @@ abbrev pub is_required : Kind → Bool
 is_required Word = true
 is_required Needed = true
 is_required Optional = false
+is_required Flag = false
 is_required (Defaulted value) = false
+
+-- what the parser does where an argument of a kind is given
+abbrev pub action_of : Kind → ArgAction
+action_of Word = Set
+action_of Needed = Set
+action_of Optional = Set
+action_of Flag = SetTrue
+action_of (Defaulted value) = Set
 
 -- an argument of a kind, whatever numbers it takes
 abbrev pub rule_of_kind : Kind → Text → Rule
 rule_of_kind Word id = spec.word id
 rule_of_kind Needed id = spec.needed id
 rule_of_kind Optional id = spec.optional id
+rule_of_kind Flag id = spec.flag id
 rule_of_kind (Defaulted value) id = spec.defaulted id value.now
 
 -- the argument, where it takes the numbers from the one to the other
@@ -48,9 +60,11 @@ word_of name.Init = codes "init"
 word_of name.Migrate = codes "migrate"
 word_of name.Check = codes "check"
 word_of name.Submit = codes "submit"
+word_of name.Offer = codes "offer"
 word_of name.Release = codes "release"
 word_of name.Refuse = codes "refuse"
 word_of name.Fetch = codes "fetch"
+word_of name.Collect = codes "collect"
 word_of name.Report = codes "report"
 word_of name.Backup = codes "backup"
 word_of name.Show = codes "show"

@@ -5,7 +5,7 @@ mod line;
 mod outcome;
 
 pub use line::{
-    Backup, Call, Entrance, Feed, Fetch, Files, Http, Line, LineFault, Listen, Refuse, Release,
-    Report, Run, SessionTerms, Side, Submit, line_of,
+    Backup, Call, Collect, Entrance, Feed, Fetch, Files, Http, Line, LineFault, Listen, Offer,
+    Refuse, Release, Report, Run, SessionTerms, Side, Submit, line_of,
 };
-pub use outcome::{Fault, Outcome, write_line};
+pub use outcome::{Carried, Fault, Outcome, write_line};

@@ -11,6 +11,7 @@ mod values;
 
 pub use commands::feed::{Feed, Side};
 pub use commands::files::Files;
+pub use commands::folders::{Collect, Offer};
 pub use commands::operators::{Refuse, Release, Submit};
 pub use commands::registers::{Backup, Fetch, Report};
 pub use commands::services::{Call, Http, Listen, Run};
@@ -39,12 +40,16 @@ pub enum Line<'a> {
     },
     /// A file is to be sent to a partner.
     Submit(Submit<'a>),
+    /// The files in a folder are to be sent to a partner.
+    Offer(Offer<'a>),
     /// An incoming file was delivered.
     Release(Release<'a>),
     /// An incoming file wasn't delivered.
     Refuse(Refuse<'a>),
     /// An incoming file is written to a file.
     Fetch(Fetch<'a>),
+    /// The incoming files that aren't answered are written to a folder.
+    Collect(Collect<'a>),
     /// What the database holds is told.
     Report(Report<'a>),
     /// The database is copied to a file.

@@ -1,7 +1,7 @@
 //! How a command comes out, as a person reads it.
 
 ghost use Rattle.std.specs.Prelude.{◌≡◌, IfErr, Some};
-ghost use Rattle.oftp_command_line.specs.Printed.{fault_line, fault_of_report, is_refusal, outcome_line, write_fault};
+ghost use Rattle.oftp_command_line.specs.Printed.{carried_line, fault_line, fault_of_report, is_refusal, outcome_line, write_fault};
 
 use oftp_engine::{End, RunFault};
 use oftp_listing::ListFault;
@@ -117,6 +117,44 @@ impl fmt::Display for Outcome {
             Outcome::BackedUp => f.write_str("done: backup"),
             Outcome::Unknown => f.write_str("refused: 2 unknown"),
             Outcome::WrongState => f.write_str("refused: 3 state"),
+        }
+    }
+}
+
+/// What became of a file of a folder: the line on standard output.
+#[derive(Clone, Copy, Drop)]
+pub enum Carried<'a> {
+    /// An incoming file is in the folder, and released where that was asked for.
+    Collected {
+        /// Its number.
+        no: u64,
+        /// The name that it has in the folder.
+        name: &'a str,
+    },
+    /// A file of the folder is to be sent.
+    Offered {
+        /// The number that it has as an outgoing file.
+        no: u64,
+        /// The name that it had in the folder, which is its dataset name.
+        name: &'a str,
+    },
+    /// A file is refused, and nothing is changed.
+    Refused {
+        /// Why it is: the line that `submit`, `fetch` or `release` has for it.
+        why: &'a str,
+        /// The name that it has in the folder, or was to have there.
+        name: &'a str,
+    },
+}
+
+impl fmt::Display for Carried<'_> {
+    ghost output = { λ carried. Some (carried_line carried) };
+
+    fn fmt<W: fmt::Write>(&self, f: &mut fmt::Formatter<W>) -> fmt::Result {
+        match self {
+            Carried::Collected { no, name } => write!(f, "done: collect {no} {name}"),
+            Carried::Offered { no, name } => write!(f, "done: offer {no} {name}"),
+            Carried::Refused { why, name } => write!(f, "{why} {name}"),
         }
     }
 }

@@ -2,11 +2,18 @@
 
 mod asking;
 mod backups;
+mod clerks;
+mod collecting;
+mod entries;
 mod fetching;
+mod folders;
+mod handing;
+mod offering;
 mod operators;
 mod registers;
 mod services;
 mod sessions;
+mod stamps;
 
 use asking::{Asking, reached};
 use oftp_command_line::{Fault, Line, LineFault, Outcome, line_of, write_line};
@@ -58,10 +65,12 @@ pub fn tell_unread(error: &io::Error, err: &mut impl Write) -> u8 {
 fn shared_database<'a>(line: &Line<'a>) -> Option<&'a str> {
     match line {
         Line::Submit(submit) => Some(submit.files.database),
+        Line::Offer(offer) => Some(offer.files.database),
         Line::Release(release) => Some(release.files.database),
         Line::Refuse(refuse) => Some(refuse.files.database),
         Line::Call(call) => Some(call.files.database),
         Line::Fetch(fetch) => Some(fetch.database),
+        Line::Collect(collect) => Some(collect.files.database),
         Line::Report(report) => Some(report.database),
         Line::Backup(backup) => Some(backup.database),
         Line::Init { database } => Some(*database),
@@ -81,9 +90,11 @@ fn carry_out(
         Some(database) => reached(rt, database),
         None => None,
     };
-    match &station {
-        Some(stream) => ask(Asking::new(rt, words, stream), line, out, err),
-        None => carry_out_alone(rt, line, out, err),
+    match (line, &station) {
+        (Line::Collect(collect), Some(_)) => collecting::collect_beside(rt, collect, out),
+        (Line::Offer(offer), Some(_)) => offering::offer_beside(rt, offer, out),
+        (_, Some(stream)) => ask(Asking::new(rt, words, stream), line, out, err),
+        (_, None) => carry_out_alone(rt, line, out, err),
     }
 }
 
@@ -116,6 +127,8 @@ fn carry_out_alone(
 ) -> Result<u8, Fault> {
     match line {
         Line::Submit(submit) => operators::submit(rt, submit, out).map(status_of),
+        Line::Offer(offer) => offering::offer(rt, offer, out),
+        Line::Collect(collect) => collecting::collect(rt, collect, out),
         Line::Release(release) => operators::release(rt, release, out).map(status_of),
         Line::Refuse(refuse) => operators::refuse(rt, refuse, out).map(status_of),
         Line::Report(what) => {

@@ -3,7 +3,7 @@ ghost use Rattle.std.specs.Prelude.{◌≡◌, ◌∷◌, [], IfOk, Some, false}
 ghost use Rattle.clap.specs.Words.{app_of, items_of, new_app, rule_of};
 ghost use Rattle.clap.specs.declared.builder.command.Command.TheViews.{out-Command as fields_of};
 ghost use Rattle.oftp_command_line.specs.Arguments as spec;
-ghost use Rattle.oftp_command_line.specs.Told.{app_told, is_required, rule_of_kind, told};
+ghost use Rattle.oftp_command_line.specs.Told.{action_of, app_told, is_required, rule_of_kind, told};
 
 use clap::builder::ValueParser;
 use clap::{Arg, ArgAction, Command};
@@ -33,7 +33,7 @@ const MOST_INTERVAL: u64 = 86_400;
 /// After how many jobs a station can be asked to end, at most.
 const MOST_JOBS: u64 = 1_000_000;
 
-/// An argument of a command, which takes one value.
+/// An argument of a command, which takes one value unless it is a flag.
 #[derive(Clone, Copy)]
 pub(super) struct Argument<'a> {
     id: &'a str,
@@ -54,6 +54,8 @@ enum Kind<'a> {
     Needed,
     /// As an option.
     Optional,
+    /// As an option that takes no value.
+    Flag,
     /// As an option, which has this value where it is missing.
     Defaulted(&'a str),
 }
@@ -65,7 +67,17 @@ impl Kind<'_> {
     {
         match self {
             Kind::Word | Kind::Needed => true,
-            Kind::Optional | Kind::Defaulted(_) => false,
+            Kind::Optional | Kind::Flag | Kind::Defaulted(_) => false,
+        }
+    }
+
+    /// What the parser does where it is given.
+    fn action(self) -> ArgAction
+        ensures { result ≡ action_of self.entry }
+    {
+        match self {
+            Kind::Flag => ArgAction::SetTrue,
+            Kind::Word | Kind::Needed | Kind::Optional | Kind::Defaulted(_) => ArgAction::Set,
         }
     }
 }
@@ -91,13 +103,13 @@ impl<'a> Argument<'a> {
         ensures texts { (items_of result.val_names ≡ self.entry.shown ∷ []) × (result.help ≡ Some self.entry.help) }
     {
         let argument = Arg::new(alloc, self.id)
-            .action(ArgAction::Set)
+            .action(self.kind.action())
             .required(self.kind.is_required())
             .value_name(self.shown)
             .help(self.help);
         match self.kind {
             Kind::Word => argument,
-            Kind::Needed | Kind::Optional => argument.long(self.id),
+            Kind::Needed | Kind::Optional | Kind::Flag => argument.long(self.id),
             Kind::Defaulted(value) => argument.long(self.id).default_value(value),
         }
     }
@@ -161,6 +173,13 @@ pub(super) fn optional<'a>(id: &'a str, shown: &'a str, help: &'a str) -> Argume
     ensures { told result ≡ spec.optional id.entry.now }
 {
     any_text(Kind::Optional, id, shown, help)
+}
+
+/// An option that takes no value, and may be missing.
+pub(super) fn flag<'a>(id: &'a str, help: &'a str) -> Argument<'a>
+    ensures { told result ≡ spec.flag id.entry.now }
+{
+    any_text(Kind::Flag, id, id, help)
 }
 
 /// An option that has this value where it is missing.

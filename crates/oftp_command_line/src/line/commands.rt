@@ -9,6 +9,7 @@ ghost use Rattle.oftp_command_line.specs.Told.{app_told, told, word_of};
 
 pub(super) mod feed;
 pub(super) mod files;
+pub(super) mod folders;
 pub(super) mod operators;
 pub(super) mod registers;
 pub(super) mod services;
@@ -20,6 +21,7 @@ use super::values::given;
 use super::{Line, LineFault};
 use clap::{ArgMatches, Command};
 use feed::{feed_arguments, feed_read};
+use folders::{collect_arguments, collect_read, offer_arguments, offer_read};
 use operators::{
     refuse_arguments, refuse_read, release_arguments, release_read, submit_arguments, submit_read,
 };
@@ -33,14 +35,16 @@ use services::{
 use std::alloc::{AllocError, Global};
 
 /// The names of all commands, in the order in which texts have them.
-pub(super) const NAMES: [Name; 15] = [
+pub(super) const NAMES: [Name; 17] = [
     Name::Init,
     Name::Migrate,
     Name::Check,
     Name::Submit,
+    Name::Offer,
     Name::Release,
     Name::Refuse,
     Name::Fetch,
+    Name::Collect,
     Name::Report,
     Name::Backup,
     Name::Show,
@@ -58,9 +62,11 @@ pub(super) enum Name {
     Migrate,
     Check,
     Submit,
+    Offer,
     Release,
     Refuse,
     Fetch,
+    Collect,
     Report,
     Backup,
     Show,
@@ -81,9 +87,11 @@ impl Name {
             "migrate" => Some(Name::Migrate),
             "check" => Some(Name::Check),
             "submit" => Some(Name::Submit),
+            "offer" => Some(Name::Offer),
             "release" => Some(Name::Release),
             "refuse" => Some(Name::Refuse),
             "fetch" => Some(Name::Fetch),
+            "collect" => Some(Name::Collect),
             "report" => Some(Name::Report),
             "backup" => Some(Name::Backup),
             "show" => Some(Name::Show),
@@ -116,9 +124,11 @@ impl Name {
             Name::Migrate => self.taking(alloc, &[own_database()]),
             Name::Check => self.taking(alloc, &[own_book()]),
             Name::Submit => self.taking(alloc, &submit_arguments()),
+            Name::Offer => self.taking(alloc, &offer_arguments()),
             Name::Release => self.taking(alloc, &release_arguments()),
             Name::Refuse => self.taking(alloc, &refuse_arguments()),
             Name::Fetch => self.taking(alloc, &fetch_arguments()),
+            Name::Collect => self.taking(alloc, &collect_arguments()),
             Name::Report => self.taking(alloc, &report_arguments()),
             Name::Backup => self.taking(alloc, &backup_arguments()),
             Name::Show => self.taking(alloc, &[input()]),
@@ -152,9 +162,11 @@ impl Name {
                 book: given(matches, "book"),
             }),
             Name::Submit => submit_read(alloc, matches).map(Line::Submit),
+            Name::Offer => offer_read(alloc, matches).map(Line::Offer),
             Name::Release => Ok(Line::Release(release_read(matches))),
             Name::Refuse => Ok(Line::Refuse(refuse_read(matches))),
             Name::Fetch => Ok(Line::Fetch(fetch_read(matches))),
+            Name::Collect => Ok(Line::Collect(collect_read(matches))),
             Name::Report => report_read(alloc, matches).map(Line::Report),
             Name::Backup => Ok(Line::Backup(backup_read(matches))),
             Name::Show => Ok(Line::Show {

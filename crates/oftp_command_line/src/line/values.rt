@@ -60,6 +60,16 @@ pub(super) fn given<'a>(matches: &ArgMatches<'a>, id: &str) -> &'a str
     value_of(matches, id).unwrap()
 }
 
+/// Whether an option that takes no value was given.
+pub(super) fn is_given(matches: &ArgMatches<'_>, id: &str) -> bool
+    ensures { result ≡ spec.is_given id.now (values_in matches.now) }
+{
+    match value_of(matches, id) {
+        Some(value) => value == "true",
+        None => false,
+    }
+}
+
 /// The number that is the value of an argument which takes numbers, and must be given or has a default.
 pub(super) fn number(matches: &ArgMatches<'_>, id: &str) -> u64
     requires { (low : ℕ) × ((high : ℕ) × IsNumber low high id.now (values_in matches.now)) }

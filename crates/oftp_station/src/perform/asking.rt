@@ -157,7 +157,7 @@ impl<'a> Asking<'a> {
     }
 
     /// Asks, takes the pieces of the answer to where they go, and answers the exit status.
-    fn ask(
+    pub(super) fn ask(
         self,
         book: &[u8],
         content: &[u8],

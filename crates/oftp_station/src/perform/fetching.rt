@@ -17,9 +17,9 @@ pub(super) fn fetch(rt: &HostRuntime, line: &Fetch<'_>) -> Result<Outcome, Fault
 }
 
 /// A file that is fetched.
-struct Fetching<'a> {
-    rt: &'a HostRuntime,
-    line: &'a Fetch<'a>,
+pub(super) struct Fetching<'a> {
+    pub(super) rt: &'a HostRuntime,
+    pub(super) line: &'a Fetch<'a>,
 }
 
 impl Errand for Fetching<'_> {

@@ -18,13 +18,13 @@ use oftp_vfile::Format;
 use std::alloc::Global;
 
 /// The greatest longest record that can be asked for.
-const MOST_LONGEST: u64 = 99_999;
+pub(super) const MOST_LONGEST: u64 = 99_999;
 
 /// The greatest reason.
 const MOST_REASON: u64 = 99;
 
-/// The formats, by the letters that `submit` has for them.
-const FORMATS: &[(&str, Format)] = &[
+/// The formats, by the letters that `submit` and `offer` have for them.
+pub(super) const FORMATS: &[(&str, Format)] = &[
     ("F", Format::Fixed),
     ("V", Format::Variable),
     ("U", Format::Unstructured),

@@ -14,9 +14,11 @@ impl Name {
             Name::Migrate => "migrate",
             Name::Check => "check",
             Name::Submit => "submit",
+            Name::Offer => "offer",
             Name::Release => "release",
             Name::Refuse => "refuse",
             Name::Fetch => "fetch",
+            Name::Collect => "collect",
             Name::Report => "report",
             Name::Backup => "backup",
             Name::Show => "show",
@@ -36,10 +38,14 @@ impl Name {
             Name::Check => "oftp_station check --book <BOOK>",
             Name::Submit =>
                 "oftp_station submit --db <DATABASE> --book <BOOK> --dataset <NAME> --date <DATE> --time <TIME> --to <CODE> --format <FORMAT> [--longest <OCTETS>] [--description <TEXT>] <FILE>",
+            Name::Offer =>
+                "oftp_station offer --db <DATABASE> --book <BOOK> --to <CODE> --from <FOLDER> [--format <FORMAT>] [--longest <OCTETS>]",
             Name::Release => "oftp_station release --db <DATABASE> --book <BOOK> <NO>",
             Name::Refuse =>
                 "oftp_station refuse --db <DATABASE> --book <BOOK> <NO> <REASON> <TEXT>",
             Name::Fetch => "oftp_station fetch --db <DATABASE> <NO> <FILE>",
+            Name::Collect =>
+                "oftp_station collect --db <DATABASE> --book <BOOK> --to <FOLDER> [--release]",
             Name::Report => "oftp_station report --db <DATABASE> <KIND>",
             Name::Backup => "oftp_station backup --db <DATABASE> <TO>",
             Name::Show => "oftp_station show <IN>",
@@ -66,9 +72,13 @@ impl Name {
             Name::Migrate => "Brings a database of schema 1 to schema 2",
             Name::Check => "Reads the book and counts its partners",
             Name::Submit => "Hands over file FILE, which is to be sent to a partner",
+            Name::Offer =>
+                "Hands over the files in folder FOLDER, which are to be sent to a partner",
             Name::Release => "Says that an incoming file was delivered",
             Name::Refuse => "Says that an incoming file wasn't delivered",
             Name::Fetch => "Writes an incoming file in its local form to file FILE",
+            Name::Collect =>
+                "Writes the incoming files that are whole and not answered to folder FOLDER",
             Name::Report => "Tells what the database holds, as comma-separated values",
             Name::Backup => "Copies the database as it stands to file TO",
             Name::Show => "Prints the commands in file IN, a line each, up to the first fault",

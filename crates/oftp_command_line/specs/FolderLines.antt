@@ -1,0 +1,69 @@
+-- The command lines of `collect` and `offer`, which go over a folder of files.
+use Rattle.std.specs.Prelude.{ℕ, Bool, List, [], ◌∷◌, Option, codes, option_map}
+use Rattle.clap.specs.Words.{App, Row, Text}
+use Rattle.oftp_vfile.specs.declared.format.Format.{Format}
+use Rattle.oftp_command_line.specs.Arguments.{app_with, defaulted, flag, given, is_given, needed, number, numbered, own_book, own_database}
+use Rattle.oftp_command_line.specs.Files.{FilesSaid, files_said, files_with}
+use Rattle.oftp_command_line.specs.OperatorLines.{format_of}
+use Rattle.oftp_command_line.specs.declared.line.commands.folders.Collect.{Collect}
+use Rattle.oftp_command_line.specs.declared.line.commands.folders.Offer.{Offer}
+use Rattle.oftp_command_line.specs.declared.line.commands.operators.TheConstants.{MOST_LONGEST}
+
+-- what `collect` is asked for
+pub record CollectSaid : Type 0 where
+  pub files : FilesSaid
+  pub folder : Text
+  pub releases : Bool
+
+-- the same, of the command that was read
+abbrev pub collect_said : Collect → CollectSaid
+collect_said c = record { files = files_said c.files; folder = c.folder.now; releases = c.releases }
+
+-- `collect`, as the parser is told of it
+unfoldable pub collect_app : App
+collect_app = app_with (codes "collect") (own_database ∷ own_book ∷ needed (codes "to") ∷ flag (codes "release") ∷ [])
+
+-- what `collect` is asked for by these values
+abbrev pub collect_with : List Row → CollectSaid
+collect_with rows = record {
+  files = files_with rows;
+  folder = given (codes "to") rows;
+  releases = is_given (codes "release") rows;
+}
+
+-- what `offer` is asked for
+pub record OfferSaid : Type 0 where
+  pub files : FilesSaid
+  pub to : Text
+  pub folder : Text
+  pub format : Format
+  pub longest : ℕ
+
+-- the same, of the command that was read
+abbrev pub offer_said : Offer → OfferSaid
+offer_said o = record {
+  files = files_said o.files;
+  to = o.to.now;
+  folder = o.folder.now;
+  format = o.format;
+  longest = o.longest;
+}
+
+-- `offer`, as the parser is told of it
+unfoldable pub offer_app : App
+offer_app = app_with (codes "offer") (own_database ∷ own_book ∷ needed (codes "to") ∷ needed (codes "from")
+    ∷ defaulted (codes "format") (codes "U") ∷ numbered 0 MOST_LONGEST (defaulted (codes "longest") (codes "0")) ∷ [])
+
+-- what `offer` is asked for by these values, in a format
+abbrev pub offer_with : Format → List Row → OfferSaid
+offer_with format rows = record {
+  files = files_with rows;
+  to = given (codes "to") rows;
+  folder = given (codes "from") rows;
+  format = format;
+  longest = number (codes "longest") rows;
+}
+
+-- the same, in the format that they name: none where they name no format
+abbrev pub offer_in : List Row → Option OfferSaid
+offer_in rows = option_map (λ format. offer_with format rows) (format_of (given (codes "format") rows))

@@ -1,0 +1,107 @@
+//! The commands `collect` and `offer`, which go over a folder of files.
+#![tactic(auto, using(crate::proofs::Values::has_text), unfolding(crate::specs::FolderLines::collect_app, crate::specs::FolderLines::offer_app))]
+
+ghost use Rattle.std.specs.Prelude.{◌≡◌, IfErr, IfOk, None, Some, codes, true};
+ghost use Rattle.oftp_command_line.specs.Arguments.{HasValues, values_in};
+ghost use Rattle.oftp_command_line.specs.Fault.{is_bad};
+ghost use Rattle.oftp_command_line.specs.FolderLines.{collect_app, collect_said, collect_with, offer_app, offer_in, offer_said};
+ghost use Rattle.oftp_command_line.specs.Told.{app_told};
+
+use super::files::{Files, files_read};
+use super::operators::{FORMATS, MOST_LONGEST};
+use crate::line::LineFault;
+use crate::line::arguments::{Argument, defaulted, flag, needed, numbered, own_book, own_database};
+use crate::line::values::{choice, given, is_given, number};
+use clap::ArgMatches;
+use oftp_vfile::Format;
+use std::alloc::Global;
+
+/// The command `collect`, which writes the incoming files that aren't answered to a folder.
+#[derive(Clone, Copy)]
+pub struct Collect<'a> {
+    /// The database and the book.
+    pub files: Files<'a>,
+    /// The folder that is given their local forms.
+    pub folder: &'a str,
+    /// Whether each is released once it is there.
+    pub releases: bool,
+}
+
+/// The arguments of `collect`.
+pub(super) fn collect_arguments<'a>() -> [Argument<'a>; 4]
+    ensures { app_told (codes "collect") result ≡ collect_app }
+{
+    let to = "The folder that is given their local forms";
+    let release = "Releases each file once it is there";
+    [
+        own_database(),
+        own_book(),
+        needed("to", "FOLDER", to),
+        flag("release", release),
+    ]
+}
+
+/// What `collect` is asked for by the values of its options.
+pub(super) fn collect_read<'a>(matches: &ArgMatches<'a>) -> Collect<'a>
+    requires { HasValues collect_app (values_in matches.now) }
+    ensures { collect_said result ≡ collect_with (values_in matches.now) }
+{
+    Collect {
+        files: files_read(matches),
+        folder: given(matches, "to"),
+        releases: is_given(matches, "release"),
+    }
+}
+
+/// The command `offer`, which hands over the files in a folder that are to be sent to a partner.
+#[derive(Clone, Copy)]
+pub struct Offer<'a> {
+    /// The database and the book.
+    pub files: Files<'a>,
+    /// The code of the partner that they go to.
+    pub to: &'a str,
+    /// The folder that holds them in their local form.
+    pub folder: &'a str,
+    /// The format of their records.
+    pub format: Format,
+    /// Their longest record in octets, 0 to 99,999.
+    pub longest: u32,
+}
+
+/// The arguments of `offer`.
+pub(super) fn offer_arguments<'a>() -> [Argument<'a>; 6]
+    ensures { app_told (codes "offer") result ≡ offer_app }
+{
+    let to = "The code of the partner that they go to";
+    let from = "The folder that holds them in their local form";
+    let format = "The format of their records: F, V, U or T";
+    let longest = "Their longest record in octets, 0 to 99999";
+    let longest = defaulted("longest", "0", "OCTETS", longest);
+    [
+        own_database(),
+        own_book(),
+        needed("to", "CODE", to),
+        needed("from", "FOLDER", from),
+        defaulted("format", "U", "FORMAT", format),
+        numbered(longest, 0, MOST_LONGEST),
+    ]
+}
+
+/// What `offer` is asked for by the values of its options.
+pub(super) fn offer_read<'a>(
+    alloc: Global,
+    matches: &ArgMatches<'a>,
+) -> Result<Offer<'a>, LineFault>
+    requires { HasValues offer_app (values_in matches.now) }
+    ensures ok { IfOk result (λ o. offer_in (values_in matches.now) ≡ Some (offer_said o)) }
+    ensures bad { IfErr result (λ e. is_bad e ≡ true → offer_in (values_in matches.now) ≡ None) }
+{
+    let format = choice(alloc, matches, "format", "--format <FORMAT>", FORMATS)?;
+    Ok(Offer {
+        files: files_read(matches),
+        to: given(matches, "to"),
+        folder: given(matches, "from"),
+        format,
+        longest: number(matches, "longest") as u32,
+    })
+}

@@ -1,0 +1,267 @@
+//! What the commands over a folder have done with a register: by themselves, or by the station that holds its database.
+
+use crate::database::DatabaseOffice;
+use crate::perform::asking::{Asking, reached};
+use crate::perform::fetching::{Fetching, make_file_of};
+use oftp_command_line::{Fault, Fetch, Submit};
+use oftp_engine::{Operator, Port, RunFault, Submission, Told};
+use oftp_listing::ReportKind;
+use oftp_partners::Book;
+use oftp_resident::{DONE, HeldOffice, report_to, tell};
+use oftp_vfile::Format;
+use std::alloc::{AllocError, Global};
+use std::io::{self, Write};
+
+/// The station is gone, or has failed.
+const GONE: Fault = Fault::Run(RunFault::Office);
+
+/// What a station tells where its memory ran out.
+const NO_MEMORY: &[u8] = b"fault: 4 memory\n";
+
+/// How what was asked came out, with the line that tells it, without its end.
+#[derive(Drop)]
+pub(super) enum Completion {
+    /// It is done.
+    Done(String),
+    /// It is refused, and nothing is changed.
+    Refused(String),
+}
+
+/// Whoever has a register, and does what is asked with it.
+pub(super) trait Clerk {
+    /// The text of a report.
+    fn report(&mut self, kind: ReportKind) -> Result<String, Fault>;
+
+    /// Writes the incoming file of a number to a path, where nothing is.
+    fn fetch(&mut self, no: u64, path: &str) -> Result<Completion, Fault>;
+
+    /// Issues the end response of the incoming file of a number.
+    fn release(&mut self, no: u64) -> Result<Completion, Fault>;
+
+    /// Registers a file that is to be sent, of this content.
+    fn submit(&mut self, submit: &Submit<'_>, content: &[u8]) -> Result<Completion, Fault>;
+}
+
+/// The text of octets that were printed.
+fn text_of(octets: Vec<u8>) -> Result<String, Fault> {
+    match String::from_utf8(octets) {
+        Ok(text) => Ok(text),
+        Err(_) => Err(GONE),
+    }
+}
+
+/// The reply of a line and of whether it tells of something that is done.
+fn completion_of(alloc: Global, is_done: bool, line: Vec<u8>) -> Result<Completion, Fault> {
+    let text = text_of(line)?;
+    let line = String::from_str(alloc, text.as_str().trim_end()).map_err(|_| Fault::MEMORY)?;
+    Ok(if is_done {
+        Completion::Done(line)
+    } else {
+        Completion::Refused(line)
+    })
+}
+
+/// The office over the database, which the command itself has opened.
+#[derive(Drop)]
+pub(super) struct OwnClerk<'a> {
+    pub(super) rt: &'a HostRuntime,
+    pub(super) database: &'a str,
+    pub(super) book: &'a Book,
+    pub(super) office: DatabaseOffice,
+}
+
+impl OwnClerk<'_> {
+    /// Does what an operator wants.
+    fn operate(&mut self, operator: &Operator<'_>) -> Result<Completion, Fault> {
+        let alloc = self.rt.alloc();
+        let mut port = Port::new(Vec::new(alloc), 0);
+        let told = self
+            .office
+            .operate(alloc, self.book, operator, &mut port)
+            .map_err(Fault::Run)?;
+        completion_of(alloc, matches!(told, Told::Done), port.into_inner())
+    }
+}
+
+impl Clerk for OwnClerk<'_> {
+    fn report(&mut self, kind: ReportKind) -> Result<String, Fault> {
+        let alloc = self.rt.alloc();
+        let mut port = Port::new(Vec::new(alloc), 0);
+        report_to(alloc, &mut self.office, kind, &mut port)?;
+        text_of(port.into_inner())
+    }
+
+    fn fetch(&mut self, no: u64, path: &str) -> Result<Completion, Fault> {
+        let alloc = self.rt.alloc();
+        let line = Fetch {
+            database: self.database,
+            no,
+            file: path,
+        };
+        let outcome = self.office.run(Fetching {
+            rt: self.rt,
+            line: &line,
+        })?;
+        let mut told = Vec::new(alloc);
+        let status = tell(outcome, &mut told)?;
+        completion_of(alloc, status == DONE, told)
+    }
+
+    fn release(&mut self, no: u64) -> Result<Completion, Fault> {
+        self.operate(&Operator::Release { no })
+    }
+
+    fn submit(&mut self, submit: &Submit<'_>, content: &[u8]) -> Result<Completion, Fault> {
+        self.operate(&Operator::Submit(Submission {
+            dataset: submit.dataset,
+            date: submit.date,
+            time: submit.time,
+            to: submit.to,
+            format: submit.format,
+            longest: submit.longest,
+            description: submit.description,
+            content,
+        }))
+    }
+}
+
+/// The station that holds the database, which is asked over a connection each time.
+#[derive(Clone, Copy)]
+pub(super) struct StationClerk<'a> {
+    pub(super) rt: &'a HostRuntime,
+    pub(super) database: &'a str,
+    /// The octets of the book.
+    pub(super) book: &'a [u8],
+}
+
+impl StationClerk<'_> {
+    /// Has the command of a line carried out, which hands in this content. What is printed is answered, behind whether it is done.
+    fn ask(
+        &self,
+        line: Result<String, AllocError>,
+        content: &[u8],
+        made: &mut impl Write,
+    ) -> Result<(bool, Vec<u8>), Fault> {
+        let alloc = self.rt.alloc();
+        let line = line.map_err(|_| Fault::MEMORY)?;
+        let words = words_of(alloc, line.as_str())?;
+        let Some(stream) = reached(self.rt, self.database) else {
+            return Err(GONE);
+        };
+        let mut printed = Vec::new(alloc);
+        let mut told = Vec::new(alloc);
+        let asking = Asking::new(self.rt, words.as_slice(), &stream);
+        let status = asking.ask(self.book, content, &mut printed, &mut told, made)?;
+        if told.is_empty() {
+            Ok((status == DONE, printed))
+        } else if told.as_slice() == NO_MEMORY {
+            Err(Fault::MEMORY)
+        } else {
+            Err(GONE)
+        }
+    }
+}
+
+/// The words of a text, which single spaces part.
+fn words_of(alloc: Global, text: &str) -> Result<Vec<String>, Fault> {
+    let mut words = Vec::new(alloc);
+    for word in text.split(' ') {
+        add(alloc, &mut words, word)?;
+    }
+    Ok(words)
+}
+
+/// Adds a word.
+fn add(alloc: Global, words: &mut Vec<String>, word: &str) -> Result<(), Fault> {
+    let word = String::from_str(alloc, word).map_err(|_| Fault::MEMORY)?;
+    words.push(word).map_err(|_| Fault::MEMORY)
+}
+
+/// The line of a report. A station reads no file that a line names, so the database's name says nothing.
+fn report_line(alloc: Global, kind: ReportKind) -> Result<String, AllocError> {
+    format!(in alloc; "report --db=d {}", kind_word(kind))
+}
+
+/// The line by which a file is fetched, which is made here.
+fn fetch_line(alloc: Global, no: u64) -> Result<String, AllocError> {
+    format!(in alloc; "fetch --db=d {no} f")
+}
+
+/// The line by which a file is released.
+fn release_line(alloc: Global, no: u64) -> Result<String, AllocError> {
+    format!(in alloc; "release --db=d --book=b {no}")
+}
+
+/// The line by which a file is handed in, which is read here. Nothing in it has a space.
+fn submit_line(alloc: Global, submit: &Submit<'_>) -> Result<String, AllocError> {
+    let Submit {
+        dataset,
+        date,
+        time,
+        to,
+        longest,
+        ..
+    } = submit;
+    let format = letter_of(submit.format);
+    format!(in alloc;
+        "submit --db=d --book=b --dataset={dataset} --date={date} --time={time} --to={to} --format={format} --longest={longest} f"
+    )
+}
+
+/// The letter that `submit` has for a format.
+fn letter_of(format: Format) -> &'static str {
+    match format {
+        Format::Fixed => "F",
+        Format::Variable => "V",
+        Format::Unstructured => "U",
+        Format::Text => "T",
+    }
+}
+
+/// The word that `report` has for a kind.
+fn kind_word(kind: ReportKind) -> &'static str {
+    match kind {
+        ReportKind::Incoming => "in",
+        ReportKind::Outgoing => "out",
+        ReportKind::Issued => "issued",
+        ReportKind::Received => "received",
+    }
+}
+
+impl Clerk for StationClerk<'_> {
+    fn report(&mut self, kind: ReportKind) -> Result<String, Fault> {
+        let line = report_line(self.rt.alloc(), kind);
+        match self.ask(line, &[], &mut io::sink())? {
+            (true, printed) => text_of(printed),
+            (false, _) => Err(GONE),
+        }
+    }
+
+    fn fetch(&mut self, no: u64, path: &str) -> Result<Completion, Fault> {
+        let alloc = self.rt.alloc();
+        let line = Fetch {
+            database: self.database,
+            no,
+            file: path,
+        };
+        let mut content = Vec::new(alloc);
+        let (is_done, printed) = self.ask(fetch_line(alloc, no), &[], &mut content)?;
+        if is_done {
+            make_file_of(self.rt, &line, content.as_slice())?;
+        }
+        completion_of(alloc, is_done, printed)
+    }
+
+    fn release(&mut self, no: u64) -> Result<Completion, Fault> {
+        let alloc = self.rt.alloc();
+        let (is_done, printed) = self.ask(release_line(alloc, no), &[], &mut io::sink())?;
+        completion_of(alloc, is_done, printed)
+    }
+
+    fn submit(&mut self, submit: &Submit<'_>, content: &[u8]) -> Result<Completion, Fault> {
+        let alloc = self.rt.alloc();
+        let line = submit_line(alloc, submit);
+        let (is_done, printed) = self.ask(line, content, &mut io::sink())?;
+        completion_of(alloc, is_done, printed)
+    }
+}

@@ -1,0 +1,80 @@
+//! The date and the time that a file is given when it is offered: those of its last change, as UTC has them.
+
+use jiff::Timestamp;
+use oftp_command_line::Fault;
+use std::alloc::{AllocError, Global};
+use std::fs::Metadata;
+use std::os::unix::fs::MetadataExt;
+
+/// How many nanoseconds the last of the ten digits counts: a time stamp has four digits behind its seconds.
+const TICK: i64 = 100_000;
+
+/// How many ticks a second has.
+const TICKS: i64 = 10_000;
+
+/// The last second of the year 9999.
+const LAST: i64 = 253_402_207_200;
+
+/// How many digits a date has.
+const DATE: usize = 8;
+
+/// A moment of the clock, to a tick.
+#[derive(Clone, Copy)]
+pub(super) struct Moment {
+    second: i64,
+    tick: i64,
+}
+
+impl Moment {
+    /// The moment at which a file was changed last. One outside of the years 1970 to 9999 is the first of 1970.
+    pub(super) fn of(about: &Metadata) -> Moment {
+        let second = about.mtime();
+        if (0..LAST).contains(&second) {
+            let tick = (about.mtime_nsec() / TICK).clamp(0, TICKS - 1);
+            Moment { second, tick }
+        } else {
+            Moment { second: 0, tick: 0 }
+        }
+    }
+
+    /// The moment that is a tick later.
+    pub(super) fn next(self) -> Moment {
+        if self.tick < TICKS - 1 {
+            Moment {
+                second: self.second,
+                tick: self.tick.saturating_add(1),
+            }
+        } else {
+            Moment {
+                second: self.second.saturating_add(1),
+                tick: 0,
+            }
+        }
+    }
+
+    /// Its date and its time, as CCYYMMDD and HHMMSScccc.
+    pub(super) fn stamps(self, alloc: Global) -> Result<(String, String), Fault> {
+        let Ok(second) = Timestamp::from_second(self.second) else {
+            return Err(Fault::File);
+        };
+        let tick = self.tick;
+        let text = format!(in alloc; "{second} {tick:04}").map_err(|_| Fault::MEMORY)?;
+        digits_of(alloc, text.as_str()).map_err(|_| Fault::MEMORY)
+    }
+}
+
+/// The digits of a text: as many as a date has, and the others.
+fn digits_of(alloc: Global, text: &str) -> Result<(String, String), AllocError> {
+    let mut date = String::new(alloc);
+    let mut time = String::new(alloc);
+    for character in text.chars() {
+        if character.is_ascii_digit() {
+            if date.len() < DATE {
+                date.push(character)?;
+            } else {
+                time.push(character)?;
+            }
+        }
+    }
+    Ok((date, time))
+}
