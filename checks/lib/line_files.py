@@ -1,11 +1,13 @@
 """The command lines of rows/lines as they are written: rows/README.md says how. Each line is given to the program in a folder of its own,
 and tells why it comes out otherwise than is said."""
 
+import calendar
 import os
 import resource
 import shlex
 import subprocess
 import tempfile
+import time
 from pathlib import Path
 
 import tables
@@ -20,7 +22,7 @@ BAD = 2
 DATABASE = ("db", "db-wal")
 # What a station that holds the database has in its folder, and the commands that ask it.
 HELD = {*DATABASE, "db-station"}
-ASKING = ("init", "submit", "release", "refuse", "fetch", "report", "backup", "call")
+ASKING = ("init", "submit", "offer", "release", "refuse", "fetch", "collect", "report", "backup", "call")
 # The words before a text that is taken as it stands.
 TEXTS = ("line", "bad", "out", "err")
 
@@ -37,6 +39,7 @@ class Given:
         self.out = ""
         self.err = ""
         self.made = {}
+        self.gone = set()
 
     def take(self, first, rest, text):
         if first == "octets":
@@ -53,6 +56,8 @@ class Given:
             self.status = int(rest[0])
         elif first == "made":
             self.made[rest[0]] = octets_of(rest[1:]) if rest[1:] else None
+        elif first == "gone":
+            self.gone.add(rest[0])
         elif first == "answer":
             self.made[rest[0]] = session_of(rest[1]).joined("out")[: int(rest[2]) if rest[2:] else None]
         else:
@@ -105,7 +110,7 @@ class Given:
 
     def why_changed(self, before, after, left_out):
         """Why the folder isn't as it was, but for what is to be made, or None."""
-        made = {*self.made, *(DATABASE if "db" in self.made else ())}
+        made = {*self.made, *self.gone, *(DATABASE if "db" in self.made else ())}
         for name in sorted(before.keys() | after.keys()):
             if name not in made and before.get(name) != after.get(name):
                 return f"{name} is {'gone' if name not in after else 'another' if name in before else 'new'}"
@@ -119,7 +124,8 @@ class Given:
                 return f"{name} has other octets"
             if name in before and before[name][0] != mode:
                 return f"{name} has other permissions"
-        return None
+        left = sorted(self.gone & after.keys())
+        return f"{left[0]} is there" if left else None
 
 
 class Line(Remains):
@@ -175,13 +181,14 @@ def shown(words):
 
 
 def found_in(folder, left_out=()):
-    """What is in the folder: of each name its permissions, and its octets or what it is."""
+    """What is in the folder, and in those within it: of each name its permissions, and its octets or what it is."""
     found = {}
-    for path in folder.iterdir():
-        if path.name in left_out:
+    for path in folder.rglob("*"):
+        name = str(path.relative_to(folder))
+        if name in left_out:
             continue
         what = os.readlink(path) if path.is_symlink() else "a folder" if path.is_dir() else path.read_bytes()
-        found[path.name] = (path.lstat().st_mode, what)
+        found[name] = (path.lstat().st_mode, what)
     return found
 
 
@@ -225,6 +232,13 @@ def set_mode(folder, name, mode):
     (folder / name).chmod(int(mode, 8))
 
 
+def set_change(folder, name, date, clock):
+    """The file was changed last at this moment of UTC, which a date and a time stamp tell."""
+    second = calendar.timegm(time.strptime(date + clock[:6], "%Y%m%d%H%M%S"))
+    moment = second * 10**9 + int(clock[6:]) * 10**5
+    os.utime(folder / name, ns=(moment, moment))
+
+
 # What stands before the words of a line.
 DONE_BEFORE = {
     "file": make_file,
@@ -235,6 +249,7 @@ DONE_BEFORE = {
     "same": make_name,
     "link": make_link,
     "mode": set_mode,
+    "changed": set_change,
 }
 
 
@@ -252,10 +267,10 @@ class Argument:
     """An argument of a command: as texts show it, the words that give it, and whether it is needed."""
 
     def __init__(self, words, is_needed):
-        # `--db <DATABASE> db` is an option with its value, `<FILE> content` a word.
+        # `--db <DATABASE> db` is an option with its value, `--release` one without, `<FILE> content` a word.
         self.is_option = words[0].startswith("--")
-        self.shown = " ".join(words[:-1])
-        self.words = [words[0], words[-1]] if self.is_option else [words[-1]]
+        self.shown = " ".join(words[:-1] or words)
+        self.words = words[::max(len(words) - 1, 1)] if self.is_option else [words[-1]]
         self.is_needed = is_needed
 
 

@@ -58,8 +58,18 @@ fn made(rt: &HostRuntime, folder: &str, name: &str) -> Result<String, Fault> {
     let path = path_in(rt, folder, name)?;
     match fs::create_dir(rt, path.as_str()) {
         Ok(()) => Ok(path),
-        Err(error) if error.kind() == ErrorKind::AlreadyExists => Ok(path),
+        Err(error) if error.kind() == ErrorKind::AlreadyExists => found(rt, path),
         Err(error) => Err(file_fault(&error)),
+    }
+}
+
+/// A folder that is there under a path.
+fn found(rt: &HostRuntime, path: String) -> Result<String, Fault> {
+    let about = fs::metadata(rt, path.as_str()).map_err(|error| file_fault(&error))?;
+    if about.is_dir() {
+        Ok(path)
+    } else {
+        Err(Fault::File)
     }
 }
 
