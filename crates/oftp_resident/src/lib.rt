@@ -26,5 +26,5 @@ pub use asked::entry_to_fetch;
 pub use clock::codes_of;
 pub use office::{Errand, HeldOffice, answer_from, report_to};
 pub use place::SocketPlace;
-pub use statuses::{DONE, FAILED, status_of, tell};
+pub use statuses::{DONE, FAILED, status_of, status_where, tell};
 pub use turns::{Bench, reside};

@@ -26,3 +26,8 @@ pub fn status_of(told: Told) -> u8 {
         Told::Refused(_) => FAILED,
     }
 }
+
+/// The exit status of a command over many files, of which none was refused, or some were.
+pub fn status_where(is_done: bool) -> u8 {
+    if is_done { DONE } else { FAILED }
+}

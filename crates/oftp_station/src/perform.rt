@@ -4,16 +4,12 @@ mod asking;
 mod backups;
 mod clerks;
 mod collecting;
-mod entries;
 mod fetching;
-mod folders;
-mod handing;
 mod offering;
 mod operators;
 mod registers;
 mod services;
 mod sessions;
-mod stamps;
 
 use asking::{Asking, reached};
 use oftp_command_line::{Fault, Line, LineFault, Outcome, line_of, write_line};

@@ -1,10 +1,11 @@
-//! What the commands over a folder have done with a register: by themselves, or by the station that holds its database.
+//! What the commands over a folder have done with a register: over the database that they open, or by the station that holds it.
 
 use crate::database::DatabaseOffice;
 use crate::perform::asking::{Asking, reached};
 use crate::perform::fetching::{Fetching, make_file_of};
 use oftp_command_line::{Fault, Fetch, Submit};
 use oftp_engine::{Operator, Port, RunFault, Submission, Told};
+use oftp_folders::{Clerk, Completion};
 use oftp_listing::ReportKind;
 use oftp_partners::Book;
 use oftp_resident::{DONE, HeldOffice, report_to, tell};
@@ -17,30 +18,6 @@ const GONE: Fault = Fault::Run(RunFault::Office);
 
 /// What a station tells where its memory ran out.
 const NO_MEMORY: &[u8] = b"fault: 4 memory\n";
-
-/// How what was asked came out, with the line that tells it, without its end.
-#[derive(Drop)]
-pub(super) enum Completion {
-    /// It is done.
-    Done(String),
-    /// It is refused, and nothing is changed.
-    Refused(String),
-}
-
-/// Whoever has a register, and does what is asked with it.
-pub(super) trait Clerk {
-    /// The text of a report.
-    fn report(&mut self, kind: ReportKind) -> Result<String, Fault>;
-
-    /// Writes the incoming file of a number to a path, where nothing is.
-    fn fetch(&mut self, no: u64, path: &str) -> Result<Completion, Fault>;
-
-    /// Issues the end response of the incoming file of a number.
-    fn release(&mut self, no: u64) -> Result<Completion, Fault>;
-
-    /// Registers a file that is to be sent, of this content.
-    fn submit(&mut self, submit: &Submit<'_>, content: &[u8]) -> Result<Completion, Fault>;
-}
 
 /// The text of octets that were printed.
 fn text_of(octets: Vec<u8>) -> Result<String, Fault> {

@@ -1,26 +1,13 @@
 //! The command `offer`, which hands in the files of a folder that are to be sent to a partner.
-//!
-//! A file is taken first: it goes to a folder beside it, under a name that has the date and the time by which it is handed in. So whoever
-//! goes on after a kill knows by which name the register has it, if it does.
 
 use crate::database::{self, PATIENCE};
-use crate::perform::clerks::{Clerk, OwnClerk, StationClerk};
-use crate::perform::folders::{Folder, files_in, keep_names, path_in};
-use crate::perform::handing::{Handing, Rooms, TAKEN, claim_name, parts_of};
-use crate::perform::stamps::Moment;
+use crate::perform::clerks::{OwnClerk, StationClerk};
 use oftp_command_line::{Fault, Offer, Outcome, write_line};
-use oftp_files::{file_fault, read_book, read_book_octets};
+use oftp_files::{read_book, read_book_octets};
+use oftp_folders::{self as folders, Folder};
 use oftp_partners::Book;
-use oftp_resident::{DONE, FAILED, tell};
-use oftp_wire::X;
-use std::fs;
-use std::io::{ErrorKind, Write};
-
-/// How many octets a dataset name has at most.
-const MOST_NAME: usize = 26;
-
-/// How many moments are tried for a file, each a tick later: more than a register has files.
-const MOST_MOMENTS: u32 = 1_000_001;
+use oftp_resident::{FAILED, status_where, tell};
+use std::io::Write;
 
 /// The line of records of a length that their format doesn't have.
 const NO_LENGTH: &str = "refused: 5 field";
@@ -38,7 +25,7 @@ pub(super) fn offer(rt: &HostRuntime, line: &Offer<'_>, out: &mut impl Write) ->
         book: &book,
         office: database::open(rt, line.files.database, PATIENCE)?,
     };
-    offer_by(rt, line, &folder, clerk, out)
+    folders::offer(rt, line, &folder, clerk, out).map(status_where)
 }
 
 /// Offers files beside the station that holds the database.
@@ -57,7 +44,7 @@ pub(super) fn offer_beside(
         database: line.files.database,
         book: octets.as_slice(),
     };
-    offer_by(rt, line, &folder, clerk, out)
+    folders::offer(rt, line, &folder, clerk, out).map(status_where)
 }
 
 /// The exit status where the line can be meant for no file at all: the refusal is told then.
@@ -70,134 +57,4 @@ fn refused(book: &Book, line: &Offer<'_>, out: &mut impl Write) -> Result<Option
         return Ok(Some(FAILED));
     }
     Ok(None)
-}
-
-/// Takes the files of a folder, and hands in all that are taken, in the order of their times.
-fn offer_by<D: Clerk + Drop>(
-    rt: &HostRuntime,
-    line: &Offer<'_>,
-    folder: &Folder,
-    clerk: D,
-    out: &mut impl Write,
-) -> Result<u8, Fault> {
-    let files = offered(rt, folder)?;
-    let mut claims = claimed(rt, line, folder)?;
-    if files.is_empty() && claims.is_empty() {
-        return Ok(DONE);
-    }
-    let rooms = Rooms::made(rt, folder.path())?;
-    let mut handing = Handing::new(rt, line, &rooms, clerk);
-    handing.look_up(files.as_slice(), claims.as_slice())?;
-    take_all(rt, folder, &handing, files.as_slice(), &mut claims)?;
-    hand_in(handing, claims, out)
-}
-
-/// Hands in what is taken, and answers the exit status.
-fn hand_in<D: Clerk + Drop>(
-    handing: Handing<'_, D>,
-    claims: Vec<String>,
-    out: &mut impl Write,
-) -> Result<u8, Fault> {
-    let mut handing = handing;
-    let mut claims = claims;
-    let mut status = DONE;
-    claims.sort().map_err(|_| Fault::MEMORY)?;
-    for claim in &claims {
-        if !handing.hand_in(claim.as_str(), out)? {
-            status = FAILED;
-        }
-    }
-    Ok(status)
-}
-
-/// The names of the files that are offered: the regular files that have a dataset name. One that is hidden isn't offered.
-fn offered(rt: &HostRuntime, folder: &Folder) -> Result<Vec<String>, Fault> {
-    let mut names = Vec::new(rt.alloc());
-    for name in files_in(rt, folder.path())? {
-        if is_dataset_name(name.as_str()) {
-            names.push(name).map_err(|_| Fault::MEMORY)?;
-        }
-    }
-    Ok(names)
-}
-
-/// Whether a file's name is a dataset name.
-fn is_dataset_name(name: &str) -> bool {
-    !name.starts_with('.') && X::<MOST_NAME>::new(name.as_bytes()).is_some()
-}
-
-/// The names of the files that were taken for the partner, and not handed in or not put away yet.
-fn claimed(rt: &HostRuntime, line: &Offer<'_>, folder: &Folder) -> Result<Vec<String>, Fault> {
-    let taken = path_in(rt, folder.path(), TAKEN)?;
-    let mut claims = Vec::new(rt.alloc());
-    for name in files_in(rt, taken.as_str())? {
-        if is_for(rt, line.to, name.as_str())? {
-            claims.push(name).map_err(|_| Fault::MEMORY)?;
-        }
-    }
-    Ok(claims)
-}
-
-/// Whether a file of this name was taken for the partner of a code.
-fn is_for(rt: &HostRuntime, code: &str, name: &str) -> Result<bool, Fault> {
-    match parts_of(name) {
-        Some(stamps) => Ok(claim_name(rt.alloc(), stamps, code)?.as_str() == name),
-        None => Ok(false),
-    }
-}
-
-/// Takes files, and waits until the disk knows it.
-fn take_all<D: Clerk>(
-    rt: &HostRuntime,
-    folder: &Folder,
-    handing: &Handing<'_, D>,
-    files: &[String],
-    claims: &mut Vec<String>,
-) -> Result<(), Fault> {
-    for name in files {
-        if let Some(claim) = take(rt, folder, handing, name.as_str())? {
-            claims.push(claim).map_err(|_| Fault::MEMORY)?;
-        }
-    }
-    keep_names(rt, handing.rooms.taken.as_str())?;
-    folder.keep()
-}
-
-/// Takes a file, unless it is gone.
-fn take<D: Clerk>(
-    rt: &HostRuntime,
-    folder: &Folder,
-    handing: &Handing<'_, D>,
-    name: &str,
-) -> Result<Option<String>, Fault> {
-    let path = path_in(rt, folder.path(), name)?;
-    let about = match fs::symlink_metadata(rt, path.as_str()) {
-        Ok(about) => about,
-        Err(error) if error.kind() == ErrorKind::NotFound => return Ok(None),
-        Err(error) => return Err(file_fault(&error)),
-    };
-    let claim = free_claim(handing, name, Moment::of(&about))?;
-    let to = path_in(rt, handing.rooms.taken.as_str(), claim.as_str())?;
-    match fs::rename(rt, path.as_str(), to.as_str()) {
-        Ok(()) => Ok(Some(claim)),
-        Err(error) if error.kind() == ErrorKind::NotFound => Ok(None),
-        Err(error) => Err(file_fault(&error)),
-    }
-}
-
-/// The name that a file is taken under: that of its last change, or of the first moment behind it by which the register has no file of this
-/// name to the partner, and none is taken or refused.
-fn free_claim<D: Clerk>(
-    handing: &Handing<'_, D>,
-    name: &str,
-    changed: Moment,
-) -> Result<String, Fault> {
-    let mut moment = changed;
-    for _ in 0..MOST_MOMENTS {
-        if let Some(claim) = handing.claim_at(name, moment)? {
-            return Ok(claim);
-        }
-        moment = moment.next();
-    }
-    Err(Fault::File)
 }

@@ -1,9 +1,9 @@
 //! Files that were taken from a folder, and are handed in and put away.
 
-use crate::perform::clerks::{Clerk, Completion};
-use crate::perform::entries::ListedFile;
-use crate::perform::folders::{Stamps, add_safely, name_of, numbered, path_in};
-use crate::perform::stamps::Moment;
+use crate::clerk::{Clerk, Completion};
+use crate::entries::ListedFile;
+use crate::folders::{Stamps, add_safely, name_of, numbered, path_in};
+use crate::stamps::Moment;
 use oftp_command_line::{Carried, Fault, Offer, Submit, write_line};
 use oftp_engine::RunFault;
 use oftp_files::{file_fault, read_content};

@@ -21,7 +21,7 @@ const INSTEAD: char = '+';
 
 /// A folder that is held, so that no other command goes over it meanwhile.
 #[derive(Drop)]
-pub(super) struct Folder {
+pub struct Folder {
     file: File,
     path: String,
 }
@@ -31,7 +31,7 @@ impl Folder {
     ///
     /// # Errors
     /// There is no such folder, or it can't be read, or the other command goes on for too long.
-    pub(super) fn held(rt: &HostRuntime, path: &str) -> Result<Folder, Fault> {
+    pub fn held(rt: &HostRuntime, path: &str) -> Result<Folder, Fault> {
         let about = fs::metadata(rt, path).map_err(|error| file_fault(&error))?;
         if !about.is_dir() {
             return Err(Fault::File);

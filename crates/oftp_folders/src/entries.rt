@@ -1,6 +1,6 @@
 //! The lines of a report on files, as far as the commands over a folder read them.
 
-use crate::perform::folders::Stamps;
+use crate::folders::Stamps;
 
 /// How the line of an incoming file ends that is whole, and has no response.
 const UNANSWERED: &str = ",whole,none";

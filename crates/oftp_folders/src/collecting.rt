@@ -1,0 +1,107 @@
+//! Incoming files that are whole and have no response are written to a folder.
+
+use crate::clerk::{Clerk, Completion};
+use crate::entries::ListedFile;
+use crate::folders::{Folder, has_file, name_of, numbered, path_in};
+use oftp_command_line::{Carried, Collect, Fault, write_line};
+use oftp_listing::ReportKind;
+use std::io::Write;
+
+/// The line of a release where the file has a response.
+const ANSWERED: &str = "refused: 3 state";
+
+/// Writes each incoming file that is whole and has no response to a folder, one after another, unless it is there already. Where the line
+/// asks for that, its End-to-End Response is issued once the disk has it. A line for each goes to `out`. It answers whether none was refused.
+///
+/// # Errors
+/// Those of the clerk, that a file can't be made, or that `out` told a fault. What was written and released so far stays, and the next call
+/// goes on there.
+pub fn collect<D: Clerk + Drop>(
+    rt: &HostRuntime,
+    line: &Collect<'_>,
+    folder: &Folder,
+    clerk: D,
+    out: &mut impl Write,
+) -> Result<bool, Fault> {
+    let mut clerk = clerk;
+    let report = clerk.report(ReportKind::Incoming)?;
+    let mut is_done = true;
+    for told in report.as_str().split('\n') {
+        if let Some(entry) = unanswered(told) {
+            if !collect_one(rt, line, folder, &mut clerk, &entry, out)? {
+                is_done = false;
+            }
+        }
+    }
+    Ok(is_done)
+}
+
+/// The file of a line, where it is whole and has no response.
+fn unanswered<'a>(told: &'a str) -> Option<ListedFile<'a>> {
+    match ListedFile::of(told) {
+        Some(entry) if entry.is_unanswered() => Some(entry),
+        _ => None,
+    }
+}
+
+/// Collects a file, and answers whether it was done. What is in the folder already isn't written again.
+fn collect_one<D: Clerk>(
+    rt: &HostRuntime,
+    line: &Collect<'_>,
+    folder: &Folder,
+    clerk: &mut D,
+    entry: &ListedFile<'_>,
+    out: &mut impl Write,
+) -> Result<bool, Fault> {
+    let name = name_of(rt.alloc(), entry.stamps, entry.code())?;
+    let name = numbered(rt.alloc(), entry.no, name.as_str())?;
+    let path = path_in(rt, folder.path(), name.as_str())?;
+    let refusal = if !has_file(rt, path.as_str())? {
+        take(folder, clerk, entry.no, path.as_str(), line.releases)
+    } else if line.releases {
+        answer(folder, clerk, entry.no)
+    } else {
+        return Ok(true);
+    };
+    tell(refusal?, entry.no, name.as_str(), out)
+}
+
+/// Writes a file, and releases it where that is asked for. It answers the line of a refusal.
+fn take<D: Clerk>(
+    folder: &Folder,
+    clerk: &mut D,
+    no: u64,
+    path: &str,
+    releases: bool,
+) -> Result<Option<String>, Fault> {
+    match clerk.fetch(no, path)? {
+        Completion::Refused(why) => Ok(Some(why)),
+        Completion::Done(_) if releases => answer(folder, clerk, no),
+        Completion::Done(_) => Ok(None),
+    }
+}
+
+/// Releases a file that is in the folder, once the disk has its name there. One that somebody has answered meanwhile needs no more. It
+/// answers the line of a refusal.
+fn answer<D: Clerk>(folder: &Folder, clerk: &mut D, no: u64) -> Result<Option<String>, Fault> {
+    folder.keep()?;
+    match clerk.release(no)? {
+        Completion::Refused(why) if why.as_str() != ANSWERED => Ok(Some(why)),
+        _ => Ok(None),
+    }
+}
+
+/// Writes the line of a file, and answers whether it was done.
+fn tell(refusal: Option<String>, no: u64, name: &str, out: &mut impl Write) -> Result<bool, Fault> {
+    match refusal {
+        None => {
+            write_line(out, &Carried::Collected { no, name })?;
+            Ok(true)
+        }
+        Some(why) => {
+            let why = why.as_str();
+            write_line(out, &Carried::Refused { why, name })?;
+            Ok(false)
+        }
+    }
+}
