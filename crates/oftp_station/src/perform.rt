@@ -12,6 +12,7 @@ use asking::{Asking, reached};
 use oftp_command_line::{Fault, Line, LineFault, Outcome, line_of, write_line};
 use oftp_files::{read_book, show};
 use oftp_resident::{DONE, FAILED, status_of, tell};
+use oftp_store::StoreFault;
 use std::io::{self, ErrorKind, Write};
 
 /// The exit status of a bad command line.
@@ -69,7 +70,8 @@ fn shared_database<'a>(line: &Line<'a>) -> Option<&'a str> {
     }
 }
 
-/// Carries out a command: by the station that runs over its database, or else over the database itself.
+/// Carries out a command: by the station that runs over its database, or else over the database itself. A station may come to run over it
+/// while it is waited for: that one is asked then.
 fn carry_out(
     rt: &HostRuntime,
     words: &[String],
@@ -77,13 +79,19 @@ fn carry_out(
     out: &mut impl Write,
     err: &mut impl Write,
 ) -> Result<u8, Fault> {
-    let station = match shared_database(line) {
-        Some(database) => reached(rt, database),
-        None => None,
+    let Some(database) = shared_database(line) else {
+        return carry_out_alone(rt, line, out, err);
     };
-    match &station {
+    if let Some(stream) = &reached(rt, database) {
+        return ask(Asking::new(rt, words, stream), line, out, err);
+    }
+    let done = carry_out_alone(rt, line, out, err);
+    if !matches!(&done, Err(Fault::Store(StoreFault::Store))) {
+        return done;
+    }
+    match &reached(rt, database) {
         Some(stream) => ask(Asking::new(rt, words, stream), line, out, err),
-        None => carry_out_alone(rt, line, out, err),
+        None => done,
     }
 }
 
