@@ -45,6 +45,9 @@ pub fn open(rt: &HostRuntime, path: &str, patience: u32) -> Result<DatabaseOffic
 }
 
 /// Opens the office as [`open`] does, for a command that a station may carry out. It gives up as soon as one runs over the database.
+///
+/// # Errors
+/// Those of [`open`].
 pub fn open_shared(rt: &HostRuntime, path: &str) -> Result<DatabaseOffice, Fault> {
     make_file(rt, path);
     for _ in 0..PATIENCE {
