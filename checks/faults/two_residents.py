@@ -47,7 +47,7 @@ import oftp
 import tables
 from killed import Wrong
 from listing_files import ask
-from pairs import IDENTITY, STAMP, answered, book_of, local_form, promised, rows_here, settings_of, taken_back, twice
+from pairs import IDENTITY, MOST, STAMP, answered, book_of, local_form, promised, rows_here, settings_of, taken_back, twice
 from passage import Passage, Said, Trouble, Usual
 from program import PROGRAM
 from services import Resident
@@ -161,15 +161,18 @@ class Station(killed.Station):
         with self.life, open(self.lines, "ab") as output, open(self.faults, "ab") as faults:
             if self.has_ended:
                 return True
+            if self.resident:
+                self.heed(has_died=True)
             deaths, readies = self.deaths, self.readies
             how = {"book": self.book, "port": self.port, "output": output, "faults": faults}
             self.resident = StayingStation(self.room, have_tasks_done, *words, **how) if self.stays else Resident(self.room, *words, **how)
             self.resident.requests = self.requests
         until = time.monotonic() + LONG
         while self.readies == readies:
-            if not self.is_running() and self.has_died(deaths):
+            is_running = self.is_running()
+            if not is_running and self.has_died(deaths):
                 return False
-            if not self.is_running() or time.monotonic() > until:
+            if not is_running or time.monotonic() > until:
                 raise Wrong(f"{self.name}: it doesn't start: {self.faults.read_bytes()!r}")
             time.sleep(0.005)
             self.heed()
@@ -216,15 +219,15 @@ class Station(killed.Station):
         for holder in self.holders:
             holder.close()
 
-    def heed(self):
-        """Looks at what it told since: that it is ready, or a line of a session that may be."""
+    def heed(self, has_died=False):
+        """Looks at what it told since: that it is ready, or a line of a session that may be. Where it died, a line that was begun is passed over."""
         with self.heeding:
             with open(self.lines, "rb") as file:
                 file.seek(self.read_to)
                 told = file.read()
-            told = told[: told.rfind(b"\n") + 1]
-            self.read_to += len(told)
-            for line in told.decode().splitlines():
+            lines, _, begun = told.rpartition(b"\n")
+            self.read_to += len(told) - (0 if has_died else len(begun))
+            for line in lines.decode().splitlines():
                 if line == "ready":
                     self.readies += 1
                 elif not LINE.fullmatch(line):
@@ -327,7 +330,7 @@ class Operator:
         raise NotImplementedError
 
     def give(self, command, *rest):
-        """What a command tells, or None where that isn't known: it was killed, or its station was."""
+        """What a command tells, or None where that isn't known: it was killed within its line, or within a report, or its station was."""
         station = self.station
         of_book = ["--book", station.book] if command not in ("fetch", "report", "init") else []
         words = [PROGRAM, command, "--db", station.database, *of_book, *rest]
@@ -343,7 +346,8 @@ class Operator:
             return None
         if done[0] == -9:
             self.pair.count["commands killed"] += 1
-            return done[1].decode() or None
+            lines, newline, _ = done[1].decode(errors="replace").rpartition("\n")
+            return None if command == "report" else lines + newline or None
         if done[0] not in (0, 1) or done[2] and command != "call":
             raise Wrong(f"{station.name}: {command} told {done}")
         return (done[1] + done[2]).decode()
@@ -562,7 +566,9 @@ class Pair:
         self.lock = threading.Lock()
 
     def station(self, name, partner, place, stays):
-        settings = settings_of(self.chance) if self.stays else {**settings_of(self.chance), "restart": "true"}
+        settings = settings_of(self.chance)
+        while not self.stays and not may_go_on(settings):
+            settings = settings_of(self.chance)
         self.tell(f"{name}: {settings}")
         book = book_of(name, settings, self.posts[place].getsockname()[1])
         return Station(self.room / name, self.chance, name, partner, book, stays)
@@ -701,7 +707,7 @@ class Pair:
             if time.monotonic() > until:
                 open_files = [file for station in self.stations for file in station.held["out_file"] if not is_answered(file)]
                 raise Wrong(f"nothing breaks any more, and this isn't answered: {open_files}")
-            # A read that a stop interrupts is made again with its whole patience, which two that call each other need.
+            # Time for a session: of two that call each other one gives way within a second.
             time.sleep(PATIENCE + 0.5)
         self.is_calm = False
         for station in self.stations:
@@ -731,6 +737,11 @@ class Pair:
         self.beside.shutdown(cancel_futures=True)
 
 
+def may_go_on(settings):
+    """Whether a transfer between stations of these settings may go on: then the largest files take more than a window."""
+    return settings["restart"] == "true" and settings["buffer"] * settings["credit"] < MOST
+
+
 def is_answered(file):
     return file["state"] in ("delivered", "returned")
 
@@ -738,15 +749,18 @@ def is_answered(file):
 def lived(room, chance, stays, seconds):
     """The life of a pair. It answers what it did, what its station held that stayed, and why it went wrong, if it did."""
     pair = Pair(room, chance, stays)
-    whys = []
+    fault = None
     try:
         pair.live(seconds)
-        whys = [f"no {name}" for name in pair.missing()]
     except (Wrong, tables.Damaged, oftp.Unreadable, OSError, subprocess.SubprocessError) as why:
-        told = "\n".join(pair.told)
-        whys = [f"{told}\n{type(why).__name__}: {why}; it is kept in {killed.keep(pair.room)}"]
+        fault = f"{type(why).__name__}: {why}"
+        pair.tell(fault)
     finally:
         pair.end()
+    whys = [f"no {name}" for name in pair.missing()]
+    if fault:
+        told = "\n".join(pair.told)
+        whys = [f"{told}\n{fault}; it is kept in {killed.keep(pair.room)}"]
     for station in pair.stations:
         for line, number in station.ends.items():
             pair.count[f"lines `{line}`"] += number

@@ -183,7 +183,10 @@ def sockets_of(folder, names):
 
 
 def keep(room):
-    """Keeps what is left, for whoever looks into it."""
+    """Keeps what is left, for whoever looks into it. It answers where, and what isn't there, since it was gone before it was copied."""
     kept = tempfile.mkdtemp(prefix="killed_")
-    shutil.copytree(room, kept, dirs_exist_ok=True, ignore=sockets_of)
+    try:
+        shutil.copytree(room, kept, dirs_exist_ok=True, ignore=sockets_of)
+    except shutil.Error as why:
+        return f"{kept} without {[str(lost) for lost, _, _ in why.args[0]]}"
     return kept

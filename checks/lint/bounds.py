@@ -15,7 +15,7 @@ sys.path.insert(0, str(Path(__file__).resolve().parents[1] / "lib"))
 
 from program import ROOT
 
-WORDS = {"five": 5, "ten": 10, "a million": 1_000_000, "a day": 86_400}
+WORDS = {"one": 1, "four": 4, "five": 5, "ten": 10, "a million": 1_000_000, "a day": 86_400}
 MIB = 1_048_576
 
 
@@ -48,6 +48,7 @@ REQUEST = constant("oftp_sockets/src/requests.rt", "REQUEST_SECONDS")
 DROPPED = constant("oftp_sockets/src/connection.rt", "MOST_DROPPED") // MIB
 FAREWELL = constant("oftp_sockets/src/connection.rt", "FAREWELL")
 VISITORS = constant("oftp_resident/src/visitors.rt", "MOST_VISITORS")
+LESSER, GREATER, TIMES = (constant("oftp_resident/src/yielding.rt", name) for name in ("LESSER", "GREATER", "MOST_TIMES"))
 PIECE = constant("oftp_engine/src/serving.rt", "PIECE")
 FIRST_ROWS = constant("oftp_session/src/sending.rt", "FIRST_ROWS")
 ADMISSION = constant(LINE, "MOST_ADMISSION")
@@ -56,13 +57,16 @@ PATIENCE = constant(LINE, "MOST_PATIENCE")
 CALLERS = constant(LINE, "MOST_CALLERS")
 INTERVAL = constant(LINE, "MOST_INTERVAL")
 
-N = r"([\d,]+|five|ten|a million|a day)"
+N = r"([\d,]+|one|four|five|ten|a million|a day)"
 BOUNDS = [
     ("README.md", rf"up to {N} MiB and {N} records", (OCTETS // MIB, RECORDS)),
     ("docs/COMMANDS.md", rf"more than {N} octets or {N} records, or {N} files are here", (OCTETS, RECORDS, FILES)),
     ("docs/COMMANDS.md", rf"A second program waits for {N} seconds at most", (LOCKED,)),
     ("docs/COMMANDS.md", rf"After {N} seconds the session ends with\s+`fault: 6 store 1`", (LOCKED,)),
     ("docs/COMMANDS.md", rf"every SECONDS seconds \(1 to {N}; 0 is never\)", (INTERVAL,)),
+    ("docs/COMMANDS.md", rf"Such a caller waits for\s+{N} second, or for {N} if", (LESSER, GREATER)),
+    ("docs/COMMANDS.md", rf"A call gives way {N} times at most", (TIMES,)),
+    ("docs/COMMANDS.md", rf"waits until it is ready, {N} seconds at most", (LOCKED,)),
     ("docs/COMMANDS.md", rf"and {N} requests at most are open at once", (VISITORS,)),
     ("docs/COMMANDS.md", rf"\(`--sessions`, `--requests`\) is 1 by default, and {N}\s+at most", (CALLERS,)),
     ("docs/COMMANDS.md", rf"The default is {N}, and 1 to {N} \({N}\) are allowed", (default('"admission"'), ADMISSION, 86_400)),

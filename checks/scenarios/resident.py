@@ -8,6 +8,7 @@ Each case has a port and a database of its own, and all run at once, so it takes
 
 import contextlib
 import os
+import select
 import signal
 import socket
 import stat
@@ -26,7 +27,7 @@ import one_file
 import row_files
 import staying
 import tables
-from pairs import book_of
+from passage import Passage
 from program import PROGRAM
 from services import BOOK, CARMAKER, LONG, Resident, Wrong, expect, free_port, rest_of
 
@@ -223,6 +224,28 @@ def two_at_once(room):
         for station in stations:
             station.program.kill()
             station.program.wait()
+
+
+def commands_that_come_while_it_opens(room):
+    """Commands that come once the station has the database locked, and before it listens, ask it as soon as it does."""
+    file, hidden = room / "file", room / "hidden"
+    file.write_bytes(b"A")
+    with Resident(room) as service, contextlib.ExitStack() as stack:
+        service.socket.rename(hidden)
+        asked = [started(service, *words) for words in (["init"], ["report", "in"], ["submit", *IDENTITY, file], ["fetch", "1", room / "fetched"], ["backup", room / "to"])]
+        asked.append(call(service, BOOK))
+        for program in asked:
+            stack.enter_context(program)
+        time.sleep(2)
+        expect([program.poll() for program in asked], [None] * 6, "whether they wait")
+        hidden.rename(service.socket)
+        init, report, submit, fetch, backup, called = (told(program) for program in asked)
+        expect(init, (0, b"done: init\n", b""), "init")
+        expect((report[0], report[2]), (0, b""), "the report")
+        expect(submit, (0, b"done: submit 1\n", b""), "submit")
+        expect(fetch, (1, b"refused: 2 unknown\n", b""), "fetch")
+        expect(backup, (0, b"done: backup\n", b""), "backup")
+        expect(called, (1, b"", b"fault: 8 socket\n"), "the call of nobody")
 
 
 def request_of(*words):
@@ -663,36 +686,194 @@ def partner_who_does_not_answer(room):
             raise Wrong(f"the call took {time.monotonic() - begin:.1f} s")
 
 
-def two_that_call_each_other(room):
-    """Two stations that call each other at the same moment are free again once the patience is over at the latest, and then their files go."""
-    other = {"carmaker": "supplier", "supplier": "carmaker"}
-    ports = {name: free_port() for name in other}
-    stations = []
-    for name in other:
-        (room / name).mkdir()
-        book = room / name / "book"
-        book.write_text(book_of(name, {}, ports[other[name]]))
-        stations.append(Resident(room / name, book=book, port=ports[name]))
-    with stations[0], stations[1]:
-        for station in stations:
-            station.program.send_signal(signal.SIGSTOP)
-        codes = ("O0013SUPPLIER", CARMAKER)
-        asked = [call(it, it.database.parent / "book", "--patience", "2", partner=code) for it, code in zip(stations, codes)]
-        until_connected(asked)
-        begin = time.monotonic()
-        for station in stations:
-            station.program.send_signal(signal.SIGCONT)
-        lines = [told(program)[1:] for program in asked]
-        within(begin, 2, "both calls")
-        strange = [line for line in lines if line not in ((b"", b"fault: 1 read\n"), (b"end: partner 00\n", b""), (b"end: own 00\n", b""), (b"end: input\n", b""))]
-        expect(strange, [], "how the calls ended")
-        file = room / "file"
-        file.write_bytes(b"A")
-        words = ["--dataset", "INV.1", "--date", "20240201", "--time", "0800000001", "--to", "O0013SUPPLIER", "--format", "U", file]
-        done = told(begun(stations[0], "submit", "--book", stations[0].database.parent / "book", *words))
+# Codes in their order, and those who call the one behind them, the last one the first: two are each other's partner, three stand in a circle.
+CIRCLE = ["O0001LEAST", "O0002MIDDLE", "O0003GREATEST"]
+ENDS = [(0, b"end: own 00\n", b""), (0, b"end: partner 00\n", b"")]
+
+
+class Meeting:
+    """Stations that call each other through this script. Their first calls wait here until all have come, and so meet each other."""
+
+    def __init__(self, room, count, *words):
+        self.stations, self.passing = [], []
+        self.is_over = threading.Event()
+        ports = [free_port() for _ in range(count)]
+        self.posts = [socket.create_server(("127.0.0.1", 0)) for _ in range(count)]
+        for place, code in enumerate(CIRCLE[:count]):
+            folder = room / code
+            folder.mkdir()
+            book = folder / "book"
+            text = f'[station]\ncode = "{code}"\nbuffer = 4096\ncredit = 50\nrestart = true\n'
+            for other in {(place + 1) % count, (place - 1) % count}:
+                address = f"127.0.0.1:{self.posts[other].getsockname()[1]}"
+                text += f'[[partner]]\ncode = "{CIRCLE[other]}"\nexpects = "PW"\nsends = "PW"\nmode = "B"\naddress = "{address}"\n'
+            book.write_text(text)
+            self.stations.append(Resident(folder, *words, book=book, port=ports[place]))
+            self.stations[-1].book = book
+
+    def __enter__(self):
+        for station in self.stations:
+            expect(station.either(), "ready", "the first line")
+        return self
+
+    def __exit__(self, *_why):
+        self.is_over.set()
+        for station in self.stations:
+            station.program.kill()
+            station.program.communicate()
+        for it in self.passing:
+            it.join()
+        for post in self.posts:
+            post.close()
+
+    def next_of(self, place):
+        """The place of the station that the one of this place calls."""
+        return (place + 1) % len(self.stations)
+
+    def submit(self, place, octets):
+        """Hands in a file for the station that is called."""
+        station = self.stations[place]
+        file = station.book.parent / "file"
+        file.write_bytes(octets)
+        words = ["--dataset", "INV.1", "--date", "20240201", "--time", "0800000001", "--to", CIRCLE[self.next_of(place)], "--format", "U", file]
+        done = told(begun(station, "submit", "--book", station.book, *words))
         expect(done, (0, b"done: submit 1\n", b""), "submit")
-        expect(told(call(stations[0], stations[0].database.parent / "book", partner="O0013SUPPLIER"))[0], 0, "a call afterwards")
-        expect(given(stations[1], "fetch", "1", room / "fetched"), (0, b"done: fetch 1\n", b""), "fetch")
+
+    def call(self, place):
+        """The command that has the station of this place call the next one."""
+        station = self.stations[place]
+        return call(station, station.book, partner=CIRCLE[self.next_of(place)])
+
+    def let_meet(self):
+        """Waits until all have called, and passes their calls on, and then all that come."""
+        first = []
+        for place, _ in enumerate(self.stations):
+            post = self.posts[self.next_of(place)]
+            post.settimeout(LONG)
+            first.append((post.accept()[0], self.next_of(place)))
+        # By now each waits for the one that it has called.
+        time.sleep(0.3)
+        for end, place in first:
+            self.pass_on(end, place)
+        self.begin(self.pass_all)
+
+    def begin(self, task):
+        def see_through():
+            # What doesn't pass any more is seen by who waits for it.
+            with contextlib.suppress(Wrong, OSError):
+                task()
+
+        self.passing.append(threading.Thread(target=see_through))
+        self.passing[-1].start()
+
+    def pass_all(self):
+        while not self.is_over.is_set():
+            for post in select.select(self.posts, [], [], 0.05)[0]:
+                self.pass_on(post.accept()[0], self.posts.index(post))
+
+    def pass_on(self, end, place):
+        passage = Passage([])
+        passage.join(end, socket.create_connection(("127.0.0.1", self.stations[place].port)))
+        self.begin(passage.pass_all)
+
+    def wait_until_whole(self, place, octets):
+        """Waits until the station of this place has the file that was handed in for it."""
+        station = self.stations[place]
+        file = station.book.parent / "fetched"
+        until = time.monotonic() + LONG
+        while given(station, "fetch", "1", file)[0] != 0 and time.monotonic() < until:
+            time.sleep(0.1)
+        expect(file.exists() and file.read_bytes(), octets, "the file")
+
+    def expect_no_fault(self):
+        for station in self.stations:
+            station.program.kill()
+        for station in self.stations:
+            expect([told_here for told_here in station.rest() if b"fault" in told_here], [], "the lines")
+
+
+def calls_that_meet(room, count):
+    """Each of these stations is asked to call the next one at the same moment, and has a file for it. Each call is made in the end, at once."""
+    with Meeting(room, count) as meeting:
+        places = range(count)
+        for place in places:
+            meeting.submit(place, f"from {place}".encode())
+        with contextlib.ExitStack() as stack:
+            asked = [stack.enter_context(meeting.call(place)) for place in places]
+            meeting.let_meet()
+            begin = time.monotonic()
+            ends = [told(program) for program in asked]
+            within(begin, 4, "the calls")
+        expect([end for end in ends if end not in ENDS], [], "how the calls ended")
+        for place in places:
+            meeting.wait_until_whole(meeting.next_of(place), f"from {place}".encode())
+        meeting.expect_no_fault()
+
+
+def two_that_call_each_other(room):
+    """Two stations whose commands have them call each other at the same moment."""
+    calls_that_meet(room, 2)
+
+
+def three_that_call_in_a_circle(room):
+    """Three stations, each of which calls the next one at the same moment."""
+    calls_that_meet(room, 3)
+
+
+def two_whose_clocks_meet(room):
+    """Two stations that call each other by their clocks at the same moment, each with a file for the other."""
+    with Meeting(room, 2, "--call-every", "1") as meeting:
+        for place in range(2):
+            meeting.submit(place, f"from {place}".encode())
+        meeting.let_meet()
+        begin = time.monotonic()
+        for place in range(2):
+            meeting.wait_until_whole(meeting.next_of(place), f"from {place}".encode())
+        within(begin, 4, "both files")
+        meeting.expect_no_fault()
+
+
+def callers_who_stop_no_call(room):
+    """Callers who aren't let in, or have left, don't have a call given up whose partner doesn't answer yet."""
+    session = session_of("calling/initiator_alone")
+    with socket.create_server(("127.0.0.1", 0)) as partner, Resident(room) as service, contextlib.ExitStack() as stack:
+        partner.settimeout(LONG)
+        book = book_with(room, f"127.0.0.1:{partner.getsockname()[1]}")
+        program = stack.enter_context(call(service, book))
+        called = partner.accept()[0]
+        for said in (b"", WRONG.joined("in"), SSID[:10]):
+            stack.enter_context(service.caller()).sendall(said)
+        with service.caller() as caller:
+            caller.sendall(SSID)
+        called.settimeout(6)
+        with contextlib.suppress(TimeoutError):
+            raise Wrong(f"the call says {called.recv(100)!r}")
+        called.settimeout(LONG)
+        converse(called, session)
+        expect(told(program), (0, session.end[1].encode(), b""), "the call")
+
+
+def partner_who_calls_while_it_is_called(room):
+    """A call whose partner doesn't answer, since it calls itself, gives way to that, and is made again."""
+    session = session_of("calling/initiator_alone")
+    with socket.create_server(("127.0.0.1", 0)) as partner, Resident(room) as service:
+        partner.settimeout(LONG)
+        book = book_with(room, f"127.0.0.1:{partner.getsockname()[1]}")
+        with call(service, book) as program, partner.accept()[0] as called, service.caller() as caller:
+            begin = time.monotonic()
+            caller.sendall(SSID)
+            answer = NOTHING_WAITING.joined("out")
+            heard(caller, answer[: len(GREETING) + len(SSID)])
+            within(begin, 4, "the answer")
+            called.settimeout(LONG)
+            expect(called.recv(100), b"", "the call said")
+            caller.sendall(NOTHING_WAITING.joined("in")[len(SSID) :])
+            caller.shutdown(socket.SHUT_WR)
+            expect(rest_of(caller), answer[len(GREETING) + len(SSID) :], "the station sent")
+            expect(service.line() + "\n", f"session {CARMAKER} in: {NOTHING_WAITING.end[1]}", "the line")
+            converse(partner.accept()[0], session)
+            expect(told(program), (0, session.end[1].encode(), b""), "the call")
+            expect(service.line() + "\n", f"session {CARMAKER} out: {session.end[1]}", "the line")
 
 
 def clock(room):
@@ -1013,6 +1194,7 @@ CASES = [
     two_stations,
     second_station_takes_over,
     two_at_once,
+    commands_that_come_while_it_opens,
     faults_in_order,
     long_path,
     false_clients,
@@ -1030,6 +1212,10 @@ CASES = [
     calls,
     partner_who_does_not_answer,
     two_that_call_each_other,
+    three_that_call_in_a_circle,
+    two_whose_clocks_meet,
+    callers_who_stop_no_call,
+    partner_who_calls_while_it_is_called,
     clock,
     requests,
     slow_requests,

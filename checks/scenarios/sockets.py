@@ -11,11 +11,13 @@ import contextlib
 import fcntl
 import re
 import resource
+import signal
 import socket
 import struct
 import subprocess
 import sys
 import tempfile
+import threading
 import time
 from concurrent.futures import ThreadPoolExecutor
 from pathlib import Path
@@ -154,7 +156,7 @@ def silent_partner(room):
         service.ends()
 
 
-def partner_that_reads_nothing(room):
+def who_reads_nothing(room, within=contextlib.nullcontext):
     """The station has a file for a partner, who answers the offer and then reads nothing."""
     book = room / "book"
     book.write_text(BOOK.read_text().replace("buffer = 128", "buffer = 16384").replace("credit = 2", "credit = 99"))
@@ -166,8 +168,43 @@ def partner_that_reads_nothing(room):
             opening = oftp.spell("SSID", {"code": CARMAKER, "password": "CARPW", "mode": "B", **GREATEST})
             for command in (opening, b"R", oftp.spell("SFPA", {"count": "0"})):
                 caller.sendall(oftp.frame(command))
-            expect(service.fault(), "fault: 2 write", "the line")
+            with within(service.program):
+                expect(service.fault(), "fault: 2 write", "the line")
         service.ends()
+
+
+def partner_that_reads_nothing(room):
+    who_reads_nothing(room)
+
+
+@contextlib.contextmanager
+def suspended(program):
+    """The program is suspended for a moment twice a second."""
+    is_over = threading.Event()
+
+    def suspend():
+        while not is_over.wait(0.5):
+            program.send_signal(signal.SIGSTOP)
+            time.sleep(0.02)
+            program.send_signal(signal.SIGCONT)
+
+    suspending = threading.Thread(target=suspend)
+    suspending.start()
+    try:
+        yield
+    finally:
+        is_over.set()
+        suspending.join()
+
+
+def suspended_again_and_again(room):
+    """A read or a write that is interrupted has no more time than one that isn't."""
+    with Service(room, "listen", "--patience", "2") as service, service.caller() as caller:
+        caller.sendall(oftp.frame(oftp.spell("SSID", {"code": CARMAKER, "password": "CARPW", "mode": "B", **GREATEST})))
+        with suspended(service.program):
+            expect(service.fault(), "fault: 1 read", "the line")
+        service.ends()
+    who_reads_nothing(room, suspended)
 
 
 def callers_who_leave(room):
@@ -589,6 +626,7 @@ CASES = [
     octet_each_two_seconds,
     silent_partner,
     partner_that_reads_nothing,
+    suspended_again_and_again,
     callers_who_leave,
     octets_after_the_end,
     partner_who_stays_after_the_end,

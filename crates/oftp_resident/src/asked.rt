@@ -99,6 +99,7 @@ impl Asked {
             patience: patience_of(call.terms.patience),
             longest: Duration::from_secs(call.terms.longest),
             is_traced: call.terms.trace.is_some(),
+            times: 0,
         })
     }
 

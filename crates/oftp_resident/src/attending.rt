@@ -6,6 +6,7 @@ ghost use Rattle.oftp_session.specs.Standings.{Broken};
 
 use crate::office::HeldOffice;
 use crate::turns::{Again, Resident};
+use crate::yielding::{GREETING, Yielding};
 use oftp_command_line::Fault;
 use oftp_engine::{Conversation, End, Port, Role, RunFault};
 use oftp_sockets::{Desk, Station, Term, Trouble, Wire, ports_of};
@@ -17,11 +18,15 @@ const PIECE: usize = 4_096;
 
 /// What a session of the resident station is served over: its office, and those who ask meanwhile.
 #[derive(Drop)]
-pub(super) struct Attending<'r, 'a, O> {
+pub(super) struct Attending<'r, 'a, O, P> {
     /// The station.
     pub(super) resident: &'r mut Resident<'a>,
     /// Its office.
     pub(super) office: &'r mut O,
+    /// Where the lines of callers go who can't be greeted.
+    pub(super) out: &'r mut P,
+    /// When the session gives way to a caller, if it is a call.
+    pub(super) yielding: Option<Yielding>,
 }
 
 /// How a partner is waited for.
@@ -32,7 +37,7 @@ struct Wait<'a> {
     term: Term<'a>,
 }
 
-impl<O: HeldOffice> Desk for Attending<'_, '_, O> {
+impl<O: HeldOffice, P: Write> Desk for Attending<'_, '_, O, P> {
     fn converse<R: Read + Drop, W: Write + Drop>(
         &mut self,
         rt: &HostRuntime,
@@ -56,7 +61,7 @@ impl<O: HeldOffice> Desk for Attending<'_, '_, O> {
     }
 }
 
-impl<O: HeldOffice> Attending<'_, '_, O> {
+impl<O: HeldOffice, P: Write> Attending<'_, '_, O, P> {
     /// Goes through a session to its end.
     fn talk<R: Read, W: Write>(
         &mut self,
@@ -90,7 +95,7 @@ impl<O: HeldOffice> Attending<'_, '_, O> {
             return Ok(Some(End::from(ending)));
         }
         if reader.moved() >= wait.at_hand {
-            self.attend(wait.term)?;
+            self.attend(wait.term, reader.moved() > GREETING)?;
         }
         let mut piece = [0; PIECE];
         match reader.read(&mut piece) {
@@ -103,11 +108,11 @@ impl<O: HeldOffice> Attending<'_, '_, O> {
         }
     }
 
-    /// Waits until the partner has said something, and answers those who look something up meanwhile.
+    /// Waits until the partner has said something, and answers those who look something up meanwhile. A call that isn't answered yet gives way.
     ///
     /// # Errors
-    /// The partner has kept still for too long, or the service ends.
-    fn attend(&mut self, term: Term<'_>) -> Result<(), Trouble> {
+    /// The partner has kept still for too long, the call gives way, or the service ends.
+    fn attend(&mut self, term: Term<'_>, is_answered: bool) -> Result<(), Trouble> {
         let Ok(since) = Instant::now(self.resident.rt) else {
             return Err(Trouble::from(RunFault::Read));
         };
@@ -119,6 +124,9 @@ impl<O: HeldOffice> Attending<'_, '_, O> {
             let Some(left) = term.left(since) else {
                 return Err(Trouble::from(RunFault::Read));
             };
+            if !is_answered && self.gives_way()? {
+                return Err(Trouble::from(RunFault::Read));
+            }
             if self
                 .resident
                 .watch
@@ -137,5 +145,23 @@ impl<O: HeldOffice> Attending<'_, '_, O> {
         self.resident.answer_look_ups(self.office)?;
         self.resident.clients.send();
         Ok(again)
+    }
+
+    /// Whether the session was a call that gave way, and that is to be made again. It gave way so often before.
+    pub(super) fn is_made_again(&self, times: u32) -> bool {
+        match &self.yielding {
+            Some(yielding) => yielding.is_made_again(times),
+            None => false,
+        }
+    }
+
+    /// Greets who has called, where the session is a call, and looks whether it gives way to one who is to be let in.
+    fn gives_way(&mut self) -> Result<bool, Fault> {
+        let Some(yielding) = &mut self.yielding else {
+            return Ok(false);
+        };
+        self.resident.welcome_callers(self.out)?;
+        let is_awaited = self.resident.has_guest()?;
+        Ok(yielding.gives_way(self.resident.rt, is_awaited))
     }
 }

@@ -45,12 +45,33 @@ impl Resident<'_> {
             patience: self.station.patience,
             longest: self.station.longest,
             is_traced: false,
+            times: 0,
         };
         let _ = self.want(None, wanted);
     }
 
+    /// Whether the clock has to call the partner of this code: something is next for it, and it isn't called.
+    pub(super) fn is_still_due(
+        &self,
+        code: &str,
+        office: &mut impl HeldOffice,
+    ) -> Result<bool, Fault> {
+        let Some(clock) = &self.clock else {
+            return Ok(false);
+        };
+        if self.calls.has(code) {
+            return Ok(false);
+        }
+        for (place, other) in self.bench.codes.iter().enumerate() {
+            if other.as_str() == code {
+                return Ok(clock.is_due(place, office)? == Some(true));
+            }
+        }
+        Ok(false)
+    }
+
     /// Has a partner called.
-    fn want(&mut self, client: Option<u64>, wanted: Wanted) -> Result<(), Fault> {
+    pub(super) fn want(&mut self, client: Option<u64>, wanted: Wanted) -> Result<(), Fault> {
         let address = {
             let book = book_of_call(&wanted, self.station.book);
             let Some(partner) = book.partner(wanted.code.as_bytes()) else {
@@ -68,6 +89,7 @@ impl Resident<'_> {
         };
         let answer = answer_of_call(self.rt.alloc(), &[], &Err(fault));
         self.clients.answer(client, answer);
+        self.count_job();
         Ok(true)
     }
 }

@@ -28,6 +28,8 @@ pub(super) struct Wanted {
     pub(super) longest: Duration,
     /// Whether the command wants it told what goes over the connection.
     pub(super) is_traced: bool,
+    /// How often the call gave way to a caller.
+    pub(super) times: u32,
 }
 
 /// A partner who is called.

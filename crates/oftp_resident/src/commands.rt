@@ -60,9 +60,7 @@ impl Resident<'_> {
         office: &mut impl HeldOffice,
     ) -> Result<(), Fault> {
         if asked.is_look_up(self.rt.alloc()) {
-            if self.carry_out(client, Some(&asked), office)? {
-                self.count_job();
-            }
+            self.carry_out(client, Some(&asked), office)?;
         } else if self.deferred.push(Deferred { client, asked }).is_err() {
             self.clients.answer(client, None);
         }
@@ -78,7 +76,8 @@ impl Resident<'_> {
         }
     }
 
-    /// Carries out what the command of a number asks, and answers whether that was a job. A call is none before it has come to an end.
+    /// Carries out what the command of a number asks, and answers whether that was a job, which is counted. A call is none before it has come to
+    /// an end.
     fn carry_out(
         &mut self,
         client: u64,
@@ -100,6 +99,7 @@ impl Resident<'_> {
             Task::Copies => self.let_copy(client),
             Task::Nothing => self.clients.answer(client, None),
         }
+        self.count_job();
         Ok(true)
     }
 }

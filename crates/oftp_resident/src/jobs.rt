@@ -7,6 +7,7 @@ use crate::calls::{Called, Wanted};
 use crate::office::HeldOffice;
 use crate::session_lines::{Way, settle, tell_caller};
 use crate::turns::Resident;
+use crate::yielding::{Yielded, Yielding};
 use oftp_command_line::Fault;
 use oftp_engine::{End, RunFault};
 use oftp_files::Trace;
@@ -43,6 +44,8 @@ impl Resident<'_> {
         let mut desk = Attending {
             resident: self,
             office,
+            out,
+            yielding: None,
         };
         let served = serve_caller(rt, &caller, &station, &mut desk);
         let Caller { connection, .. } = caller;
@@ -50,6 +53,7 @@ impl Resident<'_> {
         if let Ok(begun) = begun {
             self.waiting.stand_still(begun);
         }
+        self.count_job();
         tell_caller(out, code, served)?;
         Ok(true)
     }
@@ -74,7 +78,7 @@ impl Resident<'_> {
         }
     }
 
-    /// Serves the partner who was called, if there is one.
+    /// Serves the partner who was called, if there is one. A call that gives way waits until the caller was served.
     pub(super) fn serve_called(
         &mut self,
         office: &mut impl HeldOffice,
@@ -91,10 +95,19 @@ impl Resident<'_> {
         } = called;
         let begun = Instant::now(rt);
         let trace = Trace::kept(rt);
-        let ended = self.converse(stream, &wanted, &trace, office);
+        let ended = self.converse(stream, &wanted, &trace, office, out);
         if let Ok(begun) = begun {
             self.waiting.stand_still(begun);
         }
+        let ended = match ended {
+            Ok(Some(end)) => Ok(end),
+            Ok(None) => {
+                self.yielded = Some(Yielded::new(client, wanted));
+                return Ok(true);
+            }
+            Err(fault) => Err(fault),
+        };
+        self.count_job();
         let told = trace.into_kept();
         self.answer_call(client, told.as_slice(), &ended);
         settle(out, Some(wanted.code.as_str()), Way::Out, ended)?;
@@ -110,14 +123,15 @@ impl Resident<'_> {
         }
     }
 
-    /// One session with a partner who was called over this stream, if there is one.
+    /// One session with a partner who was called over this stream, if there is one. It has no end where the call gave way.
     fn converse(
         &mut self,
         stream: Result<TcpStream, Fault>,
         wanted: &Wanted,
         trace: &Trace<'_>,
         office: &mut impl HeldOffice,
-    ) -> Result<End, Fault> {
+        out: &mut impl Write,
+    ) -> Result<Option<End>, Fault> {
         let stream = stream?;
         let book = book_of_call(wanted, self.station.book);
         let Some(partner) = book.partner(wanted.code.as_bytes()) else {
@@ -140,9 +154,15 @@ impl Resident<'_> {
         let mut desk = Attending {
             resident: self,
             office,
+            out,
+            yielding: Some(Yielding::of(book, partner)),
         };
         let served = serve_called(rt, &connection, partner, &station, &mut desk);
+        let is_made_again = desk.is_made_again(wanted.times);
         self.part_from(connection, &station, &served);
-        served.map_err(Trouble::fault)
+        if is_made_again {
+            return Ok(None);
+        }
+        served.map(Some).map_err(Trouble::fault)
     }
 }

@@ -21,6 +21,7 @@ mod statuses;
 mod turns;
 mod visitors;
 mod watch;
+mod yielding;
 
 pub use asked::entry_to_fetch;
 pub use clock::codes_of;

@@ -8,6 +8,7 @@ use crate::office::HeldOffice;
 use crate::session_lines::tell_caller;
 use crate::visitors::Visitors;
 use crate::watch::Watch;
+use crate::yielding::Yielded;
 use oftp_command_line::{Fault, write_line};
 use oftp_sockets::{Arrival, Leaving, Station, Waiting};
 use std::io::{self, Write};
@@ -85,6 +86,8 @@ pub(super) struct Resident<'a> {
     pub(super) clients: Clients,
     pub(super) visitors: Visitors<'a>,
     pub(super) calls: Calls<'a>,
+    // The call that gave way to a caller, until that was served.
+    pub(super) yielded: Option<Yielded>,
     pub(super) clock: Option<Clock<'a>>,
     pub(super) watch: Watch,
     // Who is left the time to read the last word.
@@ -121,6 +124,7 @@ pub fn reside(
         clients: Clients::new(rt.alloc()),
         visitors: Visitors::new(rt),
         calls: Calls::new(rt),
+        yielded: None,
         clock: Clock::new(rt, station.book, bench.codes, bench.interval)?,
         watch,
         leaving: Leaving::new(rt),
@@ -155,9 +159,6 @@ impl Resident<'_> {
             let is_enough = self.bench.jobs > 0 && self.done >= self.bench.jobs;
             let is_copied = self.is_copied();
             let has_worked = !is_enough && !is_copied && self.next_job(office, out)?;
-            if has_worked {
-                self.count_job();
-            }
             self.clients.send();
             if is_enough && !self.clients.is_answering() && self.leaving.is_empty() {
                 break;
@@ -233,7 +234,7 @@ impl Resident<'_> {
     }
 
     /// Takes in who has called.
-    fn welcome_callers(&mut self, out: &mut impl Write) -> Result<Again, Fault> {
+    pub(super) fn welcome_callers(&mut self, out: &mut impl Write) -> Result<Again, Fault> {
         for _ in 0..MOST_AT_ONCE {
             match self.waiting.take_in(&self.station) {
                 Ok(Arrival::Somebody) => self.watch_newest(),
@@ -245,6 +246,11 @@ impl Resident<'_> {
         Ok(Again::AtOnce)
     }
 
+    /// Whether a caller waits who is to be let in.
+    pub(super) fn has_guest(&mut self) -> Result<bool, Fault> {
+        self.waiting.has_guest(&self.station)
+    }
+
     /// Watches the caller who came last. One who can't be watched is looked at with the others.
     fn watch_newest(&self) {
         if let Some(connection) = self.waiting.newest() {
@@ -252,7 +258,8 @@ impl Resident<'_> {
         }
     }
 
-    /// Does the next job, if there is one: first what came within a session, and then none of a kind where another kind waits.
+    /// Does the next job, if there is one: first what came within a session, and then none of a kind where another kind waits. It answers
+    /// whether anything was done, of which a call that gave way is no job yet.
     fn next_job(
         &mut self,
         office: &mut impl HeldOffice,
@@ -265,7 +272,7 @@ impl Resident<'_> {
             self.last = self.last.wrapping_add(1) % KINDS;
             let is_done = match self.last {
                 0 => self.serve_command(office)?,
-                1 => self.serve_caller(office, out)?,
+                1 => self.serve_caller_first(office, out)?,
                 _ => self.serve_called(office, out)?,
             };
             if is_done {

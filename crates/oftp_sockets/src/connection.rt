@@ -1,15 +1,12 @@
 //! A connection, whose partner isn't waited for without a limit.
 
 use crate::moments::Timed;
-use libc::net::POLLIN;
+use libc::net::{POLLIN, POLLRDHUP};
 use libc::types::pollfd;
 use std::io::{self, ErrorKind, Read, Write};
 use std::net::{Shutdown, TcpStream};
 use std::os::fd::{AsRawFd, RawFd};
 use std::time::Duration;
-
-/// How often a call that a signal interrupts is made.
-const MOST_CALLS: u32 = 1_000;
 
 /// How many octets are dropped before a connection is closed, at most.
 pub(super) const MOST_DROPPED: u64 = 16_777_216;
@@ -49,9 +46,19 @@ impl Connection {
 
     /// Whether a read waits for nobody: something came, or the connection has ended.
     pub(super) fn is_heard(&self) -> bool {
+        self.is_told(POLLIN)
+    }
+
+    /// Whether the partner has left: it says nothing more, or the connection has ended.
+    pub(super) fn has_left(&self) -> bool {
+        self.is_told(POLLRDHUP)
+    }
+
+    /// Whether the system tells one of these events of it, or its end.
+    fn is_told(&self, events: i16) -> bool {
         let mut asked = [pollfd {
             fd: self.stream.as_raw_fd(),
-            events: POLLIN,
+            events,
             revents: 0,
         }];
         libc::net::poll(&mut asked, 0) > 0
@@ -77,32 +84,26 @@ impl AsRawFd for Connection {
     }
 }
 
+// A call that a signal interrupts fails, since whoever makes it again knows what is left of its time.
 impl Read for &Connection {
     fn read(&mut self, piece: &mut [u8]) -> io::Result<usize> {
         let mut stream = &self.stream;
-        for _ in 0..MOST_CALLS {
-            match stream.read(piece) {
-                Err(error) if error.kind() == ErrorKind::Interrupted => {}
-                done => return done,
-            }
-        }
-        Err(io::Error::from(ErrorKind::Interrupted))
+        stream.read(piece)
     }
 }
 
 impl Write for &Connection {
     fn write(&mut self, piece: &[u8]) -> io::Result<usize> {
         let mut stream = &self.stream;
-        for _ in 0..MOST_CALLS {
-            match stream.write(piece) {
-                Err(error) if error.kind() == ErrorKind::Interrupted => {}
-                done => return done,
-            }
-        }
-        Err(io::Error::from(ErrorKind::Interrupted))
+        stream.write(piece)
     }
 
     fn flush(&mut self) -> io::Result<()> {
         Ok(())
     }
+}
+
+/// Whether a call that waits for nobody goes on later.
+pub(super) fn is_passing(error: &io::Error) -> bool {
+    matches!(error.kind(), ErrorKind::WouldBlock | ErrorKind::Interrupted)
 }

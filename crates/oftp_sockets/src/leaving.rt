@@ -1,7 +1,7 @@
 //! Partners to whom the station had the last word, and who are left the time to read it, side by side.
 
-use crate::connection::{Connection, FAREWELL, MOST_DROPPED};
-use std::io::{ErrorKind, Read};
+use crate::connection::{Connection, FAREWELL, MOST_DROPPED, is_passing};
+use std::io::Read;
 use std::time::{Duration, Instant};
 
 /// How many are left the time at once, at most. Where another comes, the first has had it.
@@ -81,7 +81,7 @@ impl Leaver {
             let mut connection = &self.connection;
             match connection.read(&mut piece) {
                 Ok(count) if count > 0 => self.dropped = self.dropped.saturating_add(count as u64),
-                Err(error) if error.kind() == ErrorKind::WouldBlock => break,
+                Err(error) if is_passing(&error) => break,
                 _ => self.is_gone = true,
             }
             if self.is_gone {

@@ -4,6 +4,9 @@ use crate::connection::Connection;
 use std::io::{self, ErrorKind, Read, Write};
 use std::time::{Duration, Instant};
 
+/// How often a read or a write that a signal interrupts is made, within the time that was left to the first.
+const MOST_CALLS: u32 = 1_000;
+
 /// How long a partner may keep still, of so many seconds. Zero seconds are no limit.
 pub fn patience_of(seconds: u64) -> Option<Duration> {
     match seconds {
@@ -57,17 +60,12 @@ impl<'a> Term<'a> {
         if left.is_zero() { None } else { Some(left) }
     }
 
-    /// The connection, which waits no longer than what is left.
-    fn hurried(&self) -> io::Result<&'a Connection> {
-        let left = self.length.saturating_sub(self.begun.elapsed(self.rt)?);
-        if left.is_zero() {
+    /// The connection, which waits no longer than what is left of a call that was begun at a moment.
+    fn hurried(&self, since: Instant) -> io::Result<&'a Connection> {
+        let Some(left) = self.left(since) else {
             return Err(io::Error::from(ErrorKind::TimedOut));
-        }
-        let limit = match self.patience {
-            Some(patience) if patience < left => patience,
-            _ => left,
         };
-        self.connection.set_limit(Some(limit))?;
+        self.connection.set_limit(Some(left))?;
         Ok(self.connection)
     }
 }
@@ -97,13 +95,27 @@ impl<'a> Timed<'a> {
 
 impl Read for Timed<'_> {
     fn read(&mut self, piece: &mut [u8]) -> io::Result<usize> {
-        self.term.hurried()?.read(piece)
+        let since = Instant::now(self.term.rt)?;
+        for _ in 0..MOST_CALLS {
+            match self.term.hurried(since)?.read(piece) {
+                Err(error) if error.kind() == ErrorKind::Interrupted => {}
+                done => return done,
+            }
+        }
+        Err(io::Error::from(ErrorKind::TimedOut))
     }
 }
 
 impl Write for Timed<'_> {
     fn write(&mut self, piece: &[u8]) -> io::Result<usize> {
-        self.term.hurried()?.write(piece)
+        let since = Instant::now(self.term.rt)?;
+        for _ in 0..MOST_CALLS {
+            match self.term.hurried(since)?.write(piece) {
+                Err(error) if error.kind() == ErrorKind::Interrupted => {}
+                done => return done,
+            }
+        }
+        Err(io::Error::from(ErrorKind::TimedOut))
     }
 
     fn flush(&mut self) -> io::Result<()> {
@@ -127,7 +139,14 @@ impl<'a, R> Within<'a, R> {
 
 impl<R: Read> Read for Within<'_, R> {
     fn read(&mut self, piece: &mut [u8]) -> io::Result<usize> {
-        self.term.hurried()?;
-        self.reader.read(piece)
+        let since = Instant::now(self.term.rt)?;
+        for _ in 0..MOST_CALLS {
+            self.term.hurried(since)?;
+            match self.reader.read(piece) {
+                Err(error) if error.kind() == ErrorKind::Interrupted => {}
+                done => return done,
+            }
+        }
+        Err(io::Error::from(ErrorKind::TimedOut))
     }
 }

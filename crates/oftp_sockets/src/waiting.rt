@@ -3,7 +3,7 @@
 use crate::addresses::{accepted, passes};
 use crate::admission::{Said, greet, judged};
 use crate::callers::Trouble;
-use crate::connection::Connection;
+use crate::connection::{Connection, is_passing};
 use crate::sessions::Station;
 use oftp_command_line::Fault;
 use oftp_engine::RunFault;
@@ -222,19 +222,41 @@ impl<'a> Waiting<'a> {
         Ok(first)
     }
 
-    /// A session was served since this moment, whose time isn't counted.
+    /// Whether a caller waits who is to be let in, and hasn't left.
+    ///
+    /// # Errors
+    /// Memory ran out.
+    pub fn has_guest(&mut self, station: &Station<'_>) -> Result<bool, Fault> {
+        let rt = self.rt;
+        for caller in &mut self.callers {
+            let standing = caller.look(rt, station)?;
+            if matches!(standing, Standing::Enters) && !caller.connection.has_left() {
+                return Ok(true);
+            }
+        }
+        Ok(false)
+    }
+
+    /// A session was served since this moment, whose time isn't counted. Of a caller who came within it no more than its own time is left out.
     pub fn stand_still(&mut self, since: Instant) {
-        let Ok(passed) = since.elapsed(self.rt) else {
+        let rt = self.rt;
+        let Ok(passed) = since.elapsed(rt) else {
             return;
         };
         for caller in &mut self.callers {
-            caller.begun = caller.begun.checked_add(passed).unwrap_or(caller.begun);
-            caller.still_since = caller
-                .still_since
-                .checked_add(passed)
-                .unwrap_or(caller.still_since);
+            caller.begun = postponed(rt, caller.begun, passed);
+            caller.still_since = postponed(rt, caller.still_since, passed);
         }
     }
+}
+
+/// The moment so much later, but not behind now.
+fn postponed(rt: &HostRuntime, moment: Instant, length: Duration) -> Instant {
+    let length = match moment.elapsed(rt) {
+        Ok(passed) => length.min(passed),
+        Err(_) => length,
+    };
+    moment.checked_add(length).unwrap_or(moment)
 }
 
 /// What a caller said, and what it says then.
@@ -291,7 +313,7 @@ impl Caller {
         match connection.read(&mut piece) {
             Ok(count) if count > 0 => self.hear(rt, station, &piece[..count]),
             Ok(_) => Ok(Standing::Leaves),
-            Err(error) if error.kind() == ErrorKind::WouldBlock => Ok(self.waited(rt, station)),
+            Err(error) if is_passing(&error) => Ok(self.waited(rt, station)),
             Err(_) => Ok(self.given_up()),
         }
     }

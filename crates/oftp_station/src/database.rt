@@ -9,6 +9,7 @@ pub use office::DatabaseOffice;
 use oftp_command_line::Fault;
 use oftp_durable::open_durable;
 use oftp_files::LIMITS;
+use oftp_resident::SocketPlace;
 use oftp_store::{PathFault, StoreFault, migrate_at};
 pub use serving::Opened;
 use sqlite::Unknown;
@@ -21,6 +22,9 @@ pub const PATIENCE: u32 = 200;
 
 /// How many milliseconds it is waited before a database is tried again.
 const PAUSE: u64 = 50;
+
+/// The fault of a database that another program has open for too long.
+const HELD: Fault = Fault::Store(StoreFault::Store);
 
 /// What is made of the database.
 #[derive(Clone, Copy)]
@@ -38,6 +42,30 @@ enum Opening {
 /// [`Fault::Store`], also where another program still has it open.
 pub fn open(rt: &HostRuntime, path: &str, patience: u32) -> Result<DatabaseOffice, Fault> {
     open_if_free(rt, path, patience).map_err(store_fault)
+}
+
+/// Opens the office as [`open`] does, for a command that a station may carry out. It gives up as soon as one runs over the database.
+///
+/// # Errors
+/// Those of [`open`].
+pub fn open_shared(rt: &HostRuntime, path: &str) -> Result<DatabaseOffice, Fault> {
+    make_file(rt, path);
+    for _ in 0..PATIENCE {
+        match attempt(rt, path, Opening::Open) {
+            Err(PathFault::Held) if is_served(rt, path) => return Err(HELD),
+            Err(PathFault::Held) => rt.sleep(Duration::from_millis(PAUSE)),
+            done => return done.map_err(store_fault),
+        }
+    }
+    attempt(rt, path, Opening::Open).map_err(store_fault)
+}
+
+/// Whether a station runs over a database.
+fn is_served(rt: &HostRuntime, path: &str) -> bool {
+    match SocketPlace::beside(rt, path) {
+        Ok(place) => place.connect(rt).is_ok(),
+        Err(_) => false,
+    }
 }
 
 /// Opens the database that the line names, so that its tables are made, and gives it up.
@@ -107,7 +135,7 @@ fn attempt(rt: &HostRuntime, path: &str, how: Opening) -> Result<DatabaseOffice,
 /// A database that is still held, or that nothing would be kept of, is a store that failed.
 fn store_fault(fault: PathFault) -> Fault {
     match fault {
-        PathFault::Unkept | PathFault::Held => Fault::Store(StoreFault::Store),
+        PathFault::Unkept | PathFault::Held => HELD,
         PathFault::Store(fault) => Fault::Store(fault),
     }
 }

@@ -15,7 +15,9 @@ use asking::{Asking, reached};
 use oftp_command_line::{Fault, Line, LineFault, Outcome, line_of, write_line};
 use oftp_files::{read_book, show};
 use oftp_resident::{DONE, FAILED, status_of, tell};
+use oftp_store::StoreFault;
 use std::io::{self, ErrorKind, Write};
+use std::os::unix::net::UnixStream;
 
 /// The exit status of a bad command line.
 const BAD_LINE: u8 = 2;
@@ -74,7 +76,8 @@ fn shared_database<'a>(line: &Line<'a>) -> Option<&'a str> {
     }
 }
 
-/// Carries out a command: by the station that runs over its database, or else over the database itself.
+/// Carries out a command: by the station that runs over its database, or else over the database itself. A station may come to run over it
+/// while it is waited for: that one is asked then.
 fn carry_out(
     rt: &HostRuntime,
     words: &[String],
@@ -82,15 +85,35 @@ fn carry_out(
     out: &mut impl Write,
     err: &mut impl Write,
 ) -> Result<u8, Fault> {
-    let station = match shared_database(line) {
-        Some(database) => reached(rt, database),
-        None => None,
+    let Some(database) = shared_database(line) else {
+        return carry_out_alone(rt, line, out, err);
     };
-    match (line, &station) {
-        (Line::Collect(collect), Some(_)) => collecting::collect_beside(rt, collect, out),
-        (Line::Offer(offer), Some(_)) => offering::offer_beside(rt, offer, out),
-        (_, Some(stream)) => ask(Asking::new(rt, words, stream), line, out, err),
-        (_, None) => carry_out_alone(rt, line, out, err),
+    if let Some(stream) = &reached(rt, database) {
+        return carry_out_beside(rt, words, stream, line, out, err);
+    }
+    let done = carry_out_alone(rt, line, out, err);
+    if !matches!(&done, Err(Fault::Store(StoreFault::Store))) {
+        return done;
+    }
+    match &reached(rt, database) {
+        Some(stream) => carry_out_beside(rt, words, stream, line, out, err),
+        None => done,
+    }
+}
+
+/// Carries out a command beside the station that is reached over a stream. One over many files asks it many times.
+fn carry_out_beside(
+    rt: &HostRuntime,
+    words: &[String],
+    stream: &UnixStream,
+    line: &Line<'_>,
+    out: &mut impl Write,
+    err: &mut impl Write,
+) -> Result<u8, Fault> {
+    match line {
+        Line::Collect(collect) => collecting::collect_beside(rt, collect, out),
+        Line::Offer(offer) => offering::offer_beside(rt, offer, out),
+        _ => ask(Asking::new(rt, words, stream), line, out, err),
     }
 }
 

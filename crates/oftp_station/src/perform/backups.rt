@@ -1,6 +1,6 @@
 //! The command `backup`, which copies a database as it stands to one file.
 
-use crate::database::{self, PATIENCE};
+use crate::database;
 use oftp_command_line::{Backup, Fault, Outcome};
 use oftp_files::{
     Access, Draft, Name, Place, draft_of, file_fault, log_of, make_private, open_input, place_of,
@@ -17,7 +17,7 @@ const READ_WITH_IT: [&str; 2] = ["-wal", "-journal"];
 
 /// Copies a database to a file. Nobody else changes it meanwhile: it is open here.
 pub(super) fn back_up(rt: &HostRuntime, line: &Backup<'_>) -> Result<Outcome, Fault> {
-    let office = database::open(rt, line.database, PATIENCE)?;
+    let office = database::open_shared(rt, line.database)?;
     let copy = DatabaseCopy::begun(rt, line)?;
     let written = copy.write(rt, line.database);
     drop(office);

@@ -1,6 +1,6 @@
 //! The command `collect`, which writes the incoming files that are whole and have no response to a folder.
 
-use crate::database::{self, PATIENCE};
+use crate::database;
 use crate::perform::clerks::{OwnClerk, StationClerk};
 use oftp_command_line::{Collect, Fault};
 use oftp_files::{read_book, read_book_octets};
@@ -20,7 +20,7 @@ pub(super) fn collect(
         rt,
         database: line.files.database,
         book: &book,
-        office: database::open(rt, line.files.database, PATIENCE)?,
+        office: database::open_shared(rt, line.files.database)?,
     };
     folders::collect(rt, line, &folder, clerk, out).map(status_where)
 }

@@ -1,6 +1,6 @@
 //! The command `fetch`, which writes an incoming file in its local form.
 
-use crate::database::{self, PATIENCE};
+use crate::database;
 use oftp_command_line::{Fault, Fetch, Outcome};
 use oftp_engine::{Port, RunFault, write_content};
 use oftp_files::{Place, draft_of, file_fault, place_of, settle};
@@ -12,7 +12,7 @@ use std::io::Write;
 
 /// Writes a whole incoming file of a database to a file.
 pub(super) fn fetch(rt: &HostRuntime, line: &Fetch<'_>) -> Result<Outcome, Fault> {
-    let mut office = database::open(rt, line.database, PATIENCE)?;
+    let mut office = database::open_shared(rt, line.database)?;
     office.run(Fetching { rt, line })
 }
 

@@ -1,6 +1,6 @@
 //! The command `offer`, which hands in the files of a folder that are to be sent to a partner.
 
-use crate::database::{self, PATIENCE};
+use crate::database;
 use crate::perform::clerks::{OwnClerk, StationClerk};
 use oftp_command_line::{Fault, Offer, Outcome, write_line};
 use oftp_files::{read_book, read_book_octets};
@@ -23,7 +23,7 @@ pub(super) fn offer(rt: &HostRuntime, line: &Offer<'_>, out: &mut impl Write) ->
         rt,
         database: line.files.database,
         book: &book,
-        office: database::open(rt, line.files.database, PATIENCE)?,
+        office: database::open_shared(rt, line.files.database)?,
     };
     folders::offer(rt, line, &folder, clerk, out).map(status_where)
 }

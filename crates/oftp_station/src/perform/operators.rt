@@ -1,6 +1,6 @@
 //! The commands `submit`, `release` and `refuse`, which are calls of the operator.
 
-use crate::database::{self, DatabaseOffice, PATIENCE};
+use crate::database::{self, DatabaseOffice};
 use oftp_command_line::{Fault, Files, Refuse, Release, Submit};
 use oftp_engine::{Operator, Port, Submission, Told};
 use oftp_files::{read_book, read_content};
@@ -10,7 +10,7 @@ use std::io::Write;
 /// The book, and the office over the database.
 fn opened(rt: &HostRuntime, files: &Files<'_>) -> Result<(Book, DatabaseOffice), Fault> {
     let book = read_book(rt, files.book)?;
-    let office = database::open(rt, files.database, PATIENCE)?;
+    let office = database::open_shared(rt, files.database)?;
     Ok((book, office))
 }
 

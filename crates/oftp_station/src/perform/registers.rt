@@ -8,7 +8,7 @@ use std::io::Write;
 
 /// Opens a database, making its tables.
 pub(super) fn initiate(rt: &HostRuntime, database: &str) -> Result<Outcome, Fault> {
-    database::make(rt, database)?;
+    database::open_shared(rt, database)?;
     Ok(Outcome::Initiated)
 }
 
@@ -24,7 +24,7 @@ pub(super) fn write_report(
     what: &Report<'_>,
     out: &mut impl Write,
 ) -> Result<(), Fault> {
-    let mut office = database::open(rt, what.database, PATIENCE)?;
+    let mut office = database::open_shared(rt, what.database)?;
     report_to(rt.alloc(), &mut office, what.kind, &mut Port::new(out, 0))?;
     Ok(())
 }

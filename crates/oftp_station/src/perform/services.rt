@@ -125,7 +125,7 @@ pub(super) fn call(rt: &HostRuntime, line: &Call<'_>) -> Result<Outcome, Fault> 
     let Some(partner) = book.partner(line.partner.as_bytes()) else {
         return Ok(Outcome::Unknown);
     };
-    database::make(rt, line.files.database)?;
+    database::open_shared(rt, line.files.database)?;
     let trace = trace_of(rt, &line.files, &line.terms)?;
     let station = station_of(&book, &line.terms, trace.as_ref());
     let stream = connected(rt, partner.address.as_str(), station.patience)?;
