@@ -33,7 +33,8 @@ starts() {
 }
 
 if command -v systemd-analyze > /dev/null; then
-    for unit in oftp-run.service oftp-listen.service oftp-call@.service oftp-call@.timer oftp-http.service; do
+    for unit in oftp-run.service oftp-listen.service oftp-call@.service oftp-call@.timer oftp-http.service oftp-collect.service oftp-collect.path \
+        oftp-collect.timer oftp-offer.service oftp-offer.path; do
         count verify "$unit"
     done
 else

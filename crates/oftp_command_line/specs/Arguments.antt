@@ -122,8 +122,8 @@ abbrev pub number : Text → List Row → ℕ
 number id rows = digits_value 10 (without_leading_plus (given id rows))
 
 -- whether an option that takes no value was given
-abbrev pub is_given : Text → List Row → Bool
-is_given id rows = bytes_eq (given id rows) (codes "true")
+abbrev pub has_flag : Text → List Row → Bool
+has_flag id rows = bytes_eq (given id rows) (codes "true")
 
 -- what has this name
 abbrev pub named : {X : Type 0} → List (Text × X) → Text → Option X

@@ -2,7 +2,7 @@
 use Rattle.std.specs.Prelude.{ℕ, Bool, List, [], ◌∷◌, Option, codes, option_map}
 use Rattle.clap.specs.Words.{App, Row, Text}
 use Rattle.oftp_vfile.specs.declared.format.Format.{Format}
-use Rattle.oftp_command_line.specs.Arguments.{app_with, defaulted, flag, given, is_given, needed, number, numbered, own_book, own_database}
+use Rattle.oftp_command_line.specs.Arguments.{app_with, defaulted, flag, given, has_flag, needed, number, numbered, own_book, own_database}
 use Rattle.oftp_command_line.specs.Files.{FilesSaid, files_said, files_with}
 use Rattle.oftp_command_line.specs.OperatorLines.{format_of}
 use Rattle.oftp_command_line.specs.declared.line.commands.folders.Collect.{Collect}
@@ -28,7 +28,7 @@ abbrev pub collect_with : List Row → CollectSaid
 collect_with rows = record {
   files = files_with rows;
   folder = given (codes "to") rows;
-  releases = is_given (codes "release") rows;
+  releases = has_flag (codes "release") rows;
 }
 
 -- what `offer` is asked for

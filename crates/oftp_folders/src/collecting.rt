@@ -53,8 +53,7 @@ fn collect_one<D: Clerk>(
     entry: &ListedFile<'_>,
     out: &mut impl Write,
 ) -> Result<bool, Fault> {
-    let name = name_of(rt.alloc(), entry.stamps, entry.code())?;
-    let name = numbered(rt.alloc(), entry.no, name.as_str())?;
+    let name = name_in_folder(rt, entry)?;
     let path = path_in(rt, folder.path(), name.as_str())?;
     let refusal = if !has_file(rt, path.as_str())? {
         take(folder, clerk, entry.no, path.as_str(), line.releases)
@@ -64,6 +63,12 @@ fn collect_one<D: Clerk>(
         return Ok(true);
     };
     tell(refusal?, entry.no, name.as_str(), out)
+}
+
+/// The name that a file has in the folder.
+fn name_in_folder(rt: &HostRuntime, entry: &ListedFile<'_>) -> Result<String, Fault> {
+    let name = name_of(rt.alloc(), entry.stamps, entry.code())?;
+    numbered(rt.alloc(), entry.no, name.as_str())
 }
 
 /// Writes a file, and releases it where that is asked for. It answers the line of a refusal.

@@ -142,7 +142,34 @@ pub(super) struct Stamps<'a> {
 
 /// The name that a file of these stamps has, which comes from or goes to the partner of a code.
 pub(super) fn name_of(alloc: Global, stamps: Stamps<'_>, code: &str) -> Result<String, Fault> {
-    spelled(alloc, stamps, code).map_err(|_| Fault::MEMORY)
+    let Stamps {
+        dataset,
+        date,
+        time,
+    } = stamps;
+    joined(alloc, [dataset, date, time, code]).map_err(|_| Fault::MEMORY)
+}
+
+/// The name that it has while it is handed in. These names in their order are moments in theirs.
+pub(super) fn claim_name(alloc: Global, stamps: Stamps<'_>, code: &str) -> Result<String, Fault> {
+    let Stamps {
+        dataset,
+        date,
+        time,
+    } = stamps;
+    joined(alloc, [date, time, dataset, code]).map_err(|_| Fault::MEMORY)
+}
+
+/// The stamps in the name of a file that is handed in.
+pub(super) fn stamps_in<'a>(claim: &'a str) -> Option<Stamps<'a>> {
+    let (date, behind) = claim.split_once(BETWEEN)?;
+    let (time, behind) = behind.split_once(BETWEEN)?;
+    let (dataset, _) = behind.split_once(BETWEEN)?;
+    Some(Stamps {
+        dataset,
+        date,
+        time,
+    })
 }
 
 /// The same name, with the number that the file has in the register in front.
@@ -151,9 +178,9 @@ pub(super) fn numbered(alloc: Global, no: u64, name: &str) -> Result<String, Fau
 }
 
 /// The parts of a name, one behind another.
-fn spelled(alloc: Global, stamps: Stamps<'_>, code: &str) -> Result<String, AllocError> {
+fn joined(alloc: Global, parts: [&str; 4]) -> Result<String, AllocError> {
     let mut name = String::new(alloc);
-    for part in [stamps.dataset, stamps.date, stamps.time, code] {
+    for part in parts {
         if !name.is_empty() {
             name.push(BETWEEN)?;
         }
@@ -163,7 +190,7 @@ fn spelled(alloc: Global, stamps: Stamps<'_>, code: &str) -> Result<String, Allo
 }
 
 /// Adds a part as a file's name may have it.
-pub(super) fn add_safely(name: &mut String, part: &str) -> Result<(), AllocError> {
+fn add_safely(name: &mut String, part: &str) -> Result<(), AllocError> {
     for character in part.chars() {
         name.push(if is_safe(character) {
             character

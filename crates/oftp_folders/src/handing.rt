@@ -2,13 +2,13 @@
 
 use crate::clerk::{Clerk, Completion};
 use crate::entries::ListedFile;
-use crate::folders::{Stamps, add_safely, name_of, numbered, path_in};
+use crate::folders::{Stamps, claim_name, name_of, numbered, path_in, stamps_in};
 use crate::stamps::Moment;
 use oftp_command_line::{Carried, Fault, Offer, Submit, write_line};
 use oftp_engine::RunFault;
 use oftp_files::{file_fault, read_content};
 use oftp_listing::ReportKind;
-use std::alloc::{AllocError, Global};
+use std::alloc::Global;
 use std::collections::BTreeMap;
 use std::fs;
 use std::io::{ErrorKind, Write};
@@ -73,36 +73,6 @@ fn found(rt: &HostRuntime, path: String) -> Result<String, Fault> {
     }
 }
 
-/// The name under which a file of these stamps is taken for the partner of a code. Names in their order are moments in theirs.
-pub(super) fn claim_name(alloc: Global, stamps: Stamps<'_>, code: &str) -> Result<String, Fault> {
-    let Stamps {
-        dataset,
-        date,
-        time,
-    } = stamps;
-    let safe = safe_code(alloc, code).map_err(|_| Fault::MEMORY)?;
-    format!(in alloc; "{date}_{time}_{dataset}_{safe}").map_err(|_| Fault::MEMORY)
-}
-
-/// A code as a file's name may have it.
-fn safe_code(alloc: Global, code: &str) -> Result<String, AllocError> {
-    let mut safe = String::new(alloc);
-    add_safely(&mut safe, code)?;
-    Ok(safe)
-}
-
-/// The stamps in the name of a file that is taken.
-pub(super) fn parts_of<'a>(claim: &'a str) -> Option<Stamps<'a>> {
-    let (date, behind) = claim.split_once('_')?;
-    let (time, behind) = behind.split_once('_')?;
-    let (dataset, _) = behind.split_once('_')?;
-    Some(Stamps {
-        dataset,
-        date,
-        time,
-    })
-}
-
 /// How a file came out that was handed in.
 #[derive(Drop)]
 enum Handed {
@@ -120,7 +90,7 @@ pub(super) struct Handing<'a, D> {
     pub(super) rooms: &'a Rooms,
     clerk: D,
     // The dataset names of the files.
-    wanted: BTreeMap<Vec<u8>, ()>,
+    wanted: BTreeMap<Vec<u8>, bool>,
     // The numbers of those files of such names to the partner which the register has, by the names under which they would be taken.
     known: BTreeMap<Vec<u8>, u64>,
 }
@@ -145,21 +115,27 @@ impl<'a, D: Clerk> Handing<'a, D> {
 
     /// Looks up what the register has of files of these names, and of those that are taken under these.
     pub(super) fn look_up(&mut self, files: &[String], claims: &[String]) -> Result<(), Fault> {
-        for name in files {
-            self.want(name.as_str())?;
-        }
+        self.want_all(files)?;
         for claim in claims {
-            if let Some(stamps) = parts_of(claim.as_str()) {
+            if let Some(stamps) = stamps_in(claim.as_str()) {
                 self.want(stamps.dataset)?;
             }
         }
         self.look_again()
     }
 
+    /// Wants to know of files of these names.
+    fn want_all(&mut self, files: &[String]) -> Result<(), Fault> {
+        for name in files {
+            self.want(name.as_str())?;
+        }
+        Ok(())
+    }
+
     /// Wants to know of files of a name.
     fn want(&mut self, dataset: &str) -> Result<(), Fault> {
         let name = octets_of(self.rt.alloc(), dataset)?;
-        match self.wanted.insert(name, ()) {
+        match self.wanted.insert(name, true) {
             Ok(_) => Ok(()),
             Err(_) => Err(Fault::MEMORY),
         }
@@ -200,13 +176,23 @@ impl<'a, D: Clerk> Handing<'a, D> {
             time: time.as_str(),
         };
         let claim = claim_name(alloc, stamps, self.line.to)?;
-        if self.number_of(claim.as_str()).is_some() {
-            return Ok(None);
+        Ok(if self.is_used(claim.as_str(), stamps)? {
+            None
+        } else {
+            Some(claim)
+        })
+    }
+
+    /// Whether the register has a file of these stamps, which would be taken under this name, or one is taken or refused.
+    fn is_used(&self, claim: &str, stamps: Stamps<'_>) -> Result<bool, Fault> {
+        if self.number_of(claim).is_some() {
+            return Ok(true);
         }
-        let refused = name_of(alloc, stamps, self.line.to)?;
-        let is_used = self.is_there(self.rooms.taken.as_str(), claim.as_str())?
-            || self.is_there(self.rooms.refused.as_str(), refused.as_str())?;
-        Ok(if is_used { None } else { Some(claim) })
+        let refused = name_of(self.rt.alloc(), stamps, self.line.to)?;
+        Ok(
+            self.is_there(self.rooms.taken.as_str(), claim)?
+                || self.is_there(self.rooms.refused.as_str(), refused.as_str())?,
+        )
     }
 
     /// The number of the file that the register has which is taken under a name.
@@ -230,27 +216,33 @@ impl<'a, D: Clerk> Handing<'a, D> {
     /// Hands in the file that is taken under a name, unless the register has it, puts it away and writes its line. It answers whether the
     /// register has it.
     pub(super) fn hand_in(&mut self, claim: &str, out: &mut impl Write) -> Result<bool, Fault> {
-        let Some(stamps) = parts_of(claim) else {
+        let Some(stamps) = stamps_in(claim) else {
             return Ok(true);
         };
         let handed = match self.number_of(claim) {
             Some(no) => Handed::Under(no),
             None => self.submit(claim, stamps)?,
         };
+        self.put_away(claim, stamps, &handed)?;
+        let name = stamps.dataset;
         match handed {
             Handed::Under(no) => {
-                self.put_to_sent(claim, stamps, no)?;
-                let name = stamps.dataset;
                 write_line(out, &Carried::Offered { no, name })?;
                 Ok(true)
             }
             Handed::Refused(why) => {
                 let why = why.as_str();
-                self.put_to_refused(claim, stamps, why)?;
-                let name = stamps.dataset;
                 write_line(out, &Carried::Refused { why, name })?;
                 Ok(false)
             }
+        }
+    }
+
+    /// Puts a file away that was handed in.
+    fn put_away(&self, claim: &str, stamps: Stamps<'_>, handed: &Handed) -> Result<(), Fault> {
+        match handed {
+            Handed::Under(no) => self.put_to_sent(claim, stamps, *no),
+            Handed::Refused(why) => self.put_to_refused(claim, stamps, why.as_str()),
         }
     }
 

@@ -4,8 +4,8 @@
 //! goes on after a kill knows by which name the register has it, if it does.
 
 use crate::clerk::Clerk;
-use crate::folders::{Folder, files_in, keep_names, path_in};
-use crate::handing::{Handing, Rooms, TAKEN, claim_name, parts_of};
+use crate::folders::{Folder, claim_name, files_in, keep_names, path_in, stamps_in};
+use crate::handing::{Handing, Rooms, TAKEN};
 use crate::stamps::Moment;
 use oftp_command_line::{Fault, Offer};
 use oftp_files::file_fault;
@@ -32,14 +32,28 @@ pub fn offer<D: Clerk + Drop>(
     out: &mut impl Write,
 ) -> Result<bool, Fault> {
     let files = offered(rt, folder)?;
-    let mut claims = claimed(rt, line, folder)?;
+    let claims = claimed(rt, line, folder)?;
     if files.is_empty() && claims.is_empty() {
         return Ok(true);
     }
     let rooms = Rooms::made(rt, folder.path())?;
-    let mut handing = Handing::new(rt, line, &rooms, clerk);
-    handing.look_up(files.as_slice(), claims.as_slice())?;
-    take_all(rt, folder, &handing, files.as_slice(), &mut claims)?;
+    let handing = Handing::new(rt, line, &rooms, clerk);
+    take_and_hand_in(rt, folder, handing, files.as_slice(), claims, out)
+}
+
+/// Takes these files, and hands them in beside those that are taken.
+fn take_and_hand_in<D: Clerk + Drop>(
+    rt: &HostRuntime,
+    folder: &Folder,
+    handing: Handing<'_, D>,
+    files: &[String],
+    claims: Vec<String>,
+    out: &mut impl Write,
+) -> Result<bool, Fault> {
+    let mut handing = handing;
+    let mut claims = claims;
+    handing.look_up(files, claims.as_slice())?;
+    take_all(rt, folder, &handing, files, &mut claims)?;
     hand_in(handing, claims, out)
 }
 
@@ -91,7 +105,7 @@ fn claimed(rt: &HostRuntime, line: &Offer<'_>, folder: &Folder) -> Result<Vec<St
 
 /// Whether a file of this name was taken for the partner of a code.
 fn is_for(rt: &HostRuntime, code: &str, name: &str) -> Result<bool, Fault> {
-    match parts_of(name) {
+    match stamps_in(name) {
         Some(stamps) => Ok(claim_name(rt.alloc(), stamps, code)?.as_str() == name),
         None => Ok(false),
     }

@@ -61,8 +61,8 @@ pub(super) fn given<'a>(matches: &ArgMatches<'a>, id: &str) -> &'a str
 }
 
 /// Whether an option that takes no value was given.
-pub(super) fn is_given(matches: &ArgMatches<'_>, id: &str) -> bool
-    ensures { result ≡ spec.is_given id.now (values_in matches.now) }
+pub(super) fn has_flag(matches: &ArgMatches<'_>, id: &str) -> bool
+    ensures { result ≡ spec.has_flag id.now (values_in matches.now) }
 {
     match value_of(matches, id) {
         Some(value) => value == "true",

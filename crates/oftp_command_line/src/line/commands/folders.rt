@@ -11,7 +11,7 @@ use super::files::{Files, files_read};
 use super::operators::{FORMATS, MOST_LONGEST};
 use crate::line::LineFault;
 use crate::line::arguments::{Argument, defaulted, flag, needed, numbered, own_book, own_database};
-use crate::line::values::{choice, given, is_given, number};
+use crate::line::values::{choice, given, has_flag, number};
 use clap::ArgMatches;
 use oftp_vfile::Format;
 use std::alloc::Global;
@@ -49,7 +49,7 @@ pub(super) fn collect_read<'a>(matches: &ArgMatches<'a>) -> Collect<'a>
     Collect {
         files: files_read(matches),
         folder: given(matches, "to"),
-        releases: is_given(matches, "release"),
+        releases: has_flag(matches, "release"),
     }
 }
 
