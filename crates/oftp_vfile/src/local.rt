@@ -28,8 +28,8 @@ impl VFile {
     /// F: the records one after another. V: each record after five decimal digits of its length. U
     /// and T: the octets.
     ///
-    /// `NotLocal` comes exactly where the content is no local form of this format, `Memory` where a
-    /// growth is refused.
+    /// # Errors
+    /// `NotLocal` exactly where the content is no local form of this format; `Memory` where an allocation was refused.
     pub fn from_local(
         alloc: Global,
         format: Format,
@@ -65,7 +65,10 @@ impl VFile {
 
     /// Writes a file in its local form, which `from_local` reads back as this file. It asks that
     /// the fields make a virtual file: a longest record that the format allows, and rows of its
-    /// sizes. The one fault is `Memory`.
+    /// sizes.
+    ///
+    /// # Errors
+    /// `Memory` alone: an allocation was refused.
     pub fn to_local(&self, alloc: Global) -> Result<Vec<u8>, LocalFault>
         requires longest { IsLongest self.now.format self.now.longest }
         requires rows { AreRows self.now.format self.now.longest self.now.rows }

@@ -122,8 +122,9 @@ impl Taker {
     /// Takes the next payload: what follows the `D` of a DATA command (RFC 5024, section 5.3.6). It
     /// may be empty.
     ///
-    /// The first faulty subrecord decides the fault. Where two fit, `AfterEnd` comes before
-    /// `Compressed`, then `Cut`, `TooBig` and `RecordSize`. An `Err` leaves the taker as it was.
+    /// # Errors
+    /// The first faulty subrecord decides. Where two errors fit, `AfterEnd` comes before `Compressed`, then `Cut`, `TooBig` and
+    /// `RecordSize`. `Memory` where an allocation was refused. Each leaves the taker as it was.
     pub fn take(&mut self, payload: &[u8]) -> Result<(), TakeFault>
         // What is taken carries rows within the limits, after the payloads before.
         ensures took { (gone payloads : List (List ℕ)) → Took self.old gone payloads
@@ -213,8 +214,10 @@ impl Taker {
     /// The finished rows that weren't taken away and, where it isn't empty, the open tail as the
     /// last: the rows with which a file ends, whose last block may be shorter. It copies no octet.
     ///
-    /// Ask `is_open` first: a record or a stream that goes on would be closed too early. The one
-    /// error is a want of memory for one more row, and it gives the rows up.
+    /// Ask `is_open` first: a record or a stream that goes on would be closed too early.
+    ///
+    /// # Errors
+    /// There is no memory for one more row. The rows are given up then.
     pub fn close(self) -> Result<Rows, AllocError>
         ensures rows { IfOk result (λ rows. rows ≡ closed self.rows self.tail) }
     {

@@ -43,7 +43,10 @@ fn drain(
 }
 
 /// Cuts the stream that comes in these pieces into its commands, of frames of at most `limit` octets, which must be 5 to 100003. What
-/// is answered hangs on the stream alone, and not on how it is cut. The only error is that memory ran out. RFC 5024, section 8.
+/// is answered hangs on the stream alone, and not on how it is cut. RFC 5024, section 8.
+///
+/// # Errors
+/// Memory ran out.
 pub fn cut(alloc: Global, limit: usize, pieces: &[&[u8]]) -> Result<CutStream, AllocError>
     requires low { 5 ≤ limit }
     requires high { limit ≤ 100003 }

@@ -125,7 +125,10 @@ impl Deframer {
     }
 
     /// The same with memory taken beforehand, twice `room` octets: `feed` doesn't answer `Memory` while the octets that are fed and
-    /// not handed out are at most `room`. `limit` must be 5 to 100003. The only fault is `Memory`.
+    /// not handed out are at most `room`. `limit` must be 5 to 100003.
+    ///
+    /// # Errors
+    /// `Memory` alone.
     pub fn with_room(alloc: Global, limit: usize, room: usize) -> Result<Deframer, FrameFault>
         requires low { 5 ≤ limit }
         requires high { limit ≤ 100003 }
@@ -157,9 +160,12 @@ impl Deframer {
         self.buffer.capacity()
     }
 
-    /// Takes the next piece of the stream. The fault is the one that `next` answered before, or `Memory`, which comes only where
-    /// more than `room` octets would be held; both leave the deframer as it was. It takes no more memory than for twice the octets
-    /// that it then holds. Over a whole stream the work is linear in its octets, however they are cut.
+    /// Takes the next piece of the stream. It takes no more memory than for twice the octets that it then holds. Over a whole stream the
+    /// work is linear in its octets, however they are cut.
+    ///
+    /// # Errors
+    /// The one that `next` returned before, or `Memory`, which comes only where more than `room` octets would be held. Both leave the
+    /// deframer as it was.
     pub fn feed(&mut self, piece: &[u8]) -> Result<(), FrameFault>
         ensures ok { OnOk result
             (self.new ≡ record self.old { rest = self.old.rest ++ piece.now; capacity = self.new.capacity }) }
@@ -183,8 +189,11 @@ impl Deframer {
         Ok(())
     }
 
-    /// Hands out the next whole command without its header, or `None` where the next frame isn't whole. It takes no memory. The
-    /// fault is `BadHeader` or `BadLength`, and both calls answer it from then on. RFC 5024, section 8.
+    /// Hands out the next whole command without its header, or `None` where the next frame isn't whole. It takes no memory. RFC 5024,
+    /// section 8.
+    ///
+    /// # Errors
+    /// `BadHeader` or `BadLength`. `feed` and `next` both return it from then on.
     pub fn next(&mut self) -> Result<Option<&[u8]>, FrameFault>
         ensures value { shown result ≡ next_of self.old self.old.told }
         ensures* after { sem 𝓛 (Rests the_row self.entry

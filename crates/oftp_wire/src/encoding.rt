@@ -316,8 +316,10 @@ fn put_nerp(out: &mut [u8], s: &Nerp) -> Result<usize, WireFault>
 /// has (RFC 5024, section 5.3).
 ///
 /// Values are padded with spaces, numbers have leading zeros, reserved fields are spaces and a
-/// carriage return is 0D. The one fault is `NoRoom`, where the slice is shorter than the spelling, and
-/// then the slice is unchanged. It takes no memory.
+/// carriage return is 0D. It takes no memory.
+///
+/// # Errors
+/// `NoRoom` alone, where the slice is shorter than the spelling. The slice is unchanged then.
 pub fn encode(command: &Command, out: &mut [u8]) -> Result<usize, WireFault>
     // The canonical octets stand at the front, or there is no room for them and nothing changed.
     ensures written { IsWritten result (Canon command.now) out.old out.new }

@@ -307,9 +307,12 @@ fn command(frame: &[u8]) -> Result<Command<'_>, WireFault>
 
 /// The command that the octets of a frame, without the stream header, spell (RFC 5024, section 5.3).
 ///
-/// Either carriage return and any reserved octets are taken. The fault is the first that is met from
-/// left to right: `UnknownCommand`, `WrongLength`, `BadField` or `BadText`, and never `NoRoom`. It takes
-/// no memory, and the command's texts are slices of the frame.
+/// Either carriage return and any reserved octets are taken. It takes no memory, and the command's texts
+/// are slices of the frame.
+///
+/// # Errors
+/// The first that is met from left to right: `UnknownCommand`, `WrongLength`, `BadField` or `BadText`,
+/// and never `NoRoom`.
 pub fn parse(frame: &[u8]) -> Result<Command<'_>, WireFault>
     // `command_of` computes it; by the law `one_spelling` it is the same as the clauses below.
     ensures value { result ≡ command_of frame.now }
