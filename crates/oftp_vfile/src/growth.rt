@@ -83,7 +83,10 @@ pub fn back_to(rows: &mut Vec<Row>, tail: &mut Vec<u8>, row_count: usize, tail_l
 }
 
 /// Takes a part of a record, and makes the record a row where it ends. Room is made for `size`
-/// octets of it at once. An `Err` changes nothing.
+/// octets of it at once.
+///
+/// # Errors
+/// Memory ran out. Nothing has changed then.
 pub fn add_to_record(
     alloc: Global,
     rows: &mut Vec<Row>,
@@ -115,8 +118,10 @@ pub fn add_to_record(
     }
 }
 
-/// Takes octets of a stream, and makes a block a row where it is full. The octets, and those of the tail, are fewer than a block. An `Err`
-/// changes nothing.
+/// Takes octets of a stream, and makes a block a row where it is full. The octets, and those of the tail, are fewer than a block.
+///
+/// # Errors
+/// Memory ran out. Nothing has changed then.
 pub fn add_to_stream(
     alloc: Global,
     rows: &mut Vec<Row>,
