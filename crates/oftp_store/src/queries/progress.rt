@@ -1,4 +1,4 @@
-//! What changes ask of the file with a number.
+//! What a change needs to know of the file with a number.
 
 ghost use Rattle.std.specs.Prelude.{◌≤◌, ◌<◌, ◌^◌, ℕ, ⊤, Option, None, IfOk, IfSome};
 ghost use Rattle.sqlite.specs.Tree.{Trees};
@@ -18,15 +18,15 @@ use oftp_register::{Dispatch, IncomingState, IssuedResponse, OfficeFault, Outgoi
 use sqlite::{Alter, Connection};
 use std::alloc::Global;
 
-/// What changes ask of the file with a number.
+/// What a change needs to know of the file with a number.
 pub(crate) trait Progress: Sized {
-    // what is told of the file of a register with a number
+    // what is read, compared with the file with a number in a register
     ghost told: { Register → ℕ → Option Self → Type 0 };
 
     // what holds of it whatever the register
     ghost is_within: { Self → Type 0 };
 
-    /// That of the file with a number, if there is one.
+    /// Reads it for the file with a number, if there is one.
     fn find<S: Alter>(
         alloc: Global,
         conn: &mut Connection<S>,
