@@ -85,7 +85,7 @@ impl<'b> Conversation<'b> {
     /// # Errors
     ///
     /// [`RunFault::Memory`] where there is no room for the octets. The conversation is then unchanged. After octets that were no frame
-    /// ended the session, each call returns this error.
+    /// ended the session, each call returns this error; no clause says this.
     ///
     /// [`go_on`]: Conversation::go_on
     pub fn hear(&mut self, octets: &[u8]) -> Result<(), RunFault>

@@ -45,7 +45,7 @@ fn book_in(alloc: Global, table: &Table) -> Result<Book, BookFault>
     Ok(Book { station, directory })
 }
 
-/// Reads the book in a TOML text. Finding a partner takes a logarithmic number of comparisons.
+/// Reads the book in a TOML text. Each partner takes a logarithmic number of comparisons of codes; no clause says this.
 ///
 /// # Errors
 ///
@@ -80,7 +80,8 @@ impl Book {
         self.directory.len()
     }
 
-    /// The partner with a code, or `None` where no partner has it. It allocates nothing, and takes a logarithmic number of comparisons.
+    /// The partner with a code, or `None` where no partner has it. It allocates nothing. It takes a
+    /// logarithmic number of comparisons; no clause says this.
     pub fn partner(&self, code: &[u8]) -> Option<&Partner>
         ensures value { option_map (λ p. p.now) result ≡ partner_at code.now self.now.partners }
         ensures book { IsBook self.now }

@@ -8,7 +8,7 @@ use std::alloc::{AllocError, Global};
 use std::collections::BTreeMap;
 use std::marker::Model;
 
-/// Partners with different codes, in the order of the text. A look-up takes a logarithmic number of comparisons.
+/// Partners with different codes, in the order of the text. A look-up takes a logarithmic number of comparisons; no clause says this.
 #[derive(Drop)]
 pub(crate) struct Directory {
     partners: Vec<Partner>,
