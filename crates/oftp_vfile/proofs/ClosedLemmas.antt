@@ -36,7 +36,7 @@ counts_file t kept gone payloads k r u =
     let count : t.kept_rows + t.away + length t.rows ≡ length (kept ++ rows) = omega (arith, r, h.away, length-append kept rows, length-append gone t.rows) in
     ap (λ (n : ℕ). (cond (is_stream t.format) 0 n, t.kept_units + t.units)) count ∙ ap (λ (n : ℕ). (records_in t.format (kept ++ rows), n)) units
 
--- behind an end flag stands an open part without octets
+-- after an end flag stands an open part without octets
 last_ended : (s : Subrecord) (ss : List Subrecord) → is_open (stage_of (s ∷ ss)) ≡ false → (p : List ℕ) × (ps : List (List ℕ)) × (pieces (s ∷ ss) ≡ p ∷ (ps ++ [] ∷ []))
 last_ended s [] o = by_flag s.ends o
   where

@@ -218,7 +218,7 @@ fill_whole Unstructured longest size rows h a =
 fill_whole Text longest size rows h a =
     whole_stream longest size Text rows _ a (fills_fill (weight (octets_in rows ∷ [])) size (octets_in rows ∷ []) h (omega arith)) (λ ss found tail i b. (i, b))
 
--- payloads are spelled by one list of subrecords
+-- payloads are encoded by one list of subrecords
 pub decode_all : (xs ys : List (List Subrecord)) → AreShort (flat xs) → AreShort (flat ys) → map payload_of xs ≡ map payload_of ys → flat xs ≡ flat ys
 decode_all [] [] h k e = refl
 decode_all [] (y ∷ ys) h k e = absurd (let q : [] ≡ payload_of y ∷ map payload_of ys = e in cc)

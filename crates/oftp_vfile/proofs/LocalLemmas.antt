@@ -16,11 +16,11 @@ use Rattle.oftp_vfile.proofs.CarriesLemmas.{same_lengths, octets_in-push}
 abbrev pub IsDigit : ℕ → Type 0
 IsDigit d = (48 ≤ d) × (d ≤ 57)
 
--- the number that decimal digits spell
+-- the number that decimal digits encode
 abbrev pub number_of : List ℕ → ℕ
 number_of digits = fold (λ n d. n * 10 + (d - 48)) 0 digits
 
--- the number that five digits of it spell
+-- the number that five digits of it encode
 pub number_digits : (n : ℕ) → n < 100000 → number_of (digits_of n) ≡ n
 number_digits n h = omega arith
 
@@ -42,7 +42,7 @@ fourth_digit v q a r e h l m = omega arith
 last_digit : (v q a : ℕ) → v ≡ q * 10 + (a - 48) → 48 ≤ a → a ≤ 57 → digit_of v 1 ≡ a
 last_digit v q a e l m = omega arith
 
--- the digits of the number that five digits spell
+-- the digits of the number that five digits encode
 pub digits_number : (ds : List ℕ) → length ds ≡ 5 → All IsDigit ds → (number_of ds < 100000) × (digits_of (number_of ds) ≡ ds)
 digits_number [] l h = absurd (omega arith)
 digits_number (a ∷ []) l h = absurd (omega arith)
@@ -86,7 +86,7 @@ first_found content ds behind n e d h =
     e ∙ ap (λ (x : List ℕ). x ++ behind) (sym d ∙ ap digits_of (sym l)) ∙ ap (λ (x : List ℕ). digits_of (length (take n behind)) ++ x) (sym (take-append-drop n behind))
     ∙ sym (append_assoc (digits_of (length (take n behind))) (take n behind) (drop n behind))
 
--- a record's digits, and what stands behind them
+-- a record's digits, and what stands after them
 pub first_split : (content ds behind row rest : List ℕ) → content ≡ ds ++ behind → length ds ≡ 5 → content ≡ local_row Variable row ++ rest → (ds ≡ digits_of (length row)) × (behind ≡ row ++ rest)
 first_split content ds behind row rest e l r =
     same_lengths ds (digits_of (length row)) behind (row ++ rest) l (sym e ∙ r ∙ append_assoc (digits_of (length row)) row rest)
@@ -107,7 +107,7 @@ pub record GoesTo (longest : ℕ) (content rest : List ℕ) : Type 0 where
 pub goes_none : (longest : ℕ) (content : List ℕ) → GoesTo longest content content
 goes_none longest content = record { all = λ rows i. (rows, i); only = λ file i. (file, i) }
 
--- the records behind the first
+-- the records after the first
 others : (longest : ℕ) (rest row behind : List ℕ) (rows : List (List ℕ)) → longest < 100000 → IsFirstRecord longest rest row behind → IsLocal Variable longest rest rows
     → (left : List (List ℕ)) × IsLocal Variable longest behind left
 others longest rest row behind [] h f i = absurd (let e : [] ≡ digits_of (length row) ++ row ++ behind = sym i.1 ∙ f.0 in omega (arith, ap length e))
@@ -143,7 +143,7 @@ read_more longest content rest row behind rows e f =
     e ∙ ap (λ (x : List ℕ). local_of Variable rows ++ x) f ∙ sym (append_assoc (local_of Variable rows) (local_row Variable row) behind)
     ∙ ap (λ (x : List ℕ). x ++ behind) (ap (λ (x : List ℕ). local_of Variable rows ++ x) (sym (append-nil (local_row Variable row))) ∙ sym (flat_map-append (local_row Variable) rows (row ∷ [])))
 
--- a block behind full ones
+-- a block after full ones
 pub blocks_push : (size : ℕ) (rows : List (List ℕ)) (r : List ℕ) → All (λ (x : List ℕ). length x ≡ size) rows → 0 < length r → length r ≤ size → AreBlocks size (rows ++ r ∷ [])
 blocks_push size [] r a h k = (h, k)
 blocks_push size (x ∷ []) r a h k = (a 0 [] (omega arith), (h, k))

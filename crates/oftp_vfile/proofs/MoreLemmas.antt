@@ -1,4 +1,4 @@
--- Few rows are lent where more are asked for.
+-- Few rows are borrowed where more are asked for.
 use Rattle.std.proofs.Common.{◌≡◌, ℕ, suc, zero, ◌+◌, ◌-◌, ◌<◌, ◌≤◌, Bool, true, false, cond, eqb, List, [], ◌∷◌, ◌++◌, length, get_or, drop, refl, ap, ◌∙◌, subst, arith, All}
 use Rattle.std.proofs.lemmas.Bool.{eqb-true, false≢true}
 use Rattle.std.proofs.lemmas.List.{length-append, length-drop, length-take-le}
@@ -83,7 +83,7 @@ stream_few f size rows false e d h a p =
     let both = length-append (octets_in rows) (octets_in (least f.format ∷ [])) in
     omega (arith, w, n, some, length-drop f.offset (octets_in all), joined, both, one)
 
--- more rows are asked for only where fewer were lent than the payload has octets
+-- more rows are asked for only where fewer were borrowed than the payload has octets
 pub more_few : (f : Filling) (size : ℕ) (rows : List (List ℕ)) → IsInRows f rows → (is_stream f.format ≡ true → All (λ (r : List ℕ). 0 < length r) rows)
     → Reaches size f rows → length rows < size
 more_few f size rows h some p = by (is_stream f.format) refl

@@ -151,7 +151,7 @@ pub needs_some : (octets : List ℕ) → 0 < needs octets
 needs_some [] = omega arith
 needs_some (x ∷ xs) = omega arith
 
--- the loop goes on behind the subrecord that it wrote: there is room for it, and what is packed then leaves what stands behind it
+-- the loop goes on after the subrecord that it wrote: there is room for it, and what is packed then leaves what stands after it
 pub record GoesOn (start rows : List (List ℕ)) (row offset at count : ℕ) (r rest out : List ℕ) : Type 0 where
   pub room : at + (1 + count) ≤ length out
   pub packed : (left : List (List ℕ)) → cond (eqb count (length rest)) (drop (row + 1) rows) (drop count (drop offset r) ∷ drop (row + 1) rows) ≡ left

@@ -16,7 +16,7 @@ use Rattle.oftp_vfile.proofs.FillCarriesLemmas.{flat, fill_whole, fills_short, o
 use Rattle.oftp_vfile.proofs.FillListLemmas.{fills_fill}
 use Rattle.oftp_vfile.proofs.TakingLemmas.{last_of}
 
--- where the first payloads of a list are spelled by subrecords, those of the list go on from them
+-- where the first payloads of a list are encoded by subrecords, those of the list go on from them
 pub subs_go_on : (subs all : List (List Subrecord)) (next : List (List ℕ)) → AreShort (flat subs) → AreShort (flat all)
     → map payload_of subs ++ next ≡ map payload_of all → (rest : List Subrecord) × (flat all ≡ flat subs ++ rest)
 subs_go_on [] all next h k e = (flat all, refl)
@@ -97,7 +97,7 @@ part_begins format longest file payloads next rows tail stage w c =
     let whole : BeginsWith file w.found = subst (λ f. BeginsWith f w.found) w.same (closed_begins w.found w.tail) in
     begins_trans file w.found rows whole (in_front format longest payloads next rows w.found tail w.tail stage w.stage c w.carries)
 
--- what the first payloads that fill makes of a file carry begins its rows
+-- what the first payloads that fill does to a file carry begins its rows
 pub carried_begins : (format : Format) (longest size : ℕ) (file payloads next rows : List (List ℕ)) (tail : List ℕ) (stage : Stage)
     → 2 ≤ size → AreRows format longest file → payloads ++ next ≡ payloads_of format size file
     → Carries format longest payloads rows tail stage → BeginsWith file rows
@@ -150,7 +150,7 @@ part_closes format longest file payloads next rows tail stage w c o records unit
     by Text w c b g n =
         stream_closes file rows w.found tail w.tail (flat c.subs) (flat w.carries.subs) g.0 w.carries.carried.1 c.carried.1 g.1 w.same units
 
--- a payload among those that are spelled by short subrecords is so spelled
+-- a payload among those that are encoded by short subrecords is so encoded
 pub spelled_payload : (before next : List (List ℕ)) (payload : List ℕ) (all : List (List Subrecord)) → AreShort (flat all)
     → before ++ payload ∷ next ≡ map payload_of all → (ss : List Subrecord) × AreShort ss × (payload ≡ payload_of ss)
 spelled_payload [] next payload [] h e = absurd (let q : payload ∷ next ≡ [] = e in cc)
@@ -163,7 +163,7 @@ spelled_payload (b ∷ bs) next payload (y ∷ ys) h e =
     let tl : bs ++ payload ∷ next ≡ map payload_of ys = cc in
     spelled_payload bs next payload ys (short-right y (flat ys) h) tl
 
--- each payload that fill makes of a file is spelled by short subrecords
+-- each payload that fill does to a file is encoded by short subrecords
 pub fill_payload : (format : Format) (size : ℕ) (file before next : List (List ℕ)) (payload : List ℕ) → 2 ≤ size
     → before ++ payload ∷ next ≡ payloads_of format size file → (ss : List Subrecord) × AreShort ss × (payload ≡ payload_of ss)
 fill_payload format size file before next payload h e =

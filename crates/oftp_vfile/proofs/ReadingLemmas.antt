@@ -1,4 +1,4 @@
--- What a taker makes of a payload as a function is what the taker's relation says.
+-- What a taker does to a payload as a function is what the taker's relation says.
 use Rattle.std.proofs.Common.{◌%◌, append_assoc, true, false, cond, ◌≡◌, ℕ, zero, suc, ◌<◌, ◌≤◌, nat_le, Bool, Option, None, Some, Result, Ok, Err, List, [], ◌∷◌, ◌++◌, length, take, drop, refl, sym, ap, ◌∙◌, subst, arith}
 use Rattle.std.specs.Option.{option_or}
 use Rattle.std.proofs.lemmas.Bool.{leb-false, leb-true, lt-leb}
@@ -15,7 +15,7 @@ use Rattle.oftp_vfile.proofs.CarriesLemmas.{header_says, took_walked}
 use Rattle.std.specs.Result.{result_unwrap_or}
 use Rattle.oftp_vfile.specs.Reading.{subrecord_in, fault_before, unless_fault, then_go_on, take_subrecords, taken, taken_all}
 
--- no fault before a subrecord: none at its header, which is an octet
+-- no error before a subrecord: none at its header, which is an octet
 
 neither : (fault : Option TakeFault) (beyond : Bool) → option_or fault (cond beyond (Some Cut) None) ≡ None → (fault ≡ None) × (beyond ≡ false)
 neither None true h = absurd (cc)
@@ -33,18 +33,18 @@ either : (fault : Option TakeFault) (beyond : Bool) (told : TakeFault) → fault
 either None beyond told h = absurd (cc)
 either (Some fault) beyond told h = h
 
--- a spelled subrecord has the fault of its header, or none
+-- an encoded subrecord has the error of its header, or none
 spelled_before : (t : Taking) (s : Subrecord) (room : ℕ) → length s.octets < 64 → fault_at t (header s) room ≡ None → fault_before t (header s) room ≡ None
 spelled_before t s room short h =
     ap (λ (fault : Option TakeFault). option_or fault (cond (nat_le 256 (header s)) (Some Cut) None)) h
     ∙ ap (λ (beyond : Bool). cond beyond (Some Cut) None) (lt-leb 256 (header s) (header_below s.ends (length s.octets) short))
 
--- where a result is reached, there was no fault before it
+-- where a result is reached, there was no error before it
 pub went_on : {A B : Type 0} (fault : Option TakeFault) (x : A) (f : A → Result B TakeFault) (y : B) → then_go_on (unless_fault fault x) f ≡ Ok y → (fault ≡ None) × (f x ≡ Ok y)
 went_on None x f y h = (refl, h)
 went_on (Some fault) x f y h = absurd (cc)
 
--- a subrecord is read as it is spelled
+-- a subrecord is read as it is encoded
 subrecord_again : (s : Subrecord) (rest : List ℕ) → length s.octets < 64 → subrecord_in (header s) (s.octets ++ rest) ≡ s
 subrecord_again s rest short =
     let says = header_says s short in
@@ -52,7 +52,7 @@ subrecord_again s rest short =
     let made : Bool → List ℕ → Subrecord = λ b o. record { ends = b; octets = o } in
     ap (λ b. made b (take (count_in (header s)) (s.octets ++ rest))) says.1 ∙ ap (made s.ends) octets
 
--- no fault with more octets behind is no fault with its own alone
+-- no error with more octets after is no error with its own alone
 no_fault_alone : (t : Taking) (s : Subrecord) (rest : List ℕ) → length s.octets < 64 → fault_at t (header s) (length (s.octets ++ rest)) ≡ None → fault_at t (header s) (length s.octets) ≡ None
 no_fault_alone t s rest short h =
     let n : NoFault t (header s) (length (s.octets ++ rest)) = no_fault t (header s) (length (s.octets ++ rest)) h in
@@ -159,7 +159,7 @@ taken_all_push t (q ∷ qs) p = taken_all_push (result_unwrap_or (taken t q) t) 
 
 -- the other way round: what is walked through is what the function gives
 
--- no fault with its own octets alone is no fault with more behind
+-- no error with its own octets alone is no error with more after
 no_fault_more : (t : Taking) (s : Subrecord) (rest : List ℕ) → fault_at t (header s) (length s.octets) ≡ None → fault_at t (header s) (length (s.octets ++ rest)) ≡ None
 no_fault_more t s rest h =
     let n : NoFault t (header s) (length s.octets) = no_fault t (header s) (length s.octets) h in

@@ -123,7 +123,7 @@ sent_done : (size : ℕ) (f new : Filling) (from : ℕ) (file lent payloads : Li
     → AreLent f from file lent last → FillsNext size f new lent last r → r ≡ Done → payloads ≡ payloads_of f.format size file
 sent_done size f new from file lent payloads last r s a h d = sent_all size f from file lent payloads last s a (subst (λ (x : Filled). FillsNext size f new lent last x) d h).none
 
--- what a call of the filler tells whose answer is the next payload of the lent rows
+-- what a call of the filler tells whose answer is the next payload of the borrowed rows
 pub record Tells (size : ℕ) (old new : Filling) (lent : List (List ℕ)) (last : Bool) (out : List ℕ) (r : Filled) : Type 0 where
   pub buffer : IfBuffer r (λ n. (n ≤ size) × IsFirstPayload size old new lent last (take n out))
   pub sent : (from : ℕ) (file payloads : List (List ℕ)) → Sent old size from file payloads → AreLent old from file lent last
@@ -245,7 +245,7 @@ below : (o m : ℕ) → m ≤ BLOCK → (0 < o → o < m) → o < BLOCK
 below zero m q r = omega arith
 below (suc j) m q r = let x : suc j < m = r (omega arith) in omega arith
 
--- what stands behind the full blocks that were sent is less than one
+-- what stands after the full blocks that were sent is less than one
 small_rest : (rows : List (List ℕ)) (k o rest : ℕ) → (0 < o → o < length (get_or (drop k rows) 0 [])) → rest < BLOCK
     → (k < length rows → (rest ≡ 0) × (length (get_or rows k []) ≤ BLOCK)) → rest + o < BLOCK
 small_rest rows k o rest p r g =

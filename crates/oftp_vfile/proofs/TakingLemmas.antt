@@ -1,4 +1,4 @@
--- What a taker makes of subrecords, one after another, and how it is put back.
+-- What a taker does to subrecords, one after another, and how it is put back.
 use Rattle.std.proofs.Common.{◌≡◌, ℕ, ◌+◌, ◌-◌, ◌<◌, ◌≤◌, ◌%◌, ◌/◌, Bool, true, false, cond, nat_le, ◌&&◌, Option, Some, None, List, [], ◌∷◌, ◌++◌, length, take, drop, refl, sym, ap, ◌∙◌, subst, arith, append_assoc}
 use Rattle.std.proofs.lemmas.Bool.{leb-false, ltb-false, lt-leb, le-ltb, leb-true, or_parts}
 use Rattle.std.proofs.lemmas.List.{append-nil, length-append, length-take-le, length_push, same_from_push, length-drop, take-append-drop}
@@ -15,7 +15,7 @@ no_first : {A : Type 0} (b : Bool) (x : A) (y : Option A) → cond b (Some x) y 
 no_first true x y e = cc
 no_first false x y e = (refl, e)
 
--- what a subrecord without a fault keeps
+-- what a subrecord without an error keeps
 pub record NoFault (t : Taking) (h room : ℕ) : Type 0 where
   pub plain : h % 128 < 64
   pub within : h % 64 ≤ room

@@ -1,5 +1,5 @@
--- What spells a command is read as it, kind by kind: the fields of its table follow one another, no octets spell two values, and
--- octets that spell one have no fault.
+-- What encodes a command is read as it, kind by kind: the fields of its table follow one another, no octets encode two values, and
+-- octets that encode one have no error.
 use Rattle.std.proofs.Common.{◌≡◌, ℕ, ◌<◌, ◌^◌, Bool, true, false, List, [], ◌∷◌, length, Ok, refl, sym, ap, subst, ◌∙◌, arith, rules}
 use Rattle.std.specs.Prelude.{codes, Option, Result}
 use Rattle.std.specs.Str.{bytes_eq}
@@ -64,13 +64,13 @@ recorded_back (Variable n) = refl
 recorded_back Unstructured = refl
 recorded_back Text = refl
 
--- a length that is spelled is the length
+-- a length that is encoded is the length
 length_is : (n m : ℕ) (w : List ℕ) → (m < 10 ^ n) × (w ≡ decimal n m) → number w ≡ m
 length_is n m w h = ap number h.1 ∙ number-decimal n m h.0
 
 -- ---- every kind
 
--- a command, whose table may hang on what it holds, is read where its octets are exactly read, the faults are those of its table,
+-- a command, whose table may hang on what it holds, is read where its octets are exactly read, the errors are those of its table,
 -- and no two commands with the same fields have these octets
 again_in : {S : Type 0} {T : S → Table S} {r : Result S WireFault} {fault : Option WireFault} {o : List ℕ}
     → Exact r fault (λ s. IsSpelled (T s) s o)
@@ -183,7 +183,7 @@ sfid_says s o h =
     let (_, (_, (_, (_, (_, (_, (_, (_, (letter, (_, (_, (_, (_, (_, (_, (_, (_, (_, (count, _))))))))))))))))))) = h.fields in
     (letter.1, length_is 3 (length s.description) (part 162 3 o) count)
 
--- the table of octets that spell an SFID
+-- the table of octets that encode an SFID
 sfid_table_is : (s : Sfid) (o : List ℕ) → IsSpelled (sfid_table_of s) s o
     → sfid_table (has_records (format_of (part 106 1 o))) (number (part 162 3 o)) ≡ sfid_table_of s
 sfid_table_is s o h =

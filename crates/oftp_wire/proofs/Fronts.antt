@@ -140,7 +140,7 @@ front_rest_by limit r (Whole n) none cut = absurd (none (command_in n r) (drop n
 front_rest_by limit r Waits none cut = ap head_of (sym cut.1)
 front_rest_by limit r (Bad fault) none cut = ap head_of (sym cut.1)
 
--- at the front of a rest with no whole frame stands its fault, or it waits
+-- at the front of a rest with no whole frame stands its error, or it waits
 pub front_rest : (limit : ℕ) (r : List ℕ) → All (λ c. c < 256) r → NoFrame limit r → front limit r ≡ head_of (rest_fault limit r)
 front_rest limit r small none = front_rest_by limit r (front limit r) none (front_finds limit r small)
 
@@ -203,12 +203,12 @@ rest_more_by true limit first t more f is e =
     (subst (λ (x : ℕ). NoFrame limit (x ∷ (t ++ more))) (sym (eqb-true first 16 is)) h.0, h.1)
 rest_more_by false limit first t more f is e = (λ m after c found. let same : first ≡ 16 = cc in eqb-false first 16 is same, e)
 
--- a rest that stands for a fault does so with more behind it
+-- a rest that stands for an error does so with more after it
 pub rest_more : (limit : ℕ) (s more : List ℕ) (f : FrameFault) → rest_fault limit s ≡ Some f → IsRest limit (s ++ more) (Some f)
 rest_more limit [] more f e = absurd (let h : ⊥ = cc in h)
 rest_more limit (first ∷ t) more f e = rest_more_by (first == 16) limit first t more f refl e
 
--- a stream of which the first pieces end in a fault
+-- a stream of which the first pieces end in an error
 pub reads_early : (limit n : ℕ) (pieces : List (Bor (List ℕ))) (cs : List (List ℕ)) (rest : List ℕ) (fault : Option FrameFault)
     → joined (take n pieces) ≡ flat_map frame cs ++ rest → AllByRecursion (IsCommand limit) cs → IsRest limit rest fault → is_some fault ≡ true → Reads limit (joined pieces) cs fault
 reads_early limit n pieces cs rest None whole each last is = absurd (false≢true is)

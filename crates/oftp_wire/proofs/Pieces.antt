@@ -88,11 +88,11 @@ put_no_digit at (suc n) v o h = absurd (omega arith)
 pub spelling_more : (ps : List Piece) (i : ℕ) (d : Piece) → i < length ps → spelling (take (i + 1) ps) ≡ spelling (take i ps) ++ octets_of (get_or ps i d)
 spelling_more ps i d h = ap spelling (take_more ps i d h) ∙ sym (flat_map_more octets_of [] (take i ps) (get_or ps i d))
 
--- the next piece is within the spelling
+-- the next piece is within the encoding
 pub within : (ps : List Piece) (i : ℕ) (d : Piece) → i < length ps → length (spelling (take i ps)) + length (octets_of (get_or ps i d)) ≤ length (spelling ps)
 within ps i d h = length-flat_map-take octets_of ps i d h
 
--- the next piece is written behind those before it
+-- the next piece is written after those before it
 pub spelling_step : (ps : List Piece) (i : ℕ) (d : Piece) (at : ℕ) (out new old : List ℕ) → i < length ps → at ≡ length (spelling (take i ps))
     → out ≡ spelling (take i ps) ++ drop at old → length (spelling ps) ≤ length old
     → new ≡ put at (octets_of (get_or ps i d)) out → new ≡ spelling (take (i + 1) ps) ++ drop (at + length (octets_of (get_or ps i d))) old

@@ -51,7 +51,7 @@ hands_out s octets seen begin n limit room capacity told view none same found cu
       parts = parts.3 ∙ ap (λ (k : ℕ). frame m ++ drop k rest) (sym long);
     }))
 
--- what is told of octets stays so whatever comes behind them, but for waiting
+-- what is read of octets stays so whatever comes after them, except waiting
 abbrev pub IsTold : Head → Type 0
 IsTold (Whole n) = Unit {0}
 IsTold Waits = ⊥
@@ -77,7 +77,7 @@ choice_at : (b : Bool) (x y z : Head) → IsTold (cond b x z) → (IsTold x → 
 choice_at true x y z told h = h told
 choice_at false x y z told h = refl
 
--- what is told of octets is told of them with more behind
+-- what is read of octets is read of them with more after
 pub front_more : (limit : ℕ) (s more : List ℕ) → IsTold (front limit s) → front limit (s ++ more) ≡ front limit s
 unfolding front
 front_more limit [] more h = absurd h
