@@ -60,7 +60,7 @@ packed_splits (suc k) free (r ∷ rs) = by (packed_splits k (free - (1 + length 
           octets = omega (arith, ih.octets, one.1, n, length-append s.octets (octets_of rest.0));
         }
 
--- so many payloads of these records
+-- the payloads of these records
 front : ℕ → ℕ → ℕ → List (List ℕ) → List Subrecord
 front m k size records = flat_map (λ ss. ss) (take k (fill_from m size records))
 

@@ -1,4 +1,4 @@
--- What each kind's reader gives is what its table says.
+-- The result of each kind's reader is what its table encodes.
 use Rattle.std.proofs.Common.{◌≡◌, ℕ, ◌+◌, ◌-◌, ◌<◌, ◌≤◌, ◌^◌, List, [], ◌∷◌, length, refl, sym, ap, subst, arith, ◌∙◌}
 use Rattle.std.specs.Prelude.{codes}
 use Rattle.std.specs.Str.{IsUtf8}
@@ -24,13 +24,13 @@ infixr 5 ◌&◌
 abbrev ◌&◌ : {A B : Type 0} → A → B → A × B
 a & b = (a, b)
 
--- octets that encode a table encode one that is equal to it
+-- octets that encode a table encode one equal to it
 table_is : {S : Type 0} {t u : Table S} {s : S} {o : List ℕ} → t ≡ u → IsSpelled u s o → IsSpelled t s o
 table_is {S} {t} {u} {s} {o} e h = subst (λ (x : Table S). IsSpelled x s o) (sym e) h
 
 -- ---- texts
 
--- a text whose octets are counted in a field before it
+-- a text with its length in a field before it
 record IsText (count at : ℕ) (o : List ℕ) : Type 0 where
   len : length (part at (number (part count 3 o)) o) ≡ number (part count 3 o)
   short : number (part count 3 o) ≤ 999

@@ -11,11 +11,11 @@ abbrev pub Answered : Option WireFault → Type 0
 Answered None = Unit {0}
 Answered (Some e) = IsSome (reason_of e)
 
--- the same as a record, so that a proof finds the error that it speaks of
+-- the same as a record, so that a proof finds its error
 pub record IsAnswered (fault : Option WireFault) : Type 0 where
   pub answered : Answered fault
 
--- a bad content has a reason
+-- an invalid value has a reason
 complaint_answered : (form : Form) (at : ℕ) → IsSome (reason_of (complaint form at))
 complaint_answered (Name n) at = refl
 complaint_answered (Digits n) at = refl

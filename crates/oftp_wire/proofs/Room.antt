@@ -1,4 +1,4 @@
--- How many octets a canonical encoding has.
+-- The length of a canonical encoding.
 use Rattle.std.proofs.Common.{◌≡◌, ℕ, ◌≤◌, false, List, ◌∷◌, length, ap, append-nil, arith}
 use Rattle.std.specs.Prelude.{codes}
 use Rattle.oftp_wire.specs.declared.command.Command.{Command}

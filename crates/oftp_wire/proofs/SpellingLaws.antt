@@ -1,4 +1,4 @@
--- The laws of Spelling.
+-- The properties of Spelling.
 use Rattle.std.proofs.Common.{◌≡◌, ℕ, List, length, Option, Some, None, Result, Ok, Err, refl, sym, ap, ◌∙◌}
 use Rattle.std.specs.Prelude.{◌↔◌, codes}
 use Rattle.oftp_wire.specs.declared.fault.WireFault.{WireFault}
@@ -42,11 +42,11 @@ done_is x y e = cc
 pub one_command : (x y : Command) (o : List ℕ) → Spells x o → Spells y o → x ≡ y
 one_command x y o h k = done_is x y (sym (command_again x o h) ∙ command_again y o k)
 
--- what is encoded has no error
+-- an encoding has no error
 pub spells_free : (x : Command) (o : List ℕ) → Spells x o → Fault o ≡ None
 spells_free x o h = (exact_at (Ok x) o (command_again x o h)).0
 
--- what is read is what is encoded
+-- a command is read from its encoding
 pub reads_spelled : (x : Command) (o : List ℕ) → (command_of o ≡ Ok x) ↔ Spells x o
 reads_spelled x o = (λ e. (exact_at (Ok x) o e).1, command_again x o)
 
@@ -54,11 +54,11 @@ reads_spelled x o = (λ e. (exact_at (Ok x) o e).1, command_again x o)
 some_is : (e f : WireFault) → ◌≡◌ {A = Option WireFault} (Some e) (Some f) → e ≡ f
 some_is e f h = cc
 
--- where there is an error, it is answered
+-- if there is an error, it is returned
 refused_by : (r : Result Command WireFault) (o : List ℕ) (e : WireFault) → command_of o ≡ r → Fault o ≡ Some e → command_of o ≡ Err e
 refused_by (Ok x) o e h k = absurd (none_some e (sym (exact_at (Ok x) o h).0 ∙ k))
 refused_by (Err f) o e h k = h ∙ ap Err (some_is f e (sym (exact_at (Err f) o h).0 ∙ k))
 
--- an error that is answered is the first of Spelling
+-- an error that is returned is the first of Spelling
 pub refuses_fault : (e : WireFault) (o : List ℕ) → (command_of o ≡ Err e) ↔ (Fault o ≡ Some e)
 refuses_fault e o = (λ h. (exact_at (Err e) o h).0, refused_by (command_of o) o e refl)
