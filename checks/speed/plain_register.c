@@ -8,7 +8,7 @@
        plain_register fetch DATABASE NO STEP FILE           the incoming file NO is written to FILE, its rows read by STEP
        plain_register submit DATABASE FILE NAME             FILE is registered as an outgoing file of this name, in blocks
        plain_register release DATABASE NO                   an End-to-End Response is issued
-       plain_register show DATABASE in|out NO               prints a file with its rows and its octets, an incoming one also with its response
+       plain_register show DATABASE in|out NO               prints a file with rows and octets, an incoming one also with its response
        plain_register list DATABASE in|out|issued|received  prints all entries, files also with their rows and octets
 
    It prints two numbers at the end: the processor time in nanoseconds up to the end of the opening, which reads the schema, and in all.

@@ -15,8 +15,8 @@ use Rattle.oftp_register.specs.Soundness.{IsSound}
 use Rattle.oftp_engine.specs.Parts.{IsOpenWith, SessionData, course_of, rows_here}
 use Rattle.oftp_engine.specs.Runs.{Output}
 
--- The last of the first `after` changes starts a file with this Restart position. At least so many of its rows were kept before, and
--- exactly so many after it.
+-- The last of the first `after` changes starts a file with this Restart position. At least this many of its rows were kept before, and
+-- exactly this many after it.
 pub record IsKept (r : Register) (changes : List Change) (after count : ℕ) : Type 0 where
   pub before : List Change
   pub later : List Change

@@ -63,7 +63,7 @@ as_served (Ok None) = Ok Input
 as_served (Ok (Some ending)) = Ok (ended_as ending)
 as_served (Err fault) = Err fault
 
--- a session over these octets, whose writer had taken so many octets when it returned an error, if it did
+-- a session over these octets, whose writer had taken this many octets when it returned an error, if it did
 abbrev pub session_of : Setting → List ℕ → Option ℕ → SessionData
 session_of setting given stop = record { setting = setting; limit = stop; stream = given }
 

@@ -17,7 +17,7 @@ use Rattle.oftp_engine.specs.Parts.{BringsParts, File, IsSoFar}
 use Rattle.oftp_engine.specs.Served.{setting_of}
 use Rattle.oftp_durable.specs.Headline.{LeavesPrefix, LeavesSoFar, session_of}
 
--- a station that begins with this register and has returned so many errors
+-- a station that begins with this register and has returned this many errors
 abbrev pub beginning : Register → ℕ → View
 beginning r faults = record {
   register = r;

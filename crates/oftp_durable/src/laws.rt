@@ -22,7 +22,7 @@ use sqlite::Alter;
 use std::io::{Read, Write};
 
 /// Each SFPA of a session comes after the change that starts a file with the Restart position that it answers. Before that change the file
-/// had at least so many rows, and after it exactly so many. The function does nothing; its contract is the theorem.
+/// had at least this many rows, and after it exactly this many. The function does nothing; its contract is the theorem.
 pub fn no_answer_passes()
     ensures { NoAnswerPasses }
 {}

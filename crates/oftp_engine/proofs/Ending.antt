@@ -207,7 +207,7 @@ goes_within setting given r d step reaches =
     let h = reaches.same [] None refl in
     (h.0, ap (λ (x : List ℕ). run None x (started setting r)) (sym (append-nil given)) ∙ h.1)
 
--- where the session stopped, after so many changes
+-- where the session stopped, after this many changes
 abbrev stops_within : (setting : Setting) (given : List ℕ) (r : Register) (d : Course) (step : Step) (made : ℕ) → Sound r d → Grows d (whole setting given r)
     → Reaches (started setting r) given d (advance d step) → (made ≡ length d.changes) ⊎ (made ≡ length (advance d step).changes)
     → StopsWithin setting given r d.outputs made

@@ -213,7 +213,7 @@ left_all changes least old new after le made same left =
 
 -- an operator's call that was carried out is a job that is done or cut short
 module _ {R W : Type 0} (remaining : R → Option (List ℕ)) (contents : W → Option (List ℕ)) (book : BookData) (x y : View) (a b : CallJob W) where
-  -- the office returned an error within the call, with so many changes made
+  -- the office returned an error within the call, with this many changes made
   refused_call : (deed : Deed) (made : ℕ) → b.call ≡ a.call → b.result ≡ Some (Err fault.Office) → IsDeed book x.register a.call deed
       → IsUndecided deed (scene contents x a.writer) (scene contents y b.writer)
       → CallRefused contents book x.register a b (record { changes = with_change [] deed.change; answered = 0; made = made })

@@ -12,7 +12,7 @@ use Rattle.oftp_engine.specs.World.{Doing, FailsInStep, Happening, Stops, StopsI
 use Rattle.oftp_engine.proofs.Courses.{output_later}
 use Rattle.oftp_engine.proofs.Stops.{answered_more}
 
--- a crash may leave so many changes
+-- a crash may leave this many changes
 may_leave : (c : Course) (out : List Output) (n : ℕ) → latest out ≤ n → n ≤ length c.changes → may_stop c out n ≡ true
 may_leave c out n least most = and_from (nat_le (latest out) n) (nat_le n (length c.changes)) (le-leb (latest out) n least) (le-leb n (length c.changes) most)
 

@@ -162,7 +162,7 @@ pub record IsTold (coming : List Command) (talk : Talk) : Type 0 where
   pub listens : talk.phase ≡ ListenerIdle contact
   pub told : talk.coming ≡ coming
 
--- a listener that receives the file of this identity from a row on, after so many payloads, and with these commands after them
+-- a listener that receives the file of this identity from a row on, after this many payloads, and with these commands after them
 pub record IsTaking (identity : Identity) (from : ℕ) (payloads : List (List ℕ)) (behind : List Command) (talk : Talk) : Type 0 where
   pub contact : Contact
   pub receipt : Receipt

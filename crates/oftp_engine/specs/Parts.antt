@@ -1,4 +1,4 @@
--- Transfers that break and are continued: what their parts carry, and what the register has of the file (RFC 5024, sections 5.3.3 to 5.3.8).
+-- Transfers that break and are continued: what their parts carry, and what the register has of the file (RFC 5024, 5.3.3 to 5.3.8).
 use Rattle.std.specs.Prelude.{◌≡◌, ℕ, ◌<◌, ◌≤◌, ◌⊎◌, ⊤, false, ◌||◌, All, List, [], ◌∷◌, ◌++◌, length, take, drop, Option, None, Some, Result, Ok, Err}
 use Rattle.oftp_wire.specs.declared.command.Command.{Command}
 use Rattle.oftp_wire.specs.declared.command.Command.TheVariants as command

@@ -9,7 +9,7 @@ use Rattle.oftp_session.specs.Recalling.{Recalls}
 use Rattle.oftp_engine.specs.Runs.{Course, Output, run, is_stopped, octets_of}
 use Rattle.oftp_engine.specs.Serving.{Scene, Took}
 
--- each output comes after at most so many changes
+-- each output comes after at most this many changes
 abbrev pub Counted : ℕ → List Output → Type 0
 Counted most [] = Unit {0}
 Counted most (o ∷ outputs) = (o.after ≤ most) × Counted most outputs

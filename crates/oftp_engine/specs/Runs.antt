@@ -74,12 +74,12 @@ came_in c octets = advance c (step_on c.setting c.phase c.register (command_of o
 abbrev pub turned_in : Course → Course
 turned_in c = advance c (turned c.setting c.phase c.register)
 
--- a writer that returned an error had taken so many octets: the session stops at the output that exceeds this number
+-- a writer that returned an error had taken this many octets: the session stops at the output that exceeds this number
 unfoldable pub is_stopped : Option ℕ → Course → Bool
 is_stopped None c = false
 is_stopped (Some n) c = nat_lt n (length (octets_of c.outputs))
 
--- the turns that are due, at most so many
+-- the turns that are due, at most this many
 unfoldable pub turns : ℕ → Option ℕ → Course → Course
 turns zero limit c = c
 turns (suc n) limit c = if has_turn c.phase && not (is_stopped limit c) then turns n limit (turned_in c) else c

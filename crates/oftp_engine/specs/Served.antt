@@ -32,7 +32,7 @@ pub record Gave {R : Type 0} (remaining : R → Option (List ℕ)) (old new : Po
 abbrev pub whole : Setting → List ℕ → Register → Course
 whole setting given r = run None given (started setting r)
 
--- the session over these octets, from a register, whose writer had taken so many octets when it returned an error
+-- the session over these octets, from a register, whose writer had taken this many octets when it returned an error
 abbrev pub broken_off : Setting → ℕ → List ℕ → Register → Course
 broken_off setting taken given r = run (Some taken) given (started setting r)
 
@@ -59,7 +59,7 @@ pub record IsNeeded (setting : Setting) (r : Register) (given : List ℕ) : Type
   pub some : 0 < length given → 0 < length last
   pub live : 0 < length last → is_over (whole setting before r).phase ≡ false
 
--- The session stopped within a step, after these outputs and so many changes, with the change of that step made or not. With the octets
+-- The session stopped within a step, after these outputs and this many changes, with the change of that step made or not. With the octets
 -- that follow it would have gone on like this.
 pub record StopsWithin (setting : Setting) (given : List ℕ) (r : Register) (outs : List Output) (made : ℕ) : Type 0 where
   pub at : Course
@@ -71,7 +71,7 @@ pub record StopsWithin (setting : Setting) (given : List ℕ) (r : Register) (ou
   pub register : apply_all r at.changes ≡ Ok at.register
   pub within : (made ≡ length at.changes) ⊎ (made ≡ length (advance at step).changes)
 
--- The session stopped between two of its steps, after these outputs and so many changes. With the octets that aren't answered yet it would
+-- The session stopped between two of its steps, after these outputs and this many changes. With the octets that aren't answered yet it would
 -- have gone on like this.
 pub record StopsBetween (setting : Setting) (given : List ℕ) (r : Register) (outs : List Output) (made : ℕ) : Type 0 where
   pub at : Course
@@ -89,7 +89,7 @@ module _ (setting : Setting) (given : List ℕ) (old new : Scene) where
   abbrev pub course : Course
   course = whole setting given old.office.register
 
-  -- the same, where its writer returned an error after so many octets
+  -- the same, where its writer returned an error after this many octets
   abbrev pub cut_off : ℕ → Course
   cut_off taken = broken_off setting taken given old.office.register
 

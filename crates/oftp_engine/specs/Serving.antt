@@ -24,7 +24,7 @@ pub record Took (old new : Scene) (octets : List ℕ) : Type 0 where
   pub contents : Appends old.contents new.contents octets
   pub taken : new.taken % 2 ^ 64 ≡ (old.taken + length octets) % 2 ^ 64
 
--- so many octets of the last frame are out: all, or fewer if the writer returned an error
+-- this many octets of the last frame are out: all, or fewer if the writer returned an error
 abbrev pub IsSaid : Scene → Scene → ℕ → Type 0
 IsSaid old new count = ((count ≡ length last_frame) × (new.told ≡ old.told)) ⊎ ((count < length last_frame) × (new.told ≡ next_count old.told))
 

@@ -65,7 +65,7 @@ latest outputs = answered outputs (length (octets_of outputs))
 abbrev pub left_after : Register → Course → ℕ → Register
 left_after start c n = result_unwrap_or (apply_all start (take n c.changes)) c.register
 
--- a crash may leave so many changes of a session of which these outputs are out
+-- a crash may leave this many changes of a session of which these outputs are out
 abbrev pub may_stop : Course → List Output → ℕ → Bool
 may_stop c out n = nat_le (latest out) n && nat_le n (length c.changes)
 
@@ -114,7 +114,7 @@ pub record Alteration : Type 0 where
 
 -- What happens at the one station: it makes a step, loses the connection, crashes between steps or within one, ends the session at an error
 -- of its office within a step, does an operator's call, has its office changed by another caller, or calls the other. A crash, or an error
--- of the office, leaves so many of the session's changes.
+-- of the office, leaves a number of the session's changes.
 pub data Happening : Type 0 where
   Does : Doing → Happening
   Breaks : Happening

@@ -1,4 +1,5 @@
--- A register as two maps from identities to files, and what a change does to them.
+-- A register as two maps from identities to files, and what a change does to them. In a sound register each file is the one that its
+-- identity finds.
 use Rattle.std.specs.Prelude.{◌≡◌, ◌≢◌, ◌≤◌, ◌+◌, ℕ, false, List, length, take, find, slice_get, Option, None, Some, Result, Ok}
 use Rattle.std.specs.List.{position_or_len}
 use Rattle.std.specs.Option.{option_map}

@@ -171,7 +171,7 @@ is_closing state = false
 abbrev pub if_allowed : Bool → Outgoing → Result Outgoing Cause
 if_allowed allowed file = if allowed then Ok file else Err State
 
--- so many rows were acknowledged by CDT (RFC 5024, section 5.3.7)
+-- this many rows were acknowledged by CDT (RFC 5024, section 5.3.7)
 abbrev pub marked : ℕ → Outgoing → Result Outgoing Cause
 marked rows file = if_allowed (is_waiting file.state && nat_le rows (length file.rows)) (record file { mark = rows })
 

@@ -1,4 +1,4 @@
--- The interface of an office, which keeps a register. A crash may end any of its calls.
+-- The interface of an office, which keeps a register. A crash may end any of its calls. Contracts see its view before and after a call.
 use Rattle.std.specs.Prelude.{◌≡◌, ℕ, ◌+◌, ◌%◌, ◌^◌, ◌<◌, ◌≤◌, ◌⊎◌, List, length, take, Result, Ok, Err, IfOk, IfErr, OnOk, OnErr, Option, None, Some, ⊤}
 use Rattle.oftp_register.specs.Register.{Register}
 use Rattle.oftp_register.specs.Changes.{apply, apply_all}

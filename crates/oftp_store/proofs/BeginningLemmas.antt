@@ -141,7 +141,7 @@ not_more rows count h = grind (arith, nat_tests, h)
 more : (rows count : ℕ) → nat_le count rows ≡ false → nat_lt rows count ≡ true
 more rows count h = grind (arith, nat_tests, h)
 
--- a file in a state, with so many rows, goes on or doesn't
+-- a file in a state, with this many rows, goes on or doesn't
 
 stays_off : (header : Incoming) (count : ℕ) (f : Incoming) (state : IncomingState) → goes_on_in state (length f.rows) count ≡ false → gone_on header count f state ≡ Err Unfit
 stays_off header count f Open h = cond-true (nat_lt (length f.rows) count) _ _ (more (length f.rows) count h)

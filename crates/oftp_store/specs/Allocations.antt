@@ -16,11 +16,11 @@ use Rattle.oftp_store.specs.declared.queries.allocation.Allocation.TheVariants a
 use Rattle.oftp_store.specs.declared.queries.allocation.IncomingAllocation.{IncomingAllocation}
 use Rattle.oftp_store.specs.declared.queries.allocation.IncomingAllocation.TheVariants as incoming_allocation
 
--- the allocation of a new file in a table with so many files
+-- the allocation of a new file in a table with this many files
 abbrev pub allocation_after : Limits → ℕ → Allocation
 allocation_after limits count = if nat_le limits.files count then allocation.Full else allocation.New (count + 1)
 
--- the allocation of a file whose number, if it has one, was looked up, in a table with so many files
+-- the allocation of a file whose number, if it has one, was looked up, in a table with this many files
 abbrev pub allocation_of : Limits → ℕ → Option ℕ → Allocation
 allocation_of limits count (Some n) = allocation.Existing n
 allocation_of limits count None = allocation_after limits count
@@ -41,7 +41,7 @@ IsIncomingAllocationOf r identity (incoming_allocation.Known n progress) = (file
 IsIncomingAllocationOf r identity (incoming_allocation.New n) = IsAllocationOf r side.Incoming identity (allocation.New n)
 IsIncomingAllocationOf r identity incoming_allocation.Full = IsAllocationOf r side.Incoming identity allocation.Full
 
--- an open file with at least so many rows may go on after them
+-- an open file with at least this many rows may go on after them
 
 abbrev pub goes_on_in : IncomingState → ℕ → ℕ → Bool
 goes_on_in Open rows count = nat_le count rows

@@ -59,7 +59,7 @@ abbrev pub HasRoom : Deed → Type 0
 HasRoom (AddRows which from rows) = from + length rows.now < 2 ^ 32
 HasRoom deed = ⊤
 
--- the edit that appends rows to an incoming file with so many rows
+-- the edit that appends rows to an incoming file with this many rows
 abbrev pub more : ℕ → ℕ → Bor (List (List ℕ)) → Edit
 more n from rows = record { no = n; deed = AddRows side.Incoming from rows }
 

@@ -120,7 +120,7 @@ received_entry_of n header note =
 
 -- ---- the number of rows
 
--- the row has the last position of a file with so many rows, or the file has none
+-- the row has the last position of a file with this many rows, or the file has none
 abbrev pub TellsCount : Option Row → ℕ → Type 0
 TellsCount None count = count ≡ 0
 TellsCount (Some row) count = (at : ℕ) × (column row 0 ≡ number_value at) × (count ≡ at + 1)

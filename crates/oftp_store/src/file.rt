@@ -25,7 +25,7 @@ use sqlite::{Alter, Connection, Error, ErrorCode, FileFrom, FileStore, Start};
 pub enum PathFault {
     /// The path is empty or `:memory:`. SQLite would keep nothing there.
     Unkept,
-    /// Another connection has locked the database. Nothing was read or written, and the call may be repeated.
+    /// Another connection has locked the database. The call may be repeated.
     Held,
     /// An error of [`SqlOffice::open`] or [`SqlOffice::migrate`]. A path that can't be opened is [`StoreFault::Store`].
     Store(StoreFault),

@@ -52,7 +52,7 @@ packed (suc k) free (r ∷ rs) =
     let rest = packed k (free - (1 + length s.octets)) (behind r rs free) in
     if nat_lt free (needs r) then ([], r ∷ rs) else (s ∷ rest.0, rest.1)
 
--- the payloads for these records, as subrecords, at most so many
+-- the payloads for these records, as subrecords, at most this many
 unfoldable pub fill_from : ℕ → ℕ → List (List ℕ) → List (List Subrecord)
 fill_from zero size records = []
 fill_from (suc k) size [] = []

@@ -1,4 +1,5 @@
--- Each kind of command, read from left to right. `command_of` is the result of `parse`.
+-- Each kind of command, read from left to right. `command_of` is the result of `parse`; by the theorem `one_spelling` it reads what octets
+-- encode, and refuses all others with their first fault.
 use Rattle.std.specs.Prelude.{ℕ, ◌+◌, List, [], ◌∷◌, codes, Result, Ok, Err, ◌==◌, if◌then◌else◌}
 use Rattle.oftp_wire.specs.declared.fault.WireFault.{WireFault}
 use Rattle.oftp_wire.specs.declared.command.Esid.{Esid}

@@ -73,7 +73,7 @@ pub struct Sfid<'a> {
     pub enveloping: Count<1>,
     /// Whether a signed End-to-End Response is requested.
     pub signed_response: bool,
-    /// A description for people.
+    /// The description, as text for an operator.
     pub description: Text<'a>,
 }
 

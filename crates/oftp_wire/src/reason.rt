@@ -53,7 +53,7 @@ pub enum SessionReason {
     InvalidPassword,
     /// 06: a field has an invalid value.
     InvalidData,
-    /// 07: the command has more or fewer octets than its kind.
+    /// 07: the command is longer or shorter than its kind allows.
     BufferSizeError,
     /// 08: the station has no memory or no space left.
     ResourcesNotAvailable,

@@ -40,15 +40,15 @@ pub(crate) trait Progress: Sized {
     ghost beyond: { (r : Register) (db : Trees) (n : ℕ) → Tables r db → 2 ^ 63 ≤ n → told r n None };
 }
 
-/// How far an incoming file has come.
+/// What a change needs to know of an incoming file.
 #[derive(Drop)]
 pub(crate) struct IncomingProgress {
     pub state: IncomingState,
-    /// How many rows are here.
+    /// How many rows were received.
     pub rows: u32,
 }
 
-/// How far an outgoing file has come.
+/// What a change needs to know of an outgoing file.
 #[derive(Drop)]
 pub(crate) struct OutgoingProgress {
     pub mark: u32,
@@ -57,7 +57,7 @@ pub(crate) struct OutgoingProgress {
     pub rows: u32,
 }
 
-/// Whether an incoming file is whole, and whether its response was sent, if one was issued.
+/// The state of an incoming file, and whether its response was sent, if one was issued.
 #[derive(Drop)]
 pub(crate) struct ResponseProgress {
     pub state: IncomingState,

@@ -17,7 +17,7 @@ use std::alloc::Global;
 #[derive(Drop)]
 pub(crate) struct SettledFile {
     pub no: u64,
-    /// How many of its rows are covered by credit.
+    /// How many of its rows were acknowledged by CDT.
     pub mark: u32,
 }
 
