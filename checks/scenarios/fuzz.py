@@ -1,9 +1,9 @@
 #!/usr/bin/env python3
 """Plays random sessions over the built program and over a model of a station (checks/lib/model.py), and reports differences.
 
-    checks/scenarios/fuzz.py [--seconds N | --minutes N] [--seed N] [--sessions N] [--jobs N]
+    checks/scenarios/fuzz.py [--seconds N | --minutes N] [--seed N] [--sessions N] [--jobs N] [--steps]
 
-        default: 20 seconds, another seed each time, and a process for each processor
+        default: 20 seconds, another seed each time, and a process for each processor; --steps prints how often each step was made
 
 A life is a database, or a register in memory, and what is done to it: sessions in both roles with three partners, whose commands follow
 what the model of the station sends, with mistakes of every kind; and submissions, releases, refusals and fetches between them. The octets
@@ -51,7 +51,7 @@ TEXTS = ["", "", "", "OK", "NO PLANT", "ü€\U0001f600", "a" * 999, "€" * 333
 # What has to occur: each step of the step tables, these answers and turns, and these changes of a file's state. If some of it hasn't when
 # the time is up, sessions follow for at most this many seconds more.
 LONGEST = 300
-# One process plays fewer seeds than this.
+# One call of `Played.play` uses fewer seeds than this.
 SEEDS = 10**7
 # The number of books of services for this many consecutive seeds.
 BOOKS, SEEDS_OF_BOOKS = 4, 10**6

@@ -71,8 +71,8 @@ pub record StopsWithin (setting : Setting) (given : List ℕ) (r : Register) (ou
   pub register : apply_all r at.changes ≡ Ok at.register
   pub within : (made ≡ length at.changes) ⊎ (made ≡ length (advance at step).changes)
 
--- The session stopped between two of its steps, after these outputs and this many changes. With the octets that aren't answered yet it would
--- have gone on like this.
+-- The session stopped between two of its steps, after these outputs and this many changes. With the octets that aren't answered yet it
+-- would have gone on like this.
 pub record StopsBetween (setting : Setting) (given : List ℕ) (r : Register) (outs : List Output) (made : ℕ) : Type 0 where
   pub at : Course
   pub gone : List ℕ

@@ -168,7 +168,8 @@ fn look_up<O: Office>(
     Ok(rows)
 }
 
-/// The number of rows to look up when those at hand don't fill a payload: twice as many, but no more than a payload has octets.
+/// The number of rows to look up when those at hand don't fill a payload: twice as many, at least [`FIRST_ROWS`], and at most as many as a
+/// payload has octets.
 fn next_count(shipment: &Shipment, size: usize) -> usize
     requires { next_row shipment.now ≤ MOST_ROWS }
     ensures { result ≡ min size (max FIRST_ROWS (2 * length (at_hand shipment.now.page))) }

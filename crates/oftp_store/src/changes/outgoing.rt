@@ -156,7 +156,7 @@ pub(crate) fn refuse<S: Alter>(
     make_edits(conn, &[edit])
 }
 
-/// Puts a file whose end was sent back into the state in which it waits, with mark 0.
+/// Reopens a file whose end was sent: it waits again, with mark 0.
 pub(crate) fn reopen<S: Alter>(
     means: Means,
     conn: &mut Connection<S>,
