@@ -1,10 +1,10 @@
 #!/usr/bin/env python3
-"""Runs a command, and tells what its proofs, tests, wrong bodies and builds took: processor seconds of each crate, as a table in Markdown.
+"""Runs a command, and prints what its proofs, tests, wrong bodies and builds took: processor seconds of each crate, in Markdown.
 
-    checks/costs.py rt ci      runs `rt ci`, and writes the table to standard error behind it
+    checks/costs.py rt ci      runs `rt ci`, and then writes the table to standard error
 
-It looks twice a second at the processes below the command. A process of the prover names its crate; what it starts, a compiler for one,
-counts for the same crate. What a process takes within the last half second of its life isn't seen.
+It looks at the command's descendant processes twice a second. A process of the prover names its crate; what it starts, such as a compiler,
+counts for the same crate. What a process takes in the last half second of its life isn't seen.
 """
 
 import os
@@ -18,7 +18,7 @@ KINDS = ("proof", "tests", "wrong bodies", "builds")
 
 
 def read(path):
-    """The octets of a file below /proc, or none where the process is gone."""
+    """The text of a file in /proc, or an empty one if the process is gone."""
     try:
         return pathlib.Path(path).read_bytes()
     except OSError:
@@ -26,8 +26,8 @@ def read(path):
 
 
 def processes():
-    """Each process with its parent, its name, and the seconds of a processor that it has taken. The name has the time of its start too, since
-    a number is given again."""
+    """Each process with its parent, its name, and its processor seconds. The name includes the start time, because process ids are
+    reused."""
     found = {}
     for name in os.listdir("/proc"):
         fields = read(f"/proc/{name}/stat").rpartition(b") ")[2].split() if name.isdigit() else []
@@ -37,7 +37,7 @@ def processes():
 
 
 def label_of(pid):
-    """The crate that a process of the prover works on and what it does for it, or None where it is no such process."""
+    """The crate on which a process of the prover works and the kind of work, or None for any other process."""
     words = read(f"/proc/{pid}/cmdline").decode(errors="replace").split("\0")
     if "--crate-name" not in words or len(words) < 2:
         return None
@@ -51,7 +51,7 @@ def label_of(pid):
 
 
 def link(pid):
-    """The folder in which a process works."""
+    """The working directory of a process."""
     try:
         return os.readlink(f"/proc/{pid}/cwd")
     except OSError:
@@ -59,7 +59,7 @@ def link(pid):
 
 
 class Costs:
-    """What the processes below a command have taken, by crate and kind."""
+    """What the descendants of a command have taken, by crate and kind."""
 
     def __init__(self, top):
         self.top = top
@@ -67,8 +67,8 @@ class Costs:
         self.taken = {}
 
     def label(self, pid, found):
-        """What a process counts for: its own label, or that of the next process above it that has one. None is no process below the command.
-        A label of its own is kept; one that has none yet may become the prover at the next look."""
+        """What a process counts for: its own label, or that of its nearest ancestor with one. None for a process that isn't a descendant of
+        the command. A label is kept; a process without one may turn into the prover at the next look."""
         if pid == self.top:
             return ("", "the rest")
         if pid not in found or pid == 1:

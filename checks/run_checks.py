@@ -1,15 +1,15 @@
 #!/usr/bin/env python3
-"""Runs the checks over processes of the program, and prints what each says, whole, when it ends.
+"""Runs the checks over processes of the program, and prints the whole output of each when it ends.
 
-    checks/run_checks.py [--quick] [--list] [NAME ..]      those of these names, or all of the table below; with `--list` it prints their
-                                                           names alone
-    checks/run_checks.py --install                         has apt-get install what some checks want beside the program, where it is missing
+    checks/run_checks.py [--quick] [--list] [NAME ..]      those with these names, or all of the table below; with `--list` it only
+                                                           prints the names
+    checks/run_checks.py --install                         lets apt-get install what some checks need besides the program, if it is missing
 
-Checks that measure time or memory run alone, one after another; all others run beside each other before them, as many as there are
-processors. With `--quick` the program is the checked one, and what only the gate builds is left out. The program is that of
-OFTP_STATION, or else crates/oftp_station/out/oftp_station. A check that fails, or doesn't end within its limit, fails all; the others
-are run nevertheless. The last lines say what wasn't tried, and for want of what; where CI is `true` that fails too, if apt-get has it. The
-very last is `N passed, M failed`: the rows that passed, or the checks where the rows aren't among them, and the checks that failed.
+Checks that measure time or memory run alone, one after another. All others run in parallel before them, as many as there are processors.
+With `--quick` the program is the checked one, and what only the gate builds is left out. The program is that of OFTP_STATION, or else
+crates/oftp_station/out/oftp_station. If a check fails, or doesn't end within its time limit, the whole run fails; the others run
+nevertheless. The last lines say what wasn't tried, and what was missing; where CI is `true` that fails too, if apt-get has it. The very
+last line is `N passed, M failed`: the rows that passed, or the checks if the rows aren't among them, and the checks that failed.
 """
 
 import argparse
@@ -26,14 +26,14 @@ from pathlib import Path
 from typing import NamedTuple, Optional
 
 ROOT = Path(__file__).resolve().parent.parent
-# How long a check may take. The longest takes some ten minutes on two processors; this is for one that hangs.
+# The time limit of a check. The longest takes some ten minutes on two processors; this is for one that hangs.
 LIMIT = 3600
 ALONE = True
 
 
 class Check(NamedTuple):
-    """A check: its name, its command, what it tries, whether it runs alone, whether it wants a C compiler, its command with `--quick` where
-    that is another, and whether `--quick` leaves it out."""
+    """A check: its name, its command, what it tries, whether it runs alone, whether it needs a C compiler, its command with `--quick` if
+    that differs, and whether `--quick` leaves it out."""
 
     name: str
     command: str
@@ -44,7 +44,7 @@ class Check(NamedTuple):
     is_of_gate: bool = False
 
 
-# Those that run beside each other stand in the order in which they begin: the longest first.
+# Those that run in parallel are in the order in which they begin: the longest first.
 CHECKS = [
     Check("wrong bodies", "python3 checks/wrong_bodies/wrong_bodies.py --of-the-day", "wrong bodies of one crate, another each day", is_of_gate=True),
     Check("stops", "python3 checks/faults/stop_at_each_call.py", "a day, stopped at each call on the database, and with allocations refused", wants_cc=True),
@@ -94,8 +94,8 @@ CHECKS = [
 ]
 
 
-# What some checks want beside the program, under the name by which they say that it is missing: what is looked for, and the packages of apt-get
-# that have it.
+# What some checks need besides the program, under the name by which they say that it is missing: what is looked for, and the packages of
+# apt-get that have it.
 WANTED = {
     "a C compiler": (["cc"], ["gcc", "libc6-dev"]),
     "systemd": (["systemd-analyze"], ["systemd"]),
@@ -112,7 +112,7 @@ def is_there(name):
 
 
 def has_done(*words):
-    """Whether apt-get has done this."""
+    """Whether apt-get succeeded."""
     command = ["apt-get", "-qq", "-o", "Acquire::Retries=0", "-o", "Acquire::http::Timeout=20", *words]
     environment = {**os.environ, "DEBIAN_FRONTEND": "noninteractive"}
     try:
@@ -122,7 +122,7 @@ def has_done(*words):
 
 
 def install():
-    """Has apt-get install what is missing, and says what it hasn't got."""
+    """Lets apt-get install what is missing, and prints what it doesn't have."""
     missing = [name for name in WANTED if not is_there(name)]
     if missing:
         has_done("update")
@@ -132,7 +132,7 @@ def install():
 
 
 class Running:
-    """The processes of the checks that run now, and the folder that they make theirs in, so that all ends when this script does."""
+    """The processes of the checks that run now, and the folder for their temporary files, so that all end with this script."""
 
     def __init__(self):
         self.room = None
@@ -154,7 +154,7 @@ class Running:
             return process
 
     def end(self, process):
-        """Ends what a check has left, and the check itself where it still runs."""
+        """Ends what a check has left, and the check itself if it still runs."""
         with self.lock:
             self.groups.discard(process.pid)
             kill_group(process.pid)
@@ -186,7 +186,7 @@ PRINTING = threading.Lock()
 
 
 def run(check, is_quick):
-    """Runs a check and prints what it says. It answers whether it passed, and its lines."""
+    """Runs a check and prints its output. It returns whether it passed, and its lines."""
     command = check.quick if is_quick and check.quick else check.command
     begin = time.monotonic()
     with tempfile.TemporaryFile("w+", errors="replace") as output:
@@ -206,7 +206,7 @@ def run(check, is_quick):
 
 
 def run_all(checks, is_quick):
-    """Runs the checks, those first that may run beside each other. It answers what each came to."""
+    """Runs the checks, first those that may run in parallel. It returns the result of each."""
     beside = [it for it in checks if not it.is_alone]
     with ThreadPoolExecutor(len(os.sched_getaffinity(0))) as lanes:
         came = dict(zip(beside, lanes.map(lambda it: run(it, is_quick), beside)))
@@ -217,7 +217,7 @@ def run_all(checks, is_quick):
 
 
 def passed(came):
-    """How many rows passed, as the check of the rows tells in its last line, or how many checks where it isn't among them."""
+    """How many rows passed, by the last line of the rows' check, or how many checks if it isn't among them."""
     for check, (_, lines) in came.items():
         if check.name == "rows":
             return int(lines[-1].split()[0]) if lines else 0
@@ -225,8 +225,8 @@ def passed(came):
 
 
 def tell_not_tried(left_out, came):
-    """Says what wasn't tried: the checks that were left out for want of a C compiler, and what the others say of themselves. It answers what
-    of that fails where CI is `true`."""
+    """Prints what wasn't tried: the checks that were left out for lack of a C compiler, and what the others report. It returns what of this
+    fails where CI is `true`."""
     lines = [line for _, said in came.values() for line in said if line.startswith(NOT_TRIED)]
     lines += [f"{NOT_TRIED}a C compiler: {it.tries}" for it in left_out]
     print("".join(f"{line}\n" for line in lines), end="")
@@ -238,7 +238,7 @@ def tell_not_tried(left_out, came):
 
 
 def find_program():
-    """Gives the checks the program by its whole path, since they run it in folders of their own. It answers whether it is there."""
+    """Gives the checks the program by its absolute path, because they run it in folders of their own. It returns whether it exists."""
     program = Path(os.environ.get("OFTP_STATION", ROOT / "crates/oftp_station/out/oftp_station")).absolute()
     os.environ["OFTP_STATION"] = str(program)
     return os.access(program, os.X_OK)

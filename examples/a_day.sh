@@ -1,7 +1,7 @@
 #!/bin/bash
-# A day at the supplier: a dispatch note goes out to the car maker, and a schedule comes, in two sessions, since the line breaks in the
-# first. It prints each command and what the program says; examples/a_day.stdout has the same. The octets of the car maker's side are
-# files of examples/day; rows/day/a_day.row has these sessions in words.
+# A day at the supplier: a dispatch note is sent to the car maker, and a schedule is received, in two sessions, because the line breaks in the first.
+# It prints each command and its output; examples/a_day.stdout has the same. The octets of the car maker's side are files of examples/day;
+# rows/day/a_day.row has these sessions in words.
 set -euo pipefail
 root=$(cd "$(dirname "$0")/.." && pwd)
 if [ -z "${OFTP_STATION-}" ]; then
@@ -19,7 +19,7 @@ say() {
     printf '\n# %s\n' "$*"
 }
 
-# Prints a command and runs it. What is refused ends the day no more than what is done.
+# Prints a command and runs it. A refused command doesn't end the day.
 give() {
     local status=0
     echo "\$ oftp_station $*"

@@ -1,8 +1,7 @@
 #!/bin/bash
-# A supplier and a car maker as two stations on this machine, each a `run` that holds its own database and is asked by the commands
-# beside it. A dispatch note goes one way and a schedule the other; within the schedule the supplier's station is killed, and the next
-# call goes on where it stopped; end responses go back both ways, and the register is shown over HTTP. It prints each command and what
-# the program says.
+# A supplier and a car maker as two stations on this machine, each a `run` that keeps its own database open and is asked by the commands beside it. A
+# dispatch note goes one way and a schedule the other. During the schedule the supplier's station is killed, and the next call continues where it
+# stopped. End-to-End Responses go back both ways, and the register is shown over HTTP. It prints each command and its output.
 set -euo pipefail
 root=$(cd "$(dirname "$0")/.." && pwd)
 if [ -z "${OFTP_STATION-}" ]; then
@@ -20,8 +19,8 @@ say() {
     printf '\n# %s\n' "$*"
 }
 
-# Prints a command and runs it. What is refused, or fails in a session, ends the example no more than what is done; what takes longer than
-# two minutes does.
+# Prints a command and runs it. A command that is refused, or fails in a session, doesn't end the example; one that takes longer than two
+# minutes does.
 give() {
     local status=0
     echo "\$ oftp_station $*"
@@ -29,13 +28,12 @@ give() {
     if [ "$status" -gt 1 ]; then exit "$status"; fi
 }
 
-# Fails where a report of a register doesn't have this text.
+# Fails if a report of a register doesn't have this text.
 has() {
     timeout 120 "$program" report --db "$1" "$2" | grep -qF -- "$3" || { echo "the report $2 of $1 doesn't say $3"; exit 1; }
 }
 
-# So many ports that nothing listens on, below those that the machine gives to whoever connects, so that none is taken before a station
-# listens on it.
+# This many ports on which nothing listens, below the ephemeral ones, so that no connection takes one before a station listens on it.
 free_ports() {
     python3 -c 'import os, socket, sys
 probes, port = [], 10000 + os.getpid() * 101 % 10000
@@ -48,7 +46,7 @@ while len(probes) < int(sys.argv[1]):
 print(*(it.getsockname()[1] for it in probes))' "$1"
 }
 
-# Waits until a command holds, and fails where that takes longer than a minute.
+# Waits until a command succeeds, and fails if that takes longer than a minute.
 until_holds() {
     local end=$((SECONDS + 60))
     until "$@"; do
@@ -60,17 +58,17 @@ until_holds() {
     done
 }
 
-# How often a station has said that it is ready.
+# How often a station has reported that it is ready.
 times_ready() {
     grep -cx ready "$1.lines" || true
 }
 
-# Whether a station has said so more often than this.
+# Whether a station has reported so more often than this.
 is_ready() {
     [ "$(times_ready "$1")" -gt "$2" ]
 }
 
-# Starts a station with these options more, whose lines go to a file, those of faults too.
+# Starts a station with these further options, whose output and errors go to a file.
 serve() {
     local name=$1 before
     shift
@@ -89,7 +87,7 @@ is_within() {
     [ "$(cat supplier.db supplier.db-wal | wc -c)" -gt 700000 ]
 }
 
-# Kills the station that was started last within the schedule.
+# Kills the station that was started last during the schedule.
 kill_within() {
     until_holds is_within
     kill -9 "$station"

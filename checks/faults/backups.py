@@ -1,14 +1,14 @@
 #!/usr/bin/env python3
-"""Takes backups of a database while files are handed in, and kills the command and the station that runs over it at random moments.
+"""Takes backups of a database while files are submitted, and kills the command and the station that serves it at random moments.
 
-    checks/faults/backups.py [--seconds N | --minutes N] [--seed N]       20 seconds, and another seed each time, where none is given
+    checks/faults/backups.py [--seconds N | --minutes N] [--seed N]       default: 20 seconds, and another seed each time
 
-Two others hand in one file after another, of a size that has the log brought into the database often. Each trial takes a backup to one name, and
-kills the command, the station, or neither. What bears the name then is what bore it before, or a whole copy: stock sqlite3 finds no fault in
-it, and its tables stand for a register, in which is all that was answered before the backup began, and nothing that began behind its end. It
-goes on behind its time until enough of either were killed. At the end the database has all that was answered, no draft is left behind another
-backup, and a station opens a copy of the last one. The seed is printed, and at a failure all that is left is kept in a folder. The last line is
-`N passed, M failed`.
+Two others submit one file after another, of a size that makes SQLite checkpoint often. Each trial takes a backup to the same name, and
+kills the command, the station, or neither. Afterwards the name has the file from before or a whole backup: stock sqlite3 finds no error in
+it, its tables are those of a register, it has all that was answered before the backup began, and nothing that began after its end. The
+check goes on beyond its time until enough of each were killed. At the end the database has all that was answered, no temporary file is left
+beside the backup, and a station opens a copy of the last one. The seed is printed. After a failure all files are kept in a folder. The last
+line is `N passed, M failed`.
 """
 
 import argparse
@@ -30,19 +30,20 @@ from program import PROGRAM
 from services import BOOK, CARMAKER, LONG, Resident, Wrong, expect
 
 STAMP = ["--date", "20240201", "--time", "0800000001", "--to", CARMAKER, "--format", "U"]
-# Some 15 pages of a database, whose log is brought into it behind 1,000.
+# Some 15 pages of a database, which is checkpointed after 1,000.
 SIZE = 40_000
 DONE = (0, b"done: backup\n", b"")
 KILLED = -9
-# How many backups and how many stations have to be killed. Where fewer were when the time is up, it goes on for so many seconds at most.
+# How many backups and how many stations have to be killed. If there were fewer when the time is up, the check goes on for at most this many
+# seconds.
 KILLS = 3
 LONGEST = 300
-# What a command may tell beside a station that is killed.
+# What a command may print while its station is killed.
 GONE = [b"fault: 3 office\n", b"fault: 6 store 1\n"]
 
 
 class Submitting(threading.Thread):
-    """Hands in one file after another: those that it has begun, and those that were answered."""
+    """Submits one file after another, and notes those that it began and those that were answered."""
 
     def __init__(self, name, room, database):
         super().__init__()
@@ -66,7 +67,7 @@ class Submitting(threading.Thread):
 
 
 class Trials:
-    """A station, those who hand files in, and the name of the backups."""
+    """A station, those who submit files to it, and the name of the backups."""
 
     def __init__(self, room, chance):
         self.room, self.chance = room, chance
@@ -87,7 +88,7 @@ class Trials:
         return {name for other in self.others for name in getattr(other, which)}
 
     def trial(self):
-        """A backup, within which the command or the station is killed, or neither."""
+        """A backup, during which the command or the station is killed, or neither."""
         whom = self.chance.choice(["nobody", "the command", "the station"])
         answered = self.names("answered")
         begin = time.monotonic()
@@ -112,7 +113,7 @@ class Trials:
         return [PROGRAM, "backup", "--db", self.station.database, self.to]
 
     def look(self, whom, told, answered, begun):
-        """What the command told may be, and so what bears the name."""
+        """The command printed one of the allowed results, and the name has the file that fits it."""
         is_killed = told[0] == KILLED and whom == "the command"
         is_gone = (told[0], told[1]) == (1, b"") and told[2] in GONE and whom == "the station"
         if not (told == DONE or is_killed or is_gone):
@@ -130,7 +131,7 @@ class Trials:
         return min(self.commands_killed, self.stations_killed, self.done) >= KILLS
 
     def end(self):
-        """Nobody hands in any more. The last backup has all, and nothing else lies beside it."""
+        """Nobody submits any more. The last backup has everything, and no other file lies beside it."""
         for other in self.others:
             other.is_over = True
         for other in self.others:
@@ -146,7 +147,7 @@ class Trials:
         self.open()
 
     def open(self):
-        """A station opens a copy of the last backup, and tells its files."""
+        """A station opens a copy of the last backup, and lists its files."""
         copy = self.room / "opened"
         shutil.copy(self.to, copy)
         done = subprocess.run([PROGRAM, "report", "--db", copy, "out"], capture_output=True, timeout=LONG, check=False)
@@ -154,7 +155,7 @@ class Trials:
 
 
 def names_in(database):
-    """The files that a database has, which stands for a register."""
+    """The files in a database, whose tables have to be those of a register."""
     found = tables.read(database)
     why = tables.unfit(found)
     if why:

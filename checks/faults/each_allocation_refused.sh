@@ -1,14 +1,13 @@
 #!/bin/bash
-# Runs the program, and the tests of refused growths, with each of their allocations refused in turn; and the test of the deframer's
-# room with every allocation behind the reservation refused. No answer may differ: only a fault may stand in its place. What the
-# program wrote by then is a beginning of the whole answer; where the register was refused memory, ESID 08 stands behind it. It wants a
-# C compiler. The program is that of OFTP_STATION, or else the one that was last proved.
+# Runs the program, and the tests of failed allocations, with each of their allocations refused in turn; and the test of the deframer's room with
+# every allocation after the reservation refused. No result may differ, except that an error may take its place. What the program wrote by then
+# is a beginning of the whole output; if the register was refused memory, ESID 08 follows it. It needs a C compiler. The program is that of
+# OFTP_STATION, or else the one that was last proved.
 #
 #     checks/faults/each_allocation_refused.sh [built|program] [--allocations N|all]
 #
-# The tests are proved and built if need be; with the word `built` they are taken as the last `rt ci` left them, and with the word
-# `program` they are left out. With `--allocations` the rows below are played over a database too, and requests and reports, with so many
-# allocations of each refused, or all.
+# The tests are proved and built if need be. With the word `built` they are those that the last `rt ci` left, and with the word `program` they are left
+# out. With `--allocations` the rows below are played over a database too, and requests and reports, with N allocations of each refused, or all.
 set -euo pipefail
 how=
 allocations=
@@ -37,7 +36,7 @@ fail() {
     exit 1
 }
 
-# Runs the words with the allocation of this number refused. It answers whether there was such an allocation.
+# Runs the command with the allocation of this number refused. It returns whether there was such an allocation.
 is_refused() {
     rm -f reached answer
     status=0
@@ -50,7 +49,7 @@ check_whole() {
     if [ -e whole ]; then cmp answer whole || fail 'another answer'; fi
 }
 
-# Checks what the program left: the same as with ample memory, or a fault and a beginning of the same.
+# Checks what the program left: the same as with ample memory, or an error and a beginning of the same.
 check_left() {
     case "$status $(cat err)" in
         '0 ')
@@ -73,7 +72,7 @@ check_left() {
     fi
 }
 
-# Checks how a test ended: it passed, or its own growth was refused. `AllocError` is the test's, and no fault of the crate under test.
+# Checks how a test ended: it passed, or its own allocation was refused. `AllocError` is the test's, and no error of the crate under test.
 check_passed() {
     case "$status $(head -n 1 err)" in
         '0 '*) ;;
@@ -82,7 +81,7 @@ check_passed() {
     esac
 }
 
-# Refuses one allocation after the other, up to the run that has no such allocation.
+# Refuses one allocation after another, up to the run without such an allocation.
 each() {
     local check=$1
     shift
@@ -107,7 +106,7 @@ each_of_program() {
     if [ "$told" = 0 ]; then fail 'no refusal was told'; fi
 }
 
-# Names a test of a crate, and proves and builds the crate's tests if need be.
+# Finds a test of a crate, and proves and builds the crate's tests if need be.
 take_test() {
     name="$1 $2"
     tests=$root/crates/$1/out/$1_tests
@@ -125,8 +124,8 @@ each_of_test() {
     each check_passed "$tests" "$2"
 }
 
-# Refuses every allocation from some number on, up to the number from which the test passes: what was refused before is the
-# reservation and nothing else, so that no allocation behind it is needed.
+# Refuses every allocation from some number on, up to the number from which the test passes: what was refused before is just the
+# reservation, so that no allocation after it is needed.
 none_behind_reservation() {
     take_test "$1" "$2"
     export FAIL_ALLOC_ON=1

@@ -1,6 +1,6 @@
-/* Has a call of the program to the C library fail, and writes down some that it makes. FAIL_CALL names one of socket, bind, connect,
-   accept4 and open, FAIL_NUMBER is its errno, and FAIL_TIMES how many times it fails; an open fails where its path ends by FAIL_PATH. Each
-   rename, and each fsync of a file or a folder, is a line of the file CALLS. It is loaded before the C library (glibc) by LD_PRELOAD. */
+/* Lets a call of the program to the C library fail, and records some of its calls. FAIL_CALL is one of socket, bind, connect, accept4
+   and open, FAIL_NUMBER is its errno, and FAIL_TIMES how many times it fails; an open fails if its path ends in FAIL_PATH. Each rename,
+   and each fsync of a file or a folder, is a line of the file CALLS. It is loaded before the C library (glibc) by LD_PRELOAD. */
 #define _GNU_SOURCE
 #include <dlfcn.h>
 #include <errno.h>

@@ -1,11 +1,11 @@
 #!/usr/bin/env python3
-"""Has calls of the program for sockets and for a trace fail, and looks at what it does when it gives a file its name.
+"""Lets calls of the program for sockets and for a trace fail, and checks what it does when it gives a file its name.
 
     checks/faults/edge_calls.py
 
-Want of memory is told as that, wherever the machine has none, and any other fault as before. A caller who is gone before it is accepted, or
-for whom there is nothing now, ends no service. A file that is fetched is on the disk before it has its name, and the name before the line
-is out. It wants a C compiler. The last line is `N passed, M failed`.
+Out of memory is reported as such, wherever the machine has none, and any other error as before. A caller that is gone before it is
+accepted, or that can't be accepted for the moment, ends no service. A fetched file is synced before it gets its name, and the name before
+the line is printed. It needs a C compiler. The last line is `N passed, M failed`.
 """
 
 import errno
@@ -67,7 +67,7 @@ def trace_without_memory(room, library):
 
 
 def callers_that_pass(room, library):
-    """Each of these ends no service, and the next caller is served."""
+    """None of these ends a service, and the next caller is served."""
     greeting = Row(ROWS / "opening/wrong_password.row").sessions()[0].steps[0][1]
     passing = ("EPERM", "ENOMEM", "ENFILE", "EMFILE", "EPROTO", "ENOPROTOOPT", "ENETDOWN", "ENETUNREACH", "ECONNABORTED", "ENOBUFS", "EHOSTUNREACH")
     for name in passing:

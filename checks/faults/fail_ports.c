@@ -1,6 +1,6 @@
 /* Lets the reader and the writer of a session fail: reads of the file READ_FILE give READ_MOST octets in all, and writes to WRITE_FILE
-   take WRITE_MOST, and the call behind that fails. Where PORT_PIECE is there, no call gives or takes more octets than it says; where
-   WRITE_NOTHING is there, the write that would fail takes no octet. It is loaded before the C library (glibc) by LD_PRELOAD. */
+   take WRITE_MOST; the next call fails. If PORT_PIECE is set, no call gives or takes more octets than that. If WRITE_NOTHING is set, the
+   write that would fail takes no octet. It is loaded before the C library (glibc) by LD_PRELOAD. */
 #define _GNU_SOURCE
 #include <dlfcn.h>
 #include <errno.h>
@@ -13,7 +13,7 @@
 
 static size_t was_read, was_written;
 
-/* Whether this is the file that a variable of the environment names. */
+/* Whether this is the file in an environment variable. */
 static int is_named(int file, const char *variable) {
     const char *name = getenv(variable);
     char link[64], path[PATH_MAX];
@@ -23,7 +23,7 @@ static int is_named(int file, const char *variable) {
     return size > 0 && (path[size] = 0, strcmp(path, name) == 0);
 }
 
-/* How many octets a call may have, of these many that it asks for. */
+/* How many octets a call may have that asks for this many. */
 static size_t allowed(const char *variable, size_t done, size_t size) {
     const char *most = getenv(variable), *piece = getenv("PORT_PIECE");
     if (piece && size > (size_t)atol(piece)) size = (size_t)atol(piece);

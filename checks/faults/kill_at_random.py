@@ -1,19 +1,19 @@
 #!/usr/bin/env python3
-"""Kills the program by SIGKILL at random moments, and looks at what it left.
+"""Kills the program by SIGKILL at random moments, and checks what it leaves.
 
-    checks/faults/kill_at_random.py [--seconds N | --minutes N] [--seed N]       30 seconds, and another seed each time, where none is given
+    checks/faults/kill_at_random.py [--seconds N | --minutes N] [--seed N]       default: 30 seconds, and another seed each time
 
-Each trial gives the program one command over a database that earlier trials left: a session in which a file comes in, through a pipe
-in pieces of random sizes; one in which a file goes out; one in which responses come, or go; `submit`; `release` or `refuse`. After a
-random time it is killed, unless it ended before. Then the tables are read by stock sqlite3, and the program tells them by `report`.
-They have to stand for all changes that the octets and the lines that came out answer, and else for no more than what comes next:
-never for less, and never for half a change. The next trial goes on with what is left. It goes on behind its time until a trial of each
-kind was killed, and fails where five minutes more bring none. The seed is printed, and at a failure all that is left is kept in a
-folder.
+Each trial runs one command over the database that earlier trials left: a session in which a file is received, through a pipe in pieces of
+random sizes; one in which a file is sent; one in which responses are received, or sent; `submit`; `release` or `refuse`. After a random
+time it is killed, unless it ended before. Then stock sqlite3 reads the tables, and the program lists them by `report`. They have to hold
+all changes that the octets and the lines answered, and at most the next one: never less, and never half a change. The next trial goes on
+from there. The check goes on beyond its time until a trial of each kind was killed, and fails if another five minutes bring none. The seed
+is printed. After a failure all files are kept in a folder.
 
-Over each of the five databases `listen` and `http` stay from the first trial to the last. Some of the sessions in which something comes go
-to that `listen`, and half of these are cut off. Between two trials a stranger calls, or somebody asks for what the database holds. What the
-services hold at the end is compared with what they held at the beginning (checks/lib/staying.py). The last line is `N passed, M failed`.
+Over each of the five databases `listen` and `http` run from the first trial to the last. Some of the sessions that receive something go to
+that `listen`, and half of these are cut off. Between two trials a stranger calls, or a request asks for the database. The memory and
+descriptors of the services at the end are compared with those at the beginning (checks/lib/staying.py). The last line is `N passed, M
+failed`.
 """
 
 import argparse
@@ -31,11 +31,11 @@ import tables
 from killed import BLOCK, BUFFER, CREDIT, Station, Wrong, keep, rows_of
 from staying import Services, frame
 
-# How many octets of a file a full DATA carries: each 63 behind a header octet.
+# How many octets of a file a full DATA carries: up to 63 after each header octet.
 FULL = (BUFFER - 1) // 64 * 63 + max((BUFFER - 1) % 64 - 1, 0)
 WINDOW = FULL * CREDIT
 FILES_OF_A_DATABASE = 6
-# Some trials of each kind have to be killed. Where none was when the time is up, it goes on for so many seconds at most.
+# Some trials of each kind have to be killed. If there was none when the time is up, the check goes on for at most this many seconds.
 LONGEST = 300
 PARTNER = {"originator": "O0177CARMAKER", "destination": "O0013SUPPLIER"}
 STAMP = {"date": "20240131", "time": "1015300001"}
@@ -44,7 +44,7 @@ ENDS = frame("ESID", reason="00")
 
 
 def data_frames(octets):
-    """The DATA of an unstructured file from some row on, each as full as the buffer lets it be."""
+    """The DATA of an unstructured file from a block on, each as full as the buffer allows."""
     frames = []
     for at in range(0, len(octets), FULL):
         piece = octets[at : at + FULL]
@@ -61,7 +61,7 @@ def count(commands, kind):
 
 
 class FileIn:
-    """A file comes in, and is offered again after each kill, from wherever the partner likes."""
+    """A file is received, and is offered again after each kill, from any position."""
 
     name = "a file comes in"
 
@@ -77,7 +77,7 @@ class FileIn:
             self.number = 0
         self.number += 1
         self.octets = chance.randbytes(chance.choice([0, 1, 5000, 200_000, 400_000, WINDOW * 10]))
-        # What is left of it: its state and how many rows, or None where it isn't there.
+        # What is left of it: its state and its number of blocks, or None if there is none.
         self.left = None
 
     def trial(self):
@@ -102,7 +102,7 @@ class FileIn:
         return self.left is not None and self.left[0] == "whole"
 
     def look(self):
-        """Reads what is left of the file: its rows begin the rows that it was offered with."""
+        """Reads what is left of the file: its blocks are a beginning of those that were offered."""
         found = self.station.tables()
         file = [entry for entry in found["in_file"] if entry["no"] == self.number]
         bodies = tables.bodies(found, "in_file", self.number)
@@ -111,7 +111,7 @@ class FileIn:
         self.left = (file[0]["state"], len(bodies)) if file else None
 
     def allowed(self, begin, frames, commands):
-        """What may be left: what was answered last, and what comes behind it."""
+        """What may be left: the last state that was answered, and the one after it."""
         whole = ("whole", len(rows_of(self.octets)))
         if self.is_whole() or count(commands, "EFPA"):
             return [whole]
@@ -125,12 +125,12 @@ class FileIn:
         return [self.kept_at(begin, windows), behind]
 
     def kept_at(self, begin, windows):
-        """What is kept once so many windows are: whole blocks alone."""
+        """What is stored after this many windows: only full blocks."""
         return ("open", min(begin * BLOCK + windows * WINDOW, len(self.octets)) // BLOCK)
 
 
 class FileOut:
-    """A file goes out, and is offered again after each kill. The partner takes it from wherever it likes, up to what is offered."""
+    """A file is sent, and is offered again after each kill. The partner accepts it from any position, up to the offered one."""
 
     name = "a file goes out"
 
@@ -173,7 +173,7 @@ class FileOut:
             self.begin_file()
 
     def compare_frames(self, commands, offered, frames):
-        """What came out is what the file is, from the row that the partner asked for."""
+        """The octets out are those of the file, from the position that the partner asked for."""
         offers = [fields for kind, fields in commands if kind == "SFID" and fields]
         if offers and offers[0]["restart"] != str(offered):
             raise Wrong(f"row {offers[0]['restart']} is offered, not {offered}")
@@ -191,8 +191,8 @@ class FileOut:
         self.left = (file["state"], file["mark"])
 
     def allowed(self, begin, frames, commands):
-        """What may be left: each change that may be made behind the last one that is answered. A CDT that was read is answered by the
-        DATA behind it, the last one by EFID."""
+        """What may be left: each change that may be made after the last answered one. A CDT that was read is answered by the next DATA, and
+        the last one by EFID."""
         sent = count(commands, "DATA")
         states = self.states(begin, frames)
         if count(commands, "CD"):
@@ -204,7 +204,7 @@ class FileOut:
         return states[least : 2 + sent // CREDIT + (sent == frames)]
 
     def states(self, begin, frames):
-        """What the file is before the session, once the start is answered, after each CDT, when its end goes out, and at the end."""
+        """The states of the file: before the session, once the start is answered, after each CDT, when its end is sent, and at the end."""
         states = [self.left, ("waiting", 0) if self.left[0] == "closing" else self.left]
         for windows in range(1, frames // CREDIT + 1):
             states.append(("waiting", begin + min(windows * WINDOW, len(self.octets) - begin * BLOCK) // BLOCK))
@@ -254,7 +254,7 @@ class Submission:
 
 
 class Release:
-    """The operator releases and refuses files that came, and their responses go out."""
+    """The operator releases and refuses files that were received, and their responses are sent."""
 
     name = "release"
     files = 12
@@ -276,7 +276,7 @@ class Release:
         ]
         given.write_bytes(b"".join([OPENS, *files, ENDS]))
         subprocess.run(station.words("feed", given, station.room / "answer"), check=True, capture_output=True)
-        # The kind of each response that is issued, in order.
+        # The kind of each issued response, in order.
         self.issued = []
         self.sent = 0
 
@@ -320,7 +320,7 @@ class Release:
 
 
 class Responses:
-    """Responses of the partner's come, for files of which the station knows nothing."""
+    """The partner sends responses to files that the station doesn't know."""
 
     name = "responses come"
 
@@ -359,7 +359,7 @@ SCENARIOS = [FileIn, FileOut, Submission, Release, Responses]
 
 
 class Running:
-    """A scenario, and the services that stay over its database."""
+    """A scenario, and the services that run over its database."""
 
     def __init__(self, scenario, room, chance, stack):
         folder = room / scenario.__name__
@@ -372,7 +372,7 @@ class Running:
         self.trials = 0
 
     def go_on(self):
-        """A trial, and one who calls the services behind it. It answers why that went wrong, or None."""
+        """A trial, and then a caller of the services. It returns why that went wrong, or None."""
         try:
             self.scenario.trial()
             self.station.services.meet(self.chance)
@@ -382,7 +382,7 @@ class Running:
         return None
 
     def settle(self):
-        """Tells what was done, and answers why it wasn't enough, or too much was held."""
+        """Prints what was done, and returns why it wasn't enough, or what was leaked."""
         told, whys = self.station.services.settle()
         cuts = f", {self.station.cuts} cut off" if self.station.cuts else ""
         print("\n    ".join([f"{self.name}: {self.trials} trials, {self.station.kills} programs killed{cuts}", *told]))
@@ -390,7 +390,7 @@ class Running:
 
 
 def try_in_turn(running, seconds):
-    """Trials of each scenario in turn until the time is up. It answers why one went wrong, or None."""
+    """Trials of each scenario in turn until the time is up. It returns why one went wrong, or None."""
     end = time.monotonic() + seconds
     last = end + LONGEST
     while time.monotonic() < end or (time.monotonic() < last and not all(it.station.kills for it in running)):
@@ -402,7 +402,7 @@ def try_in_turn(running, seconds):
 
 
 def run_all(room, seconds, chance):
-    """Runs the scenarios beside each other. It answers how many trials went well, and what went ill."""
+    """Runs the scenarios in parallel. It returns how many trials went well, and what went wrong."""
     with contextlib.ExitStack() as stack:
         try:
             running = [Running(scenario, room, chance, stack) for scenario in SCENARIOS]

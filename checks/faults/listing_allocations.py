@@ -1,12 +1,11 @@
 #!/usr/bin/env python3
-"""Refuses the allocations of requests and of reports in turn.
+"""Refuses the allocations of requests and of reports, one after another.
 
-    checks/faults/listing_allocations.py [--allocations N]        as many of each as N says, 40 where there is no number, spread over all,
-                                                                  or `all`
+    checks/faults/listing_allocations.py [--allocations N|all]     N allocations of each, evenly spread (default: 40), or all
 
-They are those that the opening of the database leaves; checks/faults/stop_at_each_call.py refuses the opening's own. A request is answered as
-always, or by a whole 503, or not at all, and then the program ends by a fault. A report is as always, or a fault stands in its place and
-nothing of it is written. It wants a C compiler. The last line is `N passed, M failed`.
+These are the allocations after the opening of the database; checks/faults/stop_at_each_call.py refuses those of the opening. A request gets
+its usual reply, or a whole 503, or no reply, in which case the program ends with an error. A report is as usual, or an error is printed and
+nothing of the report is written. It needs a C compiler. The last line is `N passed, M failed`.
 """
 
 import argparse
@@ -27,26 +26,26 @@ from row_files import ROWS, Call
 from services import LONG, Service, Wrong
 from shims import compile_library, stopping
 
-# The files of rows/listing whose databases are asked, with the reports and the requests.
+# The files of rows/listing whose databases are used, with the reports and the requests.
 ASKED = {
     "incoming_states": (["in", "issued"], ["GET /in", "GET /in/1", "GET /responses", "POST /in/1", "GET /in/7", "GET /other", "GET"]),
     "outgoing_states": (["out", "received"], ["GET /out", "GET /out/1", "GET /responses"]),
 }
-# The requests whose reply is the same whatever a database holds, so that none is opened for them.
+# The requests whose reply is the same for every database, so that none is opened for them.
 OPEN_NONE = ("GET /other", "GET")
 FAULTS = (b"fault: 3 office\n", b"fault: 4 memory\n", b"fault: 6 store 2\n")
 UNAVAILABLE = listing_files.reply_of("503", "")
 
 
 def run(folder, words, environment):
-    """What the program prints for these words."""
+    """What the program prints for these arguments."""
     words = [PROGRAM, words[0], "--db", folder / "database", *words[1:]]
     done = subprocess.run(words, capture_output=True, env={**os.environ, **environment}, timeout=LONG, check=False)
     return done.stdout, done.returncode, done.stderr
 
 
 def request(folder, line, environment):
-    """What `http` replies to one request."""
+    """The reply of `http` to one request."""
     with Service(folder, "http", environment=environment) as service:
         try:
             reply = listing_files.ask(service, [f"{line} HTTP/1.1\r\n\r\n".encode()])
@@ -59,7 +58,7 @@ def request(folder, line, environment):
 
 
 class Act:
-    """A request or a report over the database of a folder, with all that it tells where no allocation is refused."""
+    """A request or a report over the database of a folder, with its output if no allocation is refused."""
 
     def __init__(self, name, folder, call, words):
         self.name = name
@@ -75,7 +74,7 @@ class Act:
             return self.call(folder, self.words, environment)
 
     def refuse(self, number, library):
-        """What it tells with the allocation of this number refused, and whether there is such an allocation."""
+        """Its output with the allocation of this number refused, and whether there is such an allocation."""
         with tempfile.TemporaryDirectory() as path:
             reached = Path(path) / "reached"
             told = self.tell(stopping("refuse", number, library, reached))
@@ -92,7 +91,7 @@ class Act:
         return low
 
     def judge(self, number, library):
-        """Whether the refusal was told."""
+        """Whether the refused allocation was reported."""
         told, _ = self.refuse(number, library)
         if told == self.whole:
             return False
@@ -105,7 +104,7 @@ class Act:
 
 
 def numbers_of(act, opening, library):
-    """The numbers of the allocations that an opening leaves. `http` opens the database twice, and hears the request in between; for some
+    """The numbers of the allocations after the opening. `http` opens the database twice, and reads the request in between; for some
     requests it opens it once, before them."""
     last = act.count(library)
     if act.call is run or act.words in OPEN_NONE:
@@ -132,7 +131,7 @@ def acts_over(folder, name):
 
 
 def try_each(act, numbers, library, runners):
-    """Refuses these allocations. It answers how many refusals were told, and what came out otherwise."""
+    """Refuses these allocations. It returns how many refusals were reported, and which outputs were wrong."""
 
     def one(number):
         try:

@@ -1,13 +1,14 @@
 #!/usr/bin/env python3
 """Ends the input of a session, or lets its reader or its writer fail, at one octet after another.
 
-    checks/faults/ports_fail.py [--every N]      at each Nth octet, 97 where there is no number, and where each frame ends, before it and behind it
+    checks/faults/ports_fail.py [--every N]      at each Nth octet (default: 97), and before and after the end of each frame
 
-The sessions are those of some rows, in memory where a row begins by one, and over the database that the acts before them leave. Each time
-the line, the octets out and the tables that are left have to be those of the model of a station (checks/lib/model.py): all that the octets
-that came, or went out, answer, and the change whose answer was to be written next. Then the partner goes on: a file that it sent is offered
-again, goes on from the row that the station answers, and is fetched whole, or it is refused by 13 since it is whole already; else the
-session is held once more. Reads and writes of one octet change nothing. It wants a C compiler. The last line is `N passed, M failed`.
+The sessions are those of some rows, in memory if a row begins with one, and over the database that the acts before them leave. Each time
+the line, the octets out and the tables have to be those of the model of a station (checks/lib/model.py): everything that the octets
+received or sent answer, and the change whose answer was about to be written. Then the partner goes on. A file that it sent is offered
+again, continues from the Restart position that the station answers, and is fetched whole, or it is refused by SFNA 13 because it is whole
+already. Otherwise the session is held once more. Reads and writes of one octet change nothing. It needs a C compiler. The last line is `N
+passed, M failed`.
 """
 
 import argparse
@@ -31,7 +32,7 @@ from goes_on import Wrong
 from row_files import ROWS, Row, Session, content
 from shims import compile_library
 
-# Rows of which each session is broken, and the octets of the file that the partner sends in them, if any.
+# Rows whose sessions are broken, and the octets of the file that the partner sends in them, if any.
 BROKEN = {
     "receiving/empty_file": b"",
     "taken_up/broken_and_taken_up": content(0, 2500),
@@ -45,7 +46,7 @@ BROKEN = {
 
 
 class Broken:
-    """A session of a row, with the folder that it is held in and what it has out where nothing breaks."""
+    """A session of a row, with its folder and its octets out when nothing breaks."""
 
     def __init__(self, act, base, is_in_memory, file):
         self.act = act
@@ -107,7 +108,7 @@ class Broken:
 
 
 def places(octets, every):
-    """Each Nth octet, and those about the ends of frames."""
+    """Each Nth octet, and those around the ends of frames."""
     ends = list(itertools.accumulate(len(frame) for frame in oftp.frames_of(octets)))
     near = {end + step for end in ends for step in (-1, 0, 1, 2)}
     return sorted(place for place in near | {*range(0, len(octets), every)} if place < len(octets))
@@ -131,7 +132,7 @@ def sessions_of(name, file, room):
 
 
 def told(broken, how, place, library):
-    """Why a case came out otherwise, or None."""
+    """Why a case failed, or None."""
     try:
         broken.play(how, place, library)
     except (Wrong, tables.Damaged, OSError, subprocess.SubprocessError) as why:

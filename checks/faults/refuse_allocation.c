@@ -1,5 +1,5 @@
-/* Refuses the allocation whose number is in FAIL_ALLOC, counting from 1, and makes the file FAIL_ALLOC_REACHED when it does. Where
-   FAIL_ALLOC_ON is there, each later one is refused too. It is loaded before the C library (glibc) by LD_PRELOAD. */
+/* Refuses the allocation whose number is in FAIL_ALLOC, counted from 1, and makes the file FAIL_ALLOC_REACHED when it does. If
+   FAIL_ALLOC_ON is set, each later one is refused too. It is loaded before the C library (glibc) by LD_PRELOAD. */
 #include <errno.h>
 #include <fcntl.h>
 #include <stddef.h>

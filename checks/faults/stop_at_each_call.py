@@ -1,16 +1,19 @@
 #!/usr/bin/env python3
-"""Stops each command of a day and of some rows at each of its calls on the database, and refuses its allocations in turn.
+"""Stops each command of a day and of some rows at each of its calls on the database, and refuses its allocations one after another.
 
-    checks/faults/stop_at_each_call.py [--allocations N] [--every N] [--refuse] [ROW ..]      as many allocations of each command, 25 where
-            there is no number, spread over all, or `all`; each Nth call, where a number is given; with `--refuse` allocations alone; and
-            these of the rows below, or all
+    checks/faults/stop_at_each_call.py [--allocations N|all] [--every N] [--refuse] [ROW ..]
+
+        --allocations N    N allocations of each command, evenly spread (default: 25), or all
+        --every N          each Nth call (default: each)
+        --refuse           only allocations, no calls
+        ROW ..             these of the rows below (default: all)
 
 The commands are those of the rows below, each over the database that the ones before it left. At each call that changes a file of the
-database the program is killed before it; killed behind half of a write; or told a failure, then and at each later call. Each time, what
-came out has to be a beginning of the whole answer, but for the ESID 08 behind it, and the tables, read by stock sqlite3 and told by the
-program, have to hold all that it answers, and no more than the next change. A command is then given again, and ends as always; so is a
-session, and it goes on as the model of a station has it (checks/lib/model.py): a file that came in part goes on from the row that the station
-answers, and is fetched whole. It wants a C compiler. The last line is `N passed, M failed`.
+database the program is killed before the call; killed after half of a write; or gets an error, then and at each later call. Each time, the
+output has to be a beginning of the whole answer, except for a final ESID 08. The tables, read by stock sqlite3 and listed by the program,
+have to hold all that it answers, and at most the next change. Then the command runs again, and ends as usual. A session also goes on as the
+model of a station does (checks/lib/model.py): a file that was received in part continues from the Restart position that the station
+answers, and is fetched whole. It needs a C compiler. The last line is `N passed, M failed`.
 """
 
 import argparse
@@ -34,7 +37,7 @@ from program import PROGRAM
 from row_files import ROWS, Call, Row, Session, content
 from shims import compile_library, stopping
 
-# The rows, and the octets of the file that the partner sends in them, if it is to go on with it.
+# The rows, and the octets of the file that the partner sends in them, if it then continues it.
 STOPPED = {
     "day/a_day": content(0, 2500),
     "receiving/empty_file": b"",
@@ -46,10 +49,10 @@ STOPPED = {
     "operator/migrated": None,
 }
 NO_RESOURCES = oftp.frame(oftp.spell("ESID", {"reason": "08"}))
-# Rows whose first session is held in memory too, with each of its allocations refused.
+# Rows whose first session also runs in memory, with each of its allocations refused.
 IN_MEMORY = ["receiving/empty_file", "taken_up/broken_and_taken_up", "listening/repeated_end_response"]
 OURS = {"about": [{"id": 1, "schema": 2}]}
-# What the program may tell where the disk fails, which is also that of the file that is fetched, and where memory is refused.
+# What the program may report if the disk fails, which may also be the disk of a fetched file, and if memory is refused.
 FAULTS = {
     "fail": ["fault: 6 store 1\n", "fault: 3 office\n", "fault: 7 file\n"],
     "refuse": ["fault: 4 memory\n", "fault: 3 office\n", "fault: 6 store 2\n"],
@@ -57,12 +60,12 @@ FAULTS = {
 
 
 def given(words, room, environment):
-    """Gives the program these words in a folder."""
+    """Runs the program with these arguments in a folder."""
     return subprocess.run(words, cwd=room, capture_output=True, env={**os.environ, **environment}, check=False, timeout=60)
 
 
 class Command:
-    """A command of a row, with the folder that it is given in, what it tells, and what it may leave."""
+    """A command of a row, with its folder, its output, and the tables that it may leave."""
 
     def __init__(self, act, base, file):
         self.act = act
@@ -75,8 +78,8 @@ class Command:
             self.states = self.all_states()
 
     def all_states(self):
-        """The tables that there are in turn, with the octets that are out by then: each change of a session is made before the frame that
-        answers it, as the model of a station has it."""
+        """The tables one after another, with the number of octets that are out by then: each change of a session is made before the frame
+        that answers it, as in the model of a station."""
         before = tables.read(self.base / "database")
         opened = before if before["about"] else {**model.Register().tables(), **OURS}
         states = [(0, before), (0, opened)]
@@ -87,13 +90,14 @@ class Command:
         return states + [(out, {**found, **OURS}) for out, found in session.moments]
 
     def lacks(self, how):
-        """Why there has to be a call that is stopped in this way, or None: each command takes memory, and one that changes tables writes."""
+        """Why there should be a call that is stopped in this way, or None: each command allocates memory, and one that changes tables
+        writes."""
         if how == "refuse":
             return "takes memory, and no allocation is refused"
         return "changes the tables, and no call on the database is stopped" if self.left != self.states[0][1] else None
 
     def run(self, room, environment):
-        """Gives the command in a copy of its folder. It answers what it told, the octets out, how it ended, and the tables left."""
+        """Runs the command in a copy of its folder. It returns the output, the octets out, the status, and the tables left."""
         shutil.copytree(self.base, room, dirs_exist_ok=True)
         done = given(self.words(room), room, environment)
         out = acts.octets_in(room / "answer") if isinstance(self.act, Session) else b""
@@ -109,7 +113,7 @@ class Command:
         return [PROGRAM, self.act.words[0], *taken, *self.act.words[1:]]
 
     def stop(self, how, number, library):
-        """Stops the command at this call. It answers whether there is such a call."""
+        """Stops the command at this call. It returns whether there is such a call."""
         with tempfile.TemporaryDirectory() as path:
             room = Path(path) / "room"
             reached = Path(path) / "reached"
@@ -142,14 +146,14 @@ class Command:
             raise Wrong(f"{len(out)} octets and {line!r} are out, and the tables don't fit them")
 
     def allowed(self, line, out):
-        """The tables that may be left: with each change that is answered by an octet that is out, and no other but the next one."""
+        """The tables that may be left: those with each change that an octet answered, and at most the next one."""
         if line:
             return [self.left]
         first = max((at for at, (there, _) in enumerate(self.states) if there < len(out)), default=0)
         return [left for there, left in self.states[first:] if there <= len(out)]
 
     def judge_next(self, room, left):
-        """The program opens what is left, changes nothing of it, and does what it is asked again."""
+        """The program opens what is left, changes nothing of it, and does the same command again."""
         database = room / "database"
         if left["about"] == OURS["about"]:
             done = given([PROGRAM, "report", "--db", database, "in"], room, {})
@@ -164,7 +168,7 @@ class Command:
 
 
 class InMemory(Command):
-    """A session with a register in memory, which leaves nothing."""
+    """A session with a register in memory, which leaves no tables."""
 
     def words(self, room):
         (room / "given").write_bytes(self.act.joined("in"))
@@ -179,7 +183,7 @@ class InMemory(Command):
 
 
 def commands_of(name, file, room):
-    """Each command of a row but reports, with the folder as the ones before it left it."""
+    """Each command of a row except reports, with the folder as the ones before it left it."""
     now = room / name.replace("/", "_")
     now.mkdir()
     for number, act in enumerate(Row(ROWS / f"{name}.row").acts):
@@ -204,7 +208,7 @@ def all_commands(room, names):
 
 
 def count_of(command, library, how):
-    """How many calls of a command can be stopped."""
+    """The number of calls of a command at which it can be stopped."""
     if not is_there(command, library, how, 1):
         return 0
     count = 1
@@ -232,7 +236,7 @@ def ways_of(command, taken):
 
 
 def numbers_of(command, how, count, taken):
-    """At which of so many calls a command is stopped: at each, each Nth, or some that are spread over all."""
+    """The calls at which a command is stopped: each, each Nth, or some that are evenly spread."""
     if how != "refuse":
         return range(1, count + 1, taken.every)
     is_each = taken.allocations == "all" or isinstance(command, InMemory)
@@ -240,7 +244,7 @@ def numbers_of(command, how, count, taken):
 
 
 def stop_each(command, how, numbers, library, runners):
-    """Stops a command at each of these calls. It answers how many went well, and what went ill."""
+    """Stops a command at each of these calls. It returns how many went well, and what went wrong."""
 
     def one(number):
         try:
@@ -252,7 +256,7 @@ def stop_each(command, how, numbers, library, runners):
 
 
 def stop_in_all_ways(command, taken, libraries, runners):
-    """Stops a command in each way at its calls, and prints how often. It answers how many went well and ill."""
+    """Stops a command in each way at its calls, and prints how often. It returns how many went well, and what went wrong."""
     passed, failed, tried = 0, 0, []
     for how in ways_of(command, taken):
         library = libraries["refuse" if how == "refuse" else "fail"]

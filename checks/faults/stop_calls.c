@@ -1,7 +1,7 @@
 /* Stops a program at a call on its database: the calls pwrite, fdatasync, fsync and ftruncate are counted from 1. At the one whose
-   number is in STOP_AT, where STOP_HOW is `kill`, the program is killed before the call; where it is `tear`, behind half of what a
-   pwrite writes; and where it is `fail`, this call and each later one fail. It makes the file STOP_REACHED then. It is loaded before
-   the C library (glibc) by LD_PRELOAD. */
+   number is in STOP_AT, if STOP_HOW is `kill`, the program is killed before the call; if it is `tear`, after half of what a pwrite
+   writes; and if it is `fail`, this call and each later one fail. It makes the file STOP_REACHED then. It is loaded before the C
+   library (glibc) by LD_PRELOAD. */
 #define _GNU_SOURCE
 #include <dlfcn.h>
 #include <errno.h>
@@ -18,7 +18,7 @@ static void end(void) {
     kill(getpid(), SIGKILL);
 }
 
-/* Whether the call fails. `half`, where there is one, writes half of what the call writes. */
+/* Whether the call fails. `half`, if given, writes half of what the call writes. */
 static int is_stopped(void (*half)(int, const void *, size_t, off_t), int file, const void *octets, size_t size, off_t at) {
     const char *number = getenv("STOP_AT"), *how = getenv("STOP_HOW"), *reached = getenv("STOP_REACHED");
     if (!number || !how) return 0;

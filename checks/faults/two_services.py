@@ -1,22 +1,22 @@
 #!/usr/bin/env python3
-"""Joins two stations as real processes, breaks their connection, kills them at random moments, and tests what they promise each other.
+"""Joins two stations as processes, breaks their connection, kills them at random moments, and tests what they promise each other.
 
-    checks/faults/two_services.py [--seconds N | --minutes N] [--seed N]       30 seconds, and another seed each time, where none is given
+    checks/faults/two_services.py [--seconds N | --minutes N] [--seed N]       default: 30 seconds, and another seed each time
 
-Each station is the program over a database of its own. A round is: a few commands of both operators (submit, release, refuse), some of
-them killed; and a session, in which one station calls the other, who listens. All octets of a session pass through this script. It may
-break the connection within a frame or after so many octets, by an end, a reset or silence in one direction, and may kill either program
-by SIGKILL, after a time or at a place in what is said. After each round both databases are read by stock sqlite3, and hold what two
-stations promise (`promised`): a file that one has handed over is whole and equal at the other, and what it holds as delivered or
-returned was answered so there. Behind a number of rounds come two sessions that nothing breaks: then all is delivered or returned.
+Each station is the program over a database of its own. A round is a few commands of both operators (submit, release, refuse), some of which
+are killed, and then a session, in which one station calls the other. All octets of a session pass through this script. It may break the
+connection within a frame or after a number of octets, by an end, a reset or silence in one direction, and may kill either program by
+SIGKILL, after a time or at a place in the octets. After each round stock sqlite3 reads both databases, which have to keep what two stations
+promise (`promised`): a file that one has as handed over is whole and equal at the other, and what it has as delivered or returned was
+answered so there. After a number of rounds there are two sessions that nothing breaks. Then all files are delivered or returned.
 
-Four pairs of stations live at once. In every other pair the services of one station stay, from the first life to the last: its `listen`,
-which is never killed, and its `http`, which is asked between two rounds; strangers call, too. What they hold at the end is compared with
-what they held at the beginning (checks/lib/staying.py).
+Four pairs of stations run in parallel. In every other pair the services of one station run from the first life to the last: its `listen`,
+which is never killed, and its `http`, which gets a request between two rounds; strangers call, too. Their memory and descriptors at the end
+are compared with those at the beginning (checks/lib/staying.py).
 
-It goes on behind its time until programs and commands were killed, connections broken and transfers went on, and fails where five minutes
-more don't bring them. The seed is printed: it repeats what is chosen, and not how far a program is when it is killed. At a failure all that
-happened to the pair is printed too, and what is left is kept. The last line is `N passed, M failed`.
+The check goes on beyond its time until programs and commands were killed, connections broken and transfers continued, and fails if another
+five minutes don't bring them. The seed is printed. It repeats the choices, but not how far a program is when it is killed. After a failure
+the history of the pair is printed too, and its files are kept. The last line is `N passed, M failed`.
 """
 
 import argparse
@@ -45,19 +45,19 @@ PAIRS = 4
 ROUNDS_OF_A_LIFE = 24
 FILES = 10
 LONG = 60
-# What has to come. Where some of it hasn't when the time is up, lives of so many seconds follow, for so many at most.
+# What has to occur. If some of it hasn't when the time is up, lives of this many seconds follow, for at most this many in all.
 SECONDS_MORE = 10
 LONGEST = 300
 WANTED = ["commands killed", "programs killed", "connections broken", "transfers that went on"]
-# How a session may end: between two stations none breaks the protocol.
+# How a session may end: between two stations none violates the protocol.
 ENDS = ["end: own 00", "end: partner 00", "end: input", "fault: 1 read", "fault: 2 write"]
-# How the call ends whose connection was reset before the program saw that it was made.
+# The end of a call whose connection was reset before the program saw it established.
 UNMADE = "fault: 8 socket"
 
 
 class Station(killed.Station):
-    """A station from its first day on: its database, its book, the partner's code, the rows of each file that was handed in here, and the
-    services that stay here, if any do."""
+    """A station from its first day on: its database, its book, the partner's code, the rows of each submitted file, and its long-running
+    services, if any."""
 
     def __init__(self, room, chance, name, book, partner, services=None):
         super().__init__(room, chance)
@@ -70,7 +70,7 @@ class Station(killed.Station):
         self.held = tables.read(self.database)
 
     def look(self):
-        """What it holds now. Nothing that was answered is taken back, and each file is as it was handed in."""
+        """Its tables now. Nothing that was answered is lost, and each file is as it was submitted."""
         before, self.held = self.held, tables.read(self.database)
         why = tables.unfit(self.held) or taken_back(before, self.held)
         if why:
@@ -80,12 +80,12 @@ class Station(killed.Station):
                 raise Wrong(f"{self.name}: file {file['no']} isn't the one that was handed in")
 
 
-# ---- a session, and what becomes of it
+# ---- a session, and what happens to it
 
 
 class Session(Passage):
-    """A session: one station calls and the other listens, each a process, and all that they say passes here. Where the services of the
-    second one stay, its process is there before, and is never killed."""
+    """A session: one station calls and the other listens, each a process, and all octets pass through here. If the services of the second
+    one are long-running, its process exists before, and is never killed."""
 
     def __init__(self, post, port, caller, listener, troubles):
         super().__init__(troubles)
@@ -96,9 +96,9 @@ class Session(Passage):
         self.killed = set()
 
     def play(self):
-        """It answers the line that each program told, the caller's first."""
+        """It returns the line that each program printed, the caller's first."""
         while select.select([self.post], [], [], 0)[0]:
-            self.post.accept()[0].close()  # one who was killed before
+            self.post.accept()[0].close()  # one that was killed before
         self.programs = [self.start(1), self.start(0)][::-1]
         try:
             self.connect()
@@ -114,7 +114,7 @@ class Session(Passage):
         return subprocess.Popen(self.words[place], stdout=subprocess.PIPE, stderr=subprocess.PIPE)
 
     def connect(self):
-        """Takes the caller's connection, and makes the one to the listener. Where one of both is gone, the other has nobody."""
+        """Accepts the caller's connection, and connects to the listener. If one of them is gone, the other has no peer."""
         ends = [self.until(self.caller), self.until(self.listener)]
         if None in ends:
             self.hang_up(end for end in ends if end)
@@ -124,7 +124,7 @@ class Session(Passage):
         self.join(*ends)
 
     def until(self, found):
-        """What is found once it is there, or None where a program has ended."""
+        """Waits for a value, and returns it, or None if a program has ended."""
         while True:
             self.do_timely()
             end = found()
@@ -143,13 +143,13 @@ class Session(Passage):
             return None
 
     def kill(self, place):
-        """Kills a program. In the place of a service that stays it is the one who calls."""
+        """Kills a program. If the listener is a long-running service, it kills the caller instead."""
         place = 0 if self.service else place
         self.programs[place].kill()
         self.killed.add(place)
 
     def ended(self, place):
-        """The line that a program told, or that it was killed."""
+        """The line that a program printed, or that it was killed."""
         if place == 1 and self.service:
             return self.told_by_service()
         out, err = self.programs[place].communicate(timeout=LONG)
@@ -163,7 +163,7 @@ class Session(Passage):
         return line
 
     def told_by_service(self):
-        """The line of the service that stays. It is done with the session then."""
+        """The line of the long-running service, which is then done with the session."""
         line = self.service.either()
         if line not in ENDS:
             raise Wrong(f"the service that stays told {line!r}")
@@ -175,7 +175,7 @@ class Session(Passage):
 
 
 class Staying:
-    """The services of the supplier's station, which stay for many lives, in the folder that it has in each."""
+    """The long-running services of the supplier's station, in the folder of each life."""
 
     def __init__(self, room, chance, port):
         self.folder = Path(tempfile.mkdtemp(dir=room))
@@ -186,7 +186,7 @@ class Staying:
 
 
 class Pair:
-    """Two stations from their first day on, and all that happens to them, in words."""
+    """Two stations from their first day on, and their history in words."""
 
     def __init__(self, room, chance, post, port, staying=None):
         self.chance = chance
@@ -210,7 +210,7 @@ class Pair:
         return Station(folder, self.chance, name, book, partner, staying.services if staying else None)
 
     def give(self, station, wanted, *words):
-        """An operator's command, which has to tell this line; one that isn't refused may be killed, and then it may tell nothing."""
+        """An operator's command, which has to print this line. Unless it is refused it may be killed, and then it may print nothing."""
         if wanted.startswith("done") and self.chance.random() < 0.2:
             line, was_killed = station.until_killed(words[0], station.words(*words))
             self.count["commands killed"] += was_killed
@@ -222,7 +222,7 @@ class Pair:
             raise Wrong(f"{station.name}: told {line!r}, not {wanted!r}")
 
     def submit(self, station):
-        """A file is handed in, or one of the same identity again."""
+        """A file is submitted, or one with the same identity again."""
         files = {file["dataset"]: file["no"] for file in tables.read(station.database)["out_file"]}
         is_again = bool(files) and self.chance.random() < 0.15
         if len(files) == FILES and not is_again:
@@ -240,7 +240,7 @@ class Pair:
         self.give(station, wanted, "submit", *words, *(["--longest", str(longest)] if longest else []), path)
 
     def answer(self, station, number=None):
-        """A file that came is released or refused: a whole one, once."""
+        """A received file is released or refused: a whole one, once."""
         held = tables.read(station.database)
         number = number or self.chance.randint(1, len(held["in_file"]) + 1)
         states = [file["state"] for file in held["in_file"] if file["no"] == number]
@@ -293,7 +293,7 @@ class Pair:
         self.count["rounds"] += 1
 
     def settle(self):
-        """Nothing breaks any more: all that waits is handed over, and answered."""
+        """Nothing breaks any more: all waiting files are handed over, and answered."""
         one, other = self.stations
         self.session(one, other, [])
         self.look()
@@ -313,7 +313,7 @@ class Pair:
 
 
 class Lives:
-    """Lives of pairs, one after another: what they did, what the services held that stayed in them, and why some went wrong."""
+    """Lives of pairs, one after another: what they did, what their services held, and why some failed."""
 
     def __init__(self, room, chance, is_staying):
         self.room = room
@@ -324,7 +324,7 @@ class Lives:
         self.whys = []
 
     def go_on(self, until):
-        """One life at least, and more until the time is up."""
+        """At least one life, and more until the time is up."""
         with contextlib.ExitStack() as stack:
             post = stack.enter_context(socket.create_server(("127.0.0.1", 0)))
             port = stack.enter_context(held_port()).getsockname()[1]
@@ -342,7 +342,7 @@ class Lives:
         return self
 
     def live(self, pair, until):
-        """A life. It answers whether all went well."""
+        """A life. It returns whether all went well."""
         try:
             for _ in range(ROUNDS_OF_A_LIFE):
                 if time.monotonic() < until:
@@ -356,7 +356,7 @@ class Lives:
 
 
 def live_side_by_side(lives, until, players):
-    """Lives of pairs beside each other. It answers what all of them did so far, what their services held, and why some went wrong."""
+    """Lives of pairs in parallel. It returns what all of them did so far, what their services held, and why some failed."""
     count, told, whys = Counter(), [], []
     for it in players.map(lambda it: it.go_on(until), lives):
         count += it.count
@@ -366,7 +366,7 @@ def live_side_by_side(lives, until, players):
 
 
 def missing(count):
-    """What has to come and hasn't yet."""
+    """What has to occur and hasn't yet."""
     return [name for name in WANTED if not count[name]]
 
 

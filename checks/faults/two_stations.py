@@ -1,15 +1,16 @@
 #!/usr/bin/env python3
 """Joins two stations, each the program over a database of its own, and breaks their connection.
 
-    checks/faults/two_stations.py [--every N]              the connection breaks after each Nth octet in turn, 29 where there is no number
+    checks/faults/two_stations.py [--every N]              the connection breaks after each Nth octet in turn (default: 29)
     checks/faults/two_stations.py --stops [--every N]      the supplier is killed at each Nth of its calls on its database instead
-    checks/faults/two_stations.py --residents ..           the same, where both stations hold their databases: `run`, which is asked to call
+    checks/faults/two_stations.py --residents ..           the same, where both stations are `run`, which is asked to call
 
-The car maker has a file of 2,500 octets for the supplier. One round is: a session begun by the car maker; the supplier's operator
-releases the file, if it is there; a session begun by the supplier. In the first round the connection breaks once so many octets have
-passed, in either direction, or one of the supplier's three programs is killed before it writes, syncs or cuts a file of its database (of
-one that holds it that is one program, from its opening on); the second round is whole. Then the file is delivered at the car maker, whole at the
-supplier, and there is one response for it at either side, whatever broke. `--stops` wants a C compiler. The last line is `N passed, M failed`.
+The car maker has a file of 2,500 octets for the supplier. One round is: a session that the car maker begins; the supplier's operator
+releases the file, if it is there; a session that the supplier begins. In the first round the connection breaks after a number of octets, in
+either direction, or one of the supplier's three programs is killed before it writes, syncs or truncates a file of its database (with `run`
+this is one program, from its opening on). The second round isn't broken. Then the file is delivered at the car maker and whole at the
+supplier, and there is one response for it at either side, whatever broke. `--stops` needs a C compiler. The last line is `N passed, M
+failed`.
 """
 
 import argparse
@@ -44,7 +45,7 @@ IDENTITY = ["--dataset", "ASN.0001", "--date", "20240131", "--time", "1015300001
 
 
 class Stop:
-    """Where a station is stopped: at this call of this program of its, counted from 1. The file `reached` is made then."""
+    """Where a station is stopped: at this call of this one of its programs, counted from 1. The file `reached` is made then."""
 
     def __init__(self, library, program, call):
         self.library = library
@@ -54,7 +55,8 @@ class Stop:
 
 
 class Station:
-    """A station: its database, its book, the other one's code, and where it is stopped. It is a program for each session and each command."""
+    """A station: its database, its book, the other's code, and where it is stopped. Each session and each command is a program of its
+    own."""
 
     # How many of its programs can be stopped.
     stopped = 3
@@ -81,16 +83,16 @@ class Station:
         return subprocess.run(words, capture_output=True, check=False, timeout=60, env=self.environment())
 
     def begin(self):
-        """It begins to run, where that isn't for one session alone."""
+        """Starts it, if it isn't a program for one session."""
 
     def end_of_stop(self):
         """Its program, which was stopped, has ended."""
 
     def end(self):
-        """It ends."""
+        """Ends it."""
 
     def meet(self, called, octets):
-        """A session with the other one, which breaks once so many octets have passed, where there is a number. It answers how many passed."""
+        """A session with the other station, which breaks after this many octets, if a number is given. It returns how many passed."""
         return join(self, called, octets)
 
     def begin_session(self, is_caller, given, answer):
@@ -101,7 +103,7 @@ class Station:
 
 
 class Resident(Station):
-    """A station that holds its database: one program, which commands ask. It calls the other one through this script."""
+    """A station as `run`: one program, which commands ask. It calls the other station through this script."""
 
     stopped = 1
 
@@ -149,7 +151,7 @@ class Resident(Station):
         return passage.passed
 
     def awaited(self, command):
-        """The connection of the call that a command asks for, or None where it ends without one."""
+        """The connection of the call that a command asks for, or None if the command ends without one."""
         while command.poll() is None:
             ready, _, _ = select.select([self.post], [], [], 0.01)
             if ready:
@@ -158,7 +160,7 @@ class Resident(Station):
 
 
 class Counted(Passage):
-    """A connection that breaks once so many octets have passed, in either direction, where there is a number."""
+    """A connection that breaks after this many octets, in either direction, if a number is given."""
 
     def __init__(self, most):
         super().__init__([])
@@ -166,7 +168,7 @@ class Counted(Passage):
         self.passed = 0
 
     def carry(self, end, port):
-        """Joins this connection, if there is one, with one to the station that is called, and passes on what both say."""
+        """Joins this connection, if there is one, with one to the station that is called, and passes on the octets of both."""
         if end is None:
             return
         try:
@@ -194,7 +196,7 @@ class Counted(Passage):
 
 
 def join(caller, called, octets):
-    """A session of two stations. It breaks once so many octets have passed, where there is a number. It answers how many passed."""
+    """A session of two stations. It breaks after this many octets, if a number is given. It returns how many passed."""
     programs, sources, sinks = [], [], []
     for station, is_caller in ((caller, True), (called, False)):
         given, sink = os.pipe()
@@ -220,7 +222,7 @@ def join(caller, called, octets):
 
 
 def pass_on(ends, octets):
-    """Passes octets on from each source to its sink, until the sources end, or so many have passed. It closes all."""
+    """Passes octets on from each source to its sink, until the sources end, or this many have passed. It closes all."""
     passed = 0
     while ends and passed != octets:
         ready, _, _ = select.select(list(ends), [], [], 60)
@@ -242,7 +244,7 @@ def pass_on(ends, octets):
 
 
 def play_round(car_maker, supplier, octets):
-    """One round, which breaks once so many octets have passed, where there is a number. It answers how many passed."""
+    """One round, which breaks after this many octets, if a number is given. It returns how many passed."""
     car_maker.begin()
     supplier.begin()
     passed = car_maker.meet(supplier, octets)
@@ -253,14 +255,14 @@ def play_round(car_maker, supplier, octets):
 
 
 class Setting(NamedTuple):
-    """What each case begins with: a folder, the car maker's database with its file, and what the stations are."""
+    """What each case begins with: a folder, the car maker's database with its file, and the kind of the stations."""
 
     room: Path
     first: Path
     kind: type
 
     def play(self, octets, stop=None):
-        """Both rounds, over databases of their own, and what is left then. It answers how many octets passed in the first."""
+        """Both rounds, over databases of their own, and what is left afterwards. It returns how many octets passed in the first."""
         with tempfile.TemporaryDirectory(dir=self.room) as path, contextlib.ExitStack() as stack:
             folder = Path(path)
             for end in ("", "-wal"):
@@ -285,7 +287,7 @@ class Setting(NamedTuple):
 
 
 def check(at_car_maker, at_supplier):
-    """The file is delivered, and whole, and answered once."""
+    """The file is delivered, whole, and answered once."""
     for name, found in (("the car maker", at_car_maker), ("the supplier", at_supplier)):
         why = tables.unfit(found)
         if why:
@@ -304,7 +306,7 @@ def check(at_car_maker, at_supplier):
 
 
 def told(setting, octets):
-    """Why a case came out otherwise, or None."""
+    """Why a case failed, or None."""
     try:
         setting.play(octets)
     except (Wrong, OSError, tables.Damaged, subprocess.SubprocessError) as why:
@@ -313,7 +315,7 @@ def told(setting, octets):
 
 
 def told_of_stop(setting, stop):
-    """Whether there is such a call, and why the case came out otherwise, or None."""
+    """Whether there is such a call, and why the case failed, or None."""
     try:
         return setting.play(None, stop) is not None, None
     except (Wrong, OSError, tables.Damaged, subprocess.SubprocessError) as why:
@@ -321,13 +323,13 @@ def told_of_stop(setting, stop):
 
 
 def break_each(setting, whole, every, players):
-    """Breaks the connection after each of these octets. It answers how many cases there are, and why some came out otherwise."""
+    """Breaks the connection after each of these octets. It returns how many cases there are, and why some failed."""
     places = range(1, whole, every)
     return len(places), [why for why in players.map(lambda octets: told(setting, octets), places) if why]
 
 
 def stop_each(setting, every, players):
-    """Kills each program of the supplier at each of these calls. It answers how many cases there are, and why some came out otherwise."""
+    """Kills each program of the supplier at each of these calls. It returns how many cases there are, and why some failed."""
     library = compile_library(setting.room, "stop_calls")
     cases, faults = 0, []
     for program in range(1, setting.kind.stopped + 1):

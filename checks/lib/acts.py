@@ -1,5 +1,7 @@
-"""The acts of a row, given to the program: sessions in three ways, operator's commands, files and statements. What it prints, what goes
-out and what is left are compared with what the row says."""
+"""The acts of a row, played over the program: sessions in three ways, operator's commands, files and statements.
+
+The printed lines, the octets out and what is left are compared with the row.
+"""
 
 import os
 import select
@@ -13,7 +15,7 @@ from program import PROGRAM
 from row_files import Call, File, Session, octets_of
 
 SECONDS = 30
-# The options that a command takes from the row.
+# The options that a command gets from the row.
 OPTIONS = {
     "init": ["--db"],
     "migrate": ["--db"],
@@ -43,7 +45,7 @@ def shown(frame):
 
 
 def check_lines(wanted, done):
-    """Why the lines that were printed or the exit status aren't these, or None. `wanted` says where, the text and the status."""
+    """Why the printed lines or the exit status aren't these, or None. `wanted` has the place, the text and the status."""
     where, text, status = wanted
     told = {"out": done.stdout.decode(), "err": done.stderr.decode()}
     other = "err" if where == "out" else "out"
@@ -68,12 +70,12 @@ def in_one_piece(session, room, database):
 
 
 def octets_in(answer):
-    """What the program wrote to a file, which it doesn't make where a fault comes first."""
+    """The file that the program wrote, or None if an error came first."""
     return answer.read_bytes() if answer.exists() else b""
 
 
 def octet_by_octet(session, room, database):
-    """From a pipe of packets, so that each read of the program gives one octet."""
+    """From a pipe of packets, so that each read of the program gets one octet."""
     answer = room / "answer"
     answer.unlink(missing_ok=True)
     source, sink = os.pipe2(os.O_DIRECT)
@@ -105,8 +107,8 @@ def write_octets(sink, octets):
 
 
 def as_conversation(session, _room, database):
-    """The partner sends on only once it has read each answer before, and after an ESID it waits until the program ends: the program must
-    not read ahead of what it owes, nor after the end."""
+    """The partner sends the next octets only once it has read each answer before, and after an ESID it waits until the program ends: the
+    program must not read further before it answers, nor after the end."""
     source, sink = os.pipe()
     answers, answer = os.pipe()
     with subprocess.Popen(
@@ -127,7 +129,7 @@ def as_conversation(session, _room, database):
 
 
 def converse(session, sink, answers):
-    """Writes what goes in and reads what comes out, step by step, and closes both. It answers all that came out."""
+    """Writes the input and reads the output, step by step, and closes both. It returns the whole output."""
     octets = b""
     is_read = True
     for side, wanted in session.steps:
@@ -153,7 +155,7 @@ def converse(session, sink, answers):
 
 
 def read_no_more(answers):
-    """Closes the end that is read, and waits until nobody has it: a program that another thread begins has it too for a moment."""
+    """Closes the reading end, and waits until no process has it: a program that another thread is starting has it for a moment, too."""
     writer = os.open(f"/dev/fd/{answers}", os.O_WRONLY)
     os.close(answers)
     waits = select.poll()
@@ -170,7 +172,7 @@ def read_octets(answers, left):
 
 
 def play_session(way, session, room, database):
-    """Plays a session, in another way than the one asked for where it can be played in one way alone."""
+    """Plays a session, in another way than the given one if it can only be played in one way."""
     if session.given:
         way = in_one_piece
     if session.closes():
@@ -179,7 +181,7 @@ def play_session(way, session, room, database):
 
 
 def play_call(call, room, database):
-    """Gives the program an operator's command."""
+    """Runs an operator's command."""
     options = {"--db": database, "--book": call.book}
     words = [word for option in OPTIONS[call.words[0]] for word in (option, options[option])]
     done = subprocess.run(
@@ -192,7 +194,7 @@ def play_call(call, room, database):
 
 
 def play_file(file, room):
-    """Makes a file of the operator's, or compares it."""
+    """Makes a file of the operator, or compares it."""
     path = room / file.name
     if file.is_made:
         path.write_bytes(file.octets)
@@ -210,7 +212,7 @@ def play_statement(statement, database):
 
 
 def play_act(way, act, room, database):
-    """Why one act doesn't come out as the row says, or None."""
+    """Why one act differs from the row, or None."""
     try:
         if isinstance(act, Session):
             return play_session(way, act, room, database)
@@ -224,11 +226,11 @@ def play_act(way, act, room, database):
 
 
 def check_left(row, left):
-    """Why the tables aren't those that the row says, or None."""
+    """Why the tables aren't those of the row, or None."""
     if row.left is None:
         return None
     wanted = {**row.left}
-    # A database without tables stands for an empty register too.
+    # A database without tables is an empty register, too.
     if left["about"] or wanted:
         wanted.setdefault("about", [{"id": "1", "schema": "2"}])
     for table in ["about", *tables.TABLES]:
@@ -245,7 +247,7 @@ def check_left(row, left):
 
 
 def described(left, table, entry):
-    """The columns of an entry, and what a line `left` may say beside them."""
+    """The columns of an entry, and what a line `left` may have besides them."""
     if table in tables.ROWS_OF:
         found = tables.bodies(left, table, entry["no"])
         sizes = ",".join(str(len(body)) for body in found)

@@ -1,4 +1,4 @@
-"""The texts of rows/books/faults.txt, each with what the program has to say of it as a partner book."""
+"""The texts of rows/books/faults.txt, each with what the program has to say about it as a partner book."""
 
 from row_files import ROWS
 
@@ -8,7 +8,7 @@ TEXTS = ROWS / "books" / "faults.txt"
 
 
 def cases():
-    """Each text with the line that `check` has to print, and where it stands."""
+    """Each text with the line that `check` has to print, and its place."""
     wanted, text, at = None, "", 0
     for number, line in enumerate([*TEXTS.read_text().splitlines(), ""], 1):
         if line.startswith("    "):

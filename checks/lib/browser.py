@@ -1,6 +1,6 @@
-"""A browser without a window, for checks of a page: Chromium, driven by its DevTools protocol over two pipes.
+"""A headless browser for checks of a page: Chromium, driven by its DevTools protocol over two pipes.
 
-No request of it leaves the machine: it finds no address but 127.0.0.1.
+None of its requests leaves the machine: it resolves no address but 127.0.0.1.
 """
 
 import base64
@@ -11,7 +11,7 @@ import shutil
 import subprocess
 import time
 
-# How long anything may take on a machine with other work.
+# The time limit for anything on a loaded machine.
 LONG = 60
 WORDS = [
     *("--headless=new", "--remote-debugging-pipe", "--no-first-run", "--no-default-browser-check", "--disable-gpu"),
@@ -21,24 +21,24 @@ WORDS = [
 
 
 class Failed(Exception):
-    """What the browser couldn't do."""
+    """Something that the browser couldn't do."""
 
 
 def chromium():
-    """The browser's program, if it is there."""
+    """The browser's program, if it is installed."""
     return shutil.which("chromium")
 
 
 class Browser:
-    """A process of the browser, with what it keeps in a folder."""
+    """A process of the browser, with its profile in a folder."""
 
     def __init__(self, room):
         given, self.output = os.pipe()
         self.input, told = os.pipe()
         self.errors = open(room / "browser", "wb")
-        # The browser runs as root in containers alone, and its sandbox doesn't.
+        # Only in containers does the browser run as root, and its sandbox doesn't.
         words = [chromium(), *WORDS, f"--user-data-dir={room / 'profile'}", *(["--no-sandbox"] if os.geteuid() == 0 else [])]
-        # It reads its third descriptor and writes its fourth.
+        # It reads its descriptor 3 and writes descriptor 4.
         shell = ["sh", "-c", f'exec "$@" 3<&{given} 4>&{told}', "sh", *words]
         self.process = subprocess.Popen(
             shell, pass_fds=(given, told), stdin=subprocess.DEVNULL, stdout=self.errors, stderr=self.errors, start_new_session=True
@@ -64,7 +64,7 @@ class Browser:
         self.errors.close()
 
     def call(self, method, session=None, **parameters):
-        """Has the browser do something, and answers what it says. What else it tells meanwhile is kept in `events`, by its session."""
+        """Sends the browser a command, and returns its result. Other messages are kept in `events`, by session."""
         self.number += 1
         message = {"id": self.number, "method": method, "params": parameters, **({"sessionId": session} if session else {})}
         left = memoryview(json.dumps(message).encode() + b"\0")
@@ -92,7 +92,7 @@ class Browser:
 
 
 class Tab:
-    """A page of the browser in a window of this width, with a light or a dark scheme."""
+    """A page of the browser in a window of this width, in a light or a dark scheme."""
 
     def __init__(self, browser, width, height, scheme="light"):
         self.browser = browser
@@ -113,12 +113,12 @@ class Tab:
         return self.browser.call(method, self.session, **parameters)
 
     def events(self, *methods):
-        """What the browser told of this page, of these kinds."""
+        """The browser's messages about this page, of these kinds."""
         told = self.browser.events.get(self.session, [])
         return [event["params"] for event in told if event["method"] in methods]
 
     def first(self, script):
-        """Has a script run in each page before the page's own."""
+        """Runs a script in each page before the page's own."""
         self.call("Page.addScriptToEvaluateOnNewDocument", source=script)
 
     def go(self, url):
@@ -134,7 +134,7 @@ class Tab:
         return told["result"].get("value")
 
     def until(self, expression, limit=LONG):
-        """Waits until an expression holds in the page, and answers the seconds that it took."""
+        """Waits until an expression holds in the page, and returns the seconds that this took."""
         begin = time.monotonic()
         while not self.value(expression):
             if time.monotonic() - begin > limit:
@@ -152,12 +152,12 @@ class Tab:
         self.call("Input.insertText", text=text)
 
     def requests(self):
-        """The addresses that the page asked for, of whatever kind, those of its own text aside."""
+        """The addresses that the page requested, of any kind, except those within its own text."""
         asked = [event["request"]["url"] for event in self.events("Network.requestWillBeSent")]
         return [url for url in asked if not url.startswith("data:")]
 
     def complaints(self):
-        """What the page's script threw, what the browser forbade it or noticed of it, and the dialogs that it opened."""
+        """The exceptions of the page's script, what the browser blocked or reported, and the dialogs that it opened."""
         thrown = [event["exceptionDetails"]["text"] for event in self.events("Runtime.exceptionThrown")]
         noticed = [event["entry"]["text"] for event in self.events("Log.entryAdded")]
         said = [str(event["args"]) for event in self.events("Runtime.consoleAPICalled")]

@@ -1,14 +1,14 @@
-"""The text of a crate's source: what is no code in it, and where a body begins and ends."""
+"""The text of a crate's source: the parts of it that aren't code, and where a body begins and ends."""
 
 import re
 
-# Comments, characters and strings, in which a brace is none.
+# Comments, characters and strings, in which a brace doesn't count.
 OPAQUE = re.compile(r"//[^\n]*|b?'(?:\\u\{\w+\}|\\x\w\w|\\.|[^'\\\n])'|b?\"(?:\\.|[^\"\\])*\"", re.S)
 CLAUSE = re.compile(r"\b(?:ensures|requires|decreases|ghost)\b[^{}]*$")
 
 
 def end_of(text, at):
-    """Where the brace that opens at a place is closed."""
+    """The place of the brace that closes the one at this place."""
     depth = 0
     for place in range(at, len(text)):
         depth += {"{": 1, "}": -1}.get(text[place], 0)
@@ -18,7 +18,7 @@ def end_of(text, at):
 
 
 def body_of(text, at):
-    """The begin and the end of the body behind a place in a function's head, or None where it has none."""
+    """The begin and the end of the body after a place in a function's head, or None if it has none."""
     depth, begin = 0, at
     while at < len(text):
         depth += {"(": 1, "[": 1, ")": -1, "]": -1}.get(text[at], 0)

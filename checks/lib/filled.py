@@ -1,4 +1,4 @@
-"""Databases of a station that are filled by stock sqlite3, as large as wanted, and what stock sqlite3 takes to open them."""
+"""Databases of a station that stock sqlite3 fills, of any size, and the time that stock sqlite3 takes to open them."""
 
 import os
 import shutil
@@ -12,7 +12,7 @@ OUTGOING = {"dataset": "INV.0001", "date": "20240201", "time": "0800000001"}
 
 
 def settle(database):
-    """Brings all of a database into its one file."""
+    """Checkpoints a database into its one file."""
     connection = sqlite3.connect(database)
     connection.execute("PRAGMA wal_checkpoint(TRUNCATE)")
     connection.close()
@@ -29,7 +29,7 @@ def copied(database, copy):
 
 
 def opened(database):
-    """A connection of stock sqlite3, which keeps what the station's keeps."""
+    """A connection of stock sqlite3, with the settings of the station's."""
     connection = sqlite3.connect(database, isolation_level=None)
     connection.execute("PRAGMA journal_mode = WAL")
     connection.execute("PRAGMA synchronous = FULL")
@@ -38,7 +38,7 @@ def opened(database):
 
 
 def fill_out(empty, full, size):
-    """A database with one file that waits."""
+    """A database with one waiting file."""
     shutil.copyfile(empty, full)
     connection = sqlite3.connect(full)
     values = (*OUTGOING.values(), OURS, THEIRS)
@@ -55,7 +55,7 @@ NUMBERS = "WITH RECURSIVE n(i) AS (SELECT :from UNION ALL SELECT i + 1 FROM n WH
 
 
 def fill_large(empty, large, mebis):
-    """A database with so many MiB in two files that came."""
+    """A database with this many MiB in two received files."""
     shutil.copyfile(empty, large)
     connection = sqlite3.connect(large)
     with connection:
@@ -70,7 +70,7 @@ def fill_large(empty, large, mebis):
 
 
 def fill_many(empty, many, files):
-    """A database with so many files that came, each answered, and as many that went out, each delivered."""
+    """A database with this many received files, each answered, and as many sent ones, each delivered."""
     shutil.copyfile(empty, many)
     connection = sqlite3.connect(many)
     came = "i, printf('N.%06d', i), '20240131', '1015300001', :theirs, :ours"

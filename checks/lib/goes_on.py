@@ -17,11 +17,11 @@ GREATEST = 10**17 - 1
 
 
 class Wrong(Exception):
-    """What came out or what is left isn't what it should be."""
+    """The output or what is left isn't as it should be."""
 
 
 class Watched(model.Session):
-    """A session of the model that notes what the register is before each frame goes out, with the octets that are out by then: each change
+    """A session of the model that notes the register before each frame is sent, with the number of octets that are out by then: each change
     is made before the frame that answers it."""
 
     def __init__(self, *given):
@@ -34,14 +34,14 @@ class Watched(model.Session):
 
 
 def book_of(path):
-    """A partner book as the model takes it."""
+    """A partner book in the model's form."""
     read = tomllib.loads(path.read_text())
     station = {**read["station"], "restart": "Y" if read["station"]["restart"] else "N"}
     return {**station, "partners": {partner["code"]: partner for partner in read["partner"]}}
 
 
 def register_of(found):
-    """The register for which tables stand."""
+    """The register in these tables."""
     register = model.Register()
     for table in ("in_file", "out_file"):
         entries = [{**file, "rows": tables.bodies(found, table, file["no"])} for file in found[table]]
@@ -66,8 +66,8 @@ def compare(room, wanted):
 
 
 def go_on(act, room, left, file):
-    """The partner holds its session again over what is left; where it sent a file of these octets, it offers it again, goes on from the row
-    that the station answers, and the file is then fetched whole."""
+    """The partner holds its session again over what is left. If it sent a file of these octets, it offers it again, continues from the
+    Restart position that the station answers, and the file is then fetched whole."""
     register = register_of(left)
     octets = act.joined("in") if file is None else offer_again(act, room, register, file)
     hold(act, room, register, octets)
@@ -77,7 +77,7 @@ def go_on(act, room, left, file):
 
 
 def hold(act, room, register, octets):
-    """A session with these octets goes as the model has it. It answers the frames that are out."""
+    """A session with these octets goes as in the model. It returns the frames that are out."""
     given, answer = room / "given", room / "answer"
     given.write_bytes(octets)
     session = session_of(act, register)
@@ -90,7 +90,7 @@ def hold(act, room, register, octets):
 
 
 def offer_again(act, room, register, file):
-    """The octets of a session in which a file goes on from the row that the station answers to the greatest offer."""
+    """The octets of a session in which a file continues from the Restart position that the station answers to the greatest offer."""
     opening = oftp.frames_of(act.joined("in"))[0]
     out = hold(act, room, register, opening + offer(GREATEST))
     kind, fields = oftp.read(out[-1][4:])

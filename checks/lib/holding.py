@@ -1,4 +1,4 @@
-"""A station that holds its database, and what it takes of the processor without its opening."""
+"""A station that keeps its database open, and the processor time that it takes without its opening."""
 
 from pathlib import Path
 
@@ -13,7 +13,7 @@ from services import Resident, expect, free_port, rest_of
 class Holding(Resident):
     """A station over a copy of a database, with its port for requests."""
 
-    # A database of 1 GiB takes minutes to open where the machine has other work.
+    # A database of 1 GiB takes minutes to open on a loaded machine.
     patience = 1800
 
     def __init__(self, folder, database, book):
@@ -23,7 +23,7 @@ class Holding(Resident):
         super().__init__(folder, "--http-port", str(self.requests), book=book)
 
     def taken(self):
-        """The seconds of the processor that it has taken."""
+        """The processor seconds that it has taken."""
         return int(Path(f"/proc/{self.program.pid}/schedstat").read_text().split()[0]) / 1e9
 
     def memory(self):
@@ -32,11 +32,11 @@ class Holding(Resident):
         return int(status.partition("VmHWM:")[2].split()[0])
 
     def command(self, name, *words):
-        """What a command beside it takes of the processor."""
+        """The processor time of a command beside it."""
         return run([PROGRAM, name, "--db", self.database, *words]).processor
 
     def request(self, target):
-        """A request; it takes nothing but the station."""
+        """A request; only the station takes processor time for it."""
         port, self.port = self.port, self.requests
         try:
             reply = ask(self, [f"GET {target} HTTP/1.1\r\n\r\n".encode()])
@@ -46,7 +46,7 @@ class Holding(Resident):
         return 0.0
 
     def session(self, *frames, credit=99, buffer=16384):
-        """A session of a partner who says these frames between SSID and ESID. It answers what the station said."""
+        """A session of a partner that sends these frames between SSID and ESID. It returns what the station sent."""
         with self.caller() as caller:
             caller.sendall(spoken(*frames, credit=credit, buffer=buffer))
             said = rest_of(caller)
@@ -55,12 +55,12 @@ class Holding(Resident):
 
 
 def spoken(*frames, credit=99, buffer=16384):
-    """What a partner who calls says in a session with these frames."""
+    """The octets of a partner that calls and sends these frames."""
     opening = frame_of("SSID", code=THEIRS, password="CARPW", buffer=str(buffer), credit=str(credit), mode="B")
     return b"".join([opening, *frames, frame_of("ESID", reason="00")])
 
 
 def taken_answers(count, frames, credit=99):
-    """The frames by which a partner takes so many files, each of so many DATA, and hands the direction over before."""
+    """The frames with which a partner accepts this many files, each of this many DATA, after it sent CD."""
     of_one = [frame_of("SFPA", count="0"), frame_of("CDT") * (frames // credit), frame_of("EFPA")]
     return [frame_of("CD"), *of_one * count]

@@ -1,5 +1,7 @@
-"""The command lines of rows/lines as they are written: rows/README.md says how. Each line is given to the program in a folder of its own,
-and tells why it comes out otherwise than is said."""
+"""The command lines of rows/lines in their written form (rows/README.md).
+
+Each line runs in a folder of its own, and the result says why it differs from what is written.
+"""
 
 import calendar
 import os
@@ -20,15 +22,15 @@ LINES = ROWS / "lines"
 SECONDS = 30
 BAD = 2
 DATABASE = ("db", "db-wal")
-# What a station that holds the database has in its folder, and the commands that ask it.
+# What a station that keeps the database open has in its folder, and the commands that ask it.
 HELD = {*DATABASE, "db-station"}
 ASKING = ("init", "submit", "offer", "release", "refuse", "fetch", "collect", "report", "backup", "call")
-# The words before a text that is taken as it stands.
+# The words before a text that is taken literally.
 TEXTS = ("line", "bad", "out", "err")
 
 
 class Given:
-    """Words that the program is given, with what is said of its answer: its output and status, and the files that it makes."""
+    """The arguments of the program, with the expected result: its output and status, and the files that it makes."""
 
     def __init__(self, words, is_bad):
         self.words = words
@@ -64,12 +66,12 @@ class Given:
             raise ValueError("no line begins so")
 
     def asks(self):
-        """Whether a station that holds the database `db` can be asked."""
+        """Whether a station that keeps the database `db` open can be asked."""
         is_of_db = "--db=db" in self.words or ("--db", "db") in zip(self.words, self.words[1:])
         return self.most is None and self.status != BAD and self.words[:1] and self.words[0] in ASKING and is_of_db
 
     def run_beside(self, folder):
-        """The same with a station that holds the database, where one can. It answers whether it could, too."""
+        """The same with such a station, if one can be asked. It returns whether one could, too."""
         words = [PROGRAM, "run", "--db", "db", "--book", ROWS / "books/usual.toml", "--port", str(free_port())]
         with subprocess.Popen(words, cwd=folder, stdout=subprocess.PIPE, stderr=subprocess.PIPE) as station:
             is_ready = station.stdout.readline() == b"ready\n"
@@ -81,7 +83,7 @@ class Given:
                 (folder / "db-station").unlink(missing_ok=True)
 
     def run(self, folder, left_out=()):
-        """Gives the program the words. It answers why it comes out otherwise, or None. Names that are left out may be anything."""
+        """Runs the program with the arguments. It returns why the result differs, or None. Names that aren't given may have any content."""
         before = found_in(folder, left_out)
         with open(self.output or os.devnull, "wb") as output:
             done = subprocess.run(
@@ -90,7 +92,7 @@ class Given:
                 stdout=output if self.output else subprocess.PIPE,
                 stderr=subprocess.PIPE,
                 preexec_fn=self.limit,
-                restore_signals=False,  # so that a file which gets too long is a fault of its write
+                restore_signals=False,  # so that a file that gets too long is an error of its write
                 timeout=SECONDS,
                 check=False,
             )
@@ -109,7 +111,7 @@ class Given:
         return f"{wanted}, got {out!r}, {err!r} and status {done.returncode}"
 
     def why_changed(self, before, after, left_out):
-        """Why the folder isn't as it was, but for what is to be made, or None."""
+        """Why the folder changed, apart from what is to be made, or None."""
         made = {*self.made, *self.gone, *(DATABASE if "db" in self.made else ())}
         for name in sorted(before.keys() | after.keys()):
             if name not in made and before.get(name) != after.get(name):
@@ -150,8 +152,8 @@ class Line(Remains):
             self.acts[-1].take(first, rest, text)
 
     def run(self, is_beside=False):
-        """Does all that the line says, in a new folder, each command beside a station that holds the database where that is said. It answers why
-        it comes out otherwise, or None."""
+        """Does all that the line says, in a new folder, and with `beside` each command beside a station that keeps the database open. It
+        returns why the result differs, or None."""
         with tempfile.TemporaryDirectory() as path:
             folder = Path(path)
             for act in self.acts:
@@ -181,7 +183,7 @@ def shown(words):
 
 
 def found_in(folder, left_out=()):
-    """What is in the folder, and in those within it: of each name its permissions, and its octets or what it is."""
+    """The content of the folder and of those in it: the permissions of each name, and its octets or its kind."""
     found = {}
     for path in folder.rglob("*"):
         name = str(path.relative_to(folder))
@@ -206,7 +208,7 @@ def make_book(folder, name):
 
 
 def make_book_of(folder, count):
-    """The usual book, with further partners up to so many."""
+    """The usual book, with further partners up to this number."""
     station, one = (ROWS / "books/usual.toml").read_text(encoding="utf-8").split("[[partner]]")
     more = [one.replace("O0177CARMAKER", f"P{number}") for number in range(1, int(count))]
     (folder / "book").write_text("[[partner]]".join([station, one, *more]), encoding="utf-8")
@@ -233,13 +235,13 @@ def set_mode(folder, name, mode):
 
 
 def set_change(folder, name, date, clock):
-    """The file was changed last at this moment of UTC, which a date and a time stamp tell."""
+    """Sets the time of the last change of a file to a moment of UTC, given as a date and a time stamp."""
     second = calendar.timegm(time.strptime(date + clock[:6], "%Y%m%d%H%M%S"))
     moment = second * 10**9 + int(clock[6:]) * 10**5
     os.utime(folder / name, ns=(moment, moment))
 
 
-# What stands before the words of a line.
+# What comes before the words of a line.
 DONE_BEFORE = {
     "file": make_file,
     "book": make_book,
@@ -264,7 +266,7 @@ def bad_line(name, words, *text):
 
 
 class Argument:
-    """An argument of a command: as texts show it, the words that give it, and whether it is needed."""
+    """An argument of a command: its name in texts, the words that give it, and whether it is required."""
 
     def __init__(self, words, is_needed):
         # `--db <DATABASE> db` is an option with its value, `--release` one without, `<FILE> content` a word.
@@ -291,7 +293,7 @@ class Command:
         return " ".join(["oftp_station", self.name, *parts])
 
     def words(self, left_out=None):
-        """The words that give each argument that is needed, but for one."""
+        """The words of each required argument except one."""
         given = [each.words for each in self.arguments if each.is_needed and each is not left_out]
         return [self.name, *(word for words in given for word in words)]
 
@@ -300,14 +302,14 @@ class Command:
         return bad_line(f"{self.name} {what}", words, *error, "", f"Usage: {self.usage()}", "", "For more information, try '--help'.")
 
     def unknown(self):
-        """The bad line with an option that it doesn't have. What the text proposes instead isn't said."""
+        """The bad line with an unknown option. Its text may propose another one."""
         line = Line(f"{self.name} with an option that it doesn't have", True)
         line.take("words", [*self.words(), "--nothing=1"], "")
         line.take("err", [], "error: unexpected argument '--nothing' found")
         return line
 
     def without(self, argument):
-        """The bad line in which an argument is left out. Where it is a word the others take its place, so the last one is missing."""
+        """The bad line without the argument. If that is a word, the others take its place, so the last one is missing."""
         missing = argument if argument.is_option else self.arguments[-1]
         error = "error: the following required arguments were not provided:"
         return self.bad(f"without {argument.shown}", self.words(argument), error, f"  {missing.shown}")

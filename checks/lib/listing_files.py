@@ -1,5 +1,7 @@
-"""The files of rows/listing as they are written, rows/README.md says how: requests to `http`, reports, and the whole of what is answered.
-What a database holds is told here from what stock sqlite3 reads of it."""
+"""The files of rows/listing in their written form (rows/README.md): requests to `http`, reports, and the whole of each reply.
+
+What a database holds is computed here from what stock sqlite3 reads.
+"""
 
 import csv
 import io
@@ -14,7 +16,7 @@ from services import Service, expect, rest_of
 
 END = b"\r\n"
 PHRASES = {"200": "OK", "400": "Bad Request", "404": "Not Found", "405": "Method Not Allowed", "503": "Service Unavailable"}
-# The lines that say more of a request.
+# The lines with more about a request.
 MORE = ("fields", "field_up_to", "behind", "behind_up_to", "unfinished", "in_pieces", "cut", "whole", *PHRASES)
 
 
@@ -67,26 +69,26 @@ def shown_file(file, sizes):
 
 
 def body_of(database, target):
-    """The JSON text that a target has to show."""
+    """The JSON text that a target has to return."""
     lists = shown(database)
     if target == "/responses":
         value = of(lists, "issued received")
     else:
         side, _, number = target.removeprefix("/").partition("/")
         value = lists[side][int(number) - 1] if number else lists[side]
-    # The keys of each object stand in the order of the alphabet.
+    # The keys of each object are in alphabetical order.
     return json.dumps(value, ensure_ascii=False, separators=(",", ":"), sort_keys=True).encode()
 
 
 def check_report(database, kind, text):
-    """The report, read by another reader, says what the database holds."""
+    """The report, read by another CSV reader, has the content of the database."""
     heading, *rows = csv.reader(io.StringIO(text, newline=""))
     wanted = [[said(entry[name]) for name in heading] for entry in shown(database)[kind]]
     expect(rows, wanted, f"the report of {kind}, read by csv")
 
 
 def said(value):
-    """A value as a report says it."""
+    """A value as a report prints it."""
     return {True: "yes", False: "no"}[value] if isinstance(value, bool) else str(value)
 
 
@@ -144,7 +146,7 @@ class Request:
 
 
 def reply_of(status, body):
-    """The whole reply with a status and a body. Without a body it tells the status."""
+    """The whole reply with a status and a body. Without a body, it is the status."""
     body = (body or f'{{"error":{status}}}').encode()
     lines = [f"HTTP/1.1 {status} {PHRASES[status]}", "Content-Type: application/json", f"Content-Length: {len(body)}"]
     lines += ["Connection: close", *(["Allow: GET"] if status == "405" else []), ""]
@@ -152,7 +154,7 @@ def reply_of(status, body):
 
 
 def ask(service, pieces, is_over=False):
-    """What is replied to these pieces. The caller keeps its side open, or says that nothing more comes."""
+    """The reply to these pieces. The caller keeps its side open, or ends its output."""
     with service.caller() as caller:
         caller.setsockopt(socket.IPPROTO_TCP, socket.TCP_NODELAY, 1)
         for piece in pieces:

@@ -1,4 +1,4 @@
-"""What a program takes: of the clock, of the processor and of memory."""
+"""What a program takes: elapsed time, processor time and memory."""
 
 import os
 import subprocess
@@ -7,7 +7,7 @@ from typing import NamedTuple
 
 
 class Taken(NamedTuple):
-    """What a run took: the seconds on the clock and those of the processor, and the KiB of memory, at least this script's own."""
+    """What a run took: elapsed seconds, processor seconds, and KiB of memory, which are at least those of this script."""
 
     seconds: float
     processor: float
@@ -15,12 +15,12 @@ class Taken(NamedTuple):
 
 
 def by_processor(runs):
-    """The run that took least of the processor."""
+    """The run with the least processor time."""
     return min(runs, key=lambda taken: taken.processor)
 
 
 def run(words, beside=None):
-    """Runs a program to its end, and says what it took. What is done beside it is a function without arguments."""
+    """Runs a program to its end, and returns what it took. `beside`, if given, is a function without arguments that runs meanwhile."""
     begin = time.monotonic()
     with open(os.devnull, "wb") as nowhere:
         to_nowhere = [(os.POSIX_SPAWN_DUP2, nowhere.fileno(), 1)]

@@ -1,7 +1,7 @@
-"""A station as its step tables and RFC 5024 have it: what a session sends and leaves, and what an operator's commands tell and leave.
+"""A model of a station by its step tables and RFC 5024: what a session sends and leaves, and what an operator's commands print and leave.
 
-It was written apart from the station's own code, for checks that compare the two. Its entries have the columns of the tables, and the rows
-of a file beside them.
+It was written independently of the station's code, for checks that compare the two. Its entries have the columns of the tables, and also
+the records and blocks of a file.
 """
 
 import oftp
@@ -19,7 +19,7 @@ LETTERS = {"mode": "SRB", "format": "FVUT"}
 
 
 class Fault(Exception):
-    """What the station answers by an ESID of this reason."""
+    """The station answers with an ESID of this reason."""
 
     def __init__(self, reason):
         super().__init__(reason)
@@ -27,14 +27,14 @@ class Fault(Exception):
 
 
 class Refused(Exception):
-    """What an operator is refused, as the line says it."""
+    """A refusal of an operator's command, as its line has it."""
 
 
-# -- what the octets spell
+# -- decoding commands
 
 
 def next_command(octets, at):
-    """The octets of the command that begins a stream there, or None where it isn't whole (RFC 5024, section 8)."""
+    """The octets of the command at this place of a stream, or None if it isn't whole (RFC 5024, section 8)."""
     header = octets[at : at + 4]
     if header[:1] not in (b"", b"\x10") or (len(header) == 4 and int.from_bytes(header[1:], "big") not in STREAM):
         raise Fault("02")
@@ -43,7 +43,7 @@ def next_command(octets, at):
 
 
 def read(octets):
-    """A command's kind and fields, numbers as such. It is read from left to right, and the first fault is told."""
+    """A command's kind and fields, numbers as integers. It is read from left to right, and raises the first fault."""
     kind = oftp.KIND_OF.get(octets[:1].decode("latin-1"))
     if kind is None:
         raise Fault("01")
@@ -77,7 +77,7 @@ def taken(octets, at, size):
 
 
 def value_of(kind, name, form, part):
-    """What a field's octets say."""
+    """The value in a field's octets."""
     text = part.decode("latin-1")
     is_right = {
         "const": text == name,
@@ -99,7 +99,7 @@ def value_of(kind, name, form, part):
 
 
 class Register:
-    """What a station knows: files that came and that go out, responses that it issued and that it received."""
+    """The data of a station: incoming and outgoing files, the responses that it issued and those that it received."""
 
     def __init__(self):
         self.in_file = []
@@ -118,7 +118,7 @@ class Register:
         return entries[-1]
 
     def file_response(self, kind, identity, **said):
-        """A response that is new is kept, and decides about a file that it is for."""
+        """A new response is stored, and sets the state of the file that it answers."""
         if self.find("received", kind=kind, **identity):
             return
         self.add("received", kind=kind, **identity, **said)
@@ -127,7 +127,7 @@ class Register:
             file["state"] = {"EERP": "delivered", "NERP": "returned"}[kind]
 
     def tables(self):
-        """The rows of the tables that stand for it."""
+        """The rows of the tables for it."""
         files = ("in_file", "out_file")
         found = {table: [without(entry, "rows") for entry in getattr(self, table)] for table in files}
         found["issued"] = sorted(({**entry} for entry in self.issued), key=lambda entry: entry["no"])
@@ -156,7 +156,7 @@ def identity_of(fields):
 
 
 def rows_of(form, longest, content):
-    """The rows of a file in its local form, or None where the content is none."""
+    """The rows of a file in its local form, or None if the content isn't one."""
     if form == "V":
         return records_of(longest, content)
     size = longest if form == "F" else BLOCK
@@ -183,7 +183,7 @@ def local_form(file):
 
 
 def payloads(file, begin, room):
-    """The payloads of a file from a row on, each as full as it can be, with the number of rows that are wholly sent behind it (RFC 5024,
+    """The payloads of a file from a row on, each as full as possible, with the number of rows that are wholly sent after it (RFC 5024,
     section 7)."""
     is_stream = file["format"] in "UT"
     records = [b"".join(file["rows"][begin:])] if is_stream else file["rows"][begin:]
@@ -206,7 +206,7 @@ def payloads(file, begin, room):
 
 
 class Taker:
-    """What a file that comes in is put together from."""
+    """The parts of a file that is received."""
 
     def __init__(self, file):
         self.file = file
@@ -250,7 +250,7 @@ class Taker:
         return 0 if self.file["format"] in "UT" else len(self.file["rows"]) + len(self.rows)
 
     def keep(self):
-        """The rows that are whole are kept."""
+        """The complete rows are stored."""
         self.file["rows"] += self.rows
         self.rows = []
 
@@ -264,7 +264,7 @@ class Taker:
 
 
 class Session:
-    """A session over a register: the frames that go out, and how it ends. `called` is the partner whom the station calls."""
+    """A session over a register: the frames that are sent, and how it ends. `called` is the partner that the station calls."""
 
     def __init__(self, book, register, called=None):
         self.book = book
@@ -286,7 +286,7 @@ class Session:
         self.end = ("own", reason)
 
     def take(self, octets):
-        """What came as one command is answered, and then what is due is done."""
+        """A received command is answered, and then the turns that are due are made."""
         try:
             kind, fields = read(octets)
             if kind == "ESID":
@@ -324,7 +324,7 @@ class Session:
         self.restarts = self.book["restart"] == fields["restart"] == "Y"
         self.sends_files = own in "SB" and theirs in "RB"
         self.takes_files = own in "RB" and theirs in "SB"
-        # Whether the direction came by CD with nothing sent since, and whether the partner asked for it.
+        # Whether CD was received and nothing sent since, and whether the partner asked for it.
         self.is_given = False
         self.is_asked = False
         if self.called:
@@ -371,7 +371,7 @@ class Session:
         self.phase = "receives"
 
     def refusal(self, file, fields):
-        """The reason for which an offered file isn't taken, or None."""
+        """The reason for which an offered file is refused, or None."""
         asked = [int(fields[name]) for name in ("security", "cipher", "compression", "enveloping")]
         rows = [
             (not self.takes_files, "14"),
@@ -516,7 +516,7 @@ class Session:
         self.phase = "speaks"
 
 
-# The step tables: what may come in which phase, and where the station goes on of its own. All else is ESID 02.
+# The step tables: the commands that are allowed in each phase, and the phases in which the station has a turn. Anything else is ESID 02.
 STEPS = {
     ("calls", "SSRM"): Session.begin,
     ("awaits SSID", "SSID"): Session.open,
@@ -537,7 +537,7 @@ TURNS = {"greets": Session.greet, "speaks": Session.speak, "sends": Session.send
 
 
 def play(session, octets):
-    """A session takes the whole octets of a stream. It answers the line for its end."""
+    """A session over all octets of a stream. It returns the line for its end."""
     at = 0
     while session.end is None:
         try:
@@ -576,7 +576,7 @@ def submit(register, book, fields, content):
 
 
 def issue(register, number, kind, reason="", note=""):
-    """Release and Refuse: the end response of a file that came."""
+    """Release and refuse: the response to a received file."""
     if kind == "NERP" and (int(reason) > 99 or len(note.encode()) > 999):
         raise Refused("5 field")
     file = register.find("in_file", no=number)
@@ -589,7 +589,7 @@ def issue(register, number, kind, reason="", note=""):
 
 
 def fetch(register, number):
-    """The octets of a file that came."""
+    """The octets of a received file."""
     file = register.find("in_file", no=number)
     if file is None:
         raise Refused("2 unknown")

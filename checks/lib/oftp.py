@@ -1,7 +1,7 @@
-"""The commands of OFTP2 (RFC 5024, section 5), spelled and read apart from the station's own code.
+"""The commands of OFTP2 (RFC 5024, section 5), encoded and decoded independently of the station's code.
 
-A command is a kind and its fields: a dict of field name to text, in which names carry no padding and numbers no leading zeros. Each
-kind is a list of fields in the order of their octets, so that a field's offset is the sum of the sizes before it.
+A command is a kind and its fields: a dict of field name to text, in which names have no padding and numbers no leading zeros. Each kind is
+a list of fields in the order of their octets, so that a field's offset is the sum of the sizes before it.
 """
 
 # A field: its name, its form and its size. Forms: `const` (its octets in the place of a name), `name` (padded with spaces), `number`
@@ -84,7 +84,7 @@ KINDS = {
     ],
 }
 
-# What a field is where it isn't given.
+# The default of a field.
 USUAL = {
     "level": "5",
     "compression": "N",
@@ -105,7 +105,7 @@ USUAL = {
     "change": "N",
 }
 
-# Fields of the same name that are other things in another kind.
+# Fields with the same name that differ in another kind.
 USUAL_OF = {"SFID": {"restart": "0", "compression": "0"}}
 
 FIRST = {kind: fields[0][0][0] for kind, fields in KINDS.items()}
@@ -113,11 +113,11 @@ KIND_OF = {letter: kind for kind, letter in FIRST.items()}
 
 
 class Unreadable(Exception):
-    """Octets that spell no command, or words that name none."""
+    """Octets that aren't a command, or words that aren't one."""
 
 
 def usual(kind, name):
-    """What a field is where it isn't given."""
+    """The default of a field."""
     value = USUAL_OF.get(kind, {}).get(name, USUAL.get(name))
     if value is None:
         raise Unreadable(f"{kind} wants the field {name}")
@@ -167,7 +167,7 @@ def frame(octets):
 
 
 def read(octets):
-    """The kind and the fields that octets spell, each as it stands there without padding."""
+    """The kind and the fields in these octets, each value without padding."""
     kind = KIND_OF.get(octets[:1].decode("latin-1"))
     if kind is None:
         raise Unreadable("no command begins so")
@@ -198,7 +198,7 @@ def read(octets):
 
 
 def frames_of(octets):
-    """The frames of a stream, in order; what is left over stands last."""
+    """The frames of a stream, in order; octets after the last whole one come last."""
     frames = []
     at = 0
     while at < len(octets):

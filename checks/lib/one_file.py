@@ -1,11 +1,11 @@
-"""A session in which one file of any size comes in, spelled for a buffer and a credit, and the book that it needs."""
+"""A session in which one file of any size is received, encoded for a buffer and a credit, and the book for it."""
 
 from pathlib import Path
 
 import oftp
 
 MEBI = 1024 * 1024
-# The greatest file that is taken.
+# The largest file that is accepted.
 MOST = 64 * MEBI
 FILE = {
     "dataset": "ASN.0001",
@@ -35,7 +35,7 @@ def frame_of(kind, **fields):
 
 
 def data_frames(size, buffer):
-    """The DATA of a file of so many octets, each as full as the buffer lets it be."""
+    """The DATA of a file of this many octets, each as full as the buffer allows."""
     frames = []
     left = size
     while left > 0:

@@ -1,6 +1,6 @@
-"""Lists for the page as `/in`, `/out` and `/responses` have them, made by hand, and what the page has to show of any lists.
+"""Lists for the page like those of `/in`, `/out` and `/responses`, made by hand, and what the page has to show for any lists.
 
-What it has to show is told here in words of its own, apart from the page's script.
+What it has to show is computed here independently of the page's script.
 """
 
 import itertools
@@ -33,7 +33,7 @@ NEGATIVE_REASONS = {
     **{"36": "not acknowledged by recipient", "50": "transmission stopped by the operator"},
     **{"90": "file size incompatible with recipient's protocol version", "99": "unspecified"},
 }
-# Those that files have in turn, among them numbers that RFC 5024 doesn't have.
+# The reasons of files, one after another, among them numbers that RFC 5024 doesn't list.
 REFUSED_FOR = ["05", "12", "47", "13", "00", "99", "20", "01"]
 RETURNED_FOR = ["31", "04", "77", "35", "09", "11"]
 
@@ -66,7 +66,7 @@ def issued(no, kind="EERP", sent=True, reason=""):
 
 
 def received(no, file, kind="EERP", reason="", creator="", note="", **more):
-    """A response that came, to this outgoing file."""
+    """A received response to this outgoing file."""
     named = {key: file[key] for key in ("dataset", "date", "time")}
     return {
         **{"creator": creator, **named, "file": file["no"], "from": file["destination"], "kind": kind, "no": no, "note": note},
@@ -81,19 +81,19 @@ class Lists:
         self.incoming, self.outgoing, self.issued, self.received = list(incoming), list(outgoing), list(issued), list(received)
 
     def answer(self, path):
-        """The text that is answered for a list, or None where there is no such list."""
+        """The text of the reply for a list, or None if there is no such list."""
         values = {"/in": self.incoming, "/out": self.outgoing, "/responses": {"issued": self.issued, "received": self.received}}
         return json.dumps(values[path], ensure_ascii=False, separators=(",", ":")) if path in values else None
 
 
 def read_lists(answer):
-    """The lists that somebody answers, who is asked by a function of the path."""
+    """The lists of a server, which is asked by a function of the path."""
     responses = json.loads(answer("/responses"))
     return Lists(json.loads(answer("/in")), json.loads(answer("/out")), responses["issued"], responses["received"])
 
 
 def in_every_state(count, now):
-    """So many files each way, in every state in turn; some of them have a description, as long as it may be or short."""
+    """This many files each way, in all states by turns; some have a description, of the greatest length or short."""
     lists = Lists()
     for no in range(1, count + 1):
         moment = now - timedelta(hours=5, minutes=7 * (count - no))
@@ -128,7 +128,7 @@ def add_outgoing(lists, no, moment, about, now):
         lists.received.append(received(len(lists.received) + 1, file, "NERP", reason, **more))
 
 
-# Texts that a page which takes them for anything but text would run, load or show otherwise.
+# Texts that a page would run, load or display differently if it took them for anything but text.
 HOSTILE = [
     "<script>window.ran = 1</script>",
     "<img src=hostile onerror='window.ran = 1'>",
@@ -159,7 +159,7 @@ HOSTILE = [
 
 
 def hostile(now):
-    """A file each way for each of these texts, which stands wherever a partner's text may stand, and in places where none may."""
+    """A file each way for each of these texts, in every field where a partner's text may be, and in some where it may not."""
     lists = Lists()
     for no, text in enumerate(HOSTILE, 1):
         moment = now - timedelta(days=1)
@@ -178,7 +178,7 @@ def hostile(now):
 
 class Shown(NamedTuple):
     """A row of a list: the number, the partner, the file's name, its date and time, its size or the file that a response answers, the words
-    for the state, how it looks, and what stands with it, if anything."""
+    for the state, its style, and further words, if any."""
 
     no: str
     partner: str
@@ -227,7 +227,8 @@ TURNS = "\u061c\u200e\u200f\u202a\u202b\u202c\u202d\u202e\u2066\u2067\u2068\u206
 
 
 def plain(text):
-    """A partner's text as it is shown: in one line, with a mark in the place of each control and of each heap of combining marks."""
+    """A partner's text as the page shows it: in one line, with a mark in place of each control character and of each long run of combining
+    marks."""
     text = re.sub("\r\n?|[\n\u2028\u2029]", " ⏎ ", text).replace("\t", " ")
     text = "".join("\ufffd" if it in TURNS or unicodedata.category(it) == "Cc" else it for it in text)
     runs = ("".join(run) for _, run in itertools.groupby(text, lambda it: unicodedata.category(it)[0] == "M"))
@@ -243,13 +244,13 @@ def counted(count, one):
 
 
 def size_of(file):
-    """A file's size and format, and in records how many they are."""
+    """A file's size and format, and its number of records if it has any."""
     form = {"F": "fixed", "V": "variable", "U": "unstructured", "T": "text"}.get(file["format"], plain(file["format"]))
     return counted(file["units"], "byte") + (f"{counted(file['rows'], 'record')}, {form}" if file["format"] in ("F", "V") else form)
 
 
 def moment_of(file):
-    """The moment of a file's date and time, or None where they are none."""
+    """The moment of a file's date and time, or None if they aren't valid."""
     if not re.fullmatch(r"[0-9]{8}/[0-9]{10}", f"{file['date']}/{file['time']}"):
         return None
     try:
@@ -321,7 +322,7 @@ def shown_issued(response, file):
 
 
 def to_do(views):
-    """What the summary says: how many files wait for somebody, and why."""
+    """The summary: how many files need somebody, and why."""
     sums = {
         ("in", "To be released"): "to be released",
         ("out", "Not confirmed for long"): "not confirmed for long",

@@ -1,5 +1,7 @@
-"""Two stations that face each other: their books, the files that their operators hand in, and what they promise each other, as the tables of
-both have to hold it."""
+"""Two stations that are each other's partner: their books, the files that their operators submit, and what they promise each other.
+
+The promise is read from the tables of both.
+"""
 
 import re
 
@@ -12,11 +14,11 @@ IDENTITY = ["dataset", "date", "time", "originator", "destination"]
 STAMP = ["--date", "20240201", "--time", "0800000001"]
 
 
-# ---- books, and files that are handed in
+# ---- books, and submitted files
 
 
 def local_form(chance, form, longest):
-    """A file as an operator hands it in, and its rows."""
+    """A file as an operator submits it, and its rows."""
     if form in "UT":
         octets = chance.randbytes(chance.choice([0, 1, 700, 5000, MOST]))
         return octets, rows_of(octets)
@@ -39,11 +41,11 @@ def settings_of(chance):
     return {"buffer": chance.choice([128, 1024, 4096]), "credit": chance.choice([1, 2, 9]), "restart": restart}
 
 
-# ---- what a station doesn't take back
+# ---- what a station never loses
 
 
 def taken_back(before, held):
-    """Why a station holds less than before, or None."""
+    """Why a station has less than before, or None."""
     for table, rank in (("in_file", rank_in), ("out_file", rank_out), ("issued", rank_issued), ("received", rank_in)):
         now = {entry["no"]: entry for entry in held[table]}
         for entry in before[table]:
@@ -65,7 +67,7 @@ def rank_issued(entry):
 
 
 def twice(held):
-    """What a station holds twice, or None: each file and each response is there once, whatever broke."""
+    """What a station has twice, or None: each file and each response is there once, whatever broke."""
     for table, names in (("in_file", IDENTITY), ("out_file", IDENTITY), ("received", ["kind", *IDENTITY]), ("issued", ["no"])):
         found = [tuple(entry[name] for name in names) for entry in held[table]]
         if len(set(found)) != len(found):
@@ -81,7 +83,8 @@ def by_identity(held, table):
 
 
 def promised(sender, receiver):
-    """Why the promise of two stations doesn't hold in this direction, or None. The first two are what is promised; the third is more."""
+    """Why the promise of two stations doesn't hold in this direction, or None. The first two checks are the promise; the third goes
+    further."""
     there = by_identity(receiver, "in_file")
     for identity, file in by_identity(sender, "out_file").items():
         came = there.pop(identity, None)
@@ -106,14 +109,14 @@ def content(sender, file, receiver, came):
 
 
 def responses(file, receiver, came):
-    """A delivered file has an end response issued there, and a returned one a negative end response."""
+    """A delivered file has an End-to-End Response issued there, and a returned one a Negative End Response."""
     kind = {"delivered": "EERP", "returned": "NERP"}.get(file["state"])
     issued = [] if came is None else [row["kind"] for row in receiver["issued"] if row["no"] == came["no"]]
     return None if kind is None or kind in issued else f"{file['state']}, and there {issued} is issued"
 
 
 def beginning(sender, file, receiver, came):
-    """What came so far begins the file."""
+    """The rows received so far are a beginning of the file."""
     if came is None:
         return None
     kept = rows_here(receiver, "in_file", came)
@@ -121,7 +124,7 @@ def beginning(sender, file, receiver, came):
 
 
 def answered(sender, receiver):
-    """Why a response that came isn't one that was issued, word by word, or None."""
+    """Why a received response isn't one that was issued, word by word, or None."""
     files = by_identity(receiver, "in_file")
     issued = {row["no"]: row for row in receiver["issued"]}
     notes = {row["no"]: (row["creator"], row["note"]) for row in sender["received_note"]}

@@ -1,5 +1,7 @@
-"""A connection of two stations whose octets all pass through a check, and what is done to it: it breaks within a frame or after so many
-octets, by an end, a reset or silence in one direction, or a station is killed."""
+"""A connection of two stations whose octets all pass through a check, and what happens to it.
+
+It breaks within a frame or after a number of octets, by an end, a reset or silence in one direction, or a station is killed.
+"""
 
 import select
 import socket
@@ -12,7 +14,7 @@ from services import LONG, Wrong
 
 
 class Side:
-    """What one program says in a session: its octets so far, where its frames begin, and how many octets have passed on."""
+    """What one program sends in a session: its octets so far, where its frames begin, and how many octets have passed on."""
 
     def __init__(self, name, source, sink, said):
         self.name = name
@@ -25,7 +27,7 @@ class Side:
         self.is_silent = False
 
     def hear(self):
-        """What it says next, and nothing where it has ended."""
+        """Reads its next octets, or none if it has ended."""
         try:
             piece = self.source.recv(8192)
         except ConnectionError:
@@ -37,7 +39,7 @@ class Side:
         return piece
 
     def place(self, trouble):
-        """How many octets pass before this trouble, and whether that is known yet: where not, up to where they may pass."""
+        """How many octets pass before this trouble, and whether that is known yet; if not, up to where they may pass."""
         if trouble.octets is not None:
             return trouble.octets, True
         if len(self.begins) <= trouble.frame + 1:
@@ -46,7 +48,7 @@ class Side:
         return begin + int(trouble.share * (end - begin)), True
 
     def say(self, end):
-        """Passes on all that stands before this place, and tells of each frame that is out."""
+        """Passes on all octets before this place, and notes each frame that is out."""
         piece = b"" if self.is_silent else bytes(self.octets[self.passed : end])
         self.passed += len(piece)
         try:
@@ -59,7 +61,7 @@ class Side:
             self.frames += 1
 
     def fall_silent(self):
-        """It has ended: what it still said passes on, and then the end."""
+        """It has ended: its last octets pass on, and then the end."""
         self.say(len(self.octets))
         try:
             self.sink.shutdown(socket.SHUT_WR)
@@ -83,13 +85,13 @@ class Said:
         self.lines[-1][kind] += 1
 
     def words(self, sides):
-        """All lines, and how much is out of a frame that isn't."""
+        """All lines, and how much of an incomplete frame is out."""
         cut = [f"    {side.name}: {side.passed - side.begins[side.frames]} octets of a frame" for side in sides]
         return [line if isinstance(line, str) else f"    {line['DATA']} DATA, {line['CDT']} CDT" for line in self.lines] + cut
 
 
 class Trouble:
-    """What is done to a session, and when: after so many seconds, or at a place in what one of both says."""
+    """What happens to a session, and when: after a number of seconds, or at a place in the octets of one side."""
 
     def __init__(self, chance, usual):
         self.what = chance.choice(["closes", "resets", "silences", "kills the caller", "kills the listener", "kills both"])
@@ -113,7 +115,7 @@ class Trouble:
 
 
 class Usual:
-    """What a session of this pair usually takes."""
+    """How long a session of this pair usually takes."""
 
     def __init__(self):
         self.seconds, self.octets, self.frames = 0.3, 2000, 20
@@ -125,7 +127,7 @@ class Usual:
 
 
 class Passage:
-    """A connection of two stations, the caller and the listener, and what is done to it. What it is to kill one is said by who has it."""
+    """A connection of two stations, the caller and the listener, and what happens to it. Its owner says how to kill one."""
 
     def __init__(self, troubles, said=None):
         self.begin = time.monotonic()
@@ -143,7 +145,7 @@ class Passage:
         self.open = list(self.sides)
 
     def pass_all(self):
-        """Passes on what both say, until both have ended or the connection is broken."""
+        """Passes on the octets of both sides, until both have ended or the connection is broken."""
         while self.sides and self.is_open:
             self.step()
         self.hang_up()
@@ -153,7 +155,7 @@ class Passage:
         raise NotImplementedError
 
     def step(self):
-        """Waits for what one of both says, or for what is due, and passes it on."""
+        """Waits for octets of one side, or for what is due, and passes them on."""
         self.do_timely()
         if not self.is_open:
             return
@@ -167,12 +169,12 @@ class Passage:
             self.pass_on(side)
 
     def wait(self):
-        """How many seconds there are until something is due."""
+        """The seconds until something is due."""
         due = [self.begin + trouble.seconds - time.monotonic() for trouble in self.troubles if trouble.seconds is not None]
         return min([LONG, *(max(0, seconds) for seconds in due)])
 
     def pass_on(self, side):
-        """Takes what one of both says, and passes on as much as stands before the next trouble."""
+        """Reads octets of one side, and passes on those before the next trouble."""
         if not self.is_open:
             return
         piece = side.hear()

@@ -1,4 +1,4 @@
-"""Where the repository lies, and the program that the checks run: that of OFTP_STATION, or else the one that was last proved."""
+"""The repository's root, and the program that the checks run: that of OFTP_STATION, or else the one that was last proved."""
 
 import os
 from pathlib import Path

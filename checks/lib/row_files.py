@@ -1,5 +1,7 @@
-"""The rows of rows/ as they are written: rows/README.md says how. A row is read into its acts, each a session or something else that
-is done to the same database, and into the lines that say what is left."""
+"""The rows of rows/ in their written form (rows/README.md).
+
+A row is read into its acts, each a session or something else that is done to the same database, and into the lines that say what is left.
+"""
 
 import shlex
 
@@ -9,7 +11,7 @@ from program import ROOT
 
 ROWS = ROOT / "rows"
 
-# What a line `left` may say beside the columns of its table.
+# What a line `left` may have besides the columns of its table.
 SAID_OF = {
     "in_file": ["rows", "units", "sizes", "content"],
     "out_file": ["rows", "units", "sizes", "content"],
@@ -44,7 +46,7 @@ class Session:
         return self.end[1].startswith(("end: own", "end: partner"))
 
     def fault(self):
-        """Why this is no whole session, or None."""
+        """Why this isn't a whole session, or None."""
         if self.end is None:
             return "a session has an end"
         out = len(self.joined("out"))
@@ -61,7 +63,7 @@ class Call:
 
 
 class File:
-    """A file of the operator's, which is made with these octets, or has to have them."""
+    """A file of the operator, which is made with these octets, or has to have them."""
 
     def __init__(self, word, name, octets):
         self.is_made = word == "file"
@@ -77,7 +79,7 @@ class Statement:
 
 
 class Remains:
-    """What is left, where it is said: a list of fields for each table, or that it is no database."""
+    """What is left, if the row says so: a list of fields for each table, or that it isn't a database."""
 
     def __init__(self):
         self.left = None
@@ -206,7 +208,7 @@ def stream_of(words):
 
 
 def payload_of(words):
-    """Octets in words, in which `of 0..125` is a part of the file in subrecords, `of 0..125 last` the part that ends it."""
+    """Octets in words, in which `of 0..125` is a part of the file in subrecords, and `of 0..125 last` the part that ends it."""
     octets = b""
     words = list(words)
     while words:
@@ -221,7 +223,8 @@ def payload_of(words):
 
 
 def octets_of(words):
-    """Octets in words: `41` an octet, `125*41` as many, `300*=00000` a text so often, `=TEXT` a text, `of 0..125` a part of the file."""
+    """Octets in words: `41` is an octet, `125*41` repeats it, `300*=00000` repeats a text, `=TEXT` is a text, `of 0..125` a part of the
+    file."""
     octets = b""
     words = list(words)
     while words:
@@ -243,7 +246,7 @@ def content(begin, end):
 
 
 def in_subrecords(octets, is_last):
-    """Octets in subrecords of 63 at most; the last has the end flag where it ends the file (RFC 5024, section 7)."""
+    """Octets in subrecords of at most 63; the last has the end flag if it ends the file (RFC 5024, section 7)."""
     pieces = [octets[at : at + 63] for at in range(0, len(octets), 63)]
     flags = [0x80 if is_last and at == len(pieces) - 1 else 0 for at in range(len(pieces))]
     return b"".join(bytes([flag | len(piece)]) + piece for flag, piece in zip(flags, pieces))

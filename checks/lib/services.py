@@ -13,12 +13,12 @@ from row_files import ROWS
 
 BOOK = ROWS / "books/usual.toml"
 CARMAKER = "O0177CARMAKER"
-# How long anything may take on a machine with other work.
+# The time limit for anything on a loaded machine.
 LONG = 60
 
 
 class Wrong(Exception):
-    """A case that came out otherwise."""
+    """A case that failed."""
 
 
 def expect(found, wanted, what):
@@ -26,8 +26,8 @@ def expect(found, wanted, what):
         raise Wrong(f"{what}: {found!r}, not {wanted!r}")
 
 
-# Below the ports that the machine gives to those who connect, so that none of them takes one before a service binds it, and apart from
-# those of a script that runs beside this one.
+# These are below the ephemeral ports, so that no connection takes one before a service binds it, and differ from those of a script that
+# runs in parallel.
 PORTS = itertools.count(20000 + os.getpid() * 101 % 10000)
 
 
@@ -42,9 +42,9 @@ def free_port(host="127.0.0.1"):
 
 
 class Service:
-    """A service of the program in a room of its own, with its database and port."""
+    """A service of the program in a folder of its own, with its database and port."""
 
-    # How many seconds it may take for anything.
+    # The time limit in seconds for anything.
     patience = LONG
 
     def __init__(self, room, command, *words, book=BOOK, port=None, output=subprocess.PIPE, faults=subprocess.PIPE, environment=None):
@@ -54,7 +54,7 @@ class Service:
         words = [PROGRAM, command, "--db", self.database, *of_book, "--port", str(self.port), *words]
         environment = {**os.environ, **(environment or {})}
         self.program = subprocess.Popen(words, stdout=output, stderr=faults, env=environment)
-        # What came of each output and isn't a line yet that was asked for.
+        # The octets of each output that aren't a requested line yet.
         self.texts = {stream: b"" for stream in (self.program.stdout, self.program.stderr) if stream}
 
     def __enter__(self):
@@ -65,7 +65,7 @@ class Service:
         self.program.wait()
 
     def caller(self, host="127.0.0.1", is_narrow=False):
-        """A connection to the service, which may not listen yet; a narrow one holds few octets on their way."""
+        """A connection to the service, which may not listen yet; a narrow one buffers few octets."""
         begin = time.monotonic()
         while True:
             caller = socket.socket(socket.AF_INET6 if ":" in host else socket.AF_INET)
@@ -109,12 +109,12 @@ class Service:
         return line.decode()
 
     def rest(self):
-        """What it told beside the lines that were asked for, up to its end: of standard output, and of standard error."""
+        """What it printed besides the requested lines, up to its end: on standard output, and on standard error."""
         streams = (self.program.stdout, self.program.stderr)
         return [self.texts.get(stream, b"") + (more or b"") for stream, more in zip(streams, self.program.communicate(timeout=self.patience))]
 
     def ends(self, status=0, err=b""):
-        """It ends by itself, and has told nothing else but this on standard error."""
+        """It ends by itself, and has printed nothing else but this on standard error."""
         told = self.rest()
         expect((self.program.returncode, *told), (status, b"", err), "the service ended")
 
@@ -124,14 +124,14 @@ class Service:
         return subprocess.run([PROGRAM, command, "--db", self.database, *book, *words], capture_output=True, timeout=LONG, check=False)
 
     def submit(self, file):
-        """Hands over a file for the partner, as the first of the database."""
+        """Submits a file for the partner, as the first one of the database."""
         identity = ["--dataset", "INV.1", "--date", "20240201", "--time", "0800000001"]
         done = self.give("submit", *identity, "--to", CARMAKER, "--format", "U", file)
         expect(done.stdout, b"done: submit 1\n", "submit")
 
 
 class Resident(Service):
-    """A station that holds its database."""
+    """A station as `run`, which keeps its database open."""
 
     def __init__(self, room, *words, **how):
         super().__init__(room, "run", *words, **how)
@@ -142,7 +142,7 @@ class Resident(Service):
         return self
 
     def client(self):
-        """A connection to its socket for commands, with the octet that says that a request is heard."""
+        """A connection to its socket for commands, with the octet by which it says that it will read a request."""
         client = socket.socket(socket.AF_UNIX)
         client.settimeout(LONG)
         with Short(self.socket) as path:
@@ -151,7 +151,7 @@ class Resident(Service):
 
 
 class Short:
-    """A short path to a file: that through its folder, which is open meanwhile."""
+    """A short path to a file: through a descriptor of its folder, which is open meanwhile."""
 
     def __init__(self, path):
         self.path = path
@@ -165,7 +165,7 @@ class Short:
 
 
 def rest_of(connection):
-    """All that still comes."""
+    """All octets up to the end."""
     octets = b""
     while piece := connection.recv(65536):
         octets += piece

@@ -1,5 +1,7 @@
-"""The C files of checks/faults as libraries that are loaded before the C library, and the environment that tells them at which call they
-stop the program, or which allocation they refuse."""
+"""The C files of checks/faults as libraries that are loaded before the C library.
+
+The environment tells them at which call they stop the program, or which allocation they refuse.
+"""
 
 import subprocess
 
@@ -18,7 +20,7 @@ def stopping(how, number, library, reached):
 
 
 def compile_library(room, name):
-    """A file of checks/faults as a library that a program can be given, in this folder."""
+    """Builds a file of checks/faults as a library for a program, in this folder."""
     library = room / f"{name}.so"
     subprocess.run(["cc", "-shared", "-fPIC", "-O1", "-o", library, FAULTS / f"{name}.c", "-ldl"], check=True)
     return library

@@ -1,10 +1,10 @@
-"""`run`, `listen` and `http` as services that stay for as long as a check runs, those who call them, and what they hold: descriptors and memory.
+"""`run`, `listen` and `http` as services that run for as long as a check does, their callers, and their descriptors and memory.
 
-Behind each caller a service holds the very descriptors that it held before the first. Its memory goes up and down with the sizes of the
-databases that it opens for its callers, and of what is given back the allocator keeps some, which hides what is lost for a while. So before
-the first caller and behind the last one a service has the same small tasks over a new database, and what it has of memory within them and behind
-them is compared: at the end it is at most so many KiB (`MORE`) above what it was at the beginning. A station that holds its database has no new
-one for that. It keeps pages of the one that it has, so it may have as much more as that has grown by, up to so many KiB (`PAGES`).
+After each caller a service has exactly the descriptors that it had before the first one. Its memory goes up and down with the sizes of the
+databases that it opens, and the allocator keeps some of what is freed, which hides a leak for a while. So a service does the same small
+tasks over a new database before the first caller and after the last one, and its memory during and after them is compared: at the end it is
+at most `MORE` KiB above the value at the beginning. A station that keeps its database open has no new one for this. It caches pages of its
+database, so it may have as much more as that has grown by, up to `PAGES` KiB.
 """
 
 import os
@@ -18,16 +18,16 @@ import oftp
 from listing_files import END, ask, body_of, reply_of
 from services import CARMAKER, LONG, Resident, Service, Wrong, expect
 
-# A service that stays is given more callers than come.
+# A long-running service may have more callers than come.
 CALLERS = "1000000"
-# Code of the program that runs for the first time is read in, and the allocator keeps some of the greatest database that was opened, once
-# and for all: some 2 MiB of one of 8 MB.
+# Code of the program that runs for the first time is loaded, and the allocator keeps some of the largest database that was opened, once:
+# some 2 MiB for one of 8 MB.
 MORE = 4096
-# How much of its database a station that holds it keeps: 2,000 pages.
+# How much of its database a station that keeps it open caches: 2,000 pages.
 PAGES = 8000
-# How many of the same tasks it has at the beginning and at the end. The first half warm it up.
+# The number of equal tasks at the beginning and at the end. The first half is a warm-up.
 TASKS = 20
-# How many seconds a service may take to be done with a caller who has its answer.
+# The time limit in seconds until a service is done with a caller that has its answer.
 SOON = 20
 TARGETS = ["/in", "/out", "/responses"]
 
@@ -36,7 +36,7 @@ def frame(kind, **fields):
     return oftp.frame(oftp.spell(kind, fields))
 
 
-# What strangers say before they say nothing more, and the lines that tell of them.
+# What strangers send before they are silent, and the lines that report them.
 OPENS = frame("SSID", code=CARMAKER, password="CARPW", buffer="128", credit="1", mode="B")
 WRONG_PASSWORD = frame("SSID", code=CARMAKER, password="WRONG", buffer="128", credit="1", mode="B")
 STRANGERS = [
@@ -46,12 +46,12 @@ STRANGERS = [
     (WRONG_PASSWORD + bytes(10_000), "end: own 04"),
     (b"\x20\x00\x00\x05\x43", "end: own 02"),
 ]
-# How the session of one who resets the connection may end.
+# How the session of a caller that resets the connection may end.
 RESETS = ["end: input", "fault: 1 read", "fault: 2 write"]
 
 
 def held_port():
-    """A port that nobody else is given, and that the program can listen on."""
+    """A port that nobody else gets, and on which the program can listen."""
     holder = socket.socket()
     holder.setsockopt(socket.SOL_SOCKET, socket.SO_REUSEADDR, 1)
     holder.bind(("127.0.0.1", 0))
@@ -62,18 +62,18 @@ def held_port():
 
 
 def descriptors_of(process):
-    """Where each descriptor of a process leads."""
+    """The target of each descriptor of a process."""
     found = {}
     for entry in os.listdir(f"/proc/{process}/fd"):
         try:
             found[int(entry)] = os.readlink(f"/proc/{process}/fd/{entry}")
         except FileNotFoundError:
-            pass  # it was closed in between
+            pass  # it was closed meanwhile
     return found
 
 
 def memory_of(process, name):
-    """How many KiB of memory a process has (VmRSS), or had at most since that was last forgotten (VmHWM)."""
+    """The KiB of memory of a process (VmRSS), and its peak since the last reset (VmHWM)."""
     for line in Path(f"/proc/{process}/status").read_text().splitlines():
         if line.startswith(f"{name}:"):
             return int(line.split()[1])
@@ -81,12 +81,12 @@ def memory_of(process, name):
 
 
 def forget_peak(process):
-    """What a process had of memory at most is from now on what it has."""
+    """Resets the peak of a process's memory."""
     Path(f"/proc/{process}/clear_refs").write_text("5")
 
 
 def is_heard(port):
-    """Whether anyone listens at this port of 127.0.0.1. Nobody calls there for it."""
+    """Whether anyone listens at this port of 127.0.0.1. This makes no connection."""
     return f" 0100007F:{port:04X} 00000000:0000 0A " in Path("/proc/net/tcp").read_text()
 
 
@@ -94,14 +94,14 @@ def is_heard(port):
 
 
 class Stays:
-    """What a service that stays holds. Its task is what it does for one who has nothing else to do with it."""
+    """The descriptors and the memory of a long-running service. Its task is what it does for a caller without a request of its own."""
 
     # Each has these, beside its `program`, its `database` and its `port`.
     command = task = descriptors = memory = None
     callers = 0
 
     def begin(self):
-        """Waits until it is heard, and looks at what it holds before its first caller."""
+        """Waits until it listens, and notes its descriptors and memory before its first caller."""
         until = time.monotonic() + LONG
         while not is_heard(self.port):
             if self.program.poll() is not None or time.monotonic() > until:
@@ -111,7 +111,7 @@ class Stays:
         self.memory = self.measure()
 
     def measure(self):
-        """What it has of memory at most within the same tasks, and behind them."""
+        """Its peak memory during the same tasks, and its memory after them."""
         for number in range(TASKS):
             if number == TASKS // 2:
                 forget_peak(self.program.pid)
@@ -120,7 +120,7 @@ class Stays:
         return [memory_of(self.program.pid, name) for name in ("VmHWM", "VmRSS")]
 
     def look(self):
-        """Behind a caller it holds what it held before the first one."""
+        """After a caller it has the descriptors that it had before the first one."""
         self.callers += 1
         self.wait_until_done()
 
@@ -133,8 +133,8 @@ class Stays:
             time.sleep(0.002)
 
     def compared(self, may_grow=0):
-        """What it held, in words, and what is wrong: that this is more than at the beginning, and than what it may have grown by. The next time it
-        is compared with what it has now."""
+        """Its descriptors and memory, in words, and what is wrong: more than at the beginning, beyond the allowed growth. The next
+        comparison is with the current values."""
         memory = self.measure()
         told = (
             f"{self.command}: {self.callers} callers, {len(self.descriptors)} descriptors before and behind each; KiB of memory "
@@ -146,7 +146,7 @@ class Stays:
 
 
 class Staying(Stays, Service):
-    """A service that opens its database anew for each caller, and stays."""
+    """A service that opens its database anew for each caller, and keeps running."""
 
     def __init__(self, room, command, task, *words, **how):
         self.command = command
@@ -160,13 +160,14 @@ class Staying(Stays, Service):
             raise
 
     def measure(self):
-        """What it has of memory over a new database."""
+        """Its memory over a new database."""
         for end in ("", "-wal"):
             Path(f"{self.database}{end}").unlink(missing_ok=True)
         return super().measure()
 
     def settle(self):
-        """Ends it. It answers what it held, in words, and what is wrong with that, or with what it told beside the lines that were asked for."""
+        """Ends it. It returns its descriptors and memory, in words, and what is wrong with these, or with what it printed besides the
+        requested lines."""
         try:
             told, whys = self.compared()
         except (Wrong, OSError) as why:
@@ -175,14 +176,14 @@ class Staying(Stays, Service):
         return told, [*(f"{self.command} told {line!r}" for line in self.rest() if line), *whys]
 
     def leave(self):
-        """Ends it, whatever it has told."""
+        """Ends it, whatever it has printed."""
         self.program.kill()
         self.program.wait()
         self.holder.close()
 
 
 class StayingStation(Stays, Resident):
-    """A station that holds its database, and stays. Its lines go to a file, which it is given as its output."""
+    """A station that keeps its database open, and keeps running. Its standard output is a file."""
 
     command = "run"
 
@@ -195,7 +196,7 @@ class StayingStation(Stays, Resident):
         self.size = self.kibi()
 
     def kibi(self):
-        """How many KiB its database has."""
+        """The KiB of its database."""
         return sum(path.stat().st_size for end in ("", "-wal") if (path := Path(f"{self.database}{end}")).exists()) // 1024
 
     def compared(self, may_grow=0):
@@ -204,7 +205,7 @@ class StayingStation(Stays, Resident):
 
 
 class Services:
-    """Both services over the database of a room."""
+    """Both services over the database of a folder."""
 
     def __init__(self, room, book):
         self.http = Staying(room, "http", ask_list, "--requests", CALLERS)
@@ -222,12 +223,12 @@ class Services:
             service.leave()
 
     def settle(self):
-        """Ends both. It answers what each held, in words, and what is wrong."""
+        """Ends both. It returns the descriptors and memory of each, in words, and what is wrong."""
         came = [service.settle() for service in (self.listen, self.http)]
         return [told for told, _ in came], [why for _, whys in came for why in whys]
 
     def meet(self, chance):
-        """A stranger calls, or somebody asks for what the database holds."""
+        """A stranger calls, or a request asks for the content of the database."""
         chance.choice([self.meet_stranger, self.meet_request])(chance)
 
     def meet_stranger(self, chance):
@@ -258,7 +259,7 @@ class Services:
         self.http.look()
 
     def expect_list(self, target, reply):
-        """The reply shows what stock sqlite3 reads."""
+        """The reply has what stock sqlite3 reads."""
         first, _, body = reply.partition(END + END)
         expect((first[:13], body), (b"HTTP/1.1 200 ", body_of(self.http.database, target)), f"the reply for {target}")
 
@@ -278,14 +279,14 @@ def hold_session(listen):
 
 
 def reset(service, octets):
-    """One who says this, and resets the connection."""
+    """A caller that sends this, and resets the connection."""
     with service.caller() as caller:
         caller.setsockopt(socket.SOL_SOCKET, socket.SO_LINGER, struct.pack("ii", 1, 0))
         caller.sendall(octets)
 
 
 def converse(service, octets, next_size):
-    """What a service answers to one who says these octets, in pieces of such sizes, and then nothing more."""
+    """What a service answers to a caller that sends these octets, in pieces of these sizes, and then nothing more."""
     with service.caller() as caller:
         caller.setsockopt(socket.IPPROTO_TCP, socket.TCP_NODELAY, 1)
         writer = threading.Thread(target=say, args=(caller, octets, next_size))
@@ -308,7 +309,7 @@ def say(caller, octets, next_size):
 
 
 def hear(caller):
-    """All that comes. Where the service hasn't read what was said behind the end of a session, a reset follows its last octet."""
+    """All octets up to the end. If the service hasn't read what was sent after the end of a session, a reset follows its last octet."""
     octets = b""
     try:
         while piece := caller.recv(65536):

@@ -1,7 +1,7 @@
 """The tables of a station's database, read by stock sqlite3.
 
-They are read from a copy, so that the files stay as the program left them. What is read has to stand for a register: the checks of
-sqlite3 itself, and the rules that the columns of the tables keep beside them (`unfit`).
+They are read from a copy, so that the files stay as the program left them. What is read has to be a register: it passes the integrity
+checks of sqlite3, and the rules on the columns of the tables beyond these (`unfit`).
 """
 
 import shutil
@@ -29,7 +29,7 @@ PAGE = 4096
 
 
 class Damaged(Exception):
-    """Files that hold no database, or tables that stand for no register."""
+    """Files that hold no database, or tables that aren't those of a register."""
 
 
 def read(database):
@@ -48,8 +48,8 @@ def read(database):
 
 
 def is_under_way(copy):
-    """Whether the program was stopped while it made the file: it writes the first octet last, so sqlite3 takes it for no database yet,
-    and the program begins anew."""
+    """Whether the program was stopped while it made the file: it writes the first octet last, so that sqlite3 doesn't take it for a
+    database yet, and the program begins anew."""
     octets = copy.read_bytes() if copy.stat().st_size <= PAGE else b"S"
     return octets[:1] in (b"", b"\0")
 
@@ -81,7 +81,7 @@ def bodies(tables, table, number):
 
 
 def unfit(tables):
-    """Why the tables stand for no register, or None."""
+    """Why the tables aren't those of a register, or None."""
     if tables["about"] == []:
         return None if not any(tables.values()) else "there are rows, and `about` is empty"
     for table in ("in_file", "out_file", "received"):

@@ -1,11 +1,11 @@
 #!/usr/bin/env python3
-"""Counts rows, command lines, texts of books, files of rows/listing, worked examples, tests and wrong bodies, and compares the numbers with those that
-are written down in checks/lint/counts.txt, so that one that is lost is noticed.
+"""Counts rows, command lines, examples, tests and wrong bodies, and compares the numbers with those in checks/lint/counts.txt.
 
     checks/lint/counts.py
 
-A number that is smaller fails, since something is lost. One that is greater fails too, and is to be written down. The last line is
-`N passed, M failed`.
+It counts rows, command lines, texts of books, files of rows/listing, worked examples, tests and wrong bodies, so that a lost one is
+noticed. A smaller number fails, because something was lost. A greater one fails too, until it is written down. The last line is `N passed, M
+failed`.
 """
 
 import re
@@ -37,7 +37,7 @@ def count_tests():
 
 
 def count_examples():
-    """The calls of crates/oftp_test_codec, and the lines that they have to answer."""
+    """The calls of crates/oftp_test_codec, and their expected lines."""
     lines = (ROOT / "crates/oftp_test_codec/stdout").read_text(encoding="utf-8").splitlines()
     answers = [it for it in lines if it.startswith("  ")]
     calls = [it for it in lines if it and not it.startswith(("#", "  "))]
@@ -45,7 +45,7 @@ def count_examples():
 
 
 def counted():
-    """What there is, by the names of checks/lint/counts.txt."""
+    """The numbers, under the names of checks/lint/counts.txt."""
     calls, answers = count_examples()
     return {
         "rows": len(list(ROWS.glob("*/*.row"))),
@@ -61,13 +61,13 @@ def counted():
 
 
 def written():
-    """What is written down: a name and a number on each line."""
+    """The written numbers: a name and a number on each line."""
     lines = (line.rpartition(" ") for line in WRITTEN.read_text().splitlines() if line.strip())
     return {name: int(number) for name, _, number in lines}
 
 
 def judged(name, found, wanted):
-    """Why a number isn't the one that is written down, or None."""
+    """Why a number isn't the written one, or None."""
     if found is None:
         return f"{wanted} are written down, and nothing is counted under this name"
     if wanted is None:

@@ -1,10 +1,10 @@
 #!/bin/bash
-# Whether `rt fmt` would leave each file of the crates as it is, in a copy of them. `rt ci` asks the same, after an hour.
+# Whether `rt fmt` would leave each file of the crates as it is, in a copy of them. `rt ci` checks the same, but after an hour.
 set -euo pipefail
 root=$(cd "$(dirname "$0")/../.." && pwd)
 room=$(mktemp -d)
 trap 'rm -rf "$room"' EXIT
-# what was proved lies in out/, and would be gigabytes to copy
+# out/ has what was proved, and would be gigabytes to copy
 (cd "$root" && find crates.txt crates -name out -prune -o -type f -print0 | xargs -0 cp --parents -t "$room")
 for crate in "$room"/crates/*; do
     (cd "$crate" && rt fmt) > "$room/told"

@@ -1,11 +1,11 @@
 #!/usr/bin/env python3
-"""Holds the text of the crates to the manner of docs/CONTRIBUTING.md, as far as a script can see it.
+"""Checks that the text of the crates has the manner of docs/CONTRIBUTING.md, as far as a script can see it.
 
     checks/lint/manner.py
 
-No body of a function in src/ has more than 40 lines, no line of a clause, a definition or a proof more than 200 characters, and each file
-begins with the line that says what it has: `//!` in src/, `--` in specs/ and proofs/, answers and lists of modules aside. It prints each
-place that differs, and `N passed, M failed`, in files.
+No body of a function in src/ has more than 40 lines, and no line of a clause, a definition or a proof more than 200 characters. Each file
+begins with the line that says what it has: `//!` in src/, `--` in specs/ and proofs/, except answers and lists of modules. It prints each
+violation, and `N passed, M failed`, in files.
 """
 
 import re
@@ -32,7 +32,7 @@ def long_bodies(text):
 
 
 def faults(path):
-    """What differs in a file."""
+    """The violations in a file."""
     text = path.read_text(encoding="utf-8")
     for number, line in enumerate(text.splitlines(), 1):
         if len(line) > MOST_CHARACTERS and not re.match(r"\s*(ghost |pub )?use\b", line):

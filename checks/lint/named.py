@@ -1,12 +1,12 @@
 #!/usr/bin/env python3
-"""Holds what the documents name against the tree: links, files, crates, and the functions of tables.
+"""Checks that what the documents name is in the tree: links, files, crates, and the functions of tables.
 
     checks/lint/named.py
 
-Each relative link leads to a file, and to a heading of it where it says one. Each path below crates/, checks/, rows/, examples/ and docs/
-is there, also where `crates/` is left out before a crate's folder. Each word `oftp_..` is a crate, or the program. And in a table with a
-column `File` and a column `Function` the file of each line has that function; more of them stand behind commas. Words in capitals stand for
-something in a path, and `*` for anything. It prints each name that leads nowhere, and `N passed, M failed`, in names.
+Each relative link leads to a file, and to a heading of it if it names one. Each path below crates/, checks/, rows/, examples/ and docs/
+exists, also if `crates/` is left out before a crate's folder. Each word `oftp_..` is a crate, or the program. In a table with a column
+`File` and a column `Function`, the file of each line has that function, or each of several with commas between them. Words in capitals are
+placeholders in a path, and `*` stands for anything. It prints each name that leads nowhere, and `N passed, M failed`, in names.
 """
 
 import re
@@ -22,7 +22,7 @@ LINK = re.compile(r"\]\(([^)\s]+)\)")
 PATH = re.compile(r"(?<![\w./-])((?:crates|checks|rows|examples|docs|oftp_\w+)/[\w*./@-]*[\w*/])")
 CRATE = re.compile(r"(?<![\w./-])(oftp_[a-z_]+)(?![\w/.])")
 STANDS_FOR = re.compile(r"\b[A-Z]{2,}\b|\*")
-# What is made, or lies on another machine, and isn't in the tree.
+# What is built, or lies on another machine, and isn't in the tree.
 MADE = re.compile(r"/out(/|$)|^oftp_station\.|/NAME|\.part$")
 PROGRAMS = {"oftp_station"}
 

@@ -1,13 +1,12 @@
 #!/usr/bin/env python3
-"""Holds the page, crates/oftp_resident/src/page.html, to what a browser is told of it, to the words of the crates, and to its copy for the
-program, crates/oftp_resident/src/page.rt.
+"""Compares the page, crates/oftp_resident/src/page.html, with its policy, with the words of the crates, and with its copy for the program.
 
-    checks/lint/page.py            compares, prints each thing that differs, and `N passed, M failed`
-    checks/lint/page.py --write    writes the sums of its script and its style into the page, and the copy
+    checks/lint/page.py            compares, prints each difference, and `N passed, M failed`
+    checks/lint/page.py --write    writes the hashes of its script and its style into the page, and writes the copy
 
-The page's policy allows the script and the style of these sums alone, and no text to become markup. Nothing of the page is from elsewhere. It
-knows each state that the listing names (oftp_listing/specs/Names.antt), and has the words of oftp_wire/specs/Reasons.antt for the reasons that
-stand there.
+The copy is crates/oftp_resident/src/page.rt. The page's policy allows only the script and the style with these hashes, and no text to
+become markup. Nothing in the page is loaded from elsewhere. It knows each state that the listing names (oftp_listing/specs/Names.antt), and
+has the words of oftp_wire/specs/Reasons.antt for the reasons there.
 """
 
 import base64
@@ -24,12 +23,12 @@ PAGE = ROOT / "crates/oftp_resident/src/page.html"
 COPY = ROOT / "crates/oftp_resident/src/page.rt"
 REASONS = ROOT / "crates/oftp_wire/specs/Reasons.antt"
 NAMES = ROOT / "crates/oftp_listing/specs/Names.antt"
-# What a policy has to say, beside the sums.
+# What a policy has to have, besides the hashes.
 POLICY = [
     *("default-src 'none'", "connect-src 'self'", "img-src data:", "base-uri 'none'", "form-action 'none'"),
     *("require-trusted-types-for 'script'", "trusted-types 'none'"),
 ]
-# What would make markup or code of a text, and what would load something.
+# What would turn a text into markup or code, and what would load something.
 FORBIDDEN = [
     *("innerHTML", "outerHTML", "insertAdjacentHTML", "document.write", "createContextualFragment", "DOMParser", "setHTML", "srcdoc"),
     *("eval(", "Function(", "import(", "://", "@import", "url(", " src=", "XMLHttpRequest", "WebSocket", "EventSource", "sendBeacon"),
@@ -44,7 +43,7 @@ def policy_of(text):
 
 
 def sums_of(text):
-    """The directive that allows the page's script alone, and the one for its style."""
+    """The directive that allows only the page's script, and the one for its style."""
     for part, name in (("script", "script-src"), ("style", "style-src")):
         bodies = re.findall(rf"<{part}>(.*?)</{part}>", text, re.S)
         yield f"{name} " + " ".join(f"'sha256-{base64.b64encode(hashlib.sha256(it.encode()).digest()).decode()}'" for it in bodies)
@@ -58,7 +57,7 @@ def with_sums(text):
 
 
 def copy_of(text):
-    """The page as a text of the program."""
+    """The page as a text in the program's source."""
     return (
         "//! The page for people, the text of page.html: written by `checks/lint/page.py --write`.\n\n"
         "/// What a request for `/` is answered with: one text of HTML, in which all is that it needs.\n"
@@ -89,13 +88,13 @@ def states_shown(text):
     """The states of each list in the page's table."""
     table = re.search(r"const STATES = \{\n(.*?)\n\};", text, re.S)
     lists = re.findall(r"^  (\w+): \{\n(.*?)^  \},", table.group(1), re.S | re.M) if table else []
-    # A whole file is shown by what was said of it.
+    # A file is described by its header alone.
     more = {"in": {"whole"} if 'state === "whole"' in text else set()}
     return {name: set(re.findall(r"^    (\w+): \{", body, re.M)) | more.get(name, set()) for name, body in lists}
 
 
 def judged(text):
-    """What is asked of the page, and whether it is so."""
+    """The demands on the page, and whether each is met."""
     policy = policy_of(text)
     for directive in [*POLICY, *sums_of(text)]:
         yield f"its policy says: {directive}", directive in policy

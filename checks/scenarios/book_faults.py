@@ -1,5 +1,5 @@
 #!/usr/bin/env python3
-"""Has the program read each text of rows/books/faults.txt as a partner book, and compares what `check` says with what stands there.
+"""Lets the program read each text of rows/books/faults.txt as a partner book, and compares the output of `check` with the expected one.
 
 The last line is `N passed, M failed`.
 """

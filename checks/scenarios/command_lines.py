@@ -1,13 +1,12 @@
 #!/usr/bin/env python3
-"""Gives the built program the command lines of rows/lines, and tells each that is answered otherwise or leaves something else.
+"""Gives the built program the command lines of rows/lines, and reports each whose result or files differ.
 
-    checks/scenarios/command_lines.py [--beside] [TOPIC ..]     the files of rows/lines by their names; all where none is named
+    checks/scenarios/command_lines.py [--beside] [TOPIC ..]     the files of rows/lines by their names; all if none is named
 
-rows/README.md says how a line is written. Each is given in a folder of its own, with the files that it names. What it prints, how it
-ends and what is in the folder afterwards have to be what is said, and nothing else may be printed, made or changed. Of each command in
-commands.lines the words are varied: each is left out, is given twice, and has one beside it that no command takes. With `--beside` each
-command that can ask a station which holds its database is given while one runs: nothing may come out otherwise. The last line is
-`N passed, M failed`.
+rows/README.md describes a line. Each runs in a folder of its own, with the files that it names. Its output, its status and the folder
+afterwards have to be as written, and nothing else may be printed, made or changed. The words of each command in commands.lines are varied:
+each is left out, given twice, and has one beside it that no command takes. With `--beside` each command that can ask a station which keeps
+the database open is run while one does: no result may differ. The last line is `N passed, M failed`.
 """
 
 import subprocess

@@ -1,12 +1,12 @@
 #!/usr/bin/env python3
-"""Tries commands over a database that another process holds.
+"""Tries commands over a database that another process has locked.
 
     checks/scenarios/database_held.py
 
-The holder is a session of the program that waits for its partner, or this script, which takes the locks of SQLite as the program does.
-A second command waits for the database. Where it is given up within ten seconds, the command is carried out; else it ends with
-`fault: 6 store 1`, and the holder's session goes on as if nothing had been. Meanwhile stock sqlite3 finds the database locked. All
-cases run at once, so it takes some twelve seconds. The last line is `N passed, M failed`.
+The holder is a session of the program that waits for its partner, or this script, which takes the locks of SQLite as the program does. A
+second command waits for the database. If it is released within ten seconds, the command is carried out. Otherwise the command ends with
+`fault: 6 store 1`, and the holder's session goes on undisturbed. Meanwhile stock sqlite3 finds the database locked. All cases run in
+parallel, so it takes some twelve seconds. The last line is `N passed, M failed`.
 """
 
 import fcntl
@@ -25,21 +25,21 @@ import row_files
 from program import PROGRAM
 
 BOOK = row_files.ROWS / "books/usual.toml"
-# Where SQLite's locks on a database file lie: the pending, the reserved and the shared ones.
+# Where SQLite's locks on a database file are: the pending, the reserved and the shared ones.
 LOCKS = (1 << 30, 512)
 PATIENCE = 10
-# What a command may take beside its wait, on a machine with other work, whose host may be busy too.
+# The time of a command besides its wait, on a loaded machine.
 SLACK = 25
-# How many times a case is tried that is late.
+# How often a case that is late is repeated.
 TIMES = 3
 
 
 class Wrong(Exception):
-    """A case that came out otherwise."""
+    """A case that failed."""
 
 
 class Late(Exception):
-    """A case that shows nothing, since this machine was too busy for it to be in time."""
+    """A case that shows nothing, because this machine was too busy for it to be in time."""
 
 
 class SessionHolds:
@@ -57,7 +57,7 @@ class SessionHolds:
         self.greeting = os.read(self.answers, 4096)
 
     def give_up(self):
-        """The partner goes on, and a file comes: nothing of the session is lost by what others tried."""
+        """The partner goes on, and a file is received: nothing of the session is lost by what others tried."""
         octets = self.greeting
         for side, wanted in self.steps[1:]:
             if side == "in":
@@ -72,7 +72,7 @@ class SessionHolds:
 
 
 class ScriptHolds:
-    """This script, by the locks alone."""
+    """This script, with the locks alone."""
 
     def __init__(self, database):
         self.file = open(database, "r+b")
@@ -83,7 +83,7 @@ class ScriptHolds:
 
 
 def case(holder, command, seconds):
-    """Holds a database for so many seconds, or until the command ends where there is no number, and gives the command meanwhile."""
+    """Locks a database for this many seconds, or until the command ends if there is no number, and runs the command meanwhile."""
     with tempfile.TemporaryDirectory() as room:
         database = Path(room) / "database"
         subprocess.run([PROGRAM, "init", "--db", database], check=True, capture_output=True)
@@ -148,7 +148,7 @@ CASES = [
 
 
 def told(what):
-    """Runs a case, once more where it was late. It answers what the case is, and why it came out otherwise, or None."""
+    """Runs a case, once more if it was late. It returns the case, and why it failed, or None."""
     run, holder, command, seconds = what
     until = "until it ends" if seconds is None else f"for {seconds} s"
     name = f"{command[0]} over a database that {holder.__name__.replace('Holds', '').lower()} holds {until}"

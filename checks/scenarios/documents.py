@@ -1,13 +1,12 @@
 #!/usr/bin/env python3
-"""Holds what the documents say of the program against the program: the commands and options, and the day that README.md shows.
+"""Compares the documents with the program: the commands and options, and the day that README.md shows.
 
     checks/scenarios/documents.py
 
-Each command of docs/COMMANDS.md is one that the program has, and the other way round; its line there names the options that its `--help`
-names. Its reasons are those that the page for people knows. README.md and the table of docs/ARCHITECTURE.md name the crates that there are. The
-blocks below README's heading "A day .." and below "The first day" of docs/OPERATING.md are typed as they stand there, each in a folder of its
-own, with ports that are free: what stands behind a `$` prints the lines below it. Where stunnel isn't there, the first day ends before it. Where
-`rt` is there, the documents name its logic. The last line is `N passed, M failed`.
+The commands of docs/COMMANDS.md are those of the program, and its line for each names the options in its `--help`. Its reasons are those of
+the page. README.md and the table of docs/ARCHITECTURE.md name all crates. The blocks below README's heading "A day .." and below "The first
+day" of docs/OPERATING.md are typed as they are, each in a folder of its own, with free ports: what follows a `$` prints the lines below it.
+Without stunnel the first day ends before it. If `rt` is installed, the documents name its logic. The last line is `N passed, M failed`.
 """
 
 import os
@@ -29,7 +28,7 @@ README = ROOT / "README.md"
 COMMANDS = ROOT / "docs/COMMANDS.md"
 OPERATING = ROOT / "docs/OPERATING.md"
 ARCHITECTURE = ROOT / "docs/ARCHITECTURE.md"
-# A command's line of the table: its name, and what stands behind it.
+# A command's line of the table: its name, and the rest.
 LINE = re.compile(r"^\| `\./oftp_station ([a-z]+)((?:[^`|]|\\\|)*)` \|", re.M)
 OPTION = re.compile(r"--[a-z][a-z-]*")
 PAGE = ROOT / "crates/oftp_resident/src/page.html"
@@ -38,12 +37,12 @@ REASON = re.compile(r"(?:\| |, )(\d\d) ([a-z][a-z' ]*[a-z])")
 REASON_OF_PAGE = re.compile(r'"(\d\d)": "([^"]+)"')
 # The ports that the documents name.
 PORT = re.compile(r"\b(?:3305|3306|8080|6619|13305)\b")
-# The end of a text that a command is given in the lines below it.
+# The end of a text that a command gets in the lines below it.
 HERE = re.compile(r"<<'?(\w+)'?$")
 
 
 def said(*words):
-    """What the program prints for these words, on both outputs."""
+    """The program's output for these arguments, both standard output and standard error."""
     done = subprocess.run([PROGRAM, *words], capture_output=True, text=True, timeout=LONG, check=False)
     return done.stdout + done.stderr
 
@@ -95,7 +94,7 @@ def blocks_below(path, heading):
 
 
 def typed(block):
-    """What is typed in a block, each with what it prints, or None where that isn't said."""
+    """What is typed in a block, each with its output, or None if that isn't given."""
     found, end, is_continued = [], None, False
     for line in block:
         if end is not None:
@@ -118,8 +117,8 @@ def typed(block):
 
 
 class Typist:
-    """Types commands in a folder of its own, where examples/ is too, and where the program is on the path. The ports that the documents
-    name are free ones there, and /tmp is the folder itself."""
+    """Types commands in a folder of its own, in which examples/ is too, with the program on the path. The ports that the documents name are
+    replaced by free ones, and /tmp by the folder."""
 
     def __enter__(self):
         self.path = Path(tempfile.mkdtemp())
@@ -149,7 +148,7 @@ class Typist:
         return PORT.sub(lambda it: str(self.ports.setdefault(it[0], free_port())), text).replace("/tmp/", f"{self.path}/")
 
     def type(self, command, wanted):
-        """Types a command. What ends in `&` goes on beside the others. A station where no port is named has the one that it takes of itself."""
+        """Types a command. One that ends in `&` runs in the background. A station without a named port has its default one."""
         if " run --db" in command and " --port " not in command:
             command = command.replace(" run --db", " run --port 3305 --db")
         words = ["bash", "-c", self.as_here(command)]
@@ -166,7 +165,7 @@ class Typist:
 
 
 def day_goes_as_shown():
-    """README's day, typed as it stands there."""
+    """README's day, typed as it is."""
     with Typist() as typist:
         for block in blocks_below(README, "A day"):
             for command, wanted in typed(block):
@@ -174,7 +173,7 @@ def day_goes_as_shown():
 
 
 def first_day_goes_as_shown():
-    """The first day of docs/OPERATING.md, typed as it stands there."""
+    """The first day of docs/OPERATING.md, typed as it is."""
     has_tunnel = shutil.which("stunnel") and shutil.which("openssl")
     with Typist() as typist:
         for block in blocks_below(OPERATING, "The first day"):

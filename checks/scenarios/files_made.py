@@ -1,11 +1,11 @@
 #!/usr/bin/env python3
-"""Looks at the files that the program makes: who may read them, what is left of a file that is replaced, and drafts.
+"""Checks the files that the program makes: their permissions, what remains of a replaced file, and temporary files.
 
     checks/scenarios/files_made.py
 
-The program is stopped while it writes a file, and killed there. What only the superuser may try (files of other users) is tried by it, and
-else said not to be. Beside that, content that is longer than that of any file which is kept is handed in, in each format. The last line
-is `N passed, M failed`.
+The program is stopped while it writes a file, and killed there. What only the superuser may try (files of other users) is tried as
+superuser, and otherwise reported as not tried. In addition, content longer than that of any file that is kept is submitted, in each format.
+The last line is `N passed, M failed`.
 """
 
 import fcntl
@@ -28,14 +28,14 @@ from services import BOOK, LONG, Wrong, expect
 
 MASKS = [0o000, 0o022, 0o027, 0o077, 0o277]
 DRAFT = ".oftp_station_"
-# More than any local form of a file that is kept.
+# More than the local form of any file that is kept.
 TOO_LONG = 72_108_866
-# A user and groups that no machine has.
+# A user and groups that exist on no machine.
 USER, GROUP, OTHER_GROUP, FOREIGN = 54_321, 54_322, 54_323, 54_324
 
 
 class NotTried(Exception):
-    """What isn't tried here, and for want of what."""
+    """What isn't tried here, and what is missing for it."""
 
 
 def run(room, *words, mask=0o022, how=None):
@@ -74,7 +74,7 @@ def receive_large(room):
 
 
 def made_for_one_user(room):
-    """A database, its log and a trace are its user's alone, whatever the umask; those that were there stay as they are."""
+    """A database, its log and a trace belong to their user alone, whatever the umask; existing ones stay as they are."""
     for mask in MASKS:
         folder = room / f"{mask:o}"
         folder.mkdir()
@@ -98,7 +98,7 @@ def fetched_as_the_umask_says(room):
 
 
 def replaced_as_it_was(room):
-    """A replaced file keeps its permissions, and none that would run it as its owner or its group."""
+    """A replaced file keeps its permissions, but no set-user-id or set-group-id bit."""
     receive(room)
     fetched = room / "fetched"
     for mode, kept in ((0o640, 0o640), (0o604, 0o604), (0o4755, 0o755), (0o2770, 0o770), (0o1777, 0o777)):
@@ -109,8 +109,8 @@ def replaced_as_it_was(room):
 
 
 def replaced_with_its_owner(room):
-    """The superuser leaves a file its owner and its group; another user its group, where it is one of his, and else gives the new group no
-    more than anyone has."""
+    """The superuser keeps a file's owner and group; another user keeps its group, if he is a member, and otherwise gives the new group no
+    more permissions than everyone has."""
     if os.geteuid() != 0:
         raise NotTried("the superuser: files of other users")
     receive(room)
@@ -143,7 +143,8 @@ def replaced_with_its_owner(room):
 
 
 def copied_as_the_database_is(room):
-    """A backup is its user's alone where the database is, and else has the permissions of the database, whatever it replaces and the umask is."""
+    """A backup is readable by its user alone if the database is, and otherwise has the permissions of the database, whatever it replaces
+    and whatever the umask."""
     receive(room)
     for mask in MASKS:
         for mode in (0o600, 0o640, 0o660):
@@ -155,7 +156,7 @@ def copied_as_the_database_is(room):
 
 
 def copied_with_its_owner(room):
-    """A backup that the superuser takes belongs to the database's user and group. Another user takes none into a folder that isn't his."""
+    """A backup by the superuser belongs to the database's user and group. Another user can't make one in a folder of someone else."""
     if os.geteuid() != 0:
         raise NotTried("the superuser: backups of other users")
     receive(room)
@@ -182,11 +183,11 @@ def copied_with_its_owner(room):
         expect((home / "old").read_bytes(), b"OLD", "the file that isn't his")
 
 
-# ---- drafts
+# ---- temporary files
 
 
 class Stopped:
-    """A fetch that is stopped while its draft is written, within this folder."""
+    """A fetch that is stopped while its temporary file is written, within this folder."""
 
     def __init__(self, room, name):
         self.words = [PROGRAM, "fetch", "--db", "db", "1", name]
@@ -198,7 +199,7 @@ class Stopped:
         while not self.draft:
             if time.monotonic() > until:
                 raise Wrong(f"no draft was seen: {self.program.communicate()}")
-            # Where it was done before it was seen it writes once more.
+            # If it was finished before it was seen, it writes once more.
             if self.program.poll() is not None:
                 self.begin()
             for draft in set(drafts_in(room)) - before:
@@ -208,7 +209,7 @@ class Stopped:
         self.program = subprocess.Popen(self.words, cwd=self.room, umask=0, stdout=subprocess.PIPE, stderr=subprocess.PIPE)
 
     def see(self, draft):
-        """Stops the program. It has to be within the draft then, or else it goes on."""
+        """Stops the program. It has to be writing the temporary file then, or else it goes on."""
         try:
             self.program.send_signal(signal.SIGSTOP)
             time.sleep(0.1)
@@ -230,7 +231,7 @@ class Stopped:
 
 
 def draft_of_one_user(room):
-    """While a draft is written nobody else may read it; the file then has the mode that the umask gives."""
+    """While a temporary file is written nobody else may read it; the file then has the mode that the umask gives."""
     receive_large(room)
     stopped = Stopped(room, "fetched")
     expect(mode_of(stopped.draft), 0o600, "the draft's mode")
@@ -240,7 +241,7 @@ def draft_of_one_user(room):
 
 
 def drafts_left_by_a_kill(room):
-    """A draft of a process that was killed is removed by the next fetch, and one that is still written is not."""
+    """The temporary file of a process that was killed is removed by the next fetch, and one that is still written is not."""
     receive_large(room)
     copy = room / "copy"
     for name in ("", "-wal"):
@@ -258,7 +259,7 @@ def drafts_left_by_a_kill(room):
 
 
 def logs_of_drafts(room):
-    """With the draft of a backup that was killed its log is removed, and with one that is still written it isn't."""
+    """With the temporary file of a killed backup its log is removed; with one that is still written it isn't."""
     receive(room)
     for number in (1, 2):
         (room / f"{DRAFT}{number}").write_bytes(b"a copy")
@@ -272,7 +273,7 @@ def logs_of_drafts(room):
 
 
 def names_of_drafts_taken(room):
-    """Who bears a thousand names of drafts keeps nobody from a fetch."""
+    """A thousand files with names of temporary files don't prevent a fetch."""
     receive(room)
     for number in range(1000):
         (room / f"{DRAFT}{number}").mkdir()
@@ -291,7 +292,7 @@ def submit(room, form, longest, file):
 
 
 def too_long(room):
-    """Content that is too long is refused for its length, and content that is no file of its format for that, however long it is."""
+    """Content that is too long is refused for its length, and content that isn't a file of its format for that, however long it is."""
     refused = {line: (1, f"refused: {line}\n", "") for line in ("4 limit", "5 field")}
     zeros, records = room / "zeros", room / "records"
     for size, form, longest, line in (
@@ -337,7 +338,7 @@ CASES = [
 
 
 def tried(case):
-    """Runs a case. It answers what came of it, and whether it failed."""
+    """Runs a case. It returns the result, and whether it failed."""
     with tempfile.TemporaryDirectory() as room:
         try:
             case(Path(room))

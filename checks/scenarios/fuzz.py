@@ -1,19 +1,19 @@
 #!/usr/bin/env python3
-"""Plays random sessions over the built program and over a model of a station (checks/lib/model.py), and says where they differ.
+"""Plays random sessions over the built program and over a model of a station (checks/lib/model.py), and reports differences.
 
-    checks/scenarios/fuzz.py [--seconds N | --minutes N] [--seed N] [--sessions N] [--jobs N]     20 seconds, another seed each time and a
-                                                                                                  process for each processor, where none is given
+    checks/scenarios/fuzz.py [--seconds N | --minutes N] [--seed N] [--sessions N] [--jobs N] [--steps]
+
+        default: 20 seconds, another seed each time, and a process for each processor; --steps prints how often each step was made
 
 A life is a database, or a register in memory, and what is done to it: sessions in both roles with three partners, whose commands follow
-what the model of the station has out, but for mistakes of every kind; and submissions, releases, refusals and fetches between them. The
-octets of a session are then changed here and there, and given to `feed` in a file, or through a pipe in pieces of random sizes. Each
-time the octets out, the lines, the exit status and the tables that are left have to be the model's. A life has a seed of its own; where
-something differs, the seed is printed, with all that was done in words, and `--seed N --sessions 1` plays that life again. It goes on
-behind its time until each step of the step tables was taken, unless `--sessions` says how many there are, and fails where five minutes
-more leave one out.
+what the model of the station sends, with mistakes of every kind; and submissions, releases, refusals and fetches between them. The octets
+of a session are then changed here and there, and given to `feed` in a file, or through a pipe in pieces of random sizes. Each time the
+octets out, the lines, the exit status and the tables have to be the model's. A life has a seed of its own. If something differs, the seed
+is printed, with all that was done in words, and `--seed N --sessions 1` plays that life again. The check goes on beyond its time until each
+step of the step tables was made, unless `--sessions` gives their number, and fails if another five minutes leave one out.
 
-Half of the lives over a database have the book of services that stay from life to life: partners who call speak to that `listen` over a
-socket, and that `http` is asked between two acts. What they hold at the end is compared with what they held at the beginning
+Half of the lives over a database use the book of services that run from life to life: partners call that `listen` over a socket, and that
+`http` gets a request between two acts. Their memory and descriptors at the end are compared with those at the beginning
 (checks/lib/staying.py). The last line is `N passed, M failed`, which counts sessions.
 """
 
@@ -48,12 +48,12 @@ RECORDS = [1, 2, 3, 3, 10, 62, 63, 64, 65, 127, 128, 300, 2000, 16384]
 # How often a session breaks in a phase.
 BREAKS = {"receives": 0.08, "sends": 0.1, "awaits EFPA": 0.3, "awaits RTR": 0.1, "offers": 0.05}
 TEXTS = ["", "", "", "OK", "NO PLANT", "ü€\U0001f600", "a" * 999, "€" * 333, "\n\x1b[2J\x7f", "'; DROP TABLE in_file; --"]
-# What has to come about: each step of the step tables, these answers and turns, and these changes of a file's state. Where some of it hasn't
-# when the time is up, sessions follow for so many seconds more, at most.
+# What has to occur: each step of the step tables, these answers and turns, and these changes of a file's state. If some of it hasn't when
+# the time is up, sessions follow for at most this many seconds more.
 LONGEST = 300
-# So many seeds are more than one turn plays.
+# One call of `Played.play` uses fewer seeds than this.
 SEEDS = 10**7
-# How many books of services there are for so many seeds that follow one another.
+# The number of books of services for this many consecutive seeds.
 BOOKS, SEEDS_OF_BOOKS = 4, 10**6
 REASONS = {"SFNA": "01 02 03 05 06 13 14 99", "ESID": "01 02 03 04 06 07 10 12"}
 TURNS = "SSRM,SSID,SFPA,SFPA later,DATA,CDT,EFID,EFPA N,EFPA Y,EFNA 10,EFNA 11,RTR,EERP,NERP 09,SFID,SFID later,CD,ESID 00".split(",")
@@ -67,14 +67,14 @@ WANTED = {*(f"{phase}: {kind}" for phase, kind in model.STEPS), *TURNS, *REFUSAL
 
 
 class Differs(Exception):
-    """The program does something else than the model."""
+    """The program differs from the model."""
 
 
 # -- what a partner sends
 
 
 class Partner:
-    """The other side of a session. It follows the model of the station, but for its mistakes."""
+    """The other side of a session. It follows the model of the station, except for its mistakes."""
 
     def __init__(self, chance, session, code):
         self.chance = chance
@@ -97,7 +97,7 @@ class Partner:
         return spoken
 
     def breaks(self):
-        """A transfer breaks more often once a part of the file is kept, or covered by credit."""
+        """A transfer breaks more often once a part of the file is stored, or covered by credit."""
         session = self.session
         is_kept = session.phase == "receives" and session.taker.file["rows"] or session.phase == "sends" and session.file["mark"]
         return self.chance.random() < BREAKS.get(session.phase, 0) * (4 if is_kept else 1)
@@ -197,7 +197,7 @@ class Partner:
         return self.response("NERP", creator=creator, reason=self.chance.choice(["00", "09", "99"]), text=self.chance.choice(TEXTS))
 
     def data(self):
-        """Subrecords that fit what came of the file so far, within the buffer."""
+        """Subrecords that fit the file received so far, within the buffer."""
         chance = self.chance
         self.left -= 1
         form, longest = self.session.taker.file["format"], self.session.taker.file["longest"]
@@ -250,11 +250,11 @@ class Partner:
         return self.spell("ESID", reason=self.chance.choice(["00", "00", "01", "99"]), text=self.chance.choice(TEXTS))
 
 
-# -- what is changed of it
+# -- changes of its octets
 
 
 def change_field(chance, command):
-    """A command of which one field is at a boundary, is no value of its form, or has another length."""
+    """A command with one field at a boundary, of another form, or of another length."""
     kind = oftp.KIND_OF.get(command[:1].decode("latin-1"), "DATA")
     at = 0
     places = []
@@ -287,7 +287,7 @@ def change_field(chance, command):
 
 
 def change(chance, partner, frames):
-    """Frames of which something is changed."""
+    """Frames in which something is changed."""
     at = chance.randrange(len(frames))
     other = chance.randrange(len(frames))
     frame = frames[at]
@@ -321,7 +321,7 @@ def change(chance, partner, frames):
 
 
 def draw_book(chance, is_whole=False):
-    """A book as the model takes it. Unless it is to be whole, now and then a partner is missing."""
+    """A book in the model's form. Unless it has to be whole, a partner is missing now and then."""
     partners = {code: {"expects": password, "sends": chance.choice(["SUPPW", ""])} for code, password in PARTNERS.items()}
     if chance.random() < 0.05 and not is_whole:
         del partners[chance.choice(list(PARTNERS))]
@@ -333,7 +333,7 @@ def draw_book(chance, is_whole=False):
 
 
 def text_of(book):
-    """A book as the program takes it."""
+    """A book in the program's form."""
     word = "true" if book["restart"] == "Y" else "false"
     station = f"[station]\ncode = '{book['code']}'\nbuffer = {book['buffer']}\ncredit = {book['credit']}\nrestart = {word}\n"
     lines = [station]
@@ -344,7 +344,7 @@ def text_of(book):
 
 
 class Staying:
-    """The services that stay, each pair with a book, in a folder that a process has for its lives. A seed says which book it is."""
+    """The long-running services, each pair with a book, in the folder of a process for its lives. A seed determines the book."""
 
     def __init__(self, room, stack):
         self.room = room
@@ -361,7 +361,7 @@ class Staying:
         return self.there[name]
 
     def settle(self):
-        """What each held, in words, and why that is too much."""
+        """The memory and descriptors of each, in words, and why that is too much."""
         came = [services.settle() for services, _ in self.there.values()]
         return [line for told, _ in came for line in told], [why for _, whys in came for why in whys]
 
@@ -413,7 +413,7 @@ class Life:
                 self.services.meet_request(chance)
 
     def take_book(self):
-        """A book from now on. Services that stay have theirs."""
+        """Another book from now on. Long-running services keep theirs."""
         if not self.services:
             self.book = draw_book(self.chance)
         (self.room / "book").write_text(text_of(self.book))
@@ -428,7 +428,7 @@ class Life:
     # sessions
 
     def hold_session(self, database):
-        """A session over the database, where there is one; over an empty register it is held in memory too."""
+        """A session over the database, if there is one; over an empty register also in memory."""
         chance = self.chance
         code = chance.choice([*PARTNERS] + [*PARTNERS][:1] * 4)
         called = code if code in self.book["partners"] and chance.random() < (0.5 if database else 0.1) else None
@@ -450,7 +450,7 @@ class Life:
         self.sessions += 1
 
     def play(self, session, octets):
-        """The model takes the octets. What it does is noted in words, and counted."""
+        """The model executes the octets. What it does is noted in words, and counted."""
         self.told.append(f"session, {'the station calls ' + session.called if session.called else 'called'}, {len(octets)} octets come")
         self.note(session, 0)
         take = session.take
@@ -473,7 +473,7 @@ class Life:
         return {(side, file["no"]): file["state"] for side in ("in_file", "out_file") for file in getattr(self.register, side)}
 
     def note(self, session, shown):
-        """What went out."""
+        """The octets that were sent."""
         for frame in session.out[shown:]:
             kind, fields = oftp.read(frame[4:])
             is_later = fields.get("count", fields.get("restart", "0")) not in "0YN"
@@ -504,7 +504,7 @@ class Life:
         self.compare_octets(where, got, wanted)
 
     def compare_call(self, octets, line, wanted):
-        """The session goes over a socket to the service that stays."""
+        """The session goes over a socket to the long-running service."""
         most = self.chance.choice([1, 5, 200, 4096]) if len(octets) < 3000 else 4096
         sizes = random.Random(self.chance.random())
         got = converse(self.services.listen, octets, lambda: sizes.randint(1, most))
@@ -597,7 +597,7 @@ def write_pieces(sink, octets, sizes, most):
 
 
 def play_life(seed, room, staying):
-    """Plays the life of a seed. It answers the life, and what differs, in words, or None."""
+    """Plays the life of a seed. It returns the life, and what differs, in words, or None."""
     life = Life(seed, room, staying)
     try:
         life.live()
@@ -608,8 +608,8 @@ def play_life(seed, room, staying):
 
 
 def work(share):
-    """Plays one life after the other, until the time is over, so many sessions were held, or something differs. It answers the sessions, the
-    steps, what the services held, and what went wrong."""
+    """Plays one life after another, until the time is over, this many sessions were held, or something differs. It returns the sessions,
+    the steps, the memory and descriptors of the services, and what went wrong."""
     seeds, deadline, most = share
     sessions, steps, told, whys = 0, collections.Counter(), [], []
     with tempfile.TemporaryDirectory() as path, contextlib.ExitStack() as stack:
@@ -638,7 +638,7 @@ class Played:
         self.steps = collections.Counter()
 
     def play(self, seconds):
-        """Plays lives of seeds that weren't played yet for so many seconds, in a process for each job."""
+        """Plays lives of new seeds for this many seconds, in a process for each job."""
         deadline = time.monotonic() + seconds
         shares = [(range(self.first + job, self.first + SEEDS, self.jobs), deadline, self.most) for job in range(self.jobs)]
         self.first += SEEDS

@@ -1,12 +1,12 @@
 #!/usr/bin/env python3
-"""Asks the built program for what its databases hold, over HTTP and by `report`, and compares whole replies and whole reports.
+"""Asks the built program for the content of its databases, over HTTP and by `report`, and compares whole replies and whole reports.
 
-    checks/scenarios/listing.py [NAME ..]        files of rows/listing and cases below by their names; all where none is named
+    checks/scenarios/listing.py [NAME ..]        files of rows/listing and cases below by their names; all if none is named
 
-A file of rows/listing has sessions and commands that fill a database, requests, and what is answered: rows/README.md says how one is
-written. The requests go to one process of `http` that runs all the time. Beside that each reply that shows something has to be the JSON
-text of what stock sqlite3 reads of the database, octet for octet, and each report is read by Python's `csv` and compared with the same.
-The last line is `N passed, M failed`; before it stand the time and the memory of a listing of 10,000 files. The time is bound by nothing.
+A file of rows/listing has sessions and commands that fill a database, requests, and the expected replies (rows/README.md). The requests go
+to one process of `http` that runs all the time. In addition, each reply with content has to be the JSON text of what stock sqlite3 reads of
+the database, octet for octet, and each report is read by Python's `csv` and compared with the same. The last line is `N passed, M failed`;
+before it come the time and the memory of a listing of 10,000 files. The time has no bound.
 """
 
 import json
@@ -42,7 +42,7 @@ TO_US = {"destination": "O0013SUPPLIER", "originator": "O0177CARMAKER"}
 
 
 def give(service, *words):
-    """What the program prints for these words."""
+    """The program's output for these arguments."""
     done = subprocess.run([PROGRAM, *words], capture_output=True, timeout=SECONDS, check=False)
     expect((done.returncode, done.stderr), (0, b""), words[0])
     return done.stdout.decode()
@@ -53,7 +53,7 @@ def get(service, target):
 
 
 def texts_are_read_back(room):
-    """A description and a negative end response's text of any characters. No text is in the report."""
+    """A description and a Negative End Response's text of any characters. Neither text is in the report."""
     with Service(room, "http", "--requests", str(2 * len(TEXTS))) as service:
         for number, text in enumerate(TEXTS, 1):
             commands = [
@@ -84,8 +84,8 @@ MANY = 10_000
 
 
 def ten_thousand_files(room):
-    """A list of many files, made by stock sqlite3. It takes four times its body in memory at most, beside what the database's opening
-    takes, which one file's object shows. Its time is printed, and bound by nothing."""
+    """A list of many files, made by stock sqlite3. It takes at most four times its body in memory, besides what opening the database takes,
+    which one file's object shows. Its time is printed, and has no bound."""
     with Service(room, "http", "--requests", "4") as service:
         expect(get(service, "/in"), reply_of("200", "[]"), "the empty list")
         fill(service.database)
@@ -121,13 +121,13 @@ def fill(database):
 
 
 def processor_time(pid):
-    """The seconds for which a process has had a processor."""
+    """The processor seconds of a process."""
     fields = Path(f"/proc/{pid}/stat").read_text().rpartition(")")[2].split()
     return (int(fields[11]) + int(fields[12])) / os.sysconf("SC_CLK_TCK")
 
 
 def most_memory(pid):
-    """The most octets of memory that a process has had."""
+    """The peak memory of a process in octets."""
     lines = Path(f"/proc/{pid}/status").read_text().splitlines()
     return next(int(line.split()[1]) * 1024 for line in lines if line.startswith("VmHWM:"))
 
@@ -136,7 +136,7 @@ CASES = [texts_are_read_back, ten_thousand_files]
 
 
 def tried(play):
-    """Plays a file or a case in a room of its own. It answers why it came out otherwise, or None."""
+    """Plays a file or a case in a folder of its own. It returns why it failed, or None."""
     with tempfile.TemporaryDirectory() as room:
         try:
             play(Path(room))

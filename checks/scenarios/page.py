@@ -1,13 +1,13 @@
 #!/usr/bin/env python3
-"""Shows the page in a browser, and compares what stands there with what the lists say.
+"""Shows the page in a browser, and compares its content with the lists.
 
-    checks/scenarios/page.py [--pictures FOLDER] [--page FILE] [NAME ..]     cases below by their names; all where none is named
-    checks/scenarios/page.py [--pictures FOLDER] --base URL                  the page and the lists that somebody serves there
+    checks/scenarios/page.py [--pictures FOLDER] [--page FILE] [NAME ..]     cases below by their names; all if none is named
+    checks/scenarios/page.py [--pictures FOLDER] --base URL                  the page and the lists of another server
 
-The page is crates/oftp_resident/src/page.html, or FILE, and most lists are made (`checks/lib/page_lists.py`): a server of this script gives
-both, and counts what it is asked. In two cases the built program answers, from databases of rows/listing: `http` gives the lists, and `run`
-the page too. The browser finds no address but this machine's. `--pictures` writes pictures of what is shown. Without a browser nothing is
-tried. The last line is `N passed, M failed`; before it stands the time for 10,000 files.
+The page is crates/oftp_resident/src/page.html, or FILE. Most lists are made (`checks/lib/page_lists.py`): a server in this script returns
+both, and counts the requests. In two cases the built program answers, from databases of rows/listing: `http` returns the lists, and `run`
+also the page. The browser resolves no address but this machine's. `--pictures` writes screenshots. Without a browser nothing is tried. The
+last line is `N passed, M failed`; before it comes the time for 10,000 files.
 """
 
 import argparse
@@ -33,29 +33,29 @@ from services import Resident, Service, Wrong, expect, free_port
 PAGE = ROOT / "crates/oftp_resident/src/page.html"
 WIDTHS = (1024, 400)
 HEIGHT = 800
-# What a page may ask its station for.
+# The requests that a page may make to its station.
 ASKED = {"/", "/in", "/out", "/responses"}
 # How many rows the page draws at once.
 ROWS_DRAWN = 100
-# How often it renews itself, in seconds.
+# The interval in seconds at which it renews itself.
 PAUSE = 10
 MANY = 10_000
-# How many milliseconds the page may take to draw so many files, and to filter them, on a machine with other work.
+# The milliseconds that the page may take to draw this many files, and to filter them, on a loaded machine.
 DRAWN_WITHIN = 1500
 FILTERED_WITHIN = 750
 
 
-# ---- who answers the page
+# ---- the server of the page
 
 
 class Server:
-    """Gives the page and the lists, and counts what it is asked."""
+    """Returns the page and the lists, and counts the requests."""
 
     page = PAGE
 
     def __init__(self, lists):
         self.lists = lists
-        # What is answered in the place of lists: a status and a text, or no answer at all.
+        # What is returned in place of lists: a status and a text, or no reply at all.
         self.fault = None
         self.asked = []
         server = self
@@ -103,7 +103,7 @@ def send(request, status, kind, text):
 
 
 class Elsewhere:
-    """The lists that somebody answers at an address."""
+    """The lists at an address."""
 
     def __init__(self, url):
         self.url = url
@@ -115,7 +115,7 @@ class Elsewhere:
             return reply.read().decode()
 
 
-# ---- what stands on the page
+# ---- the content of the page
 
 # The rows of the table, as Shown has them.
 READ_ROWS = """
@@ -127,7 +127,7 @@ READ_ROWS = """
   return [text(".no"), text(".partner > :first-child"), text(".name > :first-child"), text(".when"), text(".size, .file"), text(".words"),
     row.className, text(".reason"), text(".note"), text(".about"), row.querySelector(".pill") !== null];
 })"""
-# How far anything that is seen stands out of the window, and texts that are cut off.
+# How far any visible element extends beyond the window, and texts that are cut off.
 READ_OVERFLOW = """
 (() => {
   const root = document.scrollingElement;
@@ -137,7 +137,7 @@ READ_OVERFLOW = """
   const cut = seen.filter((it) => it.matches(".text") && it.scrollWidth > it.clientWidth + 1);
   return [Math.max(0, root.scrollWidth - root.clientWidth), out.map(told), cut.map(told)];
 })()"""
-# The texts whose colour is too near that of what lies behind them, with the contrast (WCAG 2.1, 1.4.3).
+# The texts whose contrast with their background is too low (WCAG 2.1, 1.4.3).
 READ_CONTRAST = """
 (() => {
   const parts = (colour) => colour.match(/[\\d.]+/g).map(Number);
@@ -158,14 +158,14 @@ READ_CONTRAST = """
   }
   return faint;
 })()"""
-# Has the page renew itself now, as it does when somebody comes back to it.
+# Makes the page renew itself now, as it does when somebody comes back to it.
 RENEW = 'document.dispatchEvent(new Event("visibilitychange"))'
 IS_DRAWN = 'document.querySelector("#main")?.hidden === false'
 CHOSEN = 'document.querySelector("#list").dataset.view'
 
 
 def opened(browser, server, width, **how):
-    """The page in a window of its own, once it has drawn."""
+    """The page in a window of its own, once it is drawn."""
     tab = Tab(browser, width, HEIGHT, **how)
     tab.go(server.url)
     tab.until(IS_DRAWN)
@@ -178,13 +178,13 @@ def choose(tab, view):
 
 
 def rows_of(tab):
-    """The rows that are drawn, and whether each says that it waits for somebody."""
+    """The rows that are drawn, and whether each says that it needs somebody."""
     told = tab.value(READ_ROWS)
     return [Shown(*row[:-1]) for row in told], [row[-1] for row in told]
 
 
 def expect_shown(tab, lists, now):
-    """Each list is shown as the model says, whole or as far as it is drawn; the summary is, and all of it fits the window."""
+    """Each list is shown as the model says, all of it or as far as it is drawn; so is the summary, and all of it fits the window."""
     wanted = page_lists.shown(lists, now)
     for view in VIEWS:
         choose(tab, view)
@@ -205,7 +205,7 @@ def expect_shown(tab, lists, now):
 
 
 def expect_quiet(tab, server):
-    """The page asked its station for its lists and nothing else, nothing of a text ran, and the browser complains of nothing."""
+    """The page requested only its station's lists, nothing in a text was executed, and the browser reported nothing."""
     expect(set(server.asked) - ASKED, set(), "what else was asked of the station")
     asked = {url.partition("#")[0] for url in tab.requests()}
     expect(asked - {server.url.rstrip("/") + path for path in ASKED}, set(), "what else was asked, here or elsewhere")
@@ -213,11 +213,11 @@ def expect_quiet(tab, server):
     expect(tab.complaints(), [], "what the browser complains of")
 
 
-# ---- cases: each is given the browser, and a function that takes a picture under a name
+# ---- cases: each gets the browser, and a function that takes a screenshot under a name
 
 
 def no_file(browser, picture):
-    """With nothing to show each list says so, and nothing waits for anybody."""
+    """Without files each list says so, and nothing needs anybody."""
     with Server(Lists()) as server:
         for width in WIDTHS:
             with opened(browser, server, width) as tab:
@@ -227,7 +227,7 @@ def no_file(browser, picture):
 
 
 def every_state(browser, picture):
-    """30 files each way in every state, with every response, in a light and in a dark scheme."""
+    """30 files each way in all states, with all responses, in a light and in a dark scheme."""
     now = datetime.now()
     lists = page_lists.in_every_state(30, now)
     said = [{row.words for row in page_lists.shown(lists, now)[view]} for view in VIEWS]
@@ -244,7 +244,7 @@ def every_state(browser, picture):
 
 
 def hostile_texts(browser, picture):
-    """Texts that would run, load or turn what stands beside them are shown as texts, and a long one keeps to its row."""
+    """Texts that would be executed, be loaded or change their surroundings are shown as texts, and a long one stays within its row."""
     now = datetime.now()
     kinds = {"tr", "th", "td", "bdi", "span", "time", "details", "summary"}
     with Server(page_lists.hostile(now)) as server:
@@ -265,7 +265,7 @@ def hostile_texts(browser, picture):
 
 
 def chosen_by_text(tab):
-    """A filter of such a text, typed or in the address, finds the files that have it."""
+    """Filtering by such a text, typed or in the address, finds the files that have it."""
     for text in [it for it in HOSTILE if it.isprintable() and 2 < len(it) < 100]:
         choose(tab, "in")
         tab.value('document.querySelector("#name").focus(), document.querySelector("#name").select()')
@@ -279,7 +279,7 @@ def chosen_by_text(tab):
 
 
 def many_files(browser, picture):
-    """10,000 files each way: what is looked at is drawn, more of it as somebody comes there, and that is quick."""
+    """10,000 files each way: the visible ones are drawn, more as somebody scrolls there, and quickly."""
     now = datetime.now()
     watch = """
     new MutationObserver((_, watch) => {
@@ -306,7 +306,7 @@ def many_files(browser, picture):
 
 
 def typed_at_once(tab):
-    """The milliseconds in which a name that is typed is looked for."""
+    """The milliseconds for filtering by a typed name."""
     choose(tab, "out")
     took = tab.value("""(() => {
       const begun = performance.now();
@@ -324,7 +324,7 @@ def typed_at_once(tab):
 
 
 def more_as_one_comes(tab):
-    """Whoever scrolls down has the next rows before the last is reached."""
+    """While scrolling down the next rows are drawn before the last is reached."""
     choose(tab, "in")
     for hundreds in (2, 3):
         tab.value("scrollTo(0, document.body.scrollHeight)")
@@ -375,7 +375,7 @@ def set_value(tab, control, value):
 
 
 def renews_itself(browser, _picture):
-    """The page renews itself: rows that say the same stay, what is open stays open, and whoever reads stays at the row and in the field."""
+    """The page renews itself: rows that say the same stay, what is open stays open, and the row and the field in use keep their place."""
     now = datetime.now()
     with Server(page_lists.in_every_state(60, now)) as server, opened(browser, server, 1024) as tab:
         tab.value('document.querySelector("details").open = true')
@@ -403,7 +403,7 @@ def renews_itself(browser, _picture):
 
 
 def watched(tab):
-    """Has changes of the table counted, and answers the expression that counts them."""
+    """Counts changes of the table, and returns the expression for the count."""
     tab.value("""window.changes = 0;
       new MutationObserver((changes) => { window.changes += changes.length; })
         .observe(document.querySelector("#list"), { childList: true, subtree: true, attributes: true, characterData: true });""")
@@ -411,7 +411,7 @@ def watched(tab):
 
 
 def says_when_it_cannot(browser, picture):
-    """A station that can't be reached, answers with a fault or with something else is told, and what was shown stays as it was."""
+    """If a station can't be reached, or replies with an error or something else, the page says so, and what was shown stays."""
     now = datetime.now()
     faults = [
         ((503, '{"error":503}'), "it answered with error 503"),
@@ -442,7 +442,7 @@ def says_when_it_cannot(browser, picture):
 
 
 def by_keyboard(browser, _picture):
-    """All that can be done is done by the keyboard, each control has a name, and a table is told as one at either width."""
+    """Everything can be done by keyboard, each control has a name, and a table has its role at either width."""
     now = datetime.now()
     with Server(page_lists.in_every_state(30, now)) as server:
         for width in WIDTHS:
@@ -469,7 +469,7 @@ TITLES = {"in": "Incoming", "out": "Outgoing", "received": "Responses received",
 
 
 def tabbed(tab):
-    """What the key Tab leads to, one after another, until it leaves the page."""
+    """The elements that the key Tab reaches, one after another, until it leaves the page."""
     passed_by = []
     while len(passed_by) < 100:
         tab.key("Tab")
@@ -500,7 +500,7 @@ def of_the_program(browser, picture):
 
 
 def filled(room, path):
-    """The database that a file of rows/listing leaves."""
+    """The database of a file of rows/listing."""
     listing = Listing(path)
     listing.acts = [act for act in listing.acts if not isinstance(act, Request)]
     listing.play(room)
@@ -508,7 +508,7 @@ def filled(room, path):
 
 
 class There:
-    """Somebody else's server of the page and the lists, who doesn't tell what it is asked."""
+    """Another server of the page and the lists, whose requests aren't counted."""
 
     def __init__(self, url):
         self.url = url
@@ -516,8 +516,8 @@ class There:
 
 
 def served_by_run(browser, picture):
-    """The page that `run` serves is the file's. It shows what the database holds, a file that is handed in, that the station is gone, and
-    that it is there again."""
+    """The page that `run` serves is the file's. It shows the content of the database, a submitted file, that the station is gone, and that
+    it is there again."""
     with tempfile.TemporaryDirectory() as name:
         room, port, own = Path(name), free_port(), free_port()
         filled(room, ROWS / "listing/incoming_states.listing")
@@ -545,7 +545,7 @@ def served_by_run(browser, picture):
 
 
 def renewed(tab):
-    """Has the page renew itself, and waits until it has."""
+    """Makes the page renew itself, and waits until it has."""
     tab.value("window.before = renewedAt")
     tab.value(f"void ({RENEW})")
     tab.until("renewedAt !== window.before")
@@ -572,7 +572,7 @@ def at_base(url):
 
 
 def tried(case, browser, pictures):
-    """Plays a case. It answers why it came out otherwise, or None."""
+    """Plays a case. It returns why it failed, or None."""
 
     def picture(tab, name, is_whole=False):
         if pictures:

@@ -1,13 +1,13 @@
 #!/usr/bin/env python3
-"""Plays the rows of rows/ over the built program, and says which frame, line or table differs.
+"""Plays the rows of rows/ over the built program, and reports which frame, line or table differs.
 
-    checks/scenarios/play_rows.py [ROW ..]        rows by their names; all where none is named
+    checks/scenarios/play_rows.py [ROW ..]        rows by their names; all if none is named
 
-A row is a text file: sessions, as the frames that go in and out in the order in which a partner sees them, operator's commands, and
-what is left in the database. rows/README.md says how one is written. Each row is played over a database in three ways: each
-session's octets come from a file in one piece; from a pipe that gives one octet at each read; and as a conversation, in which the
-partner waits for each answer before it sends on. What is left has to be a register, the same in each way, and the one that the row
-names. A row of one session alone is played in each way over a register in memory too. The last line is `N passed, M failed`.
+A row is a text file: sessions, as the frames of both sides in the order in which a partner sees them, operator's commands, and what is left
+in the database (rows/README.md). Each row is played over a database in three ways: each session's octets come from a file in one piece;
+from a pipe that gives one octet at each read; and as a conversation, in which the partner waits for each answer before it goes on. What is
+left has to be a register, the same in each way, and the one in the row. A row of only one session is played in each way over a register in
+memory too. The last line is `N passed, M failed`.
 """
 
 import os
@@ -26,7 +26,7 @@ WAYS = [in_one_piece, octet_by_octet, as_conversation]
 
 
 def play_over_database(row, way):
-    """Plays a row over a database. It answers why it differs, or None, and the tables that are left."""
+    """Plays a row over a database. It returns why it differs, or None, and the tables that are left."""
     with tempfile.TemporaryDirectory() as room:
         database = Path(room) / "database"
         for number, act in enumerate(row.acts, 1):
@@ -48,7 +48,7 @@ def play_over_memory(row, way):
 
 
 def play(path):
-    """Plays a row in each way. It answers what differs, one text for each."""
+    """Plays a row in each way. It returns what differs, one text for each."""
     try:
         row = Row(path)
     except Bad as why:

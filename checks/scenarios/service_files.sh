@@ -1,6 +1,6 @@
 #!/bin/bash
-# Holds the units of examples/service against systemd-analyze, and its stunnel.conf against stunnel, where these are installed. It says what
-# isn't. The last line is `N passed, M failed`.
+# Checks the units of examples/service by systemd-analyze, and its stunnel.conf by stunnel, if these are installed. It reports which isn't. The last
+# line is `N passed, M failed`.
 set -euo pipefail
 root=$(cd "$(dirname "$0")/../.." && pwd)
 room=$(mktemp -d)
@@ -17,8 +17,8 @@ count() {
     fi
 }
 
-# The unit is verified under a name that systemd starts, with a program and a user that are here. Both what is wrong with it and what
-# isn't understood of it fail, which systemd-analyze tells by its status or by words alone.
+# The unit is verified under a name that systemd starts, with a program and a user that exist here. Errors and unknown settings both fail;
+# systemd-analyze reports them by its status or only by a message.
 verify() {
     local unit=$room/${1/@./@O0177CARMAKER.} status=0
     sed -e 's|/usr/local/bin/oftp_station|/bin/true|; s/^User=oftp/User=root/' "$root/examples/service/$1" > "$unit" || return
@@ -27,7 +27,7 @@ verify() {
     [ "$status" = 0 ] && ! grep -q 'Unknown\|Failed to parse\|not executable\|Invalid' "$room/verified"
 }
 
-# It binds free ports, and goes on until it is ended.
+# It binds free ports, and runs until it is ended.
 starts() {
     timeout 2 stunnel "$room/conf" || [ "$?" = 124 ]
 }

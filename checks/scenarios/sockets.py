@@ -3,8 +3,8 @@
 
     checks/scenarios/sockets.py
 
-Among the callers are ones that are slow, silent, gone, or send on after the end. Each case has a port and a database of its own, and
-all run at once, so it takes some twenty seconds. The last line is `N passed, M failed`.
+Some of the callers are slow, silent, gone, or send on after the end. Each case has a port and a database of its own, and all run in
+parallel, so it takes some twenty seconds. The last line is `N passed, M failed`.
 """
 
 import contextlib
@@ -31,17 +31,17 @@ import tables
 from program import PROGRAM, ROOT
 from services import BOOK, CARMAKER, LONG, Service, Wrong, expect, free_port, rest_of
 
-# Where SQLite's locks on a database file lie: the pending, the reserved and the shared ones.
+# Where SQLite's locks on a database file are: the pending, the reserved and the shared ones.
 LOCKS = (1 << 30, 512)
-# A busy host has stopped all of this for nine seconds. What needs no wait may take so long there, and no partner that isn't silent is given up
-# within so many seconds.
+# A busy host has stopped all of this for nine seconds. What needs no wait may take this many seconds, and no partner that isn't silent is
+# given up within them.
 SOON = 25
 PATIENT = "12"
 GREATEST = {"buffer": "16384", "credit": "99"}
 
 
 class NotTried(Exception):
-    """What this machine hasn't, and what isn't tried for want of it."""
+    """What this machine lacks, and what isn't tried for that reason."""
 
 
 def row_of(name):
@@ -55,7 +55,7 @@ def steps_of(row):
 
 
 def expect_left(database, *rows):
-    """The database has what these rows say, each of other tables, and nothing else."""
+    """The database has these rows, each of other tables, and nothing else."""
     both, left = row_files.Remains(), tables.read(database)
     both.left = {table: entries for row in rows for table, entries in row.left.items()}
     expect(len(both.left), sum(len(row.left) for row in rows), "tables of which a row says what is left")
@@ -63,7 +63,7 @@ def expect_left(database, *rows):
 
 
 def receive(connection, size):
-    """So many octets, or as many as come before the end."""
+    """This many octets, or those before the end."""
     octets = b""
     while len(octets) < size:
         piece = connection.recv(size - len(octets))
@@ -95,7 +95,7 @@ def play(service, row, host="127.0.0.1"):
 
 
 def sessions_one_after_another(room):
-    """Each line is out before the next session begins; the port is free again at once."""
+    """Each line is printed before the next session begins; the port is free again at once."""
     with Service(room, "listen", "--sessions", "2") as service:
         play(service, "receiving/file_in_one_session")
         play(service, "opening/wrong_password")
@@ -106,7 +106,8 @@ def sessions_one_after_another(room):
 
 
 def rows_over_loopback(room):
-    """Two callers at once, who say all that two rows have and then nothing more: each reads what its row has, and the tables are those of both."""
+    """Two callers at once, which send all that two rows have and then nothing more: each reads what its row has, and the tables are those
+    of both."""
     rows = [row_of("receiving/empty_file"), row_of("listening/repeated_end_response")]
     with Service(room, "listen", "--sessions", "2") as service:
         callers = [service.caller() for _ in rows]
@@ -131,7 +132,7 @@ def many_connections(room):
 
 
 def octet_each_two_seconds(room):
-    """A partner that is slow isn't silent, though all that it says takes longer than the patience."""
+    """A slow partner isn't silent, although all its octets together take longer than the patience."""
     steps, end = steps_of("opening/wrong_password")
     with Service(room, "listen", "--patience", PATIENT) as service:
         caller = service.caller()
@@ -157,7 +158,7 @@ def silent_partner(room):
 
 
 def who_reads_nothing(room, within=contextlib.nullcontext):
-    """The station has a file for a partner, who answers the offer and then reads nothing."""
+    """The station has a file for a partner, which answers the offer and then reads nothing."""
     book = room / "book"
     book.write_text(BOOK.read_text().replace("buffer = 128", "buffer = 16384").replace("credit = 2", "credit = 99"))
     file = room / "file"
@@ -230,7 +231,7 @@ def callers_who_leave(room):
 
 
 def octets_after_the_end(room):
-    """What comes behind the station's ESID takes nothing away from it."""
+    """What is sent after the station's ESID doesn't prevent the partner from reading it."""
     steps, end = steps_of("opening/wrong_password")
     with Service(room, "listen") as service:
         with service.caller() as caller:
@@ -242,7 +243,7 @@ def octets_after_the_end(room):
 
 
 def partner_who_stays_after_the_end(room):
-    """A partner who doesn't close holds the station for a bounded time."""
+    """A partner that doesn't close holds the station for a bounded time."""
     steps, end = steps_of("opening/wrong_password")
     with Service(room, "listen", "--sessions", "2", "--patience", "0") as service:
         with service.caller() as caller:
@@ -281,7 +282,7 @@ def kinds_of(octets):
 
 
 def traced(room):
-    """A trace has a line for each command of both directions and one for the end, with the time, and no password."""
+    """A trace has a line for each command of both directions and one for the end, with the time, but no password."""
     trace = room / "trace"
     rows = ["receiving/file_in_one_session", "opening/wrong_password"]
     with Service(room, "listen", "--sessions", "3", "--trace", trace) as service:
@@ -323,7 +324,7 @@ def no_descriptor_for_a_caller(room):
 
 
 def nothing_to_print_to(room):
-    """A service whose line can't be written ends, and what was answered stands."""
+    """A service whose line can't be written ends, and what was answered is kept."""
     steps, _ = steps_of("receiving/one_octet")
     with open("/dev/full", "wb") as output, Service(room, "listen", "--sessions", "2", output=output) as service:
         converse(service.caller(), steps)
@@ -332,7 +333,7 @@ def nothing_to_print_to(room):
 
 
 def nothing_to_print_faults_to(room):
-    """That a fault can't be told ends no service."""
+    """An error that can't be printed ends no service."""
     with open("/dev/full", "wb") as faults, Service(room, "listen", "--patience", PATIENT, "--sessions", "2", faults=faults) as service:
         with service.caller() as caller:
             rest_of(caller)
@@ -352,14 +353,14 @@ def operator_while_it_listens(room):
 
 @contextlib.contextmanager
 def held(database):
-    """Another program, which is this one, holds the database."""
+    """Another process, which is this script, locks the database."""
     with open(database, "r+b") as file:
         fcntl.lockf(file, fcntl.LOCK_EX, LOCKS[1], LOCKS[0])
         yield
 
 
 def database_held(room):
-    """A partner is sent away while another program holds the database, and the next one is served."""
+    """A partner is sent away while another process locks the database, and the next one is served."""
     with Service(room, "listen", "--sessions", "3") as service:
         play(service, "opening/wrong_password")
         with held(service.database):
@@ -394,7 +395,7 @@ def address_of_ipv6(room):
 
 
 def sockets_that_fail(room):
-    """A port in use, and addresses that are none; faults of the book and of the database come first."""
+    """A port in use, and invalid addresses; errors of the book and of the database come first."""
     with socket.socket() as taken:
         taken.bind(("127.0.0.1", 0))
         taken.listen()
@@ -432,7 +433,7 @@ def told(program):
 
 
 def calls(room):
-    """The station calls a partner; also one who then says nothing, and who closes at once."""
+    """The station calls a partner; also one that then sends nothing, and one that closes at once."""
     steps, end = steps_of("calling/initiator_alone")
     with socket.socket() as partner:
         partner.bind(("127.0.0.1", 0))
@@ -454,7 +455,7 @@ def calls(room):
 
 
 def row_over_loopback(room):
-    """The station calls a partner who says all that a row has at once: it sends what the row has, and the tables are those of the row."""
+    """The station calls a partner that sends all of a row at once: it sends what the row has, and the tables are those of the row."""
     row = row_of("sending/three_octets_out")
     *before, session = row.acts
     for act in before:
@@ -471,10 +472,10 @@ def row_over_loopback(room):
 
 
 def partner_who_does_not_answer(room):
-    """A partner's machine leaves a connection without an answer: the call is given up in time, and holds no database until then."""
+    """A partner's machine leaves a connection without an answer: the call is given up in time, and locks no database until then."""
     with socket.socket() as partner, socket.socket() as other:
         partner.bind(("127.0.0.1", 0))
-        # With one who waits to be accepted the queue is full, and whoever comes next isn't answered.
+        # With one connection waiting to be accepted the queue is full, and the next one isn't answered.
         partner.listen(0)
         other.connect(partner.getsockname())
         begin = time.monotonic()
@@ -490,7 +491,7 @@ def partner_who_does_not_answer(room):
 
 
 def two_programs(room):
-    """A car maker calls a supplier, who has a file for it."""
+    """A car maker calls a supplier, which has a file for it."""
     port = free_port()
     supplier, carmaker = room / "supplier", room / "carmaker"
     books = {}
@@ -549,7 +550,7 @@ def requests(room):
         expect_reply(ask(service, b"GET /in HTTP/1.1\r\nConnection: keep-alive\r\n\r\n" + get), b"200", b"[]")
         expect_reply(ask(service, b"GET /in/7 HTTP/1.0\r\n\r\n"), b"404", None)
         expect_reply(ask(service, b"GET /in HTTP/1.1\r\nX: " + b"a" * 9000), b"400", None)
-        # A body of 1 MiB: the request is too long where its head comes with more of it than a request may have.
+        # A body of 1 MiB: the request is too long if its head comes with more of it than a request may have.
         reply = ask(service, b"POST /in HTTP/1.1\r\nContent-Length: 1048576\r\n\r\n" + bytes(1 << 20))
         expect_reply(reply, b"400" if b" 400 " in reply else b"405", None)
         with service.caller() as caller:
@@ -563,7 +564,7 @@ def requests(room):
 
 
 def slow_request(room):
-    """A request has ten seconds, however it drips."""
+    """A request has ten seconds, however slowly it arrives."""
     with Service(room, "http", "--requests", "2") as service:
         begin = time.monotonic()
         with service.caller() as caller:
@@ -581,7 +582,7 @@ def slow_request(room):
 
 
 def listing_of_a_held_database(room):
-    """A request is left without a reply while another program holds the database, and the next one is answered."""
+    """A request gets no reply while another process locks the database, and the next one gets its reply."""
     get = b"GET /in HTTP/1.1\r\n\r\n"
     with Service(room, "http", "--requests", "3") as service:
         expect_reply(ask(service, get), b"200", b"[]")
@@ -593,7 +594,7 @@ def listing_of_a_held_database(room):
 
 
 def requests_that_ask_no_database(room):
-    """Octets that are no request, a target that nothing fits and another method for a list are answered though another program holds the
+    """Octets that aren't a request, a target without a route and another method on a list are answered while another process locks the
     database, and so without it."""
     with Service(room, "http", "--requests", "8") as service:
         expect_reply(ask(service, b"GET /out/1 HTTP/1.1\r\n\r\n"), b"404", None)
@@ -653,7 +654,7 @@ CASES = [
 
 
 def tried(case):
-    """Runs a case. It answers what came of it: `as it must be`, why it isn't tried, or why it came out otherwise, and whether it failed."""
+    """Runs a case. It returns its result: `as it must be`, why it isn't tried, or why it failed, and whether it failed."""
     with tempfile.TemporaryDirectory() as room:
         try:
             case(Path(room))

@@ -1,5 +1,5 @@
 #!/usr/bin/env python3
-"""Spells the partner's octets in examples/ from the rows that have the same sessions in words.
+"""Encodes the partner's octets in examples/ from the rows that have the same sessions in words.
 
     checks/scenarios/spell_examples.py [--write]      compares them with the files, or writes them
 
@@ -14,7 +14,7 @@ sys.path.insert(0, str(Path(__file__).resolve().parents[1] / "lib"))
 from program import ROOT
 from row_files import ROWS, File, Row
 
-# Each file of examples/ with its row, and the place of its session among those of the row.
+# Each file of examples/ with its row, and the number of its session in the row.
 OCTETS = {
     "one_end_response.octets": ("listening/one_end_response", 0),
     "repeated_end_response.octets": ("listening/repeated_end_response", 0),

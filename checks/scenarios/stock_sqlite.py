@@ -1,10 +1,10 @@
 #!/usr/bin/env python3
-"""Reads with stock sqlite3 the databases that the built program writes, and gives it databases that stock sqlite3 wrote.
+"""Lets stock sqlite3 read the databases that the built program writes, and gives the program databases that stock sqlite3 wrote.
 
     checks/scenarios/stock_sqlite.py
 
-The tables stand below as a database of the station has them; the texts that make them are written from these lines, and not taken
-from the station's code. The last line is `N passed, M failed`.
+The tables below are those of a station's database; the SQL that makes them is generated from these lines, and not taken from the station's
+code. The last line is `N passed, M failed`.
 """
 
 import shutil
@@ -24,12 +24,12 @@ ONE_FILE = ROOT / "examples/one_file.octets"
 SECONDS = 60
 BLOCK = 1024
 
-# The columns that name a file.
+# The columns of a file's identity.
 FILE = ["dataset", "date", "time", "originator", "destination"]
 
 
 class Table:
-    """A table: its columns in order, its primary key, its unique key, and the table that its `no` refers to."""
+    """A table: its columns in order, its primary key, its unique key, and the table to which its `no` refers."""
 
     def __init__(self, columns, primary="no", unique=(), refers=None):
         self.columns = [pair.split() for pair in columns.split(", ")]
@@ -38,7 +38,7 @@ class Table:
         self.refers = refers
 
     def text(self, name):
-        """The text that makes it."""
+        """The SQL that makes it."""
         alone = self.primary[0] if len(self.primary) == 1 else None
         parts = []
         for column, kind in self.columns:
@@ -72,10 +72,10 @@ TABLES = {
 }
 FIRST = [name for name in TABLES if name != "received_note"]
 
-# Responses that came under schema 1: number, kind, dataset and reason.
+# Responses received under schema 1: number, kind, dataset and reason.
 RESPONSES = [(1, "NERP", "INV.7", "09"), (2, "EERP", "INV.8", ""), (3, "NERP", "INV.9", "23")]
 
-# What makes the tables of the station those of no station.
+# Changes after which the tables aren't those of a station.
 WRONG = {
     "another program's table": "CREATE TABLE t (a)",
     "a view": "CREATE VIEW v AS SELECT no FROM in_file",
@@ -98,7 +98,7 @@ WRONG = {
 
 
 class Unlike(Exception):
-    """Something isn't as it is to be."""
+    """Something isn't as it should be."""
 
 
 def expect(got, wanted, what):
@@ -121,7 +121,7 @@ def log_of(db):
 
 
 def look(db, question):
-    """What stock sqlite3 answers. It gets a copy of the file and its log, since it may write both."""
+    """What stock sqlite3 returns. It gets a copy of the file and its log, since it may write to both."""
     with tempfile.TemporaryDirectory() as room:
         copy = Path(room) / "copy.db"
         shutil.copy(db, copy)
@@ -139,7 +139,7 @@ def ask(db, sql):
 
 
 def dump(db):
-    """All that a database holds, as the statements that make it."""
+    """All content of a database, as the statements that make it."""
     return look(db, lambda conn: list(conn.iterdump()))
 
 
@@ -161,7 +161,7 @@ def expect_sound(db):
 
 
 def expect_tables(db):
-    """The tables are those of schema 2, and there is nothing else."""
+    """The tables are those of schema 2, and there are no others."""
     own = "type = 'index' AND name LIKE 'sqlite_autoindex_%'"
     expect(ask(db, f"SELECT name FROM sqlite_schema WHERE NOT ({own})"), [(name,) for name in TABLES], "objects")
     strict = "SELECT name, type, strict FROM pragma_table_list WHERE schema = 'main' AND name NOT LIKE 'sqlite_%'"
@@ -224,7 +224,7 @@ def a_received_file(room):
 
 
 def expect_file(db):
-    """The file of the example is there, in a database of the station's tables."""
+    """The file of the example is there, in a database with the station's tables."""
     expect_sound(db)
     expect_tables(db)
     header, content = sent_file(ONE_FILE.read_bytes())
@@ -238,7 +238,7 @@ def expect_file(db):
 def a_database_that_stock_sqlite3_wrote_again(room):
     db, out = room / "station.db", room / "out"
     expect_run(["feed", "--db", db, "--book", BOOK, ONE_FILE, out], "end: partner 00\n")
-    # It copies the log into the file, and takes the log away.
+    # It checkpoints the log into the file, and removes the log.
     write(db, "PRAGMA wal_checkpoint(TRUNCATE)", "PRAGMA journal_mode = DELETE")
     expect_run(["init", "--db", db], "done: init\n")
     expect_file(db)
@@ -273,17 +273,17 @@ def a_database_of_schema_1(room):
 
 
 def expect_refused(db, words):
-    """The program refuses the database, and leaves it as it was."""
+    """The program refuses the database, and leaves it unchanged."""
     octets, held = db.read_bytes(), dump(db)
     expect_run(words, "", "fault: 6 store 3\n", 1)
     if db.read_bytes() != octets:
         raise Unlike(f"{words[0]} wrote into the database that it refused")
-    # A log beside it may be there, but has no change.
+    # There may be a log beside it, but without a change.
     expect(dump(db), held, f"what is there after {words[0]}")
 
 
 def a_wrong_schema(edit):
-    """The row for one way to be wrong."""
+    """The row for one way in which it is wrong."""
 
     def row(room):
         db = room / "station.db"

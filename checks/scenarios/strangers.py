@@ -1,11 +1,11 @@
 #!/usr/bin/env python3
-"""Tries `listen` with callers who aren't let in: who say nothing, too little or the wrong thing, many at a time.
+"""Tries `listen` with callers that aren't admitted: they send nothing, too little or the wrong thing, and many call at a time.
 
     checks/scenarios/strangers.py [WORD ..]       all cases, or those whose names have one of these words
 
-They keep no partner waiting for longer than a caller has to be let in, and no operator at all: for them no database is opened. A partner
-who was let in has a limit, too. Each case has a port and a database of its own, and all run at once, so it takes some thirty seconds.
-The last line is `N passed, M failed`.
+They delay no partner for longer than the time that a caller has to be admitted, and no operator at all: no database is opened for them. A
+partner that was admitted has a time limit, too. Each case has a port and a database of its own, and all run in parallel, so it takes some
+thirty seconds. The last line is `N passed, M failed`.
 """
 
 import collections
@@ -26,15 +26,15 @@ import row_files
 from program import PROGRAM
 from services import BOOK, CARMAKER, LONG, Service, Wrong, expect, rest_of
 
-# How many callers say nothing in all, and how many of them at once.
+# How many callers are silent in all, and how many of them at once.
 STRANGERS = 1000
 AT_ONCE = 100
-# How many seconds they have to be let in, and where a case needs a longer time, whatever the machine does beside it.
+# The seconds that they have to be admitted, and the longer time that some cases need, however loaded the machine is.
 ADMISSION = 2
 LONG_ADMISSION = 12
-# What may be added to that on a machine with other work.
+# The tolerance on a loaded machine.
 SOON = 25
-# Where SQLite's locks on a database file lie: the pending, the reserved and the shared ones.
+# Where SQLite's locks on a database file are: the pending, the reserved and the shared ones.
 LOCKS = (1 << 30, 512)
 
 
@@ -48,7 +48,7 @@ SILENCE = "fault: 1 read"
 
 
 def within(begin, least, most, what):
-    """What began then took so many seconds."""
+    """What began then took this many seconds."""
     took = time.monotonic() - begin
     if not least <= took <= most + SOON:
         raise Wrong(f"{what} took {took:.1f} s, and {least} to {most} are right")
@@ -62,7 +62,8 @@ def receive(connection, size):
 
 
 def play(service, session, size=None, beside=None):
-    """Plays a session, what the partner says in pieces of this size, and expects its line. Lines of sessions that end as `beside` go past."""
+    """Plays a session, what the partner sends in pieces of this size, and expects its line. Lines of sessions that end as `beside` are
+    skipped."""
     with service.caller() as caller:
         caller.setsockopt(socket.IPPROTO_TCP, socket.TCP_NODELAY, 1)
         for side, octets in session.steps:
@@ -81,21 +82,21 @@ def play(service, session, size=None, beside=None):
 
 
 def play_in_time(service, beside=None):
-    """A partner with a password is served no later than a caller has to be let in."""
+    """A partner with a password is served after at most the time that a caller has to be admitted."""
     begin = time.monotonic()
     play(service, NOTHING_WAITING, beside=beside)
     within(begin, 0, ADMISSION, "a partner's session")
 
 
 def send_away(stranger):
-    """One who said nothing is greeted and sent away."""
+    """A silent caller is greeted and sent away."""
     with stranger:
         expect(rest_of(stranger), GREETING, "a stranger reads")
 
 
 @contextlib.contextmanager
 def held(database):
-    """Another program, which is this one, holds the database."""
+    """Another process, which is this script, locks the database."""
     with open(database, "r+b") as file:
         fcntl.lockf(file, fcntl.LOCK_EX, LOCKS[1], LOCKS[0])
         yield
@@ -106,7 +107,7 @@ def listen(room, sessions, *words):
 
 
 def hundred_at_a_time(room):
-    """A hundred callers who say nothing, ten times, and a partner behind each hundred."""
+    """A hundred silent callers, ten times, and a partner after each hundred."""
     rounds = STRANGERS // AT_ONCE
     with listen(room, STRANGERS + rounds, "--admission", str(ADMISSION)) as service:
         for _ in range(rounds):
@@ -118,7 +119,7 @@ def hundred_at_a_time(room):
 
 
 def one_after_another(room):
-    """A thousand callers who say nothing, one each hundredth of a second, and a partner behind each fifty."""
+    """A thousand silent callers, one each hundredth of a second, and a partner after each fifty."""
     strangers = collections.deque()
     with listen(room, STRANGERS + STRANGERS // 50, "--admission", str(ADMISSION)) as service:
         for number in range(STRANGERS):
@@ -134,7 +135,7 @@ def one_after_another(room):
 
 
 def each_behind_the_one_before(room):
-    """Callers who say nothing, each behind the end of the one before it, and a partner beside each."""
+    """Silent callers, each after the end of the one before it, and a partner beside each."""
     with listen(room, 8, "--admission", str(ADMISSION)) as service:
         for _ in range(4):
             stranger = service.caller()
@@ -146,7 +147,7 @@ def each_behind_the_one_before(room):
 
 
 def wrong_passwords(room):
-    """A hundred callers with a wrong password, who don't close."""
+    """A hundred callers with a wrong password that don't close."""
     wrong = session_of("opening/wrong_password")
     with listen(room, AT_ONCE + 1) as service:
         strangers = [service.caller() for _ in range(AT_ONCE)]
@@ -158,7 +159,7 @@ def wrong_passwords(room):
 
 
 def operators_beside_them(room):
-    """While a hundred callers say nothing, an operator's commands go at once, and the tables are no others."""
+    """While a hundred callers are silent, an operator's commands are carried out at once, and the tables have nothing else."""
     with listen(room, AT_ONCE + 1, "--admission", "60") as service:
         strangers = [service.caller() for _ in range(AT_ONCE)]
         expect([receive(stranger, len(GREETING)) for stranger in strangers], [GREETING] * AT_ONCE, "they read")
@@ -171,12 +172,13 @@ def operators_beside_them(room):
 
 
 def stamps(room):
-    """The files of a case, with their sizes and when they were written. None is opened: that would end a lock of this script's."""
+    """The files of a case, with their sizes and times. None is opened: that would release a lock of this script."""
     return sorted((path.name, path.stat().st_size, path.stat().st_mtime_ns) for path in room.iterdir())
 
 
 def no_database_for_them(room):
-    """Another program holds the database: who isn't let in is answered nevertheless, and who is to be let in is sent away."""
+    """Another process locks the database: a caller that isn't admitted is answered nevertheless, and one that would be admitted is sent
+    away."""
     rows = ["opening/wrong_password", "opening/unknown_code", "opening/other_level", "opening/no_credit"]
     with listen(room, len(rows) + 5, "--admission", str(ADMISSION)) as service:
         play(service, NOTHING_WAITING)
@@ -204,7 +206,7 @@ def no_database_for_them(room):
 
 
 def octet_by_octet(room):
-    """The answers are those of the rows, however what a caller says is cut."""
+    """The answers are those of the rows, in whatever pieces a caller sends its octets."""
     rows = [f"opening/{path.stem}" for path in sorted((row_files.ROWS / "opening").glob("*.row"))]
     sessions = [session_of(row) for row in ["listening/nothing_waiting", "malicious/unknown_command", "malicious/frame_too_short", *rows]]
     sessions = [session for session in sessions if session.book == NOTHING_WAITING.book and not session.role and not session.closes()]
@@ -218,7 +220,7 @@ def octet_by_octet(room):
 
 
 def octet_now_and_then(room):
-    """A caller whose SSID takes longer than it has."""
+    """A caller whose SSID takes longer than its time."""
     with listen(room, 2, "--admission", str(ADMISSION)) as service:
         begin = time.monotonic()
         with service.caller() as caller:
@@ -234,7 +236,7 @@ def octet_now_and_then(room):
 
 
 def longest_frame_now_and_then(room):
-    """A caller who begins the longest of frames doesn't hold the station for longer than it has."""
+    """A caller that begins the longest of frames doesn't hold the station for longer than its time."""
     with listen(room, 2, "--admission", str(ADMISSION)) as service:
         with service.caller() as caller:
             caller.sendall(bytes([0x10, 0x01, 0x86, 0xA3]) + bytes(1000))
@@ -255,7 +257,7 @@ def patience_within_the_admission(room):
 
 
 def time_of_another_session(room):
-    """A caller who was greeted, and says its SSID within the long session of another, is let in."""
+    """A caller that was greeted, and sends its SSID during the long session of another, is admitted."""
     opened = b"".join(octets for side, octets in NOTHING_WAITING.steps[:3] if side == "out")
     with listen(room, 2, "--admission", str(LONG_ADMISSION)) as service:
         with service.caller() as late, service.caller() as first:
@@ -272,7 +274,7 @@ def time_of_another_session(room):
 
 
 def longest_session(room):
-    """A partner who was let in and keeps talking has its time, and no more."""
+    """A partner that was admitted and keeps sending has its time, and no more."""
     command = oftp.frame(b"D" + bytes(9999))
     with listen(room, 2, "--longest", "4", "--patience", "0") as service:
         begin = time.monotonic()
@@ -289,7 +291,7 @@ def longest_session(room):
 
 
 def longest_call(room):
-    """So has a partner who was called, and says nothing."""
+    """So has a partner that was called, and sends nothing."""
     with socket.create_server(("127.0.0.1", 0)) as partner:
         partner.settimeout(LONG)
         book = room / "book"
@@ -303,7 +305,7 @@ def longest_call(room):
 
 
 def traced(room):
-    """Each session stands by itself in the trace, and each octet once."""
+    """Each session is separate in the trace, and each octet is there once."""
     trace = room / "trace"
     wrong = session_of("opening/wrong_password")
     with listen(room, 3, "--admission", str(LONG_ADMISSION), "--trace", trace) as service:
@@ -341,7 +343,7 @@ CASES = [
 
 
 def tried(case):
-    """Runs a case, and answers why it came out otherwise, or None."""
+    """Runs a case, and returns why it failed, or None."""
     with tempfile.TemporaryDirectory() as room:
         try:
             case(Path(room))

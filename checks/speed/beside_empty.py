@@ -1,13 +1,13 @@
 #!/usr/bin/env python3
-"""Holds a station over a large register against one over an empty one, both holding their databases.
+"""Compares a station over a large register with one over an empty one, both of which keep their databases open.
 
     checks/speed/beside_empty.py [--assert] [--whole]
 
-The large register has 100 MiB in two files, with `--whole` 1 GiB. Both stations do the same in turn, and the least time of each is
-compared. Over the large register a file of 10 KB submitted through the station, `/in/NO` and the greeting of who calls may take twice as long at
-most on the clock, and a session in which 8 MiB come or go, in large windows, 1.2 times as much of the processor, which other work on the machine
-changes less. Each line says both, and how many milliseconds are wanted on an idle machine, where some are. With `--assert` it fails where
-something takes longer than it may. The last line is `N passed, M failed`.
+The large register has 100 MiB in two files, with `--whole` 1 GiB. Both stations do the same by turns, and the least time of each is
+compared. Over the large register a file of 10 KB submitted through the station, `/in/NO` and the greeting of a caller may take at most
+twice as long by the clock. A session in which 8 MiB are received or sent, in large windows, may take 1.2 times the processor time, which
+other work on the machine affects less. Each line has both times, and the milliseconds that are wanted on an idle machine, if any. With
+`--assert` it fails if something takes longer than it may. The last line is `N passed, M failed`.
 """
 
 import argparse
@@ -30,18 +30,18 @@ from services import expect
 
 SMALL, LARGE = 10 * 1024, 8 * MEBI
 BUFFER = 16384
-# A partner to whom files wait that never go.
+# A partner with files that are never sent.
 OTHER = "O0099OTHER"
-# What the clock may be off by chance, in seconds.
+# The random error of the clock, in seconds.
 OFF = 0.0002
-# How many small files come before anything is measured.
+# How many small files are added before anything is measured.
 CAME = 20
 
 
 class Pace(NamedTuple):
-    """Something that takes as long over a large register as over an empty one: its name, what does it, how often it is done, how many times as long
-    it may take, and how many milliseconds are wanted, if any are. `do` is given a station and how often it was done before, and answers the seconds
-    on the clock. Where it is judged by the processor, that is what the station took."""
+    """An act that should take as long over a large register as over an empty one: its name, its function, how often it is done, how many
+    times as long it may take, and the milliseconds that are wanted, if any. `do` gets a station and how often it was done before, and
+    returns the elapsed seconds. If it is judged by processor time, that is the station's."""
 
     name: str
     do: Callable
@@ -52,7 +52,7 @@ class Pace(NamedTuple):
 
 
 class Station(Holding):
-    """A station over a copy of a register, to which some small files come first."""
+    """A station over a copy of a register, to which some small files are added first."""
 
     def __init__(self, room, name, database, files):
         self.room, self.files = room, files
@@ -70,7 +70,7 @@ class Station(Holding):
 
 
 class Room:
-    """A folder with what the stations take: a book with two partners, contents, and both registers."""
+    """A folder with what the stations need: a book with two partners, contents, and both registers."""
 
     def __init__(self, path, mebis):
         self.path = path
@@ -88,12 +88,12 @@ class Room:
 
 @functools.cache
 def content_of(size):
-    """The DATA of a file of so many octets, in large windows."""
+    """The DATA of a file of this many octets, in large windows."""
     return data_frames(size, BUFFER)
 
 
 def file_of(name, size):
-    """The frames with which a file comes."""
+    """The frames with which a file is sent to the station."""
     offer = frame_of("SFID", size=str(size // BLOCK), **{**FILE, "dataset": name})
     return [offer, b"".join(content_of(size)), frame_of("EFID", records="0", units=str(size))]
 
@@ -143,7 +143,7 @@ PACES = [
 
 
 class Took(NamedTuple):
-    """The seconds on the clock and those of the processor."""
+    """The elapsed seconds and the processor seconds."""
 
     clock: float
     processor: float
@@ -163,7 +163,7 @@ def shown(first, second):
 
 
 def held_to(pace, empty, full):
-    """Whether something takes no longer over the full register than it may. It prints what it took."""
+    """Whether an act takes no longer over the full register than it may. It prints what it took."""
     turns = [(taken_for(pace, empty, at), taken_for(pace, full, at)) for at in range(pace.often)]
     first, second = (least(column) for column in zip(*turns))
     is_well = second[pace.is_by_processor] <= pace.most * first[pace.is_by_processor] + OFF

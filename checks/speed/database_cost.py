@@ -1,15 +1,15 @@
 #!/usr/bin/env python3
-"""What a register in a database costs, beside the same work over stock sqlite3.
+"""The cost of a register in a database, compared with the same work over stock sqlite3.
 
-    checks/speed/database_cost.py [--assert] [--runs N]       with `--assert` it fails where a bound is passed; each is the least of N runs,
-                                                              3 where none is given. What is wanted is told beside the bound
+    checks/speed/database_cost.py [--assert] [--runs N]       with `--assert` it fails if a bound is exceeded; each time is the least of
+                                                              N runs (default: 3). What is wanted is printed beside the bound
 
-Files come in and go out by `feed` in one session, at large and at small windows, over a database on this disk. Beside it, a plain C
-program over libsqlite3 (`plain_store.c`) does the same to its own database: one statement for each row, one transaction for each
-window, with the same journal mode and synchronous=FULL. Where there is no C compiler or no sqlite3.h, Python's sqlite3 does it.
-Then: the memory of a file of 64 MiB; and the opening of 100 MiB, and a report and a session over 10,000 files, beside Python's sqlite3,
-which reads the same, and beside a quarter of each. Each bound is of one time of the processor by another, so that it holds on any machine,
-with other work or without. It takes the program as it was last built; the last line is `N passed, M failed`.
+Files are received and sent by `feed` in one session, at large and at small windows, over a database on this disk. A plain C program over
+libsqlite3 (`plain_store.c`) does the same with its own database: one statement for each row, one transaction for each window, with the same
+journal mode and synchronous=FULL. Without a C compiler or sqlite3.h, Python's sqlite3 does it. Then come the memory for a file of 64 MiB,
+and the opening of 100 MiB, and a report and a session over 10,000 files, compared with Python's sqlite3, which reads the same, and with a
+quarter of each. Each bound is a ratio of processor times, so that it holds on any machine, loaded or idle. It takes the program as it was
+last built; the last line is `N passed, M failed`.
 """
 
 import argparse
@@ -31,9 +31,9 @@ from one_file import BOOK, FILE, MEBI, frame_of
 from program import PROGRAM, ROOT
 from row_files import in_subrecords
 
-# Each case: what it is, the octets of the file, the buffer, the credit, the octets that a DATA carries (as many as the buffer lets it
-# carry where there is no number), and how many times as much of the processor as stock sqlite3 it should take, and may take: two and a half
-# times what the checked program took, which is slower than the proved one.
+# Each case: its name, the octets of the file, the buffer, the credit, the octets of a DATA (as many as the buffer allows if there is no
+# number), and how many times the processor time of stock sqlite3 it should take, and may take: two and a half times what the checked
+# program took, which is slower than the proved one.
 RECEIVED = [
     ("a file comes in, large windows", 8 * MEBI, 16384, 99, None, 1.5, 18),
     ("a file comes in, small windows", MEBI, 128, 2, None, 1.3, 7),
@@ -46,12 +46,13 @@ SENT = [
 # The same for what reads the register.
 OPENED = (8, 60)
 REPORTED = (2, 25)
-# How many times as much as a quarter something that grows with the register may take: what grew as its square would take sixteen times as much.
+# How many times the time of a quarter an act may take that grows with the register: one that grew as its square would take sixteen times as
+# much.
 MOST_GROWTH = 8
 
 
 class Room:
-    """A folder with what the runs take: books, octets, and databases to copy."""
+    """A folder with what the runs need: books, octets, and databases to copy."""
 
     def __init__(self, path):
         self.path = path
@@ -98,9 +99,9 @@ def full_payload(buffer):
 
 
 def receive(room, size, buffer, credit, carried, runs):
-    """What the program and plain sqlite3 take at least for one file that comes in."""
+    """The least that the program and plain sqlite3 take for one file that is received."""
     given, answer, book = room.path / "given", room.path / "answer", room.book(buffer, credit)
-    # In a process of its own, since the memory that is told of a program is at least that of the script that starts it.
+    # In a process of its own, because the reported memory of a program is at least that of the script that starts it.
     run_quietly([sys.executable, __file__, "--make", str(size), str(buffer), str(credit), str(carried or 0), given])
     taken, plain = [], []
     for _ in range(runs):
@@ -150,7 +151,7 @@ def receive_by_python(database, size, window):
 
 
 def send(room, size, buffer, credit, runs):
-    """What the program and plain sqlite3 take at least for one file that goes out."""
+    """The least that the program and plain sqlite3 take for one file that is sent."""
     given, answer, book = room.path / "given", room.path / "answer", room.book(buffer, credit)
     frames = -(-size // full_payload(buffer))
     opening = frame_of("SSID", code="O0177CARMAKER", password="CARPW", buffer=str(buffer), credit=str(credit), mode="B")
@@ -208,7 +209,7 @@ def idle_session(room):
 
 
 def read_by_python(database):
-    """What Python's sqlite3 takes to read each octet of the files that came."""
+    """What Python's sqlite3 takes to read each octet of the received files."""
     begin = time.monotonic(), time.process_time()
     connection = opened(database)
     sum(len(body) for (body,) in connection.execute("SELECT body FROM in_row"))
@@ -217,7 +218,7 @@ def read_by_python(database):
 
 
 def report_by_python(database):
-    """What Python's sqlite3 takes to list the files that came: each with how many rows and octets it has, and its response."""
+    """What Python's sqlite3 takes to list the received files: each with its number of rows and of octets, and its response."""
     begin = time.monotonic(), time.process_time()
     connection = opened(database)
     rows = "(SELECT count(*) FROM in_row WHERE no = f.no), (SELECT sum(length(body)) FROM in_row WHERE no = f.no)"
@@ -230,7 +231,7 @@ def report_by_python(database):
 
 
 class Told:
-    """Prints the figures, and counts those that pass their bounds."""
+    """Prints the figures, and counts those within their bounds."""
 
     def __init__(self, plain):
         self.passed = 0
@@ -243,7 +244,7 @@ class Told:
         self.judge(times <= most, line)
 
     def grows(self, name, whole, quarter):
-        """Four times as large takes little more than four times as much."""
+        """Four times as much data takes little more than four times as long."""
         times = whole.processor / quarter.processor
         line = f"{name:<42} {shown(whole)} {shown(quarter)} {times:6.2f} times what a quarter does, bound {MOST_GROWTH}"
         self.judge(times <= MOST_GROWTH, line)
@@ -278,7 +279,7 @@ def measure(room, runs):
 
 
 def idle_words(room, database):
-    """The words of a session that has nothing to do."""
+    """The arguments of a session that has nothing to do."""
     role = ["--role", "initiator", "--partner", "O0177CARMAKER"]
     return ["feed", "--db", database, "--book", room.book(128, 2), *role, idle_session(room), room.path / "answer"]
 

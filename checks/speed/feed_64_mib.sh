@@ -1,7 +1,7 @@
 #!/bin/bash
-# Gives `feed` 64 MiB of frames: the opening of a session and then one end response again and again. It prints the time and the
-# memory that the program took, and fails where the memory is above the bound: a session's memory doesn't grow with the session. The
-# program is that of OFTP_STATION, or else the one that was last proved.
+# Gives `feed` 64 MiB of frames: the opening of a session and then one End-to-End Response again and again. It prints the time and the memory that
+# the program took, and fails if the memory exceeds the bound: a session's memory doesn't grow with the session. The program is that of OFTP_STATION,
+# or else the one that was last proved.
 set -euo pipefail
 bound=8192
 root=$(cd "$(dirname "$0")/../.." && pwd)
@@ -11,7 +11,7 @@ room=$(mktemp -d)
 trap 'rm -rf "$room"' EXIT
 cd "$room"
 
-# Takes the frame at the front of `rest` away into the file of this name. The three octets behind the first are its length.
+# Moves the frame at the beginning of `rest` to the file of this name. The three octets after the first are its length.
 take_frame() {
     local length=$((16#$(od -An -tx1 -j 1 -N 3 rest | tr -d ' \n')))
     head -c "$length" rest > "$1"
@@ -35,7 +35,7 @@ size=$(stat -c %s response)
     cat end
 } > input
 
-# The greatest memory is read every 10 ms, in KiB. A memory that grows with the session passes the bound long before the end.
+# The peak memory is read every 10 ms, in KiB. A memory that grows with the session exceeds the bound long before the end.
 begin=${EPOCHREALTIME/./}
 "$program" feed --book "$book" input output > /dev/null &
 job=$!

@@ -1,16 +1,16 @@
 #!/usr/bin/env python3
-"""What a station that holds its database takes for each command, request and session, as its register grows.
+"""What a station that keeps its database open takes for each command, request and session, as its register grows.
 
     checks/speed/growth.py [--assert] [--whole] [--only size|count]
 
-Registers of 10 and 100 MiB in two files, and of 1,000 and 10,000 files that came and went, are filled by stock sqlite3; `--whole` adds
-one of 1 GiB and one of 100,000 files. Over each, `run` does what operators and partners have it do, each act several times over, and a line
-says what one takes on average: the seconds of the processor that the station took, and those of the command that asked it. What answers
-the same, however large the register, may take at most MOST times what it takes over the least one; a list may take MOST times as long as its
-entries are more. A file that goes out may take LOOK longer for each file that is there: each looks for what is next past all that is answered,
-which is more than is wanted. With `--whole` a line also says what the same act takes as a program of its own, with its opening, how much memory it has
-then, and what plain C over libsqlite3 (`plain_store.c`, `plain_register.c`) takes for it over the same database without opening it. With
-`--assert` it fails where one takes longer. The last line is `N passed, M failed`.
+Stock sqlite3 fills registers of 10 and 100 MiB in two files, and of 1,000 and 10,000 received and sent files; `--whole` adds one of 1 GiB
+and one of 100,000 files. Over each, `run` does what operators and partners ask for, each act several times, and a line has the average: the
+processor seconds of the station, and those of the command that asked it. An act with the same result however large the register is may take
+at most MOST times what it takes over the smallest one; a list may take MOST times the ratio of its numbers of entries. Sending a file may
+take LOOK longer for each file that is there: each look-up of what is next goes past all that is answered, which is more than is wanted.
+With `--whole` a line also has what the same act takes as a program of its own, with its opening, how much memory that has, and what plain C
+over libsqlite3 (`plain_store.c`, `plain_register.c`) takes for it over the same database without opening it. With `--assert` it fails if
+one takes longer. The last line is `N passed, M failed`.
 """
 
 import argparse
@@ -31,20 +31,20 @@ from measured import run, run_quietly
 from one_file import BOOK, FILE, data_frames, frame_of
 from program import PROGRAM, ROOT
 
-# How many times as much something may take than over the least register (2 is wanted), and the seconds that may be chance.
+# How many times the time over the smallest register an act may take (2 is wanted), and the seconds that may be chance.
 MOST = 3
 NOISE = 0.002
 LOOK = 0.000_000_25
 SMALL = 10 * 1024
 # How often each small act is done.
 OFTEN = 20
-# How many rows plain C reads at a time, as the station does.
+# How many rows plain C reads at a time, like the station.
 STEP = 64
 
 
 class Register(NamedTuple):
-    """A database: its name, its file, how many files came and went before those that are added for the acts, and how many times the least it
-    is."""
+    """A database: its name, its file, how many files were received and sent before those that are added for the acts, and how many times
+    the smallest it is."""
 
     name: str
     database: Path
@@ -54,11 +54,10 @@ class Register(NamedTuple):
 
 
 class Act(NamedTuple):
-    """Something that is done: its name, what does it, how often it is done, whether it answers with all entries, of how many parts one time is,
-    and whether it looks for what is next past all that is answered, each time.
-
-    `do` is given a station and how often it was done before: a `Held` one, which answers the seconds of the processor that the command
-    took, or an `Alone` one, which answers what a program of its own took. `plain` says the words for plain C."""
+    """An act: its name, its function, how often it is done, whether its result has all entries, in how many parts one act is done, and
+    whether it looks past all that is answered, each time. `do` gets a station and how often it was done before: a `Held` one, for which it
+    returns the processor seconds of the command, or an `Alone` one, for which it returns what a program of its own took. `plain` has the
+    arguments for plain C."""
 
     name: str
     do: Callable
@@ -70,7 +69,7 @@ class Act(NamedTuple):
 
 
 class Room:
-    """A folder with what the runs take: a book, content, programs and the registers."""
+    """A folder with what the runs need: a book, content, programs and the registers."""
 
     def __init__(self, path, is_whole):
         self.path = path
@@ -98,7 +97,7 @@ class Room:
 
 
 def with_small(register):
-    """The register with small files that came, are whole and aren't answered: those that are released, and those that are refused."""
+    """The register with small received files that are whole and aren't answered: those that are released, and those that are refused."""
     connection = sqlite3.connect(register.database)
     with connection:
         for at in range(1, 2 * OFTEN + 1):
@@ -112,7 +111,7 @@ def with_small(register):
 
 
 class Held(Holding):
-    """A station that holds a copy of a register. What it does answers what the command beside it took."""
+    """A station over a copy of a register, which it keeps open. Each act returns what the command beside it took."""
 
     def __init__(self, room, register):
         self.room, self.register, self.files = room, register, OFTEN
@@ -124,7 +123,7 @@ class Held(Holding):
 
 
 class Alone:
-    """A copy of a register that nobody holds. Each act is a program of its own, which opens it."""
+    """A copy of a register that no station keeps open. Each act is a program of its own, which opens it."""
 
     def __init__(self, room, register):
         self.room, self.register, self.files = room, register, 1
@@ -145,7 +144,7 @@ class Alone:
 
 
 class Waiting(services.Service):
-    """A service that somebody else starts: callers wait for it."""
+    """A service that another process starts: callers wait for it."""
 
     patience = Holding.patience
 
@@ -165,7 +164,7 @@ class Plain:
         self.database = copied(register.database, room.path / "plain")
 
     def taken(self, words):
-        """The seconds of the processor that plain C took, without opening the database."""
+        """The processor seconds of plain C, without opening the database."""
         program, act, *rest = words
         command = [self.room.path / program, act, self.database, *rest]
         told = subprocess.run([str(word) for word in command], check=True, capture_output=True, text=True).stdout.split()
@@ -183,7 +182,7 @@ class Plain:
 
 
 def file_of(name, size):
-    """The frames with which a file comes."""
+    """The frames with which a file is sent to the station."""
     offer = frame_of("SFID", size=str(size // BLOCK), **{**FILE, "dataset": name})
     return [offer, *data_frames(size, 16384), frame_of("EFID", records="0", units=str(size))]
 
@@ -208,7 +207,7 @@ def listed(kind):
 
 ACTS = [
     Act("submit of 10 KB", submit, lambda it: ["plain_register", "submit", it.room.content, "NEW"]),
-    # Before responses wait, which would go out first.
+    # Before responses are due, because these would be sent first.
     Act("10 KB go out", lambda it, at: it.session(*taken_answers(it.files, 1)), lambda it: it.send(), 1, parts=OFTEN, looks_each_time=True),
     Act(
         "release",
@@ -235,13 +234,13 @@ ACTS = [
     Act("GET /in", lambda it, at: it.request("/in"), listed("in"), 3, True),
     Act("GET /out", lambda it, at: it.request("/out"), listed("out"), 3, True),
     Act("GET /responses", lambda it, at: it.request("/responses"), listed("received"), 3, True),
-    # Behind the others, since an opening takes longer then.
+    # After the others, because an opening takes longer then.
     Act("8 MiB come in", lambda it, at: it.session(*file_of(f"LARGE.{3 + at}", 8 * MEBI)), lambda it: it.receive(*file_of("LARGE.3", 8 * MEBI)), 2),
 ]
 
 
 class Cost(NamedTuple):
-    """The seconds of the processor that an act took on average: the station's, and the command's."""
+    """The average processor seconds of an act: the station's, and the command's."""
 
     station: float
     command: float
@@ -255,21 +254,21 @@ def cost_of(station, act):
 
 
 def may_take(act, least, register):
-    """How long an act may take, where it takes so long over the least register of its kind."""
+    """How long an act may take that takes this long over the smallest register of its kind."""
     times = register.times if act.is_list else 1
     look = LOOK * (register.came + register.went) if act.looks_each_time else 0
     return MOST * times * least + look + NOISE
 
 
 def told_beside(act, cost, alone, plain):
-    """What a line says of the act as a program of its own, and of plain C."""
+    """What a line has of the act as a program of its own, and of plain C."""
     taken, of_plain = act.do(alone, 0), plain.taken(act.plain(plain))
     opened = f"with its opening {taken.processor * 1000:10.1f} ms, {taken.memory / 1024:6.0f} MiB"
     return f"; {opened}; plain C {of_plain * 1000:9.2f} ms, {sum(cost) / of_plain:6.1f} times"
 
 
 def measure(room, registers):
-    """Measures registers of one kind, the least first. It answers how many of the comparisons passed and failed."""
+    """Measures registers of one kind, the smallest first. It returns how many of the comparisons passed and failed."""
     passed, failed, least = 0, 0, {}
     for register in registers:
         beside = (Alone(room, register), Plain(room, register)) if room.is_whole else ()

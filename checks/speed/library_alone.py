@@ -1,14 +1,14 @@
 #!/usr/bin/env python3
-"""What of the station's cost is that of the toolchain's library, and what its own: the station, the library alone and plain C at the same work.
+"""How much of the cost is the toolchain library's, and how much the station's: the station, the library and plain C at the same work.
 
     checks/speed/library_alone.py [--assert] [--runs N] [--library PROGRAM] [--rows N]
 
-`library_store.rattle` calls the library alone, with the statements of the station's store: no crate of the station is in it. It is built as the
-checked station is, so OFTP_STATION names that one, unless `--library` names one that stands built. Plain C over libsqlite3 does the same twice
-over: with the octets of the session (`plain_store.c`), and the statements alone (`plain_register.c`). All times are of the
-processor and without the opening, but for those of the opening itself; each is the least of N runs, 3 where none is given, which take turns.
-The station is `run`, which holds its database. Files of short records have `--rows` of them, 20,000 where no number is given. With
-`--assert` it fails where the station takes more times as long as the library than its bound says. The last line is `N passed, M failed`.
+`library_store.rattle` uses only the library, with the statements of the station's store: it contains no crate of the station. It is built
+as the checked station is, so OFTP_STATION names that one, unless `--library` names a built one. Plain C over libsqlite3 does the same
+twice: with the octets of the session (`plain_store.c`), and the statements alone (`plain_register.c`). All times are processor times
+without the opening, except those of the opening itself; each is the least of N runs (default: 3), which take turns. The station is `run`,
+which keeps its database open. Files of short records have `--rows` of them (default: 20,000). With `--assert` it fails if the ratio of the
+station's time to the library's exceeds its bound. The last line is `N passed, M failed`.
 """
 
 import argparse
@@ -29,13 +29,13 @@ from measured import run_quietly
 from one_file import BOOK, FILE, frame_of
 from program import PROGRAM, ROOT
 
-# How many rows the station reads at a time, and `library_store` and plain C with it.
+# How many rows the station reads at a time, like `library_store` and plain C.
 STEP = 64
 
 
 class Case(NamedTuple):
-    """A file: what happens to it, how many rows of how many octets it has, its format, the buffer and the credit of its session, how many times as
-    long as plain C it should take, and how many times as long as the library alone it may take."""
+    """A file: what happens to it, its number of rows and their length in octets, its format, the buffer and the credit of its session, how
+    many times plain C's time it should take, and how many times the library's time it may take."""
 
     name: str
     way: str
@@ -65,29 +65,29 @@ class Case(NamedTuple):
         return -(-self.units() // self.in_data())
 
     def window(self):
-        """How many rows are kept or marked in one transaction."""
+        """How many rows are stored or marked in one transaction."""
         return max(self.credit * self.in_data() // self.length, 1)
 
 
 def cases(short):
-    """The files, of which those of short records have so many."""
+    """The files; those of short records have this many."""
     return [
         Case("a file comes, large windows", "in", 8192, BLOCK, "U", 16384, 99, 1.3, 2),
         Case("a file comes, small windows", "in", 1024, BLOCK, "U", 128, 2, 1.3, 2),
         Case("a file goes, large windows", "out", 8192, BLOCK, "U", 16384, 99, 1.5, 2),
         Case("a file goes, small windows", "out", 1024, BLOCK, "U", 128, 2, 1.1, 2),
-        # With the command that asks for it, and the way of its octets from the one to the other.
+        # With the command that asks for it, and the transfer of its octets from the one to the other.
         Case("a file is fetched", "fetch", 8192, BLOCK, "U", 16384, 99, 1.5, 3),
         Case("V of one octet comes", "in", short, 1, "V", 16384, 99, None, 2),
         Case("F of 67 octets comes", "in", short, 67, "F", 16384, 99, None, 2),
-        # Its rows are read twice, since it is told before how many octets they have.
+        # Its rows are read twice, because the number of its octets is sent first.
         Case("V of one octet goes", "out", short, 1, "V", 16384, 99, None, 3),
         Case("V of one octet is fetched", "fetch", short, 1, "V", 16384, 99, None, 2),
     ]
 
 
 class Room:
-    """A folder with what the runs take: programs, books and databases."""
+    """A folder with what the runs need: programs, books and databases."""
 
     def __init__(self, path, library):
         self.path = path
@@ -110,7 +110,7 @@ class Room:
         return copied(database, self.path / "copy")
 
     def full(self, case):
-        """A database with the file of a case, which waits or is whole."""
+        """A database with the file of a case, which is waiting or whole."""
         side = "out" if case.way == "out" else "in"
         names = (*OUTGOING.values(), OURS, THEIRS) if side == "out" else ("ASN.0001", "20240131", "1015300001", THEIRS, OURS)
         rest = (0, "waiting", "") if side == "out" else ("whole",)
@@ -127,7 +127,7 @@ class Room:
 
 
 class Spent(NamedTuple):
-    """The seconds of the processor that an opening took, and what came behind it."""
+    """The processor seconds of an opening, and of what came after it."""
 
     opening: float
     rest: float
@@ -144,7 +144,7 @@ def spent_by(*words):
 
 
 def file_frames(case):
-    """The frames with which a file comes."""
+    """The frames with which a file is sent to the station."""
     subrecord = b"".join(piece_of(case.length, at) for at in range(0, case.length, 63))
     records = case.in_data() // case.length
     if case.form == "U":
@@ -171,7 +171,7 @@ def stream_of(count, is_last):
 
 
 def by_station(room, case, database):
-    """What the station takes, without its opening; for a file that is fetched with the command that asks for it."""
+    """What the station takes, without its opening; for a fetched file with the command that asks for it."""
     with Holding(room.path / "station", database, room.book(case)) as station:
         opening = station.taken()
         command = 0.0
@@ -187,7 +187,7 @@ def by_station(room, case, database):
 
 
 def by_library(room, case, database, many=1, step=STEP, how="steps"):
-    """What the library takes for the statements alone; rows are added so many a statement, and read so many a step."""
+    """What the library takes for the statements alone; this many rows are added in a statement, and this many read in a step."""
     copy = room.copy_of(database)
     if case.way == "in":
         return spent_by(room.library, "keep", copy, case.rows, case.length, case.window(), many)
@@ -206,7 +206,7 @@ def by_plain_statements(room, case, database):
 
 
 def by_plain_session(room, case, database):
-    """What plain C takes with the octets of the session; nothing where there is no session."""
+    """What plain C takes with the octets of the session; nothing if there is no session."""
     given, answer = room.path / "given", room.path / "answer"
     if case.way == "fetch" or (case.way == "out" and case.form != "U"):
         return None
@@ -223,11 +223,11 @@ def least(found):
     return min(found) if found else None
 
 
-# ---- what is told
+# ---- output
 
 
 class Told:
-    """Prints the figures, and counts those that pass their bounds."""
+    """Prints the figures, and counts those within their bounds."""
 
     def __init__(self):
         self.passed = 0
@@ -261,7 +261,7 @@ def told_file(told, room, case, runs):
 
 
 def told_many(room, case, runs):
-    """What the library would take if a statement added more rows than one."""
+    """What the library would take if a statement added several rows."""
     print(f"{case.name}, by the library alone, microseconds a row:")
     for many, said in ((1, "a row a statement, as the store does"), (0, "the same, prepared once"), (8, "8 rows a statement"), (64, "64 rows a statement")):
         taken = least(by_library(room, case, room.empty, many) for _ in range(runs))
@@ -269,7 +269,7 @@ def told_many(room, case, runs):
 
 
 def told_steps(room, case, runs):
-    """What the library would take if a file were read otherwise."""
+    """What the library would take if a file were read in another way."""
     print(f"{case.name}, by the library alone, microseconds a row:")
     database = room.full(case)
     ways = [
@@ -283,7 +283,7 @@ def told_steps(room, case, runs):
 
 
 def told_opening(told, room, mebis, runs):
-    """The opening of a register, beside plain C that reads each row of it, and beside one that tests it."""
+    """The opening of a register, compared with plain C that reads each row of it, and with plain C that checks it."""
     database = fill_large(room.empty, room.path / "large", mebis)
     station, library, read, tested = [], [], [], []
     book = room.book(cases(1)[0])
@@ -306,7 +306,7 @@ def measure(room, runs, short):
     for case in cases(short):
         told_file(told, room, case, runs)
     for case in cases(short):
-        # What else could be asked of the library.
+        # Other ways of using the library.
         if case.way == "in" and case.form != "F" and case.buffer > 128:
             told_many(room, case, runs)
         if case.way == "fetch" and case.form == "U":

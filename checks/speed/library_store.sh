@@ -1,9 +1,9 @@
 #!/bin/bash
-# Builds the program of library_store.rattle, which calls the toolchain's library alone, as the checked station is built.
+# Builds the program of library_store.rattle, which uses only the toolchain's library, as the checked station is built.
 #
 #     checks/speed/library_store.sh OUT       OUT is the program that is made
 #
-# Its text is no crate of the repository: a folder is made for it here, with a crate of its own, and is gone at the end.
+# Its source isn't a crate of the repository: a temporary folder with a crate is made for it, and removed at the end.
 set -euo pipefail
 root=$(cd "$(dirname "$(readlink -f "${BASH_SOURCE[0]}")")/../.." && pwd)
 me=library_store.sh

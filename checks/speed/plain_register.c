@@ -1,18 +1,18 @@
-/* What operators, requests and the rows of files ask of a register, as plain C over libsqlite3: one statement for each row and each change,
-   one transaction for each window, one query for each list.
+/* What operators, requests and the rows of files need of a register, as plain C over libsqlite3: one statement for each row and each
+   change, one transaction for each window, one query for each list.
 
        plain_register open DATABASE                         opens it, and reads each row once
-       plain_register check DATABASE                        opens it, and tests it by integrity_check and foreign_key_check
-       plain_register keep DATABASE COUNT LENGTH WINDOW     file 1 comes: COUNT rows of LENGTH octets, WINDOW a transaction
-       plain_register lend DATABASE WINDOW STEP             the outgoing file 1 goes: its rows are read by STEP, and marked by WINDOW
+       plain_register check DATABASE                        opens it, and checks it by integrity_check and foreign_key_check
+       plain_register keep DATABASE COUNT LENGTH WINDOW     file 1 is received: COUNT rows of LENGTH octets, WINDOW in a transaction
+       plain_register lend DATABASE WINDOW STEP             the outgoing file 1 is sent: its rows are read by STEP, and marked by WINDOW
        plain_register fetch DATABASE NO STEP FILE           the incoming file NO is written to FILE, its rows read by STEP
        plain_register submit DATABASE FILE NAME             FILE is registered as an outgoing file of this name, in blocks
-       plain_register release DATABASE NO                   an end response is issued
-       plain_register show DATABASE in|out NO               prints a file with its rows and its octets, one that came with its response too
-       plain_register list DATABASE in|out|issued|received  prints all entries, of files with their rows and octets too
+       plain_register release DATABASE NO                   an End-to-End Response is issued
+       plain_register show DATABASE in|out NO               prints a file with rows and octets, an incoming one also with its response
+       plain_register list DATABASE in|out|issued|received  prints all entries, files also with their rows and octets
 
-   It prints two numbers at the end: the nanoseconds of the processor up to the end of the opening, which reads the schema, and up to the end
-   of all. The journal mode is that of the database, a write-ahead log, with synchronous=FULL, and the log is left as it is. */
+   It prints two numbers at the end: the processor time in nanoseconds up to the end of the opening, which reads the schema, and in all.
+   The journal mode is that of the database, a write-ahead log, with synchronous=FULL, and the log isn't checkpointed at the end. */
 #include <sqlite3.h>
 #include <stdio.h>
 #include <stdlib.h>
@@ -100,7 +100,7 @@ static void keep(int count, int size, int window) {
     }
 }
 
-/* Reads the next rows of a file behind one another; how many there were. */
+/* Reads the next rows of a file, one after another; it returns how many there were. */
 static int read_rows(sqlite3_stmt *select, int number, int from, int step_size, unsigned char **octets, size_t *length, size_t *room) {
     int rows = 0;
     *length = 0;
@@ -191,7 +191,7 @@ static void show(const char *side, int number) {
     print_rows(select);
 }
 
-/* What all entries of a list are asked by. */
+/* The query for all entries of a list. */
 static const char *text_of_list(const char *list) {
     if (strcmp(list, "in") == 0)
         return "SELECT f.*, (SELECT count(*) FROM in_row WHERE no = f.no), (SELECT sum(length(body)) FROM in_row WHERE no = f.no), i.kind "

@@ -1,11 +1,11 @@
-/* What the station does to its database when a file comes in or goes out, as plain C over libsqlite3: one statement for each row and
-   each change, one transaction for each window. It takes the octets of the partner's side as they are, and judges nothing.
+/* What the station does to its database when a file is received or sent, as plain C over libsqlite3: one statement for each row and
+   each change, one transaction for each window. It takes the octets of the partner's side as they are, and checks nothing.
 
-       plain_store receive DATABASE IN OUT CREDIT      the file in the session of IN comes in
-       plain_store send DATABASE IN OUT CREDIT BUFFER  the first outgoing file that waits goes out; of IN the frames are counted alone
+       plain_store receive DATABASE IN OUT CREDIT      the file in the session of IN is received
+       plain_store send DATABASE IN OUT CREDIT BUFFER  the first outgoing file that waits is sent; the frames of IN are only counted
 
-   It prints two numbers: the nanoseconds of the processor up to the end of the opening, which reads the schema, and up to the end of all.
-   The journal mode is that of the database, a write-ahead log, with synchronous=FULL, and the log is left as it is. */
+   It prints two numbers: the processor time in nanoseconds up to the end of the opening, which reads the schema, and in all. The journal
+   mode is that of the database, a write-ahead log, with synchronous=FULL, and the log isn't checkpointed at the end. */
 #include <sqlite3.h>
 #include <stdio.h>
 #include <stdlib.h>
@@ -76,7 +76,7 @@ static void answer(const char *octets, size_t length) {
     fflush(out);
 }
 
-/* The rows that came and aren't kept yet, and the octets behind them. */
+/* The rows that were received and aren't stored yet, and the octets after them. */
 static unsigned char *came;
 static size_t length, room;
 static sqlite3_int64 kept;
@@ -100,7 +100,7 @@ static void keep_row(sqlite3_stmt *insert, const unsigned char *row, size_t size
     step(insert);
 }
 
-/* Keeps the rows that are whole, and at the end of the file what is left. */
+/* Stores the complete rows, and at the end of the file the rest. */
 static void keep(sqlite3_stmt *insert, int is_end) {
     size_t at = 0;
     if (is_unstructured) {
@@ -157,7 +157,7 @@ static void receive(int credit) {
     }
 }
 
-/* Reads the next rows of the file behind those that are there. */
+/* Reads the next rows of the file after those that are there. */
 static void lend(sqlite3_stmt *select, sqlite3_int64 from) {
     sqlite3_bind_int64(select, 1, from);
     sqlite3_bind_int64(select, 2, LENT);

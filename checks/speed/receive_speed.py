@@ -1,12 +1,11 @@
 #!/usr/bin/env python3
-"""Gives `feed` one file in one session, at several sizes, buffers and credits, and prints the time and the memory that it took, beside
-a plain copy of the same octets.
+"""Gives `feed` one file in one session, at several sizes, buffers and credits, and prints the time and the memory that it took.
 
-    checks/speed/receive_speed.py [--assert]      with `--assert` it fails where the largest file needs more than one and a half times its
-                                                  size in memory, or costs per octet twice what a sixteenth of it does, or where a file that
-                                                  turns out an octet longer doesn't end the session
+    checks/speed/receive_speed.py [--assert]
 
-What the program takes for a session without a file is taken off before two files are compared, so that work is compared with work.
+With `--assert` it fails if the largest file needs more than one and a half times its size in memory, or costs twice as much per octet as
+one of a sixteenth, or if a file that turns out to be an octet longer doesn't end the session. The times are printed beside that of a plain
+copy of the same octets. What the program takes for a session without a file is subtracted before two files are compared.
 
 It takes the program of OFTP_STATION, or else the one that was last proved. The last line is then `N passed, M failed`.
 """
@@ -24,13 +23,13 @@ sys.path.insert(0, str(Path(__file__).resolve().parents[1] / "lib"))
 from one_file import BOOK, MOST, frame_of, make
 from program import PROGRAM
 
-# A sixteenth of the largest file, whose octets are to cost as much each.
+# A sixteenth of the largest file, whose octets should cost as much each.
 PART = MOST // 16
 CASES = [(size, buffer, credit) for buffer, credit in ((16384, 99), (128, 1)) for size in (MOST, PART)]
 
 
 def run(words):
-    """Runs a program to its end. It answers the seconds and the KiB of memory that it took, which are at least this script's own."""
+    """Runs a program to its end. It returns the seconds and the KiB of memory that it took, which are at least those of this script."""
     begin = time.monotonic()
     with open(os.devnull, "wb") as nowhere:
         pid = os.posix_spawn(words[0], words, os.environ, file_actions=[(os.POSIX_SPAWN_DUP2, nowhere.fileno(), 1)])
@@ -41,9 +40,9 @@ def run(words):
 
 
 def receive(room, size, buffer, credit):
-    """Gives `feed` one file. It answers the seconds, the KiB, and the octets that come out."""
+    """Gives `feed` one file. It returns the seconds, the KiB, and the octets out."""
     given, answer, book = room / "given", room / "answer", room / "book.toml"
-    # In a process of its own, since the memory that is told of a program is at least that of the script that starts it.
+    # In a process of its own, because the reported memory of a program is at least that of the script that starts it.
     subprocess.run([sys.executable, __file__, "--make", str(size), str(buffer), str(credit), given], check=True)
     book.write_text(BOOK.format(buffer=buffer, credit=credit))
     seconds, memory = run([PROGRAM, "feed", "--book", str(book), str(given), str(answer)])
@@ -51,7 +50,7 @@ def receive(room, size, buffer, credit):
 
 
 def measure(room, size, buffer, credit):
-    """Receives one file. It answers the seconds, the KiB, and the seconds of a plain copy."""
+    """Receives one file. It returns the seconds, the KiB, and the seconds of a plain copy."""
     seconds, memory, answer = receive(room, size, buffer, credit)
     if not answer.endswith(frame_of("EFPA", change="N")):
         raise SystemExit("the file wasn't taken")
@@ -61,7 +60,7 @@ def measure(room, size, buffer, credit):
 
 
 def ends_at_the_limit(room):
-    """Whether a file that is offered within the limit and passes it by an octet ends the session by ESID 06."""
+    """Whether a file that is offered within the limit and exceeds it by an octet ends the session by ESID 06."""
     _, _, answer = receive(room, MOST + 1, 16384, 99)
     return answer.endswith(frame_of("ESID", reason="06"))
 
@@ -89,8 +88,8 @@ def main():
 
 
 def dearer(whole, part, buffer):
-    """Whether an octet of the largest file takes twice what one of a sixteenth of it does, or more. A clock that tells nothing of the part is
-    no measure."""
+    """Whether an octet of the largest file takes twice the time of one of a sixteenth, or more. A clock too coarse for the smaller file
+    decides nothing."""
     times = whole / MOST / max(part / PART, 1e-12)
     print(f"buffer {buffer}: an octet of {MOST} takes {times:.2f} times what one of {PART} does, bound 2")
     return part <= 0 or times >= 2

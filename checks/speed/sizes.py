@@ -1,13 +1,12 @@
 #!/usr/bin/env python3
-"""Brings the program to its limits, and prints the time and the memory that each takes as rows of a table in Markdown.
+"""Brings the program to its limits, and prints the time and the memory of each case as rows of a table in Markdown.
 
-    checks/speed/sizes.py [--whole]       the greatest texts, books and credits, files at the limit of octets and of rows and past them; with
+    checks/speed/sizes.py [--whole]       the largest texts, books and credits, files at the limit of octets and of records and beyond; with
                                           `--whole` each of these files in each format, and registers of 10,000 files
 
-A file goes from one station to the other: it is submitted at the car maker, goes out, comes in at the supplier and is fetched there.
-What goes out of the one is what comes in at the other, and the answers of the other are those that the one reads; what is fetched has
-to be what was submitted. A file of an octet or of a row more is refused, submitted or offered. The memory that is told of a program is at
-least this script's own. The last line is `N passed, M failed`.
+A file goes from one station to the other: it is submitted and sent at the car maker, received at the supplier and fetched there. The octets
+out of each are the input of the other, and what is fetched has to be what was submitted. A file with one more octet or record is refused,
+submitted or offered. The reported memory of a program is at least that of this script. The last line is `N passed, M failed`.
 """
 
 import argparse
@@ -35,7 +34,7 @@ PASSWORDS = {CAR_MAKER: "CARPW", SUPPLIER: "SUPPW"}
 STAMP = {"date": "20240131", "time": "1015300001"}
 BUFFER, CREDIT = 16384, 99
 TEXT = "€" * 333
-# The record of each row of a file, so that octets that are lost or exchanged show.
+# The content of each row of a file, so that lost or exchanged octets are noticed.
 RECORD = bytes(place % 251 for place in range(20_000))
 
 
@@ -48,7 +47,7 @@ def frame(kind, **fields):
 
 
 class Size:
-    """A file: its format, its longest record, and how many rows of how many octets it has, the last of so many."""
+    """A file: its format, its longest record, its number of rows and their length in octets, and the length of the last one."""
 
     def __init__(self, form, longest, rows, size, last=None):
         self.form = form
@@ -72,7 +71,7 @@ class Size:
                 file.write(b"%05d" % len(record) + record if self.form == "V" else record)
 
     def write_stream(self, path):
-        """A session in which it comes in."""
+        """A session in which it is received."""
         with open(path, "wb") as file:
             file.write(opening())
             names = {"dataset": "ASN.0001", **STAMP, "originator": CAR_MAKER, "destination": SUPPLIER}
@@ -99,7 +98,7 @@ def opening():
     return frame("SSID", code=CAR_MAKER, password="CARPW", buffer=99999, credit=999, mode="B")
 
 
-# Files at the limits: of octets, and of rows; and of an octet and of a row more.
+# Files at the limits of octets and of rows, and with one octet or one row more.
 AT_LIMIT = {
     "U": Size("U", 0, 65_536, 1024),
     "T": Size("T", 0, 65_536, 1024),
@@ -132,7 +131,7 @@ class Station:
         self.book.write_text("'".join(own.get(word, word) for word in words))
 
     def give(self, command, *words, line=None, book=True, database=True):
-        """Gives the program a command. It answers the seconds and the MiB that it took."""
+        """Runs a command. It returns the seconds and the MiB that it took."""
         over = [*(["--db", self.database] if database else []), *(["--book", self.book] if book else [])]
         words = [PROGRAM, command, *over, *words]
         told = self.room / "told"
@@ -159,13 +158,13 @@ def submission(size, path, to=SUPPLIER, dataset="ASN.0001", description=""):
 
 
 def pass_on(room, size):
-    """A file goes from the car maker to the supplier. It answers what each of the four commands took."""
+    """A file goes from the car maker to the supplier. It returns what each of the four commands took."""
     car_maker = Station(room, CAR_MAKER, SUPPLIER)
     supplier = Station(room, SUPPLIER, CAR_MAKER)
     file, fetched = room / "file", room / "fetched"
     size.write_local(file)
     taken = [car_maker.give("submit", *submission(size, file), line="done: submit 1")]
-    # What the supplier will answer: CDT behind each 99 DATA, of which the frames' number is known once the file is out.
+    # What the supplier will answer: CDT after each 99 DATA, of which the number of frames is known once the file is out.
     answers, out, back = room / "answers", room / "out", room / "back"
     begin = frame("SSRM") + frame("SSID", code=SUPPLIER, password="SUPPW", buffer=BUFFER, credit=CREDIT, mode="B") + frame("SFPA", count=0)
     answers.write_bytes(begin + frame("CDT") * windows_of(size) + frame("EFPA") + frame("ESID", reason="00"))
@@ -180,7 +179,7 @@ def pass_on(room, size):
 
 
 def windows_of(size):
-    """How many windows of DATA a file fills, each DATA as full as the filling rule has it."""
+    """How many windows of DATA a file fills, each DATA as full as the filling rule makes it."""
     payloads, free = 0, 0
     left = size.octets() if size.form in "UT" else None
     for record in [left] if left is not None else (len(record) for record in size.records()):
@@ -195,7 +194,7 @@ def windows_of(size):
 
 
 def refuse(room, size, is_whole):
-    """A file past a limit is refused, submitted or offered: in memory, and over a database too where all is tried. It answers what that
+    """A file beyond a limit is refused, submitted or offered: in memory, and with `--whole` over a database too. It returns what that
     took."""
     supplier = Station(room, SUPPLIER, CAR_MAKER)
     size.write_local(room / "file")
@@ -220,7 +219,7 @@ def read(database, query):
 
 
 def texts(room):
-    """Descriptions and texts of 999 octets, in and out."""
+    """Descriptions and texts of 999 octets, received and sent."""
     station = Station(room, SUPPLIER, CAR_MAKER)
     names = {"dataset": "ASN.0001", **STAMP}
     inward = {**names, "originator": CAR_MAKER, "destination": SUPPLIER}
@@ -252,7 +251,7 @@ def texts(room):
 
 
 def partners(room):
-    """A book of 1,000 partners, of whom the last calls; one of 1,001 is refused."""
+    """A book of 1,000 partners, the last of which calls; one of 1,001 is refused."""
     station = Station(room, SUPPLIER, CAR_MAKER)
     usual = station.book.read_text()
     station_part, partner = usual.split("[[partner]]")
@@ -267,7 +266,7 @@ def partners(room):
 
 
 def many_in(room):
-    """10,000 files come in in one session, each of an octet; they are listed, and their end responses go out in one session."""
+    """10,000 files of an octet are received in one session; they are listed, and their End-to-End Responses are sent in one session."""
     station = Station(room, SUPPLIER, CAR_MAKER)
     names = {**STAMP, "originator": CAR_MAKER, "destination": SUPPLIER, "format": "U"}
     with open(room / "given", "wb") as given:
@@ -290,7 +289,7 @@ def many_in(room):
 
 
 def many_out(room):
-    """10,000 files go out in one session, and their end responses come in in another."""
+    """10,000 files are sent in one session, and their End-to-End Responses are received in another."""
     station = Station(room, SUPPLIER, CAR_MAKER)
     (room / "file").write_bytes(b"A")
     size = Size("U", 0, 1, 1)
@@ -327,7 +326,7 @@ def change(database, *statements):
 
 
 def cases(is_whole):
-    """Each case: its name, its function with what it is given, and the columns' names."""
+    """Each case: its name, its function with its arguments, and the columns' names."""
     passed = "submitted, out, in, fetched"
     for name, size in AT_LIMIT.items():
         if is_whole or name in IN_SHORT:

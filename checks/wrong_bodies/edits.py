@@ -1,4 +1,7 @@
-"""Wrong bodies as edits: what each turns, in which functions, and what it names as its refusal (checks/wrong_bodies/wrong_bodies.py tries them)."""
+"""Wrong bodies as edits: the text that each changes, its functions, and the refusal that it names.
+
+checks/wrong_bodies/wrong_bodies.py tries them.
+"""
 
 import re
 
@@ -13,7 +16,7 @@ class Unfit(Exception):
 
 
 class Edit:
-    """A wrong body: `lines` has each line that it turns, by file and number from 0, and `refused_by` the words that it names."""
+    """A wrong body: `lines` has each line that it changes, by file and number from 0, and `refused_by` the words that it names."""
 
     def __init__(self, path):
         self.path = path
@@ -29,13 +32,13 @@ class Edit:
 
 
 def words_of(text):
-    """The words behind `refused by: `, none where no such line stands."""
+    """The words after `refused by: `, none if there is no such line."""
     found = [line[len(REFUSED_BY) :] for line in text.splitlines() if line.startswith(REFUSED_BY)]
     return [it.strip() for it in ",".join(found).split(",") if it.strip()]
 
 
 def pairs_of(text):
-    """Each file of an edit, the text that is turned there, and the text in its place, as `rt must-fail` reads them."""
+    """Each file of an edit, the text that it changes there, and the new text, as `rt must-fail` reads them."""
     path, old = None, None
     for line in text.splitlines():
         word, _, rest = line.partition(": ")
@@ -51,7 +54,8 @@ def pairs_of(text):
 
 
 def turned_lines(text, folder):
-    """The lines that an edit turns. A line of which it changes the spaces alone isn't turned: an edit does so where a text stands twice."""
+    """The lines that an edit changes. A line in which only spaces change doesn't count: an edit has such a line if its text would occur
+    twice."""
     were, now = {}, {}
     for path, old, new in pairs_of(text):
         if path not in now:
@@ -77,7 +81,7 @@ def edits_of(crates):
 
 
 def turned_texts(edits):
-    """The texts of the files that these edits of one crate turn together."""
+    """The texts of the files with all these edits of one crate."""
     folder = ROOT / "crates" / edits[0].crate
     texts = {path: (folder / path).read_text(encoding="utf-8").split("\n") for it in edits for path, _ in it.lines}
     for it in edits:
@@ -99,12 +103,13 @@ class Function:
 
 
 def plain(name):
-    """A type or a trait as rattle names it: the last part of its path, with what stands in its angle brackets behind it."""
+    """A type or a trait as rattle prints it: the last part of its path, with its type arguments after it."""
     return re.sub(r"\W", "", re.sub(r"\w+::|\bmut\b|\bdyn\b|'\w+", "", re.sub(r"(<.*)<.*>>", r"\1>", name)))
 
 
 def owner_of(kind, head):
-    """The type of an impl, or the trait, and what rattle names the methods by: for an impl of a trait the type and then the trait; a parameter is `Any`."""
+    """The type of an impl, or the trait, and the name that rattle gives its methods: for an impl of a trait the type and then the trait; a
+    parameter is `Any`."""
     head = re.sub(r"\bwhere\b.*", "", head, flags=re.S).strip()
     if kind == "trait":
         return (re.match(r"\w+", head).group(),) * 2
@@ -117,12 +122,12 @@ def owner_of(kind, head):
 
 
 def module_of(path, source):
-    """The modules that lead to a file of src/."""
+    """The modules on the path of a file of src/."""
     return [it for it in path.relative_to(source).with_suffix("").parts if it not in ("lib", "main", "mod")]
 
 
 def functions_of(crate):
-    """The functions of a crate that have a body. rattle names one of an `impl TYPE` by the module of the type, wherever that impl stands."""
+    """The functions of a crate that have a body. rattle names one of an `impl TYPE` by the module of the type, wherever that impl is."""
     source = ROOT / "crates" / crate / "src"
     blank = lambda text: OPAQUE.sub(lambda it: re.sub(r"[^\n]", " ", it.group()), text)
     texts = {path: blank(path.read_text(encoding="utf-8")) for path in sorted(source.rglob("*.rt"))}

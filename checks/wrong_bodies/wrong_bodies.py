@@ -1,37 +1,44 @@
 #!/usr/bin/env python3
-"""Tries wrong bodies: edits of crates/CRATE/must-fail/ and of checks/wrong_bodies/CRATE/ alike, of which the prover must refuse each.
+"""Tries wrong bodies: edits in crates/CRATE/must-fail/ and in checks/wrong_bodies/CRATE/, each of which the prover must refuse.
 
-    checks/wrong_bodies/wrong_bodies.py [--jobs N] [CRATE ..]  tries all of these crates, or of all, and writes down in the ledger each crate whose edits were all refused
-    checks/wrong_bodies/wrong_bodies.py CRATE/NAME ..          tries these alone, and writes the crate down where the ledger has it without them
-    checks/wrong_bodies/wrong_bodies.py --record [CRATE ..]    as the first; an edit that names no refusal gets the line of what refused it, for a person to read over
-    checks/wrong_bodies/wrong_bodies.py --fits                 says whether each edit can be applied to the text that it turns
-    checks/wrong_bodies/wrong_bodies.py --ledger               says whether each crate with edits is what it was when all of them were refused
-    checks/wrong_bodies/wrong_bodies.py --of-the-day           tries some of one crate, another each day, whatever the ledger says
+    checks/wrong_bodies/wrong_bodies.py [--jobs N] [CRATE ..]
+        tries those of these crates, or of all, and writes each crate whose edits were all refused into the ledger
+    checks/wrong_bodies/wrong_bodies.py CRATE/NAME ..
+        tries only these, and writes the crate into the ledger if that has it without them
+    checks/wrong_bodies/wrong_bodies.py --record [CRATE ..]
+        as the first; an edit that names no refusal gets the line of what refused it, which a person then reviews
+    checks/wrong_bodies/wrong_bodies.py --fits
+        reports whether each edit can be applied to the text that it changes
+    checks/wrong_bodies/wrong_bodies.py --ledger
+        reports whether each crate with edits is what it was when all of them were refused
+    checks/wrong_bodies/wrong_bodies.py --of-the-day
+        tries some of one crate, another each day, whatever the ledger says
 
-Many edits are tried in one check, over a copy of the crate and over the proofs that its out/ kept: in a round no two edits turn one function. rattle checks
-a function against the contracts of those that it calls, so it tells a function that fails by itself from one that only calls such a function. An edit
-is refused where a function that it turns fails by itself. What a round doesn't judge is tried in a later one, and at the end alone. An edit that turns no
-function, but a definition or a constant, is tried alone, over the whole crate.
+Many edits are tried in one check, over a copy of the crate and the proofs that its out/ kept: no two edits of a round change the same
+function. rattle checks a function against the contracts of those that it calls, so its output distinguishes a function that fails by itself
+from one that only calls such a function. An edit is refused if a function that it changes fails by itself. An edit that a round doesn't
+decide is tried in a later one, and in the end alone. An edit that changes no function, but a definition or a constant, is tried alone, over
+the whole crate.
 
-A line `refused by: WORD, ..` of an edit names what has to refuse it. It is compared with the goals that rattle names as not proved in that function:
-`returns-in-Err-clause-took` stands for the clause `took`. The words are
+A line `refused by: WORD, ..` of an edit names what has to refuse it. It is compared with the goals that rattle reports as not proved in
+that function: `returns-in-Err-clause-took` stands for the clause `took`. The words are
 
     the name of a clause   a goal of that clause
-    ensures                a goal of clauses without a name, of a trait's contract, or of all clauses where the prover shows them as one fact
+    ensures                a goal of clauses without a name, of a trait's contract, or of all clauses if the prover shows them as one fact
     invariant              the invariant of a type
     loop                   an invariant of a loop, which carries clauses through it
     safety                 any other demand: an overflow, an index, what a called function requires, a measure
 
-For an edit that turns no function a word is `PATH.WORD`, as `packing::put_from.count`, of any function that fails by itself, or the name of a lemma
-or a law that does.
-Each word has to be among what refused the edit; others may be there too. An edit fails as NOT REFUSED where the crate is proved with it; as BAD EDIT where it
-can't be applied or doesn't compile; where nothing refuses it but that a proof names what it took away; and where it names no refusal, or another.
+For an edit that changes no function a word is `PATH.WORD`, as `packing::put_from.count`, for any function that fails by itself, or the name
+of a lemma or a theorem that does. Each word has to be among what refused the edit; others may be there too. An edit fails as NOT REFUSED if
+the crate is proved with it; as BAD EDIT if it can't be applied or doesn't compile; if nothing refuses it except that a proof names what it
+removed; and if it names no refusal, or another.
 
-The ledger, checks/wrong_bodies/ledger.txt, has a line for each crate with edits: the sum of its src/, specs/, proofs/ and edits when all were
-refused, how many, and the day. A crate that changed since, in more than its comments, is to be tried again. The sum says nothing of the crates below: a contract there can turn
-what refuses an edit, and so can another toolchain. That is what the try of the day is for, by which each crate is tried again in turn. It takes some
-minutes: a crate whose edits take longer is tried in parts, another each time.
-The last line is `N passed, M failed`.
+The ledger, checks/wrong_bodies/ledger.txt, has a line for each crate with edits: the sum of its src/, specs/, proofs/ and edits when all
+were refused, their number, and the day. A crate that has changed since, in more than its comments, has to be tried again. The sum doesn't
+cover the crates below: a contract there can change what refuses an edit, and so can another toolchain. That is why the trial of the day
+tries each crate again in turn. It takes some minutes: a crate whose edits take longer is tried in parts, another each time. The last line
+is `N passed, M failed`.
 """
 
 import datetime
@@ -52,30 +59,30 @@ from program import ROOT
 
 LEDGER = ROOT / "checks" / "wrong_bodies" / "ledger.txt"
 PARTS = ("src", "specs", "proofs")
-# What a line of comment begins with, by the ending of a file's name.
+# What a line of comment begins with, by the suffix of a file.
 COMMENTS = {".rt": b"//", ".antt": b"--"}
-# After how many seconds of a processor the try of the day begins no other check.
+# After this many processor seconds the trial of the day begins no other check.
 DAY = 300
-# What a proof says where an edit took away a name that it cites, and what then rests on that proof.
+# What a proof reports if an edit removed a name that it cites, and what then depends on that proof.
 TAKEN_AWAY = re.compile(r"has no field|is not in scope|has no `|was not admitted|that depend on `")
 
-# What the prover says of a text that it can't read, in src/ and specs/; another error there is of a fact that doesn't hold.
+# What the prover reports of a text that it can't read, in src/ and specs/; another error there is of a fact that doesn't hold.
 UNREADABLE = re.compile(r"is not in scope|has no field|is no name|operand is missing|expected the end|cannot continue")
 
 
 def kit():
-    """The folder of the toolchain, in which rt stands."""
+    """The toolchain's folder, which contains rt."""
     return Path(os.path.realpath(shutil.which("rt"))).parent.parent
 
 
 def listed():
-    """Each crate of crates.txt with the libraries that it stands on."""
+    """Each crate of crates.txt with the libraries that it depends on."""
     lines = [it for it in (ROOT / "crates.txt").read_text(encoding="utf-8").splitlines() if it and not it.startswith("#")]
     return {name: rest.split() for name, _, rest in (it.partition(":") for it in lines)}
 
 
 def below(crate):
-    """The crates of the repository that a crate stands on, in the order of crates.txt."""
+    """The crates of the repository that a crate depends on, in the order of crates.txt."""
     crates = listed()
     found, left = set(), [crate]
     while left:
@@ -86,10 +93,8 @@ def below(crate):
 
 
 def build(crate):
-    """Has a crate and the libraries below it proved and built as they are, where they don't stand; without that a refusal says nothing.
-
-    What `rt ci` left has no stamp, and is taken as it is.
-    """
+    """Proves and builds a crate and the libraries below it as they are, if this wasn't done; without that a refusal means nothing. What `rt
+    ci` left has no stamp, and is taken as it is."""
     rlibs = {it: ROOT / "crates" / it / "out" / "rlib" for it in (*below(crate), crate)}
     if all((at / f"{it}.rlib").is_dir() and not (at / "stamp").is_file() for it, at in rlibs.items()):
         return True
@@ -97,7 +102,7 @@ def build(crate):
 
 
 def words_of_check(crate):
-    """The words of a check of the crate, as `rt must-fail` gives them."""
+    """The command of a check of the crate, as `rt must-fail` runs it."""
     crates, rlib = listed(), lambda it: ROOT / "crates" / it / "out" / "rlib"
     externs = {it: kit() / "rlibs" / f"{it}.rlib" for it in ("std", *crates[crate]) if it not in crates}
     externs.update({it: rlib(it) / f"{it}.rlib" for it in crates[crate] if it in crates})
@@ -110,7 +115,7 @@ def words_of_check(crate):
 
 
 class Room:
-    """A folder for the checks of one crate, with what its out/ kept; `jobs` is how many each check gets."""
+    """A folder for the checks of one crate, with what its out/ kept; `jobs` is the number of jobs for each."""
 
     def __init__(self, crate, folder, jobs):
         self.crate, self.folder, self.jobs = crate, Path(folder), jobs
@@ -120,7 +125,7 @@ class Room:
             shutil.copytree(kept, self.folder / "incremental")
 
     def check(self, texts, only):
-        """What rattle says of the crate with these texts, of these functions or, without any, of all."""
+        """What rattle reports of the crate with these texts, of these functions or, without any, of all."""
         for part in PARTS:
             shutil.rmtree(self.folder / part, ignore_errors=True)
             if (ROOT / "crates" / self.crate / part).is_dir():
@@ -134,13 +139,14 @@ class Room:
         return ran.stdout
 
     def turned(self, edit):
-        """The functions that an edit turns, or none where it turns something else too."""
+        """The functions that an edit changes, or none if it changes something else too."""
         found = [next((it for it in self.functions if it.has(*at)), None) for at in edit.lines]
         return [] if None in found else list(dict.fromkeys(found))
 
 
 class Failures:
-    """What a check says: `goals` has for each function the goals that aren't proved, `taken` those that fail for a name that an edit took away."""
+    """The report of a check: `goals` has for each function the goals that aren't proved, `taken` those that fail for a name that an edit
+    removed."""
 
     def __init__(self, said, room):
         self.goals, self.taken, self.lemmas, self.unread = {}, {}, [], []
@@ -151,12 +157,12 @@ class Failures:
             self.read(line)
 
     def first(self):
-        """The first line that tells an error, shortened."""
+        """The first line with an error, shortened."""
         lines = self.said.splitlines()
         return next((it for it in lines if ": error" in it), next((it for it in lines if re.match(r"fn .*: no", it)), lines[-1] if lines else ""))[:300]
 
     def read(self, line):
-        """Takes what one line says."""
+        """Reads one line."""
         fault = re.match(r"(?:\./)?(\S+?):(\d+):\d+: error(\[[\w-]+\])?: (?:`([^`]*)`: )?(.*)", line)
         open_goal = re.match(r"note: (src/\S+?):(\d+):\d+: it is not proved that .*?\(`([^`]*)`\)", line)
         joint = re.match(r"note: `([^`]*)` of (proofs/\S+) must prove: record \{(.*)", line)
@@ -177,7 +183,7 @@ class Failures:
             self.part(self.owner(joint[2]), joint[1], joint[3])
 
     def part(self, owner, goal, text):
-        """Takes the text of a goal that holds several clauses: it fails by those that are shown false or, where none is, by each."""
+        """Reads the text of a goal that has several clauses: it fails by those that are shown false or, if none is, by each."""
         function = next((it for it in self.functions if it.name == owner), None)
         found = re.findall(r"(?:^|; )(\w+) : ⊥", text) or re.findall(r"(?:^|; )(\w+) : ", text)
         clauses = [it for it in found if function and it in function.clauses]
@@ -186,7 +192,7 @@ class Failures:
             self.goals[owner] = kept + [f"{goal}-clause-{it}" for it in clauses]
 
     def of_proof(self, path, name, text):
-        """Takes an error of a proof: of a function's answers, or of a lemma."""
+        """Reads an error of a proof: of a function's answers, or of a lemma."""
         owner = self.owner(path)
         cited = re.match(r"\d+ declarations? that .*: (.*)", text)
         names = cited[1].split(", ") if cited else [name]
@@ -205,7 +211,7 @@ class Failures:
 
 
 def word_of(goal, function):
-    """The word that stands for a goal of a function."""
+    """The word for a goal of a function."""
     if re.search(r"-requires\b", goal):
         return "safety"
     if "-clause-" in goal:
@@ -231,7 +237,8 @@ def words_of_all(failures):
 
 
 def verdict(edit, turned, failures):
-    """What refuses an edit in a check that was judged, in words, none where nothing does; and whether that is only for a name that it took away."""
+    """What refuses an edit in a check that was decided, in words, none if nothing does; and whether that is only for a name that it
+    removed."""
     if not turned:
         return words_of_all(failures), False
     words = [word for it in turned for word in words_of(failures.goals.get(it.name, []), it)]
@@ -239,7 +246,7 @@ def verdict(edit, turned, failures):
 
 
 def in_rounds(edits, room):
-    """The edits in rounds, in which no two turn one function; one that turns none has a round of its own."""
+    """The edits in rounds, in which no two change one function; one that changes none has a round of its own."""
     rounds, alone = [], []
     for edit in edits:
         mine = {it.name for it in room.turned(edit)}
@@ -255,18 +262,18 @@ def in_rounds(edits, room):
 
 
 def processor():
-    """The seconds of a processor that the checks so far took."""
+    """The processor seconds that the checks took so far."""
     used = resource.getrusage(resource.RUSAGE_CHILDREN)
     return used.ru_utime + used.ru_stime
 
 
 def tell(text):
-    """Tells how far the trial is, beside what it prints."""
+    """Prints the progress of the trial to standard error."""
     print(text, file=sys.stderr, flush=True)
 
 
 def try_round(edits, room):
-    """Tries edits together: what refuses each that is judged, and the others, those whose own lines can't be read first."""
+    """Tries edits together: what refuses each that is decided, and the others, first those whose own lines can't be read."""
     only = dict.fromkeys(it for edit in edits for it in room.turned(edit))
     failures = Failures(room.check(turned_texts(edits), only), room)
     blamed = [it for it in edits if any(at in it.lines for at in failures.unread)]
@@ -291,8 +298,8 @@ def try_alone(edit, room):
 
 
 def try_rounds(left, room, most):
-    """Tries the edits of these rounds, and begins no other check after `most` seconds of a processor: what refuses each edit that was tried, or why it
-    fails, and how many checks that took."""
+    """Tries the edits of these rounds, and begins no other check after `most` processor seconds: what refuses each edit that was tried, or
+    why it fails, and how many checks that took."""
     found, checks, end = {}, 0, processor() + most
     while left and processor() < end:
         tried = left.pop(0)
@@ -324,7 +331,7 @@ def compared(edit, words, why):
 
 
 def record(edit, words):
-    """Writes what refused an edit into one that names nothing: its clauses, or the other demand where no clause refused it."""
+    """Writes what refused an edit into one that names nothing: its clauses, or the other demand if no clause refused it."""
     clauses = [it for it in words if it.rpartition(".")[2] not in ("loop", "invariant", "safety")] or words[:1]
     if words and not edit.refused_by:
         text = edit.path.read_text(encoding="utf-8")
@@ -333,14 +340,14 @@ def record(edit, words):
 
 
 def of_the_day(rounds):
-    """The rounds of the crate of the day, each of which is the first in its turn."""
+    """The rounds of the crate of the day, each of which comes first in turn."""
     at = today().toordinal() // len(crates_with_edits()) % len(rounds)
     return rounds[at:] + rounds[:at]
 
 
 def try_crate(crate, jobs, is_recording=False, named=(), is_of_the_day=False):
-    """Tries the edits of a crate, those that are named or all or, of the day, as many as it has time for, and returns how many were tried and how many
-    fail. What they cost is printed too."""
+    """Tries the edits of a crate, those that are named or all or, of the day, as many as there is time for, and returns how many were tried
+    and how many fail. It also prints their cost."""
     edits, lost = read_all([crate])
     edits = [it for it in edits if not named or it.name in named]
     if not build(crate):
@@ -364,7 +371,7 @@ def try_crate(crate, jobs, is_recording=False, named=(), is_of_the_day=False):
 
 
 def read_all(crates):
-    """The edits of these crates, or of all, and how many can't be applied, each of which it tells."""
+    """The edits of these crates, or of all, and how many can't be applied, each of which it reports."""
     edits, lost = [], 0
     for path in edits_of(crates):
         try:
@@ -376,7 +383,7 @@ def read_all(crates):
 
 
 def fit():
-    """Says which edits can't be applied, and which name no refusal, without which none passes."""
+    """Reports edits that can't be applied, and those that name no refusal, without which none passes."""
     edits, lost = read_all([])
     unnamed = [it for it in edits if not it.refused_by]
     for crate in sorted({it.crate for it in unnamed}):
@@ -385,14 +392,14 @@ def fit():
 
 
 def code_of(path):
-    """The octets of a file without its lines of comment alone, which the prover doesn't read."""
+    """The octets of a file without its lines of comment, which the prover doesn't read."""
     mark = COMMENTS.get(path.suffix)
     lines = path.read_bytes().splitlines(keepends=True)
     return b"".join(it for it in lines if not mark or not it.lstrip().startswith(mark))
 
 
 def sum_of(crate, without=()):
-    """The sum of a crate's sources and of its edits, wherever they stand, without the edits of these names. Comments don't count."""
+    """The sum of a crate's sources and of its edits, wherever they are, without the edits of these names. Comments don't count."""
     folder = ROOT / "crates" / crate
     files = {str(it.relative_to(folder)): it for part in PARTS for it in (folder / part).rglob("*") if it.is_file()}
     files.update({it.name: it for it in edits_of([crate]) if it.stem not in without})
@@ -403,36 +410,36 @@ def sum_of(crate, without=()):
 
 
 def lines_of_ledger():
-    """The lines of the ledger, by crate: how many edits, the day and the sum."""
+    """The lines of the ledger, by crate: the number of edits, the day and the sum."""
     lines = LEDGER.read_text(encoding="utf-8").splitlines() if LEDGER.is_file() else []
     return {it.split()[0]: it.split()[1:] for it in lines}
 
 
 def today():
-    """The day, as UTC has it."""
+    """The day in UTC."""
     return datetime.datetime.now(datetime.timezone.utc).date()
 
 
 def write_line(crate):
-    """Writes down that all edits of a crate were refused."""
+    """Writes into the ledger that all edits of a crate were refused."""
     lines = lines_of_ledger()
     lines[crate] = [str(len(edits_of([crate]))), today().isoformat(), sum_of(crate)]
     LEDGER.write_text("".join(f"{' '.join([it, *lines[it]])}\n" for it in sorted(lines)), encoding="utf-8")
 
 
 def is_new_alone(crate, names):
-    """Whether the ledger has the crate as it is without the edits of these names, so that no other is left to be tried."""
+    """Whether the ledger has the crate as it is without the edits of these names, so that no other has to be tried."""
     stems = {it.partition("/")[2] for it in names}
     return lines_of_ledger().get(crate, [])[::2] == [str(len(edits_of([crate])) - len(stems)), sum_of(crate, stems)]
 
 
 def crates_with_edits():
-    """The crates that have edits."""
+    """The crates with edits."""
     return sorted({Edit.crate_of(it) for it in edits_of([])})
 
 
 def held_to_ledger():
-    """Says which crates aren't what the ledger has."""
+    """Reports the crates that differ from the ledger."""
     lines, crates = lines_of_ledger(), crates_with_edits()
     lost = [it for it in crates if lines.get(it, [])[::2] != [str(len(edits_of([it]))), sum_of(it)]]
     for it in lost:
@@ -444,13 +451,14 @@ def held_to_ledger():
 
 
 def crate_of_the_day():
-    """The crate that is tried today, whatever the ledger says."""
+    """The crate of the day, whatever the ledger says."""
     crates = crates_with_edits()
     return crates[today().toordinal() % len(crates)]
 
 
 def try_and_write(named, jobs, is_recording):
-    """Tries the edits that are named, by crate or one by one, or all, and writes down each crate of which all were tried and refused."""
+    """Tries the edits that are named, by crate or one by one, or all, and writes each crate of which all were tried and refused into the
+    ledger."""
     tried = []
     for crate in dict.fromkeys(it.partition("/")[0] for it in named or crates_with_edits()):
         some = [it for it in named if it.startswith(f"{crate}/")]

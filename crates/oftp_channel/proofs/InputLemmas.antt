@@ -1,4 +1,4 @@
--- One read after another, and what is left behind it.
+-- One read after another, and the octets that are left.
 use Rattle.std.proofs.Common.{◌≡◌, ℕ, ◌+◌, ◌%◌, ◌^◌, ◌⊎◌, inl, inr, List, [], ◌++◌, take, Option, None, Some, Result, Ok, Err, IfErr, refl, sym, ap, subst, ◌∙◌}
 use Rattle.std.specs.Io.KnownBytes.{Consumes}
 use Rattle.std.specs.Result.{IsErrAnd}
@@ -15,7 +15,7 @@ some xs = Some xs
 same : (xs ys : List ℕ) → some xs ≡ some ys → xs ≡ ys
 same xs ys e = cc
 
--- what a reader has left behind the front of what it had
+-- the octets that a reader has left after the first ones
 left_over : (a b : Option (List ℕ)) (front heard : List ℕ) → Consumes a b front → a ≡ Some heard
     → (after : List ℕ) × (b ≡ Some after) × (heard ≡ front ++ after)
 left_over None b front heard h e = absurd cc
@@ -72,19 +72,19 @@ module _ {X : Type 0} (remaining : X → Option (List ℕ)) where
       → (after : List ℕ) × (remaining b.inner ≡ Some after) × (heard ≡ front ++ after)
   front_of a b front heard p e = left_over (remaining a.inner) (remaining b.inner) front heard p.bytes e
 
-  -- a fault that is passed on, behind octets that were read
+  -- an error that is passed on, after octets that were read
   pub passed_behind : {T : Type 0} (a b d : Port X) (xs : List ℕ) (told : HearFault) (result : Result T HearFault) → IsErrAnd result (λ (x : HearFault). x ≡ told)
       → Gave remaining a b xs → Leaves remaining b d told → IfErr result (λ (x : HearFault). Leaves remaining a d x)
   passed_behind a b d xs told (Ok x) is p q = tt
   passed_behind a b d xs told (Err x) is p q = subst (Leaves remaining a d) (sym is) (leaves_on a b d xs told p q)
 
-  -- want of memory, behind octets that were read
+  -- out of memory, after octets that were read
   pub want_behind : {T : Type 0} (a d : Port X) (xs : List ℕ) (result : Result T HearFault) → IsErrAnd result (λ (x : HearFault). x ≡ faults.Memory)
       → Gave remaining a d xs → IfErr result (λ (x : HearFault). Leaves remaining a d x)
   want_behind a d xs (Ok x) is p = tt
   want_behind a d xs (Err x) is p = subst (Leaves remaining a d) (sym is) (record { octets = xs; gave = p })
 
-  -- the same of a last call, whose result is answered
+  -- the same for a last call, whose result is returned
   pub answered_behind : {T : Type 0} (a b d : Port X) (xs : List ℕ) (result : Result T HearFault) → Gave remaining a b xs
       → IfErr result (λ (x : HearFault). Leaves remaining b d x) → IfErr result (λ (x : HearFault). Leaves remaining a d x)
   answered_behind a b d xs (Ok x) p q = tt

@@ -1,4 +1,4 @@
--- A request that is walked along its lengths, as far as it came.
+-- The lengths in a request, read as far as it has arrived.
 use Rattle.std.proofs.Common.{◌≡◌, ℕ, ◌+◌, ◌-◌, ◌^◌, ◌<◌, ◌≤◌, List, [], ◌∷◌, ◌++◌, length, take, drop, refl, sym, ap, ◌∙◌, append_assoc, arith, length-append, length-take-le}
 use Rattle.std.proofs.lemmas.List.{take-append-drop}
 use Rattle.std.specs.Int.{w32, to_be_bytes}
@@ -7,7 +7,7 @@ use Rattle.oftp_channel.specs.Requests.{BeginsRequest, IsRequest, spelled_reques
 use Rattle.oftp_channel.specs.declared.request.TheConstants.{LARGEST_REQUEST, MOST_WORDS}
 use Rattle.oftp_channel.proofs.SpellingLemmas.{next_word, regroup, same_number, spelled_push, total_push}
 
--- so many words, of which some were walked along, stand in front of the rest
+-- these words, of which some were passed over, are before the rest
 pub record Walked (heard rest : List ℕ) (count done left : ℕ) : Type 0 where
   pub got : List (List ℕ)
   pub many : length got ≡ done
@@ -34,7 +34,7 @@ walked_more heard rest behind count done left n w e small fits =
       spelled = w.spelled ∙ ap (λ (z : List ℕ). to_be_bytes w32 count ++ z) joined;
     }
 
--- all words are there
+-- all words are complete
 pub walked_all : (heard rest : List ℕ) (count left : ℕ) → count ≤ MOST_WORDS → Walked heard rest count count left → BeginsRequest heard
 walked_all heard rest count left few w = record {
   words = w.got;
@@ -45,7 +45,7 @@ walked_all heard rest count left few w = record {
 }
 
 module _ (heard more others : List ℕ) (words : List (List ℕ)) (request : IsRequest words) (asked : heard ++ more ≡ spelled_request words ++ others) where
-  -- what was heard has the whole of its first number, or as many octets are lacking
+  -- the first number is complete, or this many octets are missing
   pub head_lacks : length heard < 4 → 4 - length heard ≤ length more
   head_lacks short = omega (
     arith,
@@ -65,7 +65,7 @@ module _ (heard more others : List ℕ) (words : List (List ℕ)) (request : IsR
   pub counts_too_many : (count : ℕ) (behind : List ℕ) → count < 2 ^ 32 → heard ≡ to_be_bytes w32 count ++ behind → MOST_WORDS < count → ⊥
   counts_too_many count behind lt e many = omega (arith, many, (count_of count behind lt e).0, request.few)
 
-  -- the next word, as far as it came
+  -- the next word, as far as it has arrived
   follows : (rest : List ℕ) (count done left : ℕ) → Walked heard rest count done left → count < 2 ^ 32 → done < count
       → (s : List ℕ) × (after : List ℕ) × (rest ++ more ≡ spelled_word s ++ after) × (length s ≤ left)
   follows rest count done left w lt few =

@@ -1,4 +1,4 @@
--- Parts of an answer, each spelled one way.
+-- Parts of an answer, each with one encoding.
 use Rattle.std.proofs.Common.{◌≡◌, ℕ, List, ◌∷◌, ◌++◌, Option, Some, refl, sym, ap, ◌∙◌, arith}
 use Rattle.oftp_io.specs.declared.port.Port.{Port}
 use Rattle.oftp_channel.specs.Answers.{IsPart, Part, piece, end, outlet_code, spelled_part}

@@ -96,7 +96,7 @@ pub not_request : {X : Type 0} (f : X → List ℕ) (xs : List X) (i : ℕ) (d :
     → left < length (f (get_or xs i d)) → IsRequest (map f xs) → ⊥
 not_request f xs i d left so_far lt long request = omega (arith, so_far, long, total_more f xs i d lt, total_take f xs (i + 1), request.small)
 
--- ---- a request that is broken off at a word
+-- ---- a request that is cut off at a word
 
 whole_of : {X : Type 0} (f : X → List ℕ) (xs : List X) (i : ℕ) (d : X) → i < length xs
     → (to_be_bytes w32 (length xs) ++ flat_map spelled_word (map f (take i xs)) ++ spelled_word (f (get_or xs i d))) ++ flat_map spelled_word (map f (drop (i + 1) xs))

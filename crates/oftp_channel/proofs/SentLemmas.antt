@@ -1,4 +1,4 @@
--- One sending after another.
+-- One write after another.
 use Rattle.std.proofs.Common.{◌≡◌, ℕ, ◌+◌, ◌%◌, ◌^◌, Bool, true, false, List, ◌++◌, length, take, Option, sym, ap, ◌∙◌, subst, arith, length-append}
 use Rattle.std.proofs.lemmas.List.{take-append-le}
 use Rattle.std.proofs.Math.Seq.{take-append-add}
@@ -39,7 +39,7 @@ module _ {X : Type 0} (contents : X → Option (List ℕ)) (a b d : Port X) wher
   sent_then xs ys true p q = sent_all_on xs ys p q
   sent_then xs ys false p q = sent_part_on xs ys p q
 
--- a beginning of what is sent is one of what would have followed, too
+-- a beginning of these octets is also one of these with more after them
 pub sent_short : {X : Type 0} (contents : X → Option (List ℕ)) (a b : Port X) (xs ys : List ℕ) → SentPart contents a b xs → SentPart contents a b (xs ++ ys)
 sent_short contents a b xs ys p =
     let front : take p.count xs ≡ take p.count (xs ++ ys) = sym (take-append-le p.count xs ys (omega (arith, p.short))) in

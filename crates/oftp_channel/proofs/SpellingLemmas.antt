@@ -1,4 +1,4 @@
--- What was spelled is read one way.
+-- An encoding is read in one way.
 use Rattle.std.proofs.Common.{◌≡◌, ℕ, ◌+◌, ◌^◌, ◌<◌, ◌≤◌, List, [], ◌∷◌, ◌++◌, length, take, drop, refl, sym, ap, ◌∙◌, append_assoc, arith}
 use Rattle.std.proofs.lemmas.List.{append-nil, take_at, drop_at}
 use Rattle.std.proofs.lemmas.List.Concat.{flat_map-append}
@@ -7,7 +7,7 @@ use Rattle.std.specs.Int.{w32, to_be_bytes, from_be_bytes}
 use Rattle.std.specs.List.{flat_map}
 use Rattle.oftp_channel.specs.Requests.{spelled_word, total}
 
--- a front that was read, and octets behind what came
+-- the first octets that were read, and the octets after the input
 pub regroup : (heard front after more whole : List ℕ) → heard ≡ front ++ after → heard ++ more ≡ whole → front ++ (after ++ more) ≡ whole
 regroup heard front after more whole p q = sym (append_assoc front after more) ∙ ap (λ (z : List ℕ). z ++ more) (sym p) ∙ q
 
@@ -27,13 +27,13 @@ same_word a b x y p q e =
       sym (drop_at a x (length a) refl) ∙ ap (λ (z : List ℕ). drop (length a) z) n.1 ∙ drop_at b y (length a) (sym n.0),
     )
 
--- the first word of each, and what comes behind it
+-- the first word of each, and the octets after it
 first_words : (s t : List ℕ) (ss ts : List (List ℕ)) (x y : List ℕ) → length s < 2 ^ 32 → length t < 2 ^ 32
     → flat_map spelled_word (s ∷ ss) ++ x ≡ flat_map spelled_word (t ∷ ts) ++ y → (s ≡ t) × (flat_map spelled_word ss ++ x ≡ flat_map spelled_word ts ++ y)
 first_words s t ss ts x y p q e = same_word s t (flat_map spelled_word ss ++ x) (flat_map spelled_word ts ++ y) p q
     (sym (append_assoc (spelled_word s) (flat_map spelled_word ss) x) ∙ e ∙ append_assoc (spelled_word t) (flat_map spelled_word ts) y)
 
--- as many words with one spelling are the same
+-- as many words with the same encoding are the same
 pub same_words : (got words : List (List ℕ)) (x y : List ℕ) → total got < 2 ^ 32 → total words < 2 ^ 32 → length got ≡ length words
     → flat_map spelled_word got ++ x ≡ flat_map spelled_word words ++ y → got ≡ words
 same_words [] [] x y p q n e = refl
@@ -44,7 +44,7 @@ same_words (s ∷ ss) (t ∷ ts) x y p q n e =
     let others = same_words ss ts x y (omega (arith, p)) (omega (arith, q)) (omega (arith, n)) first.1 in
     ap (λ (z : List ℕ). z ∷ ss) first.0 ∙ ap (λ (z : List (List ℕ)). t ∷ z) others
 
--- where fewer words are read than were spelled, the next one follows
+-- if fewer words are read than were written, the next one follows
 pub next_word : (got words : List (List ℕ)) (x y : List ℕ) → total got < 2 ^ 32 → total words < 2 ^ 32 → length got < length words
     → flat_map spelled_word got ++ x ≡ flat_map spelled_word words ++ y
     → (s : List ℕ) × (after : List ℕ) × (x ≡ spelled_word s ++ after) × (total got + length s ≤ total words)

@@ -1,4 +1,4 @@
--- What the parts of an answer are, and the one spelling of each.
+-- The parts of an answer, and the one encoding of each.
 use Rattle.std.specs.Prelude.{◌≡◌, ℕ, ◌≤◌, List, [], ◌∷◌, ◌++◌, length}
 use Rattle.oftp_channel.specs.Requests.{spelled_word}
 use Rattle.oftp_channel.specs.declared.answer.TheConstants.{LONGEST_PIECE}
@@ -12,12 +12,12 @@ pub data Part : Type 0 where
   piece : Outlet → List ℕ → Part
   end : ℕ → Part
 
--- the same, of a part that was read
+-- the plain value of a part that was read
 abbrev pub part_of : AnswerPart → Part
 part_of (parts.Piece outlet octets) = piece outlet octets.items
 part_of (parts.End status) = end status
 
--- the octet that stands for an outlet; 0 stands for the end
+-- the octet that encodes an outlet; 0 encodes the end
 abbrev pub outlet_code : Outlet → ℕ
 outlet_code outlets.Output = 1
 outlet_code outlets.Errors = 2
@@ -35,11 +35,11 @@ abbrev pub spelled_part : Part → List ℕ
 spelled_part (piece outlet octets) = spelled_piece outlet octets
 spelled_part (end status) = spelled_end status
 
--- what may be told: no piece is too long
+-- a part that may be written: no piece is too long
 abbrev pub IsPart : Part → Type 0
 IsPart (piece _ octets) = length octets ≤ LONGEST_PIECE
 IsPart (end _) = Unit {0}
 
--- whatever comes behind these octets, no part of an answer stands at their front
+-- no part of an answer begins with these octets, whatever follows them
 abbrev pub BeginsNoPart : List ℕ → Type 0
 BeginsNoPart heard = (more rest : List ℕ) (part : Part) → IsPart part → heard ++ more ≡ spelled_part part ++ rest → ⊥

@@ -1,4 +1,4 @@
--- What a port gave of its input, as far as the reader's octets are known.
+-- The octets that a port read, as far as those of the reader are known.
 use Rattle.std.specs.Prelude.{◌≡◌, ℕ, ◌+◌, ◌%◌, ◌^◌, ◌⊎◌, List, Option}
 use Rattle.std.specs.Io.KnownBytes.{Consumes}
 use Rattle.oftp_io.specs.Ports.{IsDone}
@@ -7,23 +7,23 @@ use Rattle.oftp_channel.specs.declared.fault.HearFault.{HearFault}
 use Rattle.oftp_channel.specs.declared.fault.HearFault.TheVariants as faults
 
 module _ {X : Type 0} where
-  -- it gave these octets, and told no fault
+  -- it gave these octets, and returned no error
   pub record Gave (remaining : X → Option (List ℕ)) (old new : Port X) (octets : List ℕ) : Type 0 where
     pub bytes : Consumes (remaining old.inner) (remaining new.inner) octets
     pub faults : new.faults ≡ old.faults
 
-  -- it gave some octets, and told no fault
+  -- it gave some octets, and returned no error
   pub record GaveSome (remaining : X → Option (List ℕ)) (old new : Port X) : Type 0 where
     pub octets : List ℕ
     pub gave : Gave remaining old new octets
 
-  -- it gave some octets, and then it told a fault or its end came
+  -- it gave some octets, and then it returned an error or its end
   pub record Stopped (remaining : X → Option (List ℕ)) (old new : Port X) : Type 0 where
     pub octets : List ℕ
     pub bytes : Consumes (remaining old.inner) (remaining new.inner) octets
     pub cause : (new.faults ≡ (old.faults + 1) % 2 ^ 64) ⊎ IsDone remaining new
 
-  -- what a fault leaves: the octets that were read are gone
+  -- what an error leaves: the octets that were read are lost
   abbrev pub Leaves : (X → Option (List ℕ)) → Port X → Port X → HearFault → Type 0
   Leaves remaining old new faults.Memory = GaveSome remaining old new
   Leaves remaining old new faults.Input = Stopped remaining old new

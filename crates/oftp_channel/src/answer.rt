@@ -1,4 +1,4 @@
-//! The parts of an answer, as they are written and read.
+//! Writing and reading the parts of an answer.
 
 ghost use Rattle.std.specs.Prelude.{◌≡◌, ◌≤◌, ◌++◌, ℕ, List, None, Some, IfOk, IfErr, IfSome, length};
 ghost use Rattle.oftp_io.specs.Ports.{Sent};
@@ -14,17 +14,17 @@ use oftp_io::Port;
 use std::alloc::Global;
 use std::io::{Read, Write};
 
-/// How many octets a piece of an answer has, at most.
+/// The length of the longest piece of an answer, in octets.
 pub const LONGEST_PIECE: usize = 65_536;
 
-/// Where a piece of an answer goes.
+/// The destination of a piece of an answer.
 #[derive(Clone, Copy, Debug, PartialEq, Eq, Drop)]
 pub enum Outlet {
-    /// To the standard output.
+    /// The standard output.
     Output,
-    /// To the standard error.
+    /// The standard error.
     Errors,
-    /// To the file that is made.
+    /// The file that is made.
     Content,
 }
 
@@ -33,12 +33,12 @@ pub enum Outlet {
 pub enum AnswerPart {
     /// Octets for an outlet.
     Piece(Outlet, Vec<u8>),
-    /// The end, with the status that the command exits with.
+    /// The end, with the exit status of the command.
     End(u8),
 }
 
 impl Outlet {
-    // The octet that stands for it.
+    // The octet that encodes it.
     fn code(self) -> u8
         ensures { result ≡ outlet_code self }
     {
@@ -49,7 +49,7 @@ impl Outlet {
         }
     }
 
-    // The outlet that an octet stands for.
+    // The outlet that an octet encodes.
     fn of_code(code: u8) -> Option<Outlet>
         ensures one { IfSome result (λ outlet. outlet_code outlet ≡ code) }
         ensures none { result ≡ None → (outlet : Outlet) → outlet_code outlet ≡ code → ⊥ }
@@ -63,8 +63,8 @@ impl Outlet {
     }
 }
 
-/// Writes a piece of an answer, of at most [`LONGEST_PIECE`] octets, and answers whether the writer took all of it. Where it didn't, it
-/// told a fault, and has a beginning of the piece.
+/// Writes a piece of at most [`LONGEST_PIECE`] octets, and returns whether the writer took all of it. If it didn't, it returned an error
+/// and has a beginning of the piece.
 pub fn write_piece<W: Write>(writer: &mut Port<W>, outlet: Outlet, octets: &[u8]) -> bool
     requires { length octets.now ≤ LONGEST_PIECE }
     ensures { Sent W.contents writer.old writer.new (spelled_piece outlet octets.now) result }
@@ -76,7 +76,7 @@ pub fn write_piece<W: Write>(writer: &mut Port<W>, outlet: Outlet, octets: &[u8]
     writer.send(octets)
 }
 
-/// Writes the end of an answer, and answers whether the writer took all of it. Where it didn't, it told a fault, and has a beginning of
+/// Writes the end of an answer, and returns whether the writer took all of it. If it didn't, it returned an error and has a beginning of
 /// the end.
 pub fn write_end<W: Write>(writer: &mut Port<W>, status: u8) -> bool
     ensures { Sent W.contents writer.old writer.new (spelled_end status) result }
@@ -87,13 +87,17 @@ pub fn write_end<W: Write>(writer: &mut Port<W>, status: u8) -> bool
 /// Reads the next part of an answer.
 ///
 /// # Errors
-/// [`HearFault::Form`] only where no part of an answer begins with what came, whatever comes behind it; [`HearFault::Input`] only where
-/// the reader told a fault, or ended; [`HearFault::Memory`]. What was read is lost.
+///
+/// - [`HearFault::Form`] only where no part of an answer begins with the octets of the input, whatever follows them.
+/// - [`HearFault::Input`] only where the reader returned an error or its end.
+/// - [`HearFault::Memory`]: out of memory.
+///
+/// The octets that were read are lost.
 pub fn read_part<R: Read>(alloc: Global, reader: &mut Port<R>) -> Result<AnswerPart, HearFault>
-    // What is read is a part, spelled so.
+    // The octets that were read are the encoding of the part.
     ensures part { IfOk result (λ part. IsPart (part_of part)) }
     ensures read { IfOk result (λ part. Gave R.remaining reader.old reader.new (spelled_part (part_of part))) }
-    // What was written is read again, whatever follows it.
+    // A part that was written is read back, whatever follows it.
     ensures again { (told : Part) (rest : List ℕ) → IsPart told → R.remaining reader.old.inner ≡ Some (spelled_part told ++ rest)
         → IfOk result (λ part. part_of part ≡ told) }
     ensures refused { IfErr result (λ fault. fault ≡ Form → (heard : List ℕ) → R.remaining reader.old.inner ≡ Some heard → BeginsNoPart heard) }

@@ -1,4 +1,4 @@
-//! How much of a request is still to come.
+//! How much of a request is still missing.
 
 ghost use Rattle.std.specs.Prelude.{◌≡◌, ◌≤◌, ◌++◌, ℕ, List, Ok, IfOk, IfErr, length};
 ghost use Rattle.oftp_channel.specs.Requests.{BeginsNoRequest, BeginsRequest, IsRequest, spelled_request};
@@ -8,13 +8,14 @@ use crate::fault::HearFault;
 use crate::inputs::number_at;
 use crate::request::{LARGEST_REQUEST, MOST_WORDS};
 
-/// How many octets a number has.
+/// The number of octets of a number.
 const NUMBER: usize = 4;
 
-/// How many octets behind what was heard have to come, at least, until a request stands at its front: none where one does.
+/// The least number of octets that have to follow the octets heard so far, until these begin with a whole request. It is 0 where they do.
 ///
 /// # Errors
-/// [`HearFault::Form`] where none will, whatever comes.
+///
+/// [`HearFault::Form`] where no octets could complete a request.
 pub fn lacking(heard: &[u8]) -> Result<usize, HearFault>
     ensures whole { result ≡ Ok 0 → BeginsRequest heard.now }
     ensures least { IfOk result (λ count. (more rest : List ℕ) (words : List (List ℕ)) → IsRequest words

@@ -1,18 +1,18 @@
-//! Why a request or an answer isn't read.
+//! Why a request or an answer couldn't be read.
 
 ghost use Rattle.std.specs.Prelude.{◌≡◌};
 ghost use Rattle.oftp_channel.specs.declared.fault.HearFault.TheVariants.{Memory};
 
 use std::alloc::{AllocError, AllocFailed};
 
-/// Why a request or a part of an answer isn't read. What was read of it is lost, so nothing more can be read behind it.
+/// Why a request or a part of an answer couldn't be read. The octets that were read of it are lost, so nothing after it can be read.
 #[derive(Clone, Copy, Debug, PartialEq, Eq, Drop)]
 pub enum HearFault {
-    /// Memory ran out.
+    /// Out of memory.
     Memory,
-    /// The reader told a fault, or ended too early.
+    /// The reader returned an error, or ended too early.
     Input,
-    /// What came is no request, or no part of an answer, whatever comes behind it.
+    /// The octets are no beginning of a request, or of a part of an answer.
     Form,
 }
 

@@ -1,4 +1,4 @@
-//! Octets, numbers and words of an input.
+//! Reading octets, numbers and words.
 
 ghost use Rattle.std.specs.Prelude.{◌≡◌, ◌≤◌, ◌<◌, ◌^◌, ◌++◌, ◌∷◌, [], ℕ, List, None, Some, IfOk, IfErr, IfSome, length};
 ghost use Rattle.std.specs.Int.{w32, to_be_bytes};
@@ -11,10 +11,10 @@ use oftp_io::Port;
 use std::alloc::Global;
 use std::io::Read;
 
-/// How many octets are read at once, at most.
+/// The most octets that one read asks for.
 const STEP: usize = 16_384;
 
-// So many octets. The room for them grows as they come.
+// Reads this number of octets. Memory is allocated as they arrive.
 fn read_octets<R: Read>(
     alloc: Global,
     reader: &mut Port<R>,
@@ -41,7 +41,7 @@ fn read_octets<R: Read>(
     Ok(octets)
 }
 
-// An octet.
+// Reads an octet.
 pub(crate) fn read_octet<R: Read>(alloc: Global, reader: &mut Port<R>) -> Result<u8, HearFault>
     ensures read { IfOk result (λ octet. Gave R.remaining reader.old reader.new (octet ∷ [])) }
     ensures form { IfErr result (λ fault. fault ≡ Form → ⊥) }
@@ -51,14 +51,14 @@ pub(crate) fn read_octet<R: Read>(alloc: Global, reader: &mut Port<R>) -> Result
     Ok(octets[0])
 }
 
-// The number that four octets spell.
+// The number that four octets encode.
 fn number_of(octets: [u8; 4]) -> u32
     ensures { to_be_bytes w32 result ≡ octets }
 {
     u32::from_be_bytes(octets)
 }
 
-// The number at the front of octets, and what stands behind it.
+// The number at the beginning of the octets, and the octets after it.
 pub(crate) fn number_at(octets: &[u8]) -> Option<(u32, &[u8])>
     ensures some { IfSome result (λ it. octets.now ≡ to_be_bytes w32 it.0 ++ it.1.now) }
     ensures small { IfSome result (λ it. it.0 < 2 ^ 32) }
@@ -70,7 +70,7 @@ pub(crate) fn number_at(octets: &[u8]) -> Option<(u32, &[u8])>
     }
 }
 
-// Four octets, as a number.
+// Reads a number of four octets.
 pub(crate) fn read_number<R: Read>(alloc: Global, reader: &mut Port<R>) -> Result<u32, HearFault>
     ensures read { IfOk result (λ number. Gave R.remaining reader.old reader.new (to_be_bytes w32 number)) }
     ensures form { IfErr result (λ fault. fault ≡ Form → ⊥) }
@@ -80,7 +80,7 @@ pub(crate) fn read_number<R: Read>(alloc: Global, reader: &mut Port<R>) -> Resul
     Ok(number_of([octets[0], octets[1], octets[2], octets[3]]))
 }
 
-// A word of at most so many octets.
+// Reads a word of at most `most` octets.
 pub(crate) fn read_word<R: Read>(
     alloc: Global,
     reader: &mut Port<R>,

@@ -1,5 +1,4 @@
-//! The channel between a station and the commands beside it: a request is a list of words, and an answer is pieces and then an exit
-//! status.
+//! The channel between a station and the commands beside it. A request is a list of words. An answer is pieces and then an exit status.
 #![tactic(auto)]
 
 mod answer;

@@ -1,4 +1,4 @@
-//! A writer whose octets go out as pieces of an answer.
+//! A writer that sends its octets as pieces of an answer.
 
 ghost use Rattle.std.specs.Prelude.{◌≡◌, ◌<◌, OnErr, IfOk, length, min, take};
 ghost use Rattle.oftp_io.specs.Ports.{SentAll, SentPart};
@@ -9,7 +9,7 @@ use crate::answer::{LONGEST_PIECE, Outlet, write_piece};
 use oftp_io::Port;
 use std::io::{self, ErrorKind, Write};
 
-/// A writer whose octets go out as pieces for one outlet.
+/// A writer that sends its octets as pieces for one outlet.
 #[derive(Drop)]
 pub struct PieceWriter<W> {
     port: Port<W>,
@@ -26,7 +26,7 @@ impl<W> PieceWriter<W> {
 }
 
 impl<W: Write> Write for PieceWriter<W> {
-    // As many octets as one piece may have go out as one; no octets are no piece.
+    // Each write is one piece, of at most `LONGEST_PIECE` octets. A write of no octets is none.
     fn write(&mut self, octets: &[u8]) -> io::Result<usize>
         ensures piece { IfOk result (λ n. (n ≡ min (length octets.now) LONGEST_PIECE)
             × (0 < n → SentAll W.contents self.old.port self.new.port (spelled_piece self.old.outlet (take n octets.now)))) }

@@ -1,4 +1,4 @@
-//! The octet by which a station says that it hears a request.
+//! The octet by which a station says that it will read a request.
 
 ghost use Rattle.std.specs.Prelude.{◌≡◌, ◌∷◌, [], ℕ, List, Some, IfErr, OnOk};
 ghost use Rattle.oftp_io.specs.Ports.{Sent};
@@ -12,21 +12,25 @@ use oftp_io::Port;
 use std::alloc::Global;
 use std::io::{Read, Write};
 
-/// The octet. Other octets are another channel's.
+/// The octet. Any other octet belongs to another channel.
 pub const READY: u8 = b'1';
 
-/// Says that a request is heard, and answers whether the writer took it. Where it didn't, it told a fault, and has nothing.
+/// Writes the octet, and returns whether the writer took it. If it didn't, it returned an error.
 pub fn write_ready<W: Write>(writer: &mut Port<W>) -> bool
     ensures { Sent W.contents writer.old writer.new (READY ∷ []) result }
 {
     writer.send(&[READY])
 }
 
-/// Waits until the station hears a request.
+/// Waits for the octet of the station.
 ///
 /// # Errors
-/// [`HearFault::Form`] only where it says something else; [`HearFault::Input`] only where the reader told a fault, or ended;
-/// [`HearFault::Memory`]. What was read is lost.
+///
+/// - [`HearFault::Form`] only where the input begins with another octet.
+/// - [`HearFault::Input`] only where the reader returned an error or its end.
+/// - [`HearFault::Memory`]: out of memory.
+///
+/// The octets that were read are lost.
 pub fn read_ready<R: Read>(alloc: Global, reader: &mut Port<R>) -> Result<(), HearFault>
     ensures read { OnOk result (Gave R.remaining reader.old reader.new (READY ∷ [])) }
     ensures refused { IfErr result (λ fault. fault ≡ Form → (rest : List ℕ) → R.remaining reader.old.inner ≡ Some (READY ∷ rest) → ⊥) }

@@ -1,4 +1,4 @@
-//! Requests, as they are written and read.
+//! Writing and reading requests.
 
 ghost use Rattle.std.specs.Prelude.{◌≡◌, ◌≤◌, ◌<◌, ◌^◌, ◌↔◌, ◌++◌, ℕ, List, Some, IfOk, IfErr, IsTrue, length, map};
 ghost use Rattle.oftp_io.specs.Ports.{Sent};
@@ -12,13 +12,13 @@ use oftp_io::Port;
 use std::alloc::Global;
 use std::io::{Read, Write};
 
-/// How many words a request has, at most.
+/// The most words of a request.
 pub const MOST_WORDS: usize = 64;
 
-/// How many octets they have in all, at most: 80 MiB.
+/// The most octets of all words of a request together: 80 MiB.
 pub const LARGEST_REQUEST: usize = 83_886_080;
 
-/// Whether these words make a request: at most [`MOST_WORDS`], of at most [`LARGEST_REQUEST`] octets in all.
+/// Whether these words make a request: at most [`MOST_WORDS`], of at most [`LARGEST_REQUEST`] octets together.
 pub fn fits(words: &[&[u8]]) -> bool
     ensures { IsTrue result ↔ IsRequest (map (λ word. word.now) words.now) }
 {
@@ -32,8 +32,8 @@ pub fn fits(words: &[&[u8]]) -> bool
     words.len() <= MOST_WORDS
 }
 
-/// Writes a request of these words, which [`fits`], and answers whether the writer took all of it. Where it didn't, it told a fault, and
-/// has a beginning of the request.
+/// Writes a request of words that pass [`fits`], and returns whether the writer took all of it. If it didn't, it returned an error and has
+/// a beginning of the request.
 pub fn write_request<W: Write>(writer: &mut Port<W>, words: &[&[u8]]) -> bool
     requires { IsRequest (map (λ word. word.now) words.now) }
     ensures { Sent W.contents writer.old writer.new (spelled_request (map (λ word. word.now) words.now)) result }
@@ -49,7 +49,7 @@ pub fn write_request<W: Write>(writer: &mut Port<W>, words: &[&[u8]]) -> bool
     true
 }
 
-// Writes a word, and answers whether the writer took all of it.
+// Writes a word, and returns whether the writer took all of it.
 fn write_word<W: Write>(writer: &mut Port<W>, word: &[u8]) -> bool
     requires { length word.now < 2 ^ 32 }
     ensures { Sent W.contents writer.old writer.new (spelled_word word.now) result }
@@ -60,16 +60,20 @@ fn write_word<W: Write>(writer: &mut Port<W>, word: &[u8]) -> bool
     writer.send(word)
 }
 
-/// Reads a request. The room for it grows as its octets come.
+/// Reads a request. Memory is allocated as its octets arrive.
 ///
 /// # Errors
-/// [`HearFault::Form`] only where no request begins with what came, whatever comes behind it; [`HearFault::Input`] only where the reader
-/// told a fault, or ended; [`HearFault::Memory`]. What was read is lost.
+///
+/// - [`HearFault::Form`] only where no request begins with the octets of the input, whatever follows them.
+/// - [`HearFault::Input`] only where the reader returned an error or its end.
+/// - [`HearFault::Memory`]: out of memory.
+///
+/// The octets that were read are lost.
 pub fn read_request<R: Read>(alloc: Global, reader: &mut Port<R>) -> Result<Vec<Vec<u8>>, HearFault>
-    // What is read is a request, spelled so.
+    // The octets that were read are the encoding of the request.
     ensures request { IfOk result (λ words. IsRequest (map (λ word. word.items) words.items)) }
     ensures read { IfOk result (λ words. Gave R.remaining reader.old reader.new (spelled_request (map (λ word. word.items) words.items))) }
-    // What was written is read again, whatever follows it.
+    // A request that was written is read back, whatever follows it.
     ensures again { (asked : List (List ℕ)) (rest : List ℕ) → IsRequest asked → R.remaining reader.old.inner ≡ Some (spelled_request asked ++ rest)
         → IfOk result (λ words. map (λ word. word.items) words.items ≡ asked) }
     ensures refused { IfErr result (λ fault. fault ≡ Form → (heard : List ℕ) → R.remaining reader.old.inner ≡ Some heard → BeginsNoRequest heard) }

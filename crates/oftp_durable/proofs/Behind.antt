@@ -1,4 +1,4 @@
--- A session of which somebody has a conversation is a job of a list.
+-- A session that was held as a conversation is a job of a list.
 use Rattle.std.proofs.Common.{◌≡◌, refl, ℕ, List, [], ◌∷◌, ◌++◌, Option, None, Some, Result, Ok, Err}
 use Rattle.sqlite.specs.State.{State}
 use Rattle.oftp_vfile.specs.declared.format.Limits.{Limits}
@@ -27,14 +27,14 @@ use Rattle.oftp_durable.specs.Headline.{as_served}
 use Rattle.oftp_durable.specs.Lists.{ListLeaves, beginning, list_answer}
 use Rattle.oftp_durable.proofs.Lists.{list_ends}
 
--- what a conversation comes to is what a served session does
+-- the result of a conversation is that of a served session
 pub served_of : (setting : Setting) (given : List ℕ) (talk : Dialogue) (first now : Scene) (result : Result (Option Ending) RunFault)
     → IsNeeded setting first.office.register given → ComesTo setting given talk first now result → Serves setting given first now (as_served result)
 served_of setting given talk first now (Ok None) needed came = served_input {talk = talk} {found = None} (record { came = came; needed = needed }) refl
 served_of setting given talk first now (Ok (Some end)) needed came = served_end {talk = talk} {found = Some end} {end = end} (record { came = came; needed = needed }) refl refl
 served_of setting given talk first now (Err f) needed came = came
 
--- one that waits, and whose reader tells a fault
+-- a conversation that waits, and whose reader returns an error
 pub broken_of : (setting : Setting) (given : List ℕ) (talk : Dialogue) (first now : Scene) → Listens setting given talk first now
     → Serves setting given first now (let r : Result End RunFault = Err fault.Read in r)
 broken_of setting given talk first now listens = record { all = listens.all; live = listens.live }
@@ -46,7 +46,7 @@ goes_on (Err fault.Write) = tt
 goes_on (Err fault.Office) = refl
 goes_on (Err fault.Memory) = refl
 
--- a session that was served behind a list
+-- a session that was served after a list
 pub follows : {R W : Type 0} (remaining : R → Option (List ℕ)) (contents : W → Option (List ℕ)) (book : BookData) (r : Register) (faults : ℕ) (mid : View)
     (limits : Limits) (told : ℕ) (s : State) (olds news : List (Job R W)) (old new : SessionJob R W) (given : List ℕ) (answer : Result End RunFault) → IsSound r
     → ((view_of limits told s).stands → Only (view_of limits told s).register (view_of limits told s)) → IsRun remaining contents book r faults mid olds news

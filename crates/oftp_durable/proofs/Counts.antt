@@ -1,4 +1,4 @@
--- An SFPA goes out only behind the change that starts its file with the count that it answers.
+-- An SFPA is sent only after the change that starts its file with the Restart position that it answers.
 use Rattle.std.proofs.Common.{◌≡◌, ◌∙◌, sym, ap, subst, refl, ℕ, ◌+◌, List, [], ◌∷◌, ◌++◌, length, fold, Option, None, Some, Result, Ok, append_assoc, length-append}
 use Rattle.std.proofs.lemmas.Grind.{fold-append}
 use Rattle.std.specs.Bool.{⊤}
@@ -20,7 +20,7 @@ use Rattle.oftp_engine.proofs.PartRuns.{no_count_passes}
 use Rattle.oftp_durable.specs.Counts.{IsAnswer, KeepsCount, NoAnswerPasses}
 use Rattle.oftp_durable.proofs.Limits.{all_limits}
 
--- the last of the first `after` changes starts a file with this count
+-- the last of the first `after` changes starts a file with this Restart position
 record HasStart (changes : List Change) (after count : ℕ) : Type 0 where
   before : List Change
   later : List Change
@@ -83,7 +83,7 @@ advance_said : (c : Course) (s : Step) → MaySay s → AllSaid c → AllSaid (a
 unfolding advance
 advance_said c s may h = said_step c.changes c.outputs s.change s.output may h
 
--- so many rows were kept
+-- this many rows were kept
 count_is_kept : (r last : Register) (changes : List Change) (after : ℕ) (c : Command) → apply_all r changes ≡ Ok last → Behind changes after c → KeepsCount r changes after c
 count_is_kept r last changes after (command.Sfpa sfpa) made h =
     let k = h.change in

@@ -1,4 +1,4 @@
--- What a job over a database leaves, from what the engine says of it.
+-- What a job over a database leaves, from the contracts of the engine.
 use Rattle.std.proofs.Common.{◌≡◌, ◌∙◌, sym, ap, subst, refl, arith, ℕ, zero, suc, max, ◌+◌, ◌-◌, ◌≤◌, ◌⊎◌, List, [], ◌∷◌, ◌++◌, length, take, Option, None, Some, Result, Ok, Err, inl, inr, length-append}
 use Rattle.std.proofs.lemmas.Grind.{flat_map-append}
 use Rattle.std.proofs.lemmas.List.{append-nil, take_all, take_at}
@@ -38,7 +38,7 @@ use Rattle.oftp_engine.proofs.PartRuns.{jobs_make_the_file, parts_make_the_file}
 use Rattle.oftp_durable.proofs.Counts.{no_answer_passes}
 use Rattle.oftp_durable.specs.Headline.{ButForOffice, CallDone, CallLeaves, LeavesAlone, LeavesPrefix, SessionLeaves, StopsShort, as_served, session_of}
 
--- what the first outputs answered, where all of them are out and no more
+-- what the first outputs answered, where exactly these are out
 answered_first : (outs later : List Output) → answered (outs ++ later) (length (octets_of outs)) ≡ answered outs (length (octets_of outs))
 answered_first [] [] = refl
 answered_first [] (o ∷ later) = refl
@@ -51,13 +51,13 @@ answered_first (o ∷ outs) later = by (answered_first outs later) (length (octe
         let rest : suc n - length o.octets ≡ length (octets_of outs) = omega (arith, e) in
         ap (max o.after) (ap (answered (outs ++ later)) rest ∙ same ∙ sym (ap (answered outs) rest))
 
--- the octets of the first outputs begin those of all
+-- the octets of the first outputs are a beginning of those of all
 first_octets : (all outs later : List Output) → all ≡ outs ++ later → octets_of outs ≡ take (length (octets_of outs)) (octets_of all)
 first_octets all outs later e =
     sym (take_at (octets_of outs) (octets_of later) (length (octets_of outs)) refl)
     ∙ ap (take (length (octets_of outs))) (sym (flat_map-append (λ (o : Output). o.octets) outs later) ∙ sym (ap octets_of e))
 
--- nothing is out behind these
+-- nothing is out after these
 no_more : (octets : List ℕ) → octets ≡ octets ++ take 0 last_frame
 no_more octets = sym (append-nil octets)
 
@@ -70,7 +70,7 @@ none_or_one None r s n h =
 none_or_one (Some k) r s zero h = let is : s ≡ r = cc in inl is
 none_or_one (Some k) r s (suc n) h = inr (sym (ap (λ (ks : List Change). apply_all r (k ∷ ks)) (take-nil n)) ∙ h)
 
--- what the engine says of an office over a database
+-- the contracts of the engine for an office over a database
 module _ (x : View) (limits : Limits) (faults : ℕ) (s : State) where
   abbrev y : View
   y = view_of limits faults s
@@ -78,7 +78,7 @@ module _ (x : View) (limits : Limits) (faults : ℕ) (s : State) where
   pub prefix_of : (changes : List Change) (least made : ℕ) → LeavesSome changes least made x.register y → LeavesPrefix limits s x.register changes least
   prefix_of changes least made h = record { made = made; left = h.left; register = h.register }
 
-  -- all changes are made, and a stop leaves what the office has
+  -- all changes are made, and a crash leaves what the office has
   pub prefix_all : (changes : List Change) (least : ℕ) → least ≤ length changes → apply_all x.register changes ≡ Ok y.register → Only y.register y
       → LeavesPrefix limits s x.register changes least
   prefix_all changes least le made left = prefix_of changes least (length changes) (left_all changes least x y y.register le made (λ _. refl) left)

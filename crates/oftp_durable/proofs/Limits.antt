@@ -1,4 +1,4 @@
--- No change touches the limits of a register.
+-- No change modifies the limits of a register.
 use Rattle.std.proofs.Common.{◌≡◌, ◌∙◌, sym, ap, refl, List, [], ◌∷◌, fold, ℕ, Result, Ok, Err}
 use Rattle.oftp_register.specs.declared.change.Cause.{Cause}
 use Rattle.oftp_register.specs.declared.change.Change.{Change}
@@ -40,7 +40,7 @@ change_limits r (change.Refuse n reason) s h = outgoing_limits (refused reason) 
 change_limits r (change.Reopen n) s h = outgoing_limits reopened n r s h
 change_limits r (change.Send n) s h = incoming_limits sent n r s h
 
--- changes in turn, from a register or a refusal on
+-- changes in order, from a register or a refusal on
 pub all_limits : (changes : List Change) (so_far : Result Register Cause) (s : Register) → fold go_on_by so_far changes ≡ Ok s → (r : Register) × (so_far ≡ Ok r) × (s.limits ≡ r.limits)
 all_limits [] so_far s h = (s, h, refl)
 all_limits (k ∷ ks) (Ok r) s h = let p = all_limits ks (apply r k) s h in (r, refl, p.2 ∙ change_limits r k p.0 p.1)

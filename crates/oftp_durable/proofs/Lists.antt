@@ -1,4 +1,4 @@
--- What a list of jobs over a database leaves, from what the engine says of it.
+-- What a list of jobs over a database leaves, from the contracts of the engine.
 use Rattle.std.proofs.Common.{◌≡◌, ◌∙◌, sym, ap, subst, refl, arith, ℕ, ◌+◌, ◌-◌, ◌≤◌, List, [], ◌∷◌, ◌++◌, length, take, Option, None, Result, Ok, Err, inl, inr, length-append}
 use Rattle.std.proofs.lemmas.List.{take_all}
 use Rattle.sqlite.specs.State.{State}
@@ -30,19 +30,19 @@ use Rattle.oftp_durable.specs.Headline.{ButForOffice, LeavesAlone, session_of}
 use Rattle.oftp_durable.specs.Lists.{BringAll, BringsLast, ListLeaves, beginning}
 use Rattle.oftp_durable.proofs.Leaving.{none_or_one, prefix_all, prefix_of}
 
--- the first register and what was told count alone, of what an office shows before a list
+-- of what an office shows before a list, only the register and the count of errors matter
 runs_from : {R W T : Type 0} (remaining : R → Option (List ℕ)) (contents : W → Option (List ℕ)) (book : BookData) (old new : View) (olds news : List (Job R W))
     (result : Result T RunFault) → Runs remaining contents book old new olds news result → Runs remaining contents book (beginning old.register old.told) new olds news result
 runs_from remaining contents book old new olds news (Ok x) h = h
 runs_from remaining contents book old new olds news (Err f) h = h
 
--- the changes up to here are made, and the file is as it may be
+-- the changes up to here are made, and the file is in an allowed state
 record IsSoAfter (file : File) (identity : Identity) (r : Register) (changes : List Change) (after : Register) : Type 0 where
   so : IsSoIn file identity after
   made : apply_all r changes ≡ Ok after
 
 module _ {R W : Type 0} (remaining : R → Option (List ℕ)) (contents : W → Option (List ℕ)) (book : BookData) (file : File) (identity : Identity) where
-  -- one job, and those behind it
+  -- one job, and those after it
   then_so : (r : Register) (e : Entry) (es : List Entry) → apply_all r (share_of r e).changes ≡ Ok (share_of r e).register
       → IsSoAfter file identity (share_of r e).register (changes_of (share_of r e).register es) (after_jobs (share_of r e).register es)
       → IsSoAfter file identity r (changes_of r (e ∷ es)) (after_jobs r (e ∷ es))
@@ -75,7 +75,7 @@ module _ {R W : Type 0} (remaining : R → Option (List ℕ)) (contents : W → 
       then_so r (CallEntry deed stop) es (replay_one deed.change r after d.made)
       (jobs_so after es olds news done brings (job_leaves file identity (OfCall book old.call) r after so tt (inr (deed, d.is, d.made))))
 
-  -- a session or a call that was broken off
+  -- a session or a call that was cut short
   session_so : (r s : Register) (role : Role) (given : List ℕ) (changes : List Change) (m : ℕ) → changes ≡ (course_of (session_of (setting_of book role) given None) r).changes
       → BringsParts file identity (session_of (setting_of book role) given None) r → m ≤ length changes → apply_all r (take m changes) ≡ Ok s → IsSoIn file identity r → IsSoIn file identity s
   session_so r s role given changes m is brings most made so =
@@ -105,7 +105,7 @@ module _ {R W : Type 0} (remaining : R → Option (List ℕ)) (contents : W → 
       let same : s ≡ r = elim left [ inl same ↦ same | inr same ↦ same ] in
       subst (IsSoIn file identity) (sym same) so
 
-  -- the register after some of all the changes, those of the jobs that were done at least
+  -- the register after a prefix of all changes, with those of the jobs that were done
   within : (r s : Register) (es : List Entry) (more : List Change) (least count : ℕ) → IsSoAfter file identity r (changes_of r es) (after_jobs r es)
       → length (changes_of r es) + least ≤ count → apply_all r (take count (changes_of r es ++ more)) ≡ Ok s
       → apply_all (after_jobs r es) (take (count - length (changes_of r es)) more) ≡ Ok s
@@ -155,7 +155,7 @@ module _ {R W : Type 0} (remaining : R → Option (List ℕ)) (contents : W → 
   list_alone (Err fault.Office) run = tt
   list_alone (Err fault.Memory) run = record { has = (run.ends.stands, refl); left = run.ends.left }
 
--- a list over an office that has a register: what it leaves, and what it lets alone
+-- a list over an office that has a register: what it leaves, and what it doesn't change
 pub list_ends : {R W T : Type 0} (remaining : R → Option (List ℕ)) (contents : W → Option (List ℕ)) (book : BookData) (old : View) (r : Register) (limits : Limits) (faults : ℕ) (s : State)
     (olds news : List (Job R W)) (result : Result T RunFault) → old.register ≡ r → IsSound old.register → Runs remaining contents book old (view_of limits faults s) olds news result
     → ListLeaves remaining contents book r old.told (view_of limits faults s) olds news limits s result × ButForOffice result (LeavesAlone limits s (register_in limits s.now.trees))

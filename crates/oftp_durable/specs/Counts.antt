@@ -1,4 +1,4 @@
--- Restart counts that the station answered (RFC 5024, section 5.3.4).
+-- Restart positions that the station answered (RFC 5024, section 5.3.4).
 use Rattle.std.specs.Prelude.{◌≡◌, ℕ, ◌+◌, ◌≤◌, ⊤, List, ◌∷◌, ◌++◌, length, take, Ok}
 use Rattle.std.specs.List.{AllByRecursion}
 use Rattle.oftp_wire.specs.declared.command.Command.{Command}
@@ -15,7 +15,8 @@ use Rattle.oftp_register.specs.Soundness.{IsSound}
 use Rattle.oftp_engine.specs.Parts.{IsOpenWith, SessionData, course_of, rows_here}
 use Rattle.oftp_engine.specs.Runs.{Output}
 
--- The last of the first `after` changes starts a file with this count. So many of its rows were kept before, and just these after it.
+-- The last of the first `after` changes starts a file with this Restart position. At least this many of its rows were kept before, and
+-- exactly this many after it.
 pub record IsKept (r : Register) (changes : List Change) (after count : ℕ) : Type 0 where
   pub before : List Change
   pub later : List Change
@@ -32,18 +33,18 @@ pub record IsKept (r : Register) (changes : List Change) (after count : ℕ) : T
   pub kept : count ≤ length (rows_here (in_at old identity))
   pub left : IsOpenWith (take count (rows_here (in_at old identity))) (in_at new identity)
 
--- a restart count that is answered is one that was kept
+-- a Restart position that is answered was kept
 abbrev pub KeepsCount : Register → List Change → ℕ → Command → Type 0
 KeepsCount r changes after (command.Sfpa sfpa) = IsKept r changes after sfpa.restart
 KeepsCount r changes after _ = ⊤
 
--- an output of a run that makes these changes of r is the frame of a command, and a restart count in it was kept
+-- an output of a run that makes these changes of r is the frame of a command, and a Restart position in it was kept
 pub record IsAnswer (r : Register) (changes : List Change) (o : Output) : Type 0 where
   pub command : Command
   pub octets : o.octets ≡ frame_of command
   pub kept : KeepsCount r changes o.after command
 
--- each restart count that a session answers is one that was kept
+-- each Restart position that a session answers was kept
 abbrev pub AnswersAreKept : SessionData → Register → Type 0
 AnswersAreKept session r = AllByRecursion (IsAnswer r (course_of session r).changes) (course_of session r).outputs
 

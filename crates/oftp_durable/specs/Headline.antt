@@ -1,4 +1,4 @@
--- The headline: what a stop leaves of a database, as the register after the first of the changes that were accepted.
+-- The headline: a crash leaves in a database the register after a prefix of the accepted changes.
 use Rattle.std.specs.Prelude.{◌≡◌, ℕ, ⊤, true, List, [], ◌++◌, take, Option, None, Some, is_some, IsTrue, Result, Ok, Err}
 use Rattle.sqlite.specs.Tree.{Trees}
 use Rattle.sqlite.specs.State.{State}
@@ -30,23 +30,23 @@ use Rattle.oftp_engine.specs.Served.{IsPrefix}
 use Rattle.oftp_engine.specs.Serving.{last_frame}
 use Rattle.oftp_durable.specs.Counts.{AnswersAreKept}
 
--- each content that a stop now may leave is the tables of r after the first n of these changes, all of them made, n from `least` on. The
--- register of the office, wherever it is open, is the one after n or n - 1 of them
+-- Each content that a crash may leave now is the tables of r after the first n of these changes, all of them made, where n is at least
+-- `least`. The register of the office, wherever it is open, is the one after n or n - 1 of them.
 pub record LeavesPrefix (limits : Limits) (s : State) (r : Register) (changes : List Change) (least : ℕ) : Type 0 where
   pub made : ℕ
   pub left : (db : Trees) → s.may_leave db → IsPrefix IsContentOf changes r least made db
   pub register : IsTrue s.is_open → apply_all r (take made changes) ≡ Ok (register_in limits s.now.trees)
 
--- the office stands with this register, and a stop leaves its tables alone
+-- the office is open with this register, and a crash leaves its tables and nothing else
 pub record LeavesAlone (limits : Limits) (s : State) (r : Register) : Type 0 where
   pub has : Has limits r s
   pub left : (db : Trees) → s.may_leave db → IsContentOf db r
 
--- the tables that a stop now may leave have nothing of the file, a beginning of its rows, or the file as one transfer gives it
+-- the tables that a crash may leave now have nothing of the file, a beginning of its rows, or the file as one transfer gives it
 abbrev pub LeavesSoFar : File → Identity → State → Type 0
 LeavesSoFar file identity s = (db : Trees) → s.may_leave db → (after : Register) × IsContentOf db after × IsSoFar file (in_at after identity)
 
--- it holds, but where the office told a fault
+-- the fact holds unless the office returned an error
 abbrev pub UnlessOffice : RunFault → Type 0 → Type 0
 UnlessOffice fault.Read holds = holds
 UnlessOffice fault.Write holds = holds
@@ -57,17 +57,17 @@ abbrev pub ButForOffice : {T : Type 0} → Result T RunFault → Type 0 → Type
 ButForOffice (Ok x) holds = holds
 ButForOffice (Err fault) holds = UnlessOffice fault holds
 
--- what a conversation answers, as the answer of a session: where it waits, that of one whose input ends there
+-- the result of a conversation as that of a session: at a wait it is the result of a session whose input ends there
 abbrev pub as_served : Result (Option Ending) RunFault → Result End RunFault
 as_served (Ok None) = Ok Input
 as_served (Ok (Some ending)) = Ok (ended_as ending)
 as_served (Err fault) = Err fault
 
--- a session over these octets, whose writer had taken so many octets when it told a fault, if it did
+-- a session over these octets, whose writer had taken this many octets when it returned an error, if it did
 abbrev pub session_of : Setting → List ℕ → Option ℕ → SessionData
 session_of setting given stop = record { setting = setting; limit = stop; stream = given }
 
--- the run stops short only where the writer told a fault, and ESID 08 follows it only where the office told one
+-- the run is cut short only where the writer returned an error, and ESID 08 follows only where the office returned one
 abbrev pub StopsShort : Result End RunFault → Option ℕ → ℕ → Type 0
 StopsShort (Ok end) stop closing = (stop ≡ None) × (closing ≡ 0)
 StopsShort (Err fault.Read) stop closing = (stop ≡ None) × (closing ≡ 0)
@@ -75,9 +75,9 @@ StopsShort (Err fault.Write) stop closing = (is_some stop ≡ true) × (closing 
 StopsShort (Err fault.Office) stop closing = stop ≡ None
 StopsShort (Err fault.Memory) stop closing = (stop ≡ None) × (closing ≡ 0)
 
--- A session over the database of r. The first `out` octets of its run are out, and behind them at most a beginning of ESID 08. What a
--- stop leaves is r after the first of the run's changes, with each that was answered. Each restart count that it answers is one that was
--- kept. Where the session brings parts of a file, nothing of it is left, a beginning, or the file whole.
+-- A session over the database of r. The first `out` octets of its run are out, and after them at most a beginning of ESID 08. A crash
+-- leaves r after a prefix of the run's changes, with each that was answered. Each Restart position that it answers was kept. If the session
+-- brings parts of a file, a crash leaves nothing of it, a beginning, or the whole file.
 pub record SessionLeaves {W : Type 0} (contents : W → Option (List ℕ)) (setting : Setting) (given : List ℕ) (r : Register) (old new : Port W)
     (limits : Limits) (s : State) (result : Result End RunFault) : Type 0 where
   pub stop : Option ℕ
@@ -89,8 +89,8 @@ pub record SessionLeaves {W : Type 0} (contents : W → Option (List ℕ)) (sett
   pub counts : AnswersAreKept (session_of setting given stop) r
   pub parts : (file : File) (identity : Identity) → IsSoFar file (in_at r identity) → BringsParts file identity (session_of setting given stop) r → LeavesSoFar file identity s
 
--- An operator's call on the database of r. The first `out` octets of its line are out. What a stop leaves is r with its change or without,
--- and with it where an octet of the line is out.
+-- An operator's call on the database of r. The first `out` octets of its line are out. A crash leaves r with its change or without it, and
+-- with it if an octet of the line is out.
 pub record CallDone {W : Type 0} (contents : W → Option (List ℕ)) (book : BookData) (call : Operator) (r : Register) (old new : Port W) (limits : Limits) (s : State) : Type 0 where
   pub deed : Deed
   pub is : IsDeed book r call deed
@@ -99,7 +99,7 @@ pub record CallDone {W : Type 0} (contents : W → Option (List ℕ)) (book : Bo
   pub left : LeavesPrefix limits s r (call_share r deed).changes (answered (call_share r deed).outputs out)
   pub parts : (file : File) (identity : Identity) → IsSoFar file (in_at r identity) → LeavesSoFar file identity s
 
--- memory ran out in reading the content of a file: nothing is out, and a stop leaves r
+-- out of memory while the content of a file was read: nothing is out, and a crash leaves r
 pub record CallUndone {W : Type 0} (contents : W → Option (List ℕ)) (r : Register) (old new : Port W) (limits : Limits) (s : State) : Type 0 where
   pub wrote : Wrote contents old new []
   pub left : LeavesAlone limits s r
@@ -110,7 +110,7 @@ CallLeavesErr contents book call r old new limits s fault.Write = CallDone conte
 CallLeavesErr contents book call r old new limits s fault.Office = CallDone contents book call r old new limits s
 CallLeavesErr contents book call r old new limits s fault.Memory = CallUndone contents r old new limits s
 
--- what a call that answers this leaves
+-- what a call with this result leaves
 abbrev pub CallLeaves : {W : Type 0} → (W → Option (List ℕ)) → BookData → Operator → Register → Port W → Port W → Limits → State → Result Told RunFault → Type 0
 CallLeaves contents book call r old new limits s (Ok told) = CallDone contents book call r old new limits s
 CallLeaves contents book call r old new limits s (Err fault) = CallLeavesErr contents book call r old new limits s fault

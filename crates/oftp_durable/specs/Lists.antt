@@ -17,7 +17,7 @@ use Rattle.oftp_engine.specs.Parts.{BringsParts, File, IsSoFar}
 use Rattle.oftp_engine.specs.Served.{setting_of}
 use Rattle.oftp_durable.specs.Headline.{LeavesPrefix, LeavesSoFar, session_of}
 
--- a station that begins with this register and has told so many faults
+-- a station that begins with this register and has returned this many errors
 abbrev pub beginning : Register → ℕ → View
 beginning r faults = record {
   register = r;
@@ -31,7 +31,7 @@ beginning r faults = record {
   holds = λ content register. content ≡ register;
 }
 
--- what a list answers behind a job that answers this: a fault of the job's ports doesn't end it
+-- the result of a list after a job with this result; an error of the job's ports doesn't end the list
 abbrev pub list_answer : {T : Type 0} → Result T RunFault → Result ⊤ RunFault
 list_answer (Ok x) = Ok tt
 list_answer (Err fault.Read) = Ok tt
@@ -39,7 +39,7 @@ list_answer (Err fault.Write) = Ok tt
 list_answer (Err fault.Office) = Err fault.Office
 list_answer (Err fault.Memory) = Err fault.Memory
 
--- the sessions among jobs that were done bring parts of the file
+-- the sessions among the jobs that were done bring parts of the file
 abbrev pub BringAll : File → Identity → Register → List Entry → Type 0
 BringAll file identity r [] = ⊤
 BringAll file identity r (SessionEntry setting given stop ∷ es) =
@@ -47,7 +47,7 @@ BringAll file identity r (SessionEntry setting given stop ∷ es) =
 BringAll file identity r (CallEntry deed stop ∷ es) = BringAll file identity (share_of r (CallEntry deed stop)).register es
 
 module _ {R W : Type 0} (remaining : R → Option (List ℕ)) (contents : W → Option (List ℕ)) (book : BookData) where
-  -- so does a session that was broken off
+  -- so does a session that was cut short
   abbrev pub BringsLast : File → Identity → (r : Register) (was now : Job R W) (stop : Stop) (fault : RunFault) → JobStops remaining contents book r was now stop fault → Type 0
   BringsLast file identity r (job.Session was) (job.Session now) stop fault.Read h = ⊤
   BringsLast file identity r (job.Session was) (job.Session now) stop fault.Write h = ⊤
@@ -58,16 +58,16 @@ module _ {R W : Type 0} (remaining : R → Option (List ℕ)) (contents : W → 
   BringsLast file identity r (job.Call was) (job.Call now) stop fault h = ⊤
 
   module _ (r : Register) (faults : ℕ) (new : View) (olds news : List (Job R W)) where
-    -- a list of jobs was run from the register on, and came to this
+    -- a list of jobs was run from the register on, with this result
     abbrev pub RunsFrom : {T : Type 0} → Result T RunFault → Type 0
     RunsFrom result = Runs remaining contents book (beginning r faults) new olds news result
 
-    -- all its changes: those of the jobs that were done, and of the one in which it ended
+    -- all its changes: those of the jobs that were done, and of the job in which it ended
     abbrev pub changes_in : {T : Type 0} (result : Result T RunFault) → RunsFrom result → List Change
     changes_in (Ok x) run = changes_of r run.entries
     changes_in (Err fault) run = changes_of r run.entries ++ run.stop.changes
 
-    -- how many of them stand before the last answer of which an octet is out, at least
+    -- the least number of changes before the last answer of which an octet is out
     abbrev pub answered_in : {T : Type 0} (result : Result T RunFault) → RunsFrom result → ℕ
     answered_in (Ok x) run = length (changes_of r run.entries)
     answered_in (Err fault) run = length (changes_of r run.entries) + run.stop.answered
@@ -78,8 +78,8 @@ module _ {R W : Type 0} (remaining : R → Option (List ℕ)) (contents : W → 
     BringsIn file identity (Err fault) run =
         BringAll file identity r run.entries × BringsLast file identity (after_jobs r run.entries) run.was run.now run.stop fault run.stops
 
-    -- A list of jobs over the database of r. What a stop leaves is r after the first of all the jobs' changes, with each that was answered.
-    -- Where its sessions bring parts of a file, nothing of it is left, a beginning, or the file whole.
+    -- A list of jobs over the database of r. A crash leaves r after a prefix of the changes of all jobs, with each that was answered. If
+    -- its sessions bring parts of a file, a crash leaves nothing of it, a beginning, or the whole file.
     pub record ListLeaves (limits : Limits) (s : State) {T : Type 0} (result : Result T RunFault) : Type 0 where
       pub run : RunsFrom result
       pub left : LeavesPrefix limits s r (changes_in result run) (answered_in result run)

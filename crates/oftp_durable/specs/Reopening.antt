@@ -1,4 +1,4 @@
--- The office of a database that a stop left.
+-- The office that is opened over a database after a crash.
 use Rattle.std.specs.Prelude.{◌≡◌, ℕ, ◌≤◌, List, length, take, Ok}
 use Rattle.sqlite.specs.State.{State}
 use Rattle.oftp_vfile.specs.declared.format.Limits.{Limits}
@@ -7,7 +7,8 @@ use Rattle.oftp_register.specs.Changes.{apply_all}
 use Rattle.oftp_register.specs.Register.{Register}
 use Rattle.oftp_durable.specs.Headline.{LeavesAlone}
 
--- the office has r after the first n of these changes, all of them made, n from `low` on, and a stop leaves its tables alone
+-- the office has r after the first n of these changes, all of them made, where n is at least `low`, and a crash leaves its tables and
+-- nothing else
 pub record IsReopened (limits : Limits) (s : State) (r : Register) (changes : List Change) (low : ℕ) : Type 0 where
   pub count : ℕ
   pub least : low ≤ count

@@ -18,15 +18,15 @@ use sqlite::Alter;
 use std::alloc::Global;
 use std::io::Write;
 
-/// Does what an operator wants by the office over a database, as [`operate`] says it.
+/// Does an operator's call, as [`operate`] does, by the office over a database.
 ///
-/// At every exit, error exits too, what a stop leaves is the tables of the register with the call's change or without, and with it where
-/// one octet of its line is out. But for a fault of the office it is the tables of the office's register alone. The premise is a disk
-/// that keeps what it synced and that nobody else writes.
+/// At every return, also with an error, a crash leaves the tables of the register with the call's change or without it. If one octet of the
+/// call's line is out, it leaves those with the change. Except after an error of the office, it leaves the tables of the office's register
+/// and nothing else. The premise is a disk that keeps what it has synced, and a database that nobody else writes.
 ///
 /// # Errors
 ///
-/// As [`operate`].
+/// Those of [`operate`].
 pub fn operate_durable<S: Alter, W: Write>(
     alloc: Global,
     office: &mut SqlOffice<S>,
@@ -34,7 +34,7 @@ pub fn operate_durable<S: Alter, W: Write>(
     call: &Operator<'_>,
     writer: &mut Port<W>,
 ) -> Result<Told, RunFault>
-    // The call over this database is what it is over any office.
+    // The call does over this database what it does over any office.
     ensures operates { HasCleanDisk (database_of S.Store office.new) → (r : Register) → Has (limits_of office.old) r (database_of S.Store office.old)
         → Operates book.now call.now (scene W.contents (shown S.Store office.old) writer.old) (scene W.contents (shown S.Store office.new) writer.new) result }
     // The headline.

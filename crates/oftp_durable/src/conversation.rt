@@ -1,4 +1,4 @@
-//! A session over a database that hears octets in pieces.
+//! A session over a database that gets its octets in pieces.
 
 ghost use Rattle.std.specs.Prelude.{◌≢◌, ℕ, List, IfErr, OnOk};
 ghost use Rattle.sqlite.specs.State.{HasCleanDisk};
@@ -18,22 +18,23 @@ use oftp_store::SqlOffice;
 use sqlite::Alter;
 use std::io::Write;
 
-/// Goes on with a conversation by the office over a database, as [`Conversation::go_on`] says it. It must not be called after a fault.
+/// Goes on with a conversation, as [`Conversation::go_on`] does, by the office over a database. It must not be called after an error.
 ///
-/// At each wait, and at every exit, error exits too, what a stop leaves is the tables of the register after the first so many of the
-/// session's changes, with each whose answer has one octet out. But for a fault of the office, so at each wait, it is the tables of the
-/// office's register alone. The premise is a disk that keeps what it synced and that nobody else writes.
+/// At each wait and at every return, also with an error, a crash leaves the tables of the register after a prefix of the session's changes.
+/// The prefix has each change whose answer has one octet out. Except after an error of the office, and so at each wait, a crash leaves the
+/// tables of the office's register and nothing else. The premise is a disk that keeps what it has synced, and a database that nobody else
+/// writes.
 ///
 /// # Errors
 ///
-/// As [`Conversation::go_on`].
+/// Those of [`Conversation::go_on`].
 pub fn go_on_durable<S: Alter, W: Write>(
     conversation: &mut Conversation<'_>,
     office: &mut SqlOffice<S>,
     writer: &mut Port<W>,
 ) -> Result<Option<Ending>, RunFault>
     requires { conversation.old.seen.standing ≢ Broken }
-    // The conversation over this database is what it is over any office; and the headline, of which a wait is an exit too.
+    // The conversation does over this database what it does over any office. The headline holds at each wait, as at each return.
     ensures goes { HasCleanDisk (database_of S.Store office.new) → (first : SqlOffice S S.Store) (front : Port W) (setting : Setting) (given : List ℕ)
         → HasHeard setting given conversation.old (scene W.contents (shown S.Store first) front) (scene W.contents (shown S.Store office.old) writer.old)
         → ComesTo setting given conversation.new (scene W.contents (shown S.Store first) front) (scene W.contents (shown S.Store office.new) writer.new) result

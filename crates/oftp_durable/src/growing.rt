@@ -1,4 +1,4 @@
-//! A list of jobs over a database that grows by one job at a time.
+//! A list of jobs over a database that is extended one job at a time.
 
 ghost use Rattle.std.specs.Prelude.{ℕ, List, [], ◌∷◌, ◌++◌};
 ghost use Rattle.sqlite.specs.State.{HasCleanDisk};
@@ -17,23 +17,24 @@ use sqlite::Alter;
 use std::alloc::Global;
 use std::io::{Read, Write};
 
-/// Does the next job of a list that grows by the office over a database, as [`do_next`] says it, and leaves its answer in it. A list begins
-/// with none ([`lists_begin_and_wait`](crate::lists_begin_and_wait)), and after `Ok` it is the one with this job behind it.
+/// Does the next job of a list, as [`do_next`] does, by the office over a database, and stores the job's result in it. The list begins
+/// empty ([`lists_begin_and_wait`](crate::lists_begin_and_wait)), and after `Ok` this job is its last.
 ///
-/// At every exit, error exits too, what a stop leaves is the tables of the register after the first so many of the changes of all jobs of the
-/// list, this one's too, with each whose answer has one octet out. But for a fault of the office it is the tables of the office's register
-/// alone. The premise is a disk that keeps what it synced and that nobody else writes.
+/// At every return, also with an error, a crash leaves the tables of the register after a prefix of the changes of all jobs of the list,
+/// this one included. The prefix has each change whose answer has one octet out. Except after an error of the office, a crash leaves the
+/// tables of the office's register and nothing else. The premise is a disk that keeps what it has synced, and a database that nobody else
+/// writes.
 ///
 /// # Errors
 ///
-/// As [`do_next`]: the list ends there.
+/// Those of [`do_next`]. The list ends there.
 pub fn do_next_durable<S: Alter, R: Read, W: Write>(
     alloc: Global,
     office: &mut SqlOffice<S>,
     book: &Book,
     job: &mut Job<'_, R, W>,
 ) -> Result<(), RunFault>
-    // The headline, of whatever list of jobs that were done before.
+    // The headline, for any list of jobs that were done before.
     ensures leaves { HasCleanDisk (database_of S.Store office.new) → (r : Register) (faults : ℕ) (olds news : List (Job R W)) → IsSound r
         → IsRun R.remaining W.contents book.now r faults (shown S.Store office.old) olds news
         → ListLeaves R.remaining W.contents book.now r faults (shown S.Store office.new) (olds ++ job.old ∷ []) (news ++ job.new ∷ [])

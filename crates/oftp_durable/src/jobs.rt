@@ -24,15 +24,15 @@ use sqlite::{Alter, FileFrom, FileStore, Start};
 use std::alloc::Global;
 use std::io::{Read, Write};
 
-/// Does a list of jobs by the office over a database, as [`run`] says it.
+/// Does a list of jobs, as [`run`] does, by the office over a database.
 ///
-/// At every exit, error exits too, what a stop leaves is the tables of the register after the first so many of all the jobs' changes, with
-/// each whose answer has one octet out. But for a fault of the office it is the tables of the office's register alone. The premise is a
-/// disk that keeps what it synced and that nobody else writes.
+/// At every return, also with an error, a crash leaves the tables of the register after a prefix of the changes of all jobs. The prefix has
+/// each change whose answer has one octet out. Except after an error of the office, a crash leaves the tables of the office's register and
+/// nothing else. The premise is a disk that keeps what it has synced, and a database that nobody else writes.
 ///
 /// # Errors
 ///
-/// As [`run`].
+/// Those of [`run`].
 pub fn run_durable<S: Alter, R: Read, W: Write>(
     alloc: Global,
     office: &mut SqlOffice<S>,
@@ -50,21 +50,21 @@ pub fn run_durable<S: Alter, R: Read, W: Write>(
     run(alloc, office, book, jobs)
 }
 
-/// What a list of jobs came to, and the office that did it.
+/// The result of a list of jobs, and the office that did it.
 #[derive(Drop)]
 pub struct Ran<S: Alter> {
     /// The office.
     pub office: SqlOffice<S>,
-    /// What the list came to, as [`run`] answers it.
+    /// What [`run`] returned.
     pub result: Result<(), RunFault>,
 }
 
-/// Opens the office that the files at a path hold, and does a list of jobs by it: [`open_durable`] and [`run_durable`] in one. The limits
-/// are as `open_durable` wants them.
+/// Opens the office in the files at a path, and does a list of jobs by it: [`open_durable`], then [`run_durable`]. The limits are those
+/// that `open_durable` accepts.
 ///
 /// # Errors
 ///
-/// As [`open_durable`]; no job is then begun.
+/// Those of [`open_durable`]. No job was begun.
 pub fn run_at<S: Start, R: Read, W: Write>(
     rt: &HostRuntime,
     path: &str,
@@ -77,9 +77,9 @@ pub fn run_at<S: Start, R: Read, W: Write>(
     requires octets { limits.octets ≤ MOST_OCTETS }
     ensures unkept { (result ≡ Err (PathRefused.Path PathFault.Unkept)) ↔ ¬ IsKept path.now }
     ensures idle { OnErr result (jobs.new ≡ jobs.old) }
-    // The files hold no table, or the office's.
+    // The files hold no table, or the office's tables.
     ensures known { IfOk result (λ ran. HasCleanDisk (database_of over_files ran.office) → HoldsTaken IsOpenable (HoldsDatabase (image_at S.Start))) }
-    // The headline, from what the files held.
+    // The headline, from the content of the files.
     ensures leaves { IfOk result (λ ran. HasCleanDisk (database_of over_files ran.office) → (r : Register) (db : Trees) → r.limits ≡ limits → IsSound r
         → HoldsDatabase (image_at S.Start) db → IsStoreOf r db
         → ListLeaves R.remaining W.contents book.now r 0 (shown over_files ran.office) jobs.old jobs.new
@@ -92,7 +92,7 @@ pub fn run_at<S: Start, R: Read, W: Write>(
     ensures fresh { IfOk result (λ ran. HasCleanDisk (database_of over_files ran.office) → HoldsNoTable (image_at S.Start)
         → ListLeaves R.remaining W.contents book.now (empty limits) 0 (shown over_files ran.office) jobs.old jobs.new
         (limits_of ran.office) (database_of over_files ran.office) ran.result) }
-    // Another database is a wrong schema, and then as it was. After another fault the files hold what they held, or the new tables.
+    // Another database is a wrong schema and stays unchanged. After any other error the files hold their old content or the new tables.
     ensures refused { IfErr result (RefusesPath over_files to_open (image_at S.Start)) }
 {
     let mut office = open_durable(rt, path, limits, start)?;

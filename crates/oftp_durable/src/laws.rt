@@ -1,4 +1,4 @@
-//! What holds of sessions and of lists over any database.
+//! Theorems about sessions and lists of jobs over any database.
 
 ghost use Rattle.std.specs.Prelude.{◌≡◌, ℕ, List, [], ◌∷◌, ◌++◌, length, Option, Some, Result, Err};
 ghost use Rattle.oftp_partners.specs.Book.{BookData};
@@ -21,15 +21,15 @@ use oftp_store::SqlOffice;
 use sqlite::Alter;
 use std::io::{Read, Write};
 
-/// Each SFPA of a session stands behind the change that starts a file with the count that it answers: so many rows of the file were kept
-/// before that change, and just these after it. It does nothing; its contract is the law.
+/// Each SFPA of a session comes after the change that starts a file with the Restart position that it answers. Before that change the file
+/// had at least this many rows, and after it exactly this many. The function does nothing; its contract is the theorem.
 pub fn no_answer_passes()
     ensures { NoAnswerPasses }
 {}
 
-/// A list of jobs over a database begins with none, at the register that its office has. While a session waits behind a list that was done,
-/// what a stop leaves is the tables of the register after all changes of the list and of the session so far. It does nothing; its contract
-/// is the law.
+/// A list of jobs over a database begins empty, at the register that its office has. While a session waits after a list that was done, a
+/// crash leaves the tables of the register after all changes of the list and of the session so far. The function does nothing; its contract
+/// is the theorem.
 pub fn lists_begin_and_wait<S: Alter, R: Read, W: Write>()
     ensures begins { (book : BookData) (office : SqlOffice S S.Store) (r : Register) → Has (limits_of office) r (database_of S.Store office)
         → IsSound r × IsRun R.remaining W.contents book r (faults_of office) (shown S.Store office) [] [] }
@@ -41,10 +41,10 @@ pub fn lists_begin_and_wait<S: Alter, R: Read, W: Write>()
         (length (changes_of r list.entries ++ (whole setting given (shown S.Store mid).register).changes)) }
 {}
 
-/// A session of which somebody has a conversation, piece by piece, is one that was served over all the octets that it heard; so it is where the
-/// reader tells a fault while it waits. Behind a list that was done it is a job of that list, whatever it comes to: what a stop leaves is the
-/// tables of the register after the first so many of the changes of them all, with each that was answered. It does nothing; its contract
-/// is the law.
+/// A conversation that was held piece by piece is a session that was served over all the octets that it heard. The same holds where the
+/// reader returns an error while it waits. After a list that was done it is a job of that list, whatever its result: a crash leaves the
+/// tables of the register after a prefix of the changes of all jobs, with each change that was answered. The function does nothing; its
+/// contract is the theorem.
 pub fn conversations_are_jobs<S: Alter, R: Read, W: Write>()
     ensures serves { (setting : Setting) (given : List ℕ) (talk : Dialogue) (first now : SqlOffice S S.Store) (front here : Port W)
         → (result : Result (Option Ending) RunFault) → IsNeeded setting (shown S.Store first).register given

@@ -1,4 +1,4 @@
-//! The engine over a database: what a stop leaves of sessions and of operator's calls, in the terms of the tables.
+//! The engine over a database: what a crash leaves of sessions and of operator's calls, as the content of the tables.
 #![tactic(auto)]
 
 mod calling;

@@ -1,4 +1,4 @@
-//! The opening of the office that the files at a path hold.
+//! Opening the office in the files at a path.
 
 ghost use Rattle.std.specs.Prelude.{◌≡◌, ◌≤◌, ◌↔◌, ℕ, IfErr, IfOk, List};
 ghost use Rattle.sqlite.specs.Files.{HoldsDatabase, over_files};
@@ -21,22 +21,22 @@ use oftp_store::{PathFault, PathRefused, SqlOffice, open_at};
 use oftp_vfile::Limits;
 use sqlite::{Alter, FileFrom, FileStore, Start};
 
-// An office that has a register leaves its tables alone.
+// After a crash, an office that has a register leaves its tables and nothing else.
 fn leaves_alone<S: Alter>(office: &SqlOffice<S>)
     ensures { (r : Register) → Has (limits_of office.now) r (database_of S.Store office.now) → LeavesAlone (limits_of office.now) (database_of S.Store office.now) r }
 {
     let _ = office;
 }
 
-/// Opens the office that the files at a path hold, or makes its tables where they hold no database, as [`open_at`] says it. `S` stands for
-/// what the files hold.
+/// Opens the office in the files at a path, as [`open_at`] does. Where the files hold no table, it makes the office's tables. `S` stands
+/// for the content of the files.
 ///
-/// Where a stop left the tables of a register after the first of some changes, the office has that register, and a stop leaves its
-/// tables alone. The limits are those of the register, at most 1,000,000 files and 1,024,000,000 octets of a file.
+/// If a crash left the tables of a register after a prefix of some changes, the office has that register, and the next crash leaves its
+/// tables and nothing else. The limits are those of the register, at most 1,000,000 files and 1,024,000,000 octets of a file.
 ///
 /// # Errors
 ///
-/// As [`open_at`].
+/// Those of [`open_at`].
 pub fn open_durable<S: Start>(
     rt: &HostRuntime,
     path: &str,
@@ -48,18 +48,18 @@ pub fn open_durable<S: Start>(
     ensures unkept { (result ≡ Err (PathRefused.Path PathFault.Unkept)) ↔ ¬ IsKept path.now }
     ensures limits { IfOk result (λ o. limits_of o ≡ limits) }
     ensures faults { IfOk result (λ o. faults_of o ≡ 0) }
-    // The files hold no table, or the office's.
+    // The files hold no table, or the office's tables.
     ensures known { IfOk result (λ o. HasCleanDisk (database_of over_files o) → HoldsTaken IsOpenable (HoldsDatabase (image_at S.Start))) }
     // The office has the register whose tables the files hold.
     ensures found { IfOk result (λ o. HasCleanDisk (database_of over_files o) → (r : Register) (db : Trees) → r.limits ≡ limits → IsSound r
         → HoldsDatabase (image_at S.Start) db → IsStoreOf r db → LeavesAlone limits (database_of over_files o) r) }
-    // So it has one after a prefix of the changes of a run that was stopped, where the files hold what that stop left.
+    // So it has the register after a prefix of the changes of a run that crashed, where the files hold what that crash left.
     ensures reopened { IfOk result (λ o. HasCleanDisk (database_of over_files o) → (r : Register) (changes : List Change) (least made : ℕ) (db : Trees)
         → r.limits ≡ limits → IsPrefix IsContentOf changes r least made db
         → HoldsDatabase (image_at S.Start) db → IsReopened limits (database_of over_files o) r changes least) }
-    // It has the empty register where they hold no table.
+    // Where they hold no table, the office has the empty register.
     ensures fresh { IfOk result (λ o. HasCleanDisk (database_of over_files o) → HoldsNoTable (image_at S.Start) → LeavesAlone limits (database_of over_files o) (empty limits)) }
-    // Another database is a wrong schema, and then as it was. After another fault the files hold what they held, or the new tables.
+    // Another database is a wrong schema and stays unchanged. After any other error the files hold their old content or the new tables.
     ensures refused { IfErr result (RefusesPath over_files to_open (image_at S.Start)) }
 {
     let office = open_at(rt, path, limits, start)?;

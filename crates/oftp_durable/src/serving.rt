@@ -18,15 +18,15 @@ use sqlite::Alter;
 use std::alloc::Global;
 use std::io::{Read, Write};
 
-/// Serves one session by the office over a database, as [`serve`] says it.
+/// Serves one session, as [`serve`] does, by the office over a database.
 ///
-/// At every exit, error exits too, what a stop leaves is the tables of the register after the first so many of the session's changes,
-/// with each whose answer has one octet out. But for a fault of the office it is the tables of the office's register alone. The premise
-/// is a disk that keeps what it synced and that nobody else writes.
+/// At every return, also with an error, a crash leaves the tables of the register after a prefix of the session's changes. The prefix has
+/// each change whose answer has one octet out. Except after an error of the office, a crash leaves the tables of the office's register and
+/// nothing else. The premise is a disk that keeps what it has synced, and a database that nobody else writes.
 ///
 /// # Errors
 ///
-/// As [`serve`].
+/// Those of [`serve`].
 pub fn serve_durable<S: Alter, R: Read, W: Write>(
     alloc: Global,
     office: &mut SqlOffice<S>,
@@ -35,7 +35,7 @@ pub fn serve_durable<S: Alter, R: Read, W: Write>(
     reader: &mut Port<R>,
     writer: &mut Port<W>,
 ) -> Result<End, RunFault>
-    // The session over this database is what it is over any office; and the headline.
+    // The session does over this database what it does over any office. The second part is the headline.
     ensures serves { (given : List ℕ) × Gave R.remaining reader.old reader.new given
         × (HasCleanDisk (database_of S.Store office.new) → (r : Register) → Has (limits_of office.old) r (database_of S.Store office.old)
         → Serves (setting_of book.now role.entry) given (scene W.contents (shown S.Store office.old) writer.old)

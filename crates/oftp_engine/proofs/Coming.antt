@@ -1,4 +1,4 @@
--- What is on its way stays true: under a change of the station that sent it, and with an end of the session behind it.
+-- What is on its way stays true, under a change of the station that sent it, and if the session ends after it.
 use Rattle.std.proofs.Common.{◌≡◌, ℕ, List, [], ◌∷◌, ◌++◌, drop, Option, None, Some, refl, ap, sym, ◌∙◌, subst}
 use Rattle.oftp_wire.specs.declared.command.Command.{Command}
 use Rattle.oftp_wire.specs.declared.command.Command.TheVariants as command
@@ -16,7 +16,7 @@ use Rattle.oftp_engine.proofs.Standing.{IsQuiet, IsOfferOf, IsIssuedBy, ComesFro
 use Rattle.oftp_engine.proofs.Fitting.{IsSameContent}
 use Rattle.oftp_engine.proofs.Later.{IsLater, IsLaterFile, Stays}
 
--- the file that was found is found still, with its content
+-- the file is still found, with its content
 pub record IsFoundStill (o : Option Outgoing) (f : Outgoing) : Type 0 where
   pub file : Outgoing
   pub found : o ≡ Some file
@@ -103,7 +103,7 @@ may_come_later r s (AwaitingEnd contact t) coming later h = end_later r s t.file
 may_come_later r s (EndedHere reason) coming later h = h
 may_come_later r s (EndedThere reason) coming later h = h
 
--- an end of the session behind what comes
+-- the session ends after what is on its way
 
 quiet_end : (coming : List Command) (e : Esid) → IsQuiet coming → IsQuiet (coming ++ command.Esid e ∷ [])
 quiet_end [] e h = tt

@@ -1,4 +1,4 @@
--- Conversations: what they have heard, piece after piece, and what is so at each wait.
+-- Conversations: what they have heard, piece after piece, and what holds at each wait.
 use Rattle.std.proofs.Common.{◌≡◌, ℕ, ◌<◌, true, List, [], ◌++◌, length, Result, Ok, Err, is_ok, refl, sym, ap, ◌∙◌, subst}
 use Rattle.std.proofs.lemmas.Bool.{false≢true}
 use Rattle.oftp_register.specs.Offices.{LooksUp, Only, View}
@@ -41,7 +41,7 @@ heard_none setting talk first fresh sound stood =
       told = fresh.told;
     }
 
--- one piece more
+-- one more piece
 pub heard_more : (setting : Setting) (given octets : List ℕ) (old new : Dialogue) (first now : Scene) → HasHeard setting given old first now → HeardMore old new octets
     → HasHeard setting (given ++ octets) new first now
 heard_more setting given octets old new first now h more =
@@ -63,7 +63,7 @@ no_room setting given octets talk first now h some =
     is_out_of_memory setting (given ++ octets) first now (record { stood = h.heard.stood; sound = h.heard.sound; alone = λ _. h.all.left })
     (short_on (started setting first.office.register) given talk.stream.rest octets talk.seen first now some h.heard.come)
 
--- Between two pieces others had the office.
+-- Between two pieces others used the office.
 module _ (setting : Setting) (given : List ℕ) (talk : Dialogue) (first now : Scene) (view : View) (same : ShowsSame now.office view) where
   took_kept : (octets : List ℕ) → Took first now octets → Took first (record now { office = view }) octets
   took_kept octets t = record { contents = t.contents; taken = t.taken }
@@ -110,7 +110,7 @@ module _ (setting : Setting) (given : List ℕ) (talk : Dialogue) (first now : S
     live = h.live;
   }
 
--- a look-up that told no fault, and then others
+-- a look-up that returned no error, and then others
 pub looked : {T : Type 0} (Tells : Register → T → Type 0) (old new : View) (result : Result T OfficeFault) → LooksUp Tells old new result → is_ok result ≡ true
     → new.clean → old.stands → ShowsSame old new
 looked Tells old new (Ok x) looks ok clean stood =

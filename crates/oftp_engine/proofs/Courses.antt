@@ -139,7 +139,7 @@ due_at_turn c h = subst (λ (p : Phase). turns_due p < turns_due c.phase) (sym (
 abbrev goes : Option ℕ → Course → Bool
 goes limit c = has_turn c.phase && not (is_stopped limit c)
 
--- a course with no turn due takes none
+-- a course without a due turn makes none
 none_due : (limit : Option ℕ) (c d : Course) → turns_due c.phase ≤ 0 → cond (goes limit c) d c ≡ c
 none_due limit c d none =
     same_then (goes limit c) d c c (λ t. let h = due_at_turn c (and_parts _ _ t).0 in absurd (omega arith)) ∙ cond_same (goes limit c) c
@@ -154,7 +154,7 @@ turns_enough (suc n) (suc m) limit c p q =
     same_then (goes limit c) (turns n limit d) (turns m limit d) c
     (λ t. let h = due_at_turn c (and_parts _ _ t).0 in turns_enough n m limit d (omega arith) (omega arith))
 
--- a due turn is taken first
+-- a due turn is made first
 pub settle_turn : (limit : Option ℕ) (c : Course) → has_turn c.phase ≡ true → is_stopped limit c ≡ false → settled limit c ≡ settled limit (turned_in c)
 unfolding settled turns
 settle_turn limit c h s =
@@ -229,7 +229,7 @@ run_frame limit s c n turn over stopped whole =
     ∙ ap (on_front (run_by (length s) limit) s c) whole
     ∙ run_enough (length s) (suc (length (drop n s))) limit (drop n s) (came_in c (command_in n s)) (omega (arith, within.0, within.1, length-drop n s)) (omega arith)
 
--- no header where one has to be
+-- no header where one is expected
 pub run_bad : (limit : Option ℕ) (s : List ℕ) (c : Course) (fault : _)
     → has_turn c.phase ≡ false → is_over c.phase ≡ false → is_stopped limit c ≡ false → front 100003 s ≡ Bad fault
     → run limit s c ≡ advance c (fails ProtocolViolation)
@@ -239,7 +239,7 @@ run_bad limit s c fault turn over stopped bad =
     ∙ else_at (is_over c.phase || is_stopped limit c) c (on_front (run_by (length s) limit) s c (front 100003 s)) (rw (over, stopped) refl)
     ∙ ap (on_front (run_by (length s) limit) s c) bad
 
--- octets that are no whole frame
+-- octets that aren't a whole frame
 pub run_waits : (limit : Option ℕ) (s : List ℕ) (c : Course) → has_turn c.phase ≡ false → front 100003 s ≡ Waits → run limit s c ≡ c
 unfolding next_in on_front
 run_waits limit s c turn waits =
@@ -277,7 +277,7 @@ run_by_grows (suc n) limit s c =
     let next = front_grows (run_by n limit) s d (front 100003 s) (run_by_grows n limit) in
     grows_on c d _ (settled_grows limit c) (grows_either d d _ (is_over d.phase || is_stopped limit d) (grows_none d) next)
 
--- what went out stays out
+-- what is out stays out
 pub run_grows : (limit : Option ℕ) (s : List ℕ) (c : Course) → Grows c (run limit s c)
 unfolding run
 run_grows limit s c = run_by_grows (suc (length s)) limit s c

@@ -28,14 +28,14 @@ use Rattle.oftp_engine.specs.InsideOperating.{verb_of, Attempts, AttemptsErr, Ma
 use Rattle.oftp_engine.specs.Operated.{Operates, OperatesErr}
 use Rattle.oftp_io.proofs.Bytes.{appends_none}
 
--- a change that is refused leaves the register alone
+-- a refused change leaves the register unchanged
 left_by : (verb : List ℕ) (n : ℕ) (change : Change) (r : Register) (now : View) (wanted : Result Register Cause) → apply r change ≡ wanted
     → WithOrWithout (Some change) r now → WithOrWithout (decided verb n change wanted).change r now
 left_by verb n change r now (Ok after) e left = left
 left_by verb n change r now (Err cause) e left = λ content may.
     elim (left content may) [ inl same ↦ same | inr made ↦ absurd (false≢true (ap is_ok (sym e ∙ made.1))) ]
 
--- a change that the office told a fault of is made or not
+-- after an error of the office, the change is made or not
 module _ (verb : List ℕ) (n : ℕ) (change : Change) (old new : View) where
   leaves_open : (new.is_open → new.register ≡ old.register) → WithOrWithout (Some change) old.register new → new.told ≡ next_count old.told
       → AttemptsErr (λ deed. deed ≡ makes verb n change old.register) old new fault.Office
@@ -48,7 +48,7 @@ module _ (verb : List ℕ) (n : ℕ) (change : Change) (old new : View) where
     },
   )
 
--- what the office makes of a change is what the call does
+-- what the office does with a change is what the call does
 module _ {T : Type 0} (verb : List ℕ) (n : ℕ) (change : Change) (old new : View) where
   pub decides : (made : Result T OfficeFault) → Commits change old new made → new.clean → old.stands → IsFit old.register change
       → Attempts verb (λ deed. deed ≡ makes verb n change old.register) old new (came_out n made)
@@ -81,7 +81,7 @@ module _ {T : Type 0} (verb : List ℕ) (n : ℕ) (change : Change) (old new : V
   decides (Err office.Store) c clean stood fit = leaves_open verb n change old new (c.same clean stood) (c.left clean stood fit) c.counts
   decides (Err office.Memory) c clean stood fit = leaves_open verb n change old new (c.same clean stood) (c.left clean stood fit) c.counts
 
--- what the office makes of a response to the file with a number
+-- what the office does with a response to the file with a number
 module _ (old new : View) (n reason : ℕ) (text : List ℕ) (result : Result Outcome RunFault) where
   abbrev Issues : List ℕ → ResponseKind → ℕ → List ℕ → Type 0
   Issues verb kind reason text = Attempts verb (λ (deed : Deed). deed ≡ makes verb n (change.Issue n kind reason text) old.register) old new result
@@ -97,7 +97,7 @@ module _ (old new : View) (n reason : ℕ) (text : List ℕ) (result : Result Ou
       subst (λ (words : List ℕ). Issues verb EndResponse 0 words) none
       (subst (λ (m : ℕ). Issues verb EndResponse m text) zero (issued (zero, refl, none) verb))
 
-  -- a refusal has the reason and the text that were handed in, within their ranges
+  -- a refusal has the reason and the text that were submitted, within their ranges
   pub refuses_so : (given : ℕ) (words : List ℕ) → reason ≡ given → text ≡ words → given ≤ 99 → length words ≤ 999 → Issued NegativeEndResponse
       → Attempts (codes "done: refuse ") (λ (deed : Deed). deed ≡ refused old.register n given words) old new result
   unfolding IsFit
@@ -109,7 +109,7 @@ module _ (old new : View) (n reason : ℕ) (text : List ℕ) (result : Result Ou
       subst (λ (d : Deed). Attempts verb (λ (deed : Deed). deed ≡ d) old new result)
       (sym (cond-true (nat_le given 99 && nat_le (length words) 999) _ _ within)) as_given
 
--- the line of what the office decided
+-- the line of the office's decision
 module _ {W : Type 0} (contents : W → Option (List ℕ)) (a d : Port W) (x y : View) (book : BookData) (call : Operator) where
   pub operated : (outcome : Outcome) (result : Result Told RunFault) → (y.stands → Only y.register y)
       → Attempts (verb_of call) (IsDeed book x.register call) x y (let r : Result Outcome RunFault = Ok outcome in r)
@@ -144,7 +144,7 @@ module _ {W : Type 0} (contents : W → Option (List ℕ)) (a d : Port W) (x y :
     },
   )
 
--- a fault before any line
+-- an error before any line is written
 pub undecided : {W : Type 0} (contents : W → Option (List ℕ)) (a : Port W) (x y : View) (book : BookData) (call : Operator) (result : Result Told RunFault) (f : RunFault)
     → (y.stands → Only y.register y) → MayFail call f → AttemptsErr (IsDeed book x.register call) x y f → result ≡ Err f
     → Operates book call (scene contents x a) (scene contents y a) result

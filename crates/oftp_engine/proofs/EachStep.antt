@@ -1,4 +1,4 @@
--- What each step of a run keeps, a run keeps.
+-- What each step of a run preserves, the run preserves.
 use Rattle.std.proofs.Common.{ℕ, zero, suc, Bool, true, false, cond, not, ◌&&◌, ◌||◌, List, drop, length, Option, Result, Ok, Err}
 use Rattle.oftp_wire.specs.Kinds.{command_of}
 use Rattle.oftp_wire.specs.Reasons.{reason_of}
@@ -14,7 +14,7 @@ use Rattle.oftp_session.specs.Steps.{has_turn, turns_due}
 use Rattle.oftp_session.proofs.Outputs.{MaySay, came_may, fails_may, turned_may}
 use Rattle.oftp_engine.specs.Runs.{Course, advance, came_in, is_stopped, next_in, on_front, refusal, run, run_by, settled, step_on, turned_in, turns}
 
--- P holds after each own turn, each command that comes, and an end for a bad header
+-- P holds after each turn, each command that arrives, and an end because of a bad header
 module _ (P : Course → Type 0) (turn : (c : Course) → P c → P (turned_in c)) (come : (c : Course) (octets : List ℕ) → P c → P (came_in c octets))
     (fail : (c : Course) → P c → P (advance c (fails ProtocolViolation))) where
   either : (b : Bool) (c d : Course) → P c → P d → P (cond b c d)
@@ -48,7 +48,7 @@ module _ (P : Course → Type 0) (turn : (c : Course) → P c → P (turned_in c
   unfolding run
   run_keeps limit s c h = run_by_keeps (suc (length s)) limit s c h
 
--- what a step may say
+-- what a step may send
 
 refusal_may : (fault : WireFault) → MaySay (refusal (reason_of fault))
 refusal_may UnknownCommand = fails_may CommandNotRecognised (λ e. cc)
@@ -61,7 +61,7 @@ step_may : (setting : Setting) (p : Phase) (r : Register) (read : Result Command
 step_may setting p r (Ok c) = came_may setting r c p
 step_may setting p r (Err fault) = refusal_may fault
 
--- what each step keeps that says what it may, a run keeps
+-- if each step preserves a fact and sends only what it may, so does the run
 pub run_says : (P : Course → Type 0) → ((c : Course) (s : Step) → MaySay s → P c → P (advance c s)) → (limit : Option ℕ) (s : List ℕ) (c : Course) → P c → P (run limit s c)
 run_says P keeps limit s c h =
     run_keeps P (λ d it. keeps d _ (turned_may d.setting d.register d.phase) it)

@@ -1,4 +1,4 @@
--- What a served session leaves, from how far it came.
+-- What a served session leaves, from how far it went.
 use Rattle.std.proofs.Common.{◌≡◌, ℕ, zero, suc, ◌+◌, ◌-◌, ◌≤◌, ◌<◌, true, false, List, [], ◌∷◌, ◌++◌, length, take, drop, Option, None, Some, Ok, refl, sym, ap, ◌∙◌, ◌⊎◌, subst, arith, length-append, inl, inr}
 use Rattle.std.proofs.Math.Seq.{take-add}
 use Rattle.std.proofs.lemmas.List.{append-nil, take_at, drop_at}
@@ -27,13 +27,14 @@ use Rattle.oftp_engine.proofs.Phases.{over_from}
 use Rattle.oftp_engine.proofs.Progress.{octets_step}
 use Rattle.oftp_engine.proofs.Stepping.{made_register}
 
--- what the law gives of an office that stood and is clean: its register was sound, and where it stands a stop leaves its register alone
+-- the contracts of an office that is open and clean: its register is sound, and where it is open a crash leaves this register and nothing
+-- else
 pub record KeepsLaw (old new : View) : Type 0 where
   pub stood : old.stands
   pub sound : IsSound old.register
   pub alone : new.stands → Only new.register new
 
--- by the law of an office
+-- by the contracts of an office
 pub lawful : {O : Type 0} (view : O → View) (sound : (o : O) → (view o).clean → (view o).stands → IsSound (view o).register)
     (alone : (o : O) → (view o).clean → (view o).stands → Only (view o).register (view o)) (old new : O)
     → (view old).clean → (view new).clean → (view old).stands → KeepsLaw (view old) (view new)
@@ -52,12 +53,12 @@ pub replay_all : (limit : Option ℕ) (setting : Setting) (given : List ℕ) (r 
     → apply_all r (run limit given (started setting r)).changes ≡ Ok now
 replay_all limit setting given r now sound same = (run_sound limit setting given r sound).replay ∙ ap Ok (sym same)
 
--- what the run over all the octets comes to
+-- the result of the run over all the octets
 whole_is : (setting : Setting) (given t : List ℕ) (r : Register) (d : Course) → Leads (started setting r) given d t → run None (t ++ []) d ≡ d → whole setting given r ≡ d
 unfolding is_stopped
 whole_is setting given t r d leads e = ap (λ (x : List ℕ). run None x (started setting r)) (sym (append-nil given)) ∙ leads.same [] None refl ∙ e
 
--- what is left of it from where it came
+-- the rest of it, from how far it went
 rests_at : (setting : Setting) (given t : List ℕ) (r : Register) (d : Course) → Leads (started setting r) given d t → whole setting given r ≡ run None t d
 unfolding is_stopped
 rests_at setting given t r d leads =
@@ -87,7 +88,7 @@ is_whole setting given t seen old new law h e = record {
   told = h.went.told;
 }
 
--- the writer told a fault
+-- the writer returned an error
 
 not_stopped : (c : Course) (n : ℕ) → is_stopped (Some (length (octets_of c.outputs) + n)) c ≡ false
 unfolding is_stopped
@@ -131,7 +132,7 @@ is_broken_off setting given old new law h =
       told = h.told;
     }
 
--- the office told a fault, or memory ran out: the run goes on from there
+-- after an error of the office, or out of memory, the run goes on from there
 
 goes_on : (setting : Setting) (given : List ℕ) (r : Register) (d e : Course) → Reaches (started setting r) given d e → Grows d e → Grows d (whole setting given r)
 unfolding is_stopped
@@ -164,7 +165,7 @@ register_step : (d : Course) (step : Step) → (advance d step).register ≡ reg
 unfolding advance
 register_step d step = refl
 
--- what a stop leaves holds the register of a course within the run
+-- the content after a crash holds the register of a course within the run
 prefix_at : {C : Type 0} (r : Register) (d w : Course) (least : ℕ) (holds' : C → Register → Type 0) (content : C) → Grows d w → Sound r d
     → least ≤ length d.changes → holds' content d.register → IsPrefix holds' w.changes r least (length d.changes) content
 prefix_at r d w least holds' content g sd le holds = record {
@@ -206,7 +207,7 @@ goes_within setting given r d step reaches =
     let h = reaches.same [] None refl in
     (h.0, ap (λ (x : List ℕ). run None x (started setting r)) (sym (append-nil given)) ∙ h.1)
 
--- where the session stopped, with so many changes
+-- where the session stopped, after this many changes
 abbrev stops_within : (setting : Setting) (given : List ℕ) (r : Register) (d : Course) (step : Step) (made : ℕ) → Sound r d → Grows d (whole setting given r)
     → Reaches (started setting r) given d (advance d step) → (made ≡ length d.changes) ⊎ (made ≡ length (advance d step).changes)
     → StopsWithin setting given r d.outputs made
@@ -306,7 +307,7 @@ is_out_of_memory setting given old new law h =
       told = h.told;
     }
 
--- each fault
+-- each error
 pub serves_from : (setting : Setting) (given : List ℕ) (old new : Scene) (law : KeepsLaw old.office new.office) (f : RunFault)
     → Fails (started setting old.office.register) given old new f → ServesErr setting given old new f
 serves_from setting given old new law fault.Read h = absurd h

@@ -1,4 +1,4 @@
--- Which events keep the invariant: breaks, stops, operator calls and new sessions, whole; of a step, that the files go on fitting.
+-- Which events preserve the invariant: breaks, crashes, operator's calls and new sessions, as a whole; of a step, that the files still fit.
 use Rattle.std.proofs.Common.{◌≡◌, ℕ, zero, suc, ◌≤◌, Bool, true, false, cond, ◌&&◌, nat_le, List, [], ◌∷◌, ◌++◌, length, take, Option, is_some, None, Some, Result, Ok, Err, refl, ap, sym, ◌∙◌, subst, inl, inr, arith}
 use Rattle.std.proofs.lemmas.Bool.{and_parts, leb-true}
 use Rattle.std.specs.Result.{result_unwrap_or}
@@ -30,7 +30,7 @@ use Rattle.oftp_session.specs.Calls.{Makes}
 use Rattle.oftp_engine.proofs.Orders.{IsOrder}
 use Rattle.oftp_engine.proofs.Stops.{leaves_next}
 
--- the two ends may be told in either order
+-- the two ends are symmetric
 meet_round : (a b : Option Course) (x y : List Command) → Meet a x b y → Meet b y a x
 meet_round None None x y h = tt
 meet_round None (Some d) x y h = tt
@@ -46,11 +46,11 @@ stands_round w h = record {
   meet = meet_round w.one.session w.other.session w.one.coming w.other.coming h.meet;
 }
 
--- where a session is known
+-- a station with a known session
 pub at_session : (s : Station) (c : Course) (r : Register) → s.session ≡ Some c → MayLeave s.start c r → StationLeaves s r
 at_session s c r e m = subst (λ o. LeftBy s.start o r) (sym e) m
 
--- a station breaks off or stops: it leaves a register that a stop may leave now
+-- a session breaks, or its station crashes: it leaves a register that a crash may leave now
 pub stands_stopped : (w : World) (r : Register) → StationLeaves w.one r → WorldStands w → WorldStands (record w { one = stopped_with w.one r })
 stands_stopped w r leaves h = record {
   one = record { registers = λ s e. subst IsSound (sym e) (h.one.registers r leaves); room = h.one.room; session = tt; coming = refl };
@@ -132,7 +132,7 @@ stands_ordered w (Some k) it none h = by (apply w.one.start k) refl
     by (Ok s) e = stands_changed w k s none (it.fit w.one.start) (λ there. ordered_grounds k w.one.start there it.ordered) e h
     by (Err cause) e = h
 
--- Of a step: all pairs of registers that stops may leave go on fitting.
+-- Of a step: all pairs of registers that crashes may leave still fit.
 
 step_made : (r after there : Register) (change : Option Change) → IsSound r → IsSound there → IfAny change (Grounds r there) → Makes change r after → BothFit r there → BothFit after there
 step_made r after there None sound sound' g made fit = subst (λ x. BothFit x there) (sym made) fit
@@ -152,7 +152,7 @@ step_fits w c step after e h made grounds r there leaves there_leaves =
       | inr k ↦ (let b : StationLeaves w.one r = at_session w.one c r e k.1 in (h.to_other r there b there_leaves, h.to_one r there b there_leaves))
     ]
 
--- A stop within a step: the step was made, or not, and what it said is lost.
+-- A crash within a step: the step was made, or not, and what it sent is lost.
 
 stopped_at : (w : World) (r : Register) → IsSound r → ((there : Register) → StationLeaves w.other there → BothFit r there)
     → ((d : Course) → w.other.session ≡ Some d → MayCome r d.phase w.other.coming) → WorldStands w → WorldStands (record w { one = stopped_with w.one r })
@@ -204,9 +204,9 @@ stands_within w c step after n e h sound made grounds = by (nat_le (latest c.out
         ])
         h
 
--- A fault of the office within a step: the station stops as it would else, and tells the other one.
+-- An error of the office within a step: the station stops as after a crash, and sends ESID to the other.
 
--- a station without a session tells the other one that the session ends
+-- a station that ends its session sends ESID to the other
 stands_told : (w : World) (e : Esid) → w.one.session ≡ None → WorldStands w → WorldStands (record w { other = told w.other (Some (command.Esid e)) })
 stands_told w e none h = by w.other.session refl
   where

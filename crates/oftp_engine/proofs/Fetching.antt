@@ -1,4 +1,4 @@
--- A file that is fetched some rows at a time.
+-- A file that is fetched in pieces of some rows.
 use Rattle.std.proofs.Common.{◌≡◌, ◌≢◌, ◌≤◌, ◌+◌, ◌-◌, ◌++◌, ℕ, List, length, Option, take, drop, inl, inr, ap, ◌∙◌, sym, subst, refl, arith, append_assoc, length-append}
 use Rattle.std.proofs.Math.Seq.{take-add, take-append-add, take-append_seam}
 use Rattle.std.proofs.lemmas.List.{take-append-le}
@@ -38,7 +38,7 @@ piece_more r e from most =
 file_more : (r : Register) (e : IncomingEntry) (from : ℕ) → from ≤ e.rows → fetched r e ≡ piece_of r e 0 from ++ piece_of r e from (e.rows - from)
 file_more r e from few = ap (piece_of r e 0) (omega (arith, few)) ∙ piece_more r e from (e.rows - from)
 
--- an office that answered, and then answered or not
+-- an office that returned no error, and then returned one or didn't
 answered_on : (old mid new : View) → OfficeAnswered old mid → (new.clean → mid.clean) → OfficeAnswered mid new → OfficeAnswered old new
 answered_on old mid new p clean q = record {
   told = q.told ∙ p.told;
@@ -93,7 +93,7 @@ module _ {W : Type 0} (contents : W → Option (List ℕ)) (e : IncomingEntry) (
         (ap (λ (x : List ℕ). piece_of old.register e 0 from ++ x) same ∙ sym (piece_more old.register e from most)) both;
   }
 
-  -- where the next one isn't there, a beginning of the file is out
+  -- if the next piece is missing, a beginning of the file is out
   pub fetched_so_far : new.clean → old.stands → IsPartOut (fetched old.register e) (contents front.inner) (contents here.inner)
   fetched_so_far h stood =
       let done = piece_of old.register e 0 from in
@@ -105,7 +105,7 @@ module _ {W : Type 0} (contents : W → Option (List ℕ)) (e : IncomingEntry) (
         out = subst (Appends (contents front.inner) (contents here.inner)) (sym (ap (take (length done)) file ∙ take-append_seam done rest)) (so.pieces (clean h) stood);
       }
 
-  -- where it is out in part
+  -- if the next piece is out in part
   pub fetched_in_part : (piece : List ℕ) → from + most ≤ e.rows → (new.clean → mid.stands → piece ≡ piece_of mid.register e from most)
       → SentPart contents here next piece → new.clean → old.stands → IsPartOut (fetched old.register e) (contents front.inner) (contents next.inner)
   fetched_in_part piece fits is sent h stood =
@@ -125,7 +125,7 @@ module _ {W : Type 0} (contents : W → Option (List ℕ)) (e : IncomingEntry) (
         out = subst (Appends (contents front.inner) (contents next.inner)) (sym (ap (take (length done + sent.count)) file ∙ out)) both;
       }
 
-  -- what the office told then
+  -- the errors of the office then
   pub answered_so : OfficeAnswered mid new → OfficeAnswered old new
   answered_so answered = answered_on old mid new so.answered clean answered
 
@@ -142,7 +142,7 @@ fetched_whole contents e from old now front here so end clean stood =
     let same : from ≡ e.rows = omega (arith, so.few, end) in
     subst (λ (n : ℕ). Appends (contents front.inner) (contents here.inner) (piece_of old.register e 0 n)) same (so.pieces clean stood)
 
--- a writer that told nothing, where the fault isn't its own
+-- a writer without an error, where the error isn't its own
 pub unwritten : {W : Type 0} (front here : Port W) (f : RunFault) → here.faults ≡ front.faults → f ≢ fault.Write → WriterErr front here f
 unwritten front here fault.Read same other = same
 unwritten front here fault.Write same other = absurd (other refl)

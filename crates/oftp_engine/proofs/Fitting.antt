@@ -1,4 +1,4 @@
--- Each change that rests on its grounds keeps the files of two stations fitting.
+-- Each change that has its grounds keeps the files of two stations consistent.
 use Rattle.std.proofs.Common.{◌≡◌, ℕ, true, false, ◌||◌, ◌&&◌, nat_le, List, [], ◌++◌, length, Option, None, Some, Ok, refl, ap, sym, ◌∙◌, subst, inl, inr}
 use Rattle.std.proofs.lemmas.Bool.{cases_Bool, and_parts, false≢true}
 use Rattle.std.proofs.lemmas.List.{append-nil}
@@ -20,7 +20,7 @@ use Rattle.oftp_vfile.specs.VirtualFile.{BeginsWith}
 use Rattle.oftp_engine.proofs.Standing.{IsPartOf, FileFits}
 use Rattle.oftp_register.specs.ByIdentity.{WasStarted}
 
--- states that are told apart
+-- states that differ
 pub not_handed : (state : OutgoingState) → is_handed state ≡ false → (state ≡ Delivered → ⊥) × (state ≡ Returned → ⊥)
 not_handed state h = (
   λ e. absurd (let q : is_handed Delivered ≡ false = subst (λ s. is_handed s ≡ false) e h in let b : true ≡ false = q in cc),
@@ -65,7 +65,7 @@ whole_fits x e state w delivered returned fit = record {
   returned = returned;
 }
 
--- a file that is handed over where it is whole
+-- a file that is handed over, if it is whole there
 hand_over : (x : Outgoing) (e : Option Incoming) → Has e (λ e. e.state ≡ Whole) → FileFits (Some x) e → let y : Outgoing = record x { state = Handed } in FileFits (Some y) e
 hand_over x None w fit = absurd w
 hand_over x (Some e) w fit = whole_fits x e Handed w (λ k. absurd (let q : Handed ≡ Delivered = k in cc)) (λ k. absurd (let q : Handed ≡ Returned = k in cc)) fit
@@ -120,7 +120,7 @@ handed_fits x y e h w fit = subst (λ (z : Outgoing). FileFits (Some z) e) (allo
 
 -- Changes of an incoming file.
 
--- a file that is open isn't held as handed over there
+-- a file that is open there isn't held as handed over
 unhanded : (f : Outgoing) (e : Incoming) → e.state ≡ Open → IsPartOf f e → is_handed f.state ≡ false
 unhanded f e o fit = elim (cases_Bool (is_handed f.state)) [ inl k ↦ absurd (open_or_whole e.state o (fit.handed k)) | inr k ↦ k ]
 

@@ -1,4 +1,4 @@
--- What a change rests on at the other station, so that their files go on fitting.
+-- What a change needs of the other station, so that their files stay consistent.
 use Rattle.std.specs.Prelude.{◌≡◌, ℕ, List, ◌++◌, Some, ⊤}
 use Rattle.oftp_register.specs.declared.change.Change.{Change}
 use Rattle.oftp_register.specs.declared.change.Change.TheVariants as change
@@ -13,8 +13,8 @@ use Rattle.oftp_engine.proofs.Standing.{IsWholeAt}
 abbrev pub OfEntry : {A : Type 0} → ℕ → List A → (A → Type 0) → Type 0
 OfEntry {A = A} n entries P = (x : A) → entry_at n entries ≡ Some x → P x
 
--- by cases of the change: a file that starts is one of the other's, with its header; the rows that are kept begin it; those that close it
--- are all of it; a file is handed over where it is whole there; and a response that is filed was issued there
+-- By cases of the change. A file that starts is one of the other's, with its header; rows that are kept are a beginning of it, and those
+-- that close it are all of it. A file is handed over if it is whole there. A response that is added was issued there.
 abbrev pub Grounds : Register → Register → Change → Type 0
 Grounds r there (change.Submit identity format longest description rows) = ⊤
 Grounds r there (change.Start identity format longest description count) = Has (out_at there identity) (λ f. (format ≡ f.format) × (longest ≡ f.longest))

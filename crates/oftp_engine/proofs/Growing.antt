@@ -1,4 +1,4 @@
--- A list of jobs that grows: jobs that are done behind jobs are one list.
+-- A list of jobs that is extended: jobs that are done after jobs are one list.
 use Rattle.std.proofs.Common.{◌≡◌, ◌∙◌, ap, sym, subst, refl, arith, ℕ, ◌+◌, List, [], ◌∷◌, ◌++◌, length, Option, Result, Ok, Err, length-append, append_assoc}
 use Rattle.std.proofs.lemmas.List.{append-nil}
 use Rattle.oftp_partners.specs.Book.{BookData}
@@ -24,7 +24,7 @@ module _ {R W : Type 0} (remaining : R → Option (List ℕ)) (contents : W → 
   abbrev Jobs : Type 0
   Jobs = List (Job R W)
 
-  -- entries behind entries
+  -- entries after entries
 
   after_on : (r : Register) (es fs : List Entry) → after_jobs r (es ++ fs) ≡ after_jobs (after_jobs r es) fs
   after_on r [] fs = refl
@@ -86,7 +86,7 @@ module _ {R W : Type 0} (remaining : R → Option (List ℕ)) (contents : W → 
     one_job alone (Ok x) h = one_done alone h
     one_job alone (Err f) h = one_stopped f h
 
-  -- jobs behind jobs
+  -- jobs after jobs
   module _ (first mid new : View) (olds news : Jobs) (h : IsRun remaining contents book first.register first.told mid olds news) where
     abbrev r : Register
     r = first.register
@@ -143,7 +143,7 @@ module _ {R W : Type 0} (remaining : R → Option (List ℕ)) (contents : W → 
     runs_on more done (Ok x) k = run_on more done k
     runs_on more done (Err f) k = stops_on more done f k
 
-  -- a session that waits behind jobs: the register is the one after all their changes and its own
+  -- a session that waits after jobs: the register is the one after all their changes and its own
   pub waits_behind : (first mid : View) (olds news : Jobs) (h : IsRun remaining contents book first.register first.told mid olds news)
       (setting : Setting) (given : List ℕ) (talk : Dialogue) (begun now : Scene) → begun.office.register ≡ mid.register → Listens setting given talk begun now
       → apply_all first.register (changes_of first.register h.entries ++ (whole setting given mid.register).changes) ≡ Ok now.office.register

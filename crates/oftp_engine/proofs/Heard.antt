@@ -1,4 +1,4 @@
--- What comes to a session that waits, from the one that speaks: by the phase of the one that speaks.
+-- What a waiting session hears from the one that speaks, by the phase of that one.
 use Rattle.std.proofs.Common.{◌≡◌, ℕ, Bool, true, false, List, [], ◌∷◌, ◌++◌, map, take, All, refl, sym, ◌∙◌, subst}
 use Rattle.oftp_wire.specs.declared.command.Command.{Command}
 use Rattle.oftp_wire.specs.declared.command.Command.TheVariants as command
@@ -70,7 +70,7 @@ pub data Heard (c : Command) (rest : List Command) (one other : Talk) : Type 0 w
 pub one_left : (c d : Command) (rest : List Command) → c ∷ rest ≡ d ∷ [] → (c ≡ d) × (rest ≡ [])
 one_left c d rest h = (cc, cc)
 
--- where something is on its way to it, it isn't told nothing
+-- if something is on its way to it, something was sent to it
 told_none : {A : Type 0} (c : Command) (rest : List Command) (one : Talk) → one.coming ≡ c ∷ rest → IsTold [] one → A
 told_none c rest one h k = absurd (let q : c ∷ rest ≡ [] = sym h ∙ k.told in cc)
 

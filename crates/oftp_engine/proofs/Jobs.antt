@@ -30,7 +30,7 @@ use Rattle.oftp_engine.proofs.JobsSoFar.{IsRunning}
 use Rattle.oftp_engine.proofs.Ending.{take_past}
 use Rattle.oftp_engine.proofs.Stepping.{made_register}
 
--- a session that was served is a job that is done or broken off
+-- a session that was served is a job that is done or cut short
 module _ {R W : Type 0} (remaining : R → Option (List ℕ)) (contents : W → Option (List ℕ)) (book : BookData) (x y : View) (a b : SessionJob R W) where
   abbrev setting' : Setting
   setting' = setting_of book a.role
@@ -67,7 +67,7 @@ module _ {R W : Type 0} (remaining : R → Option (List ℕ)) (contents : W → 
   went_whole answer role left given gave all ends told input =
       went_through answer role left given gave None ((record { contents = all.out.contents; moved = all.out.taken }, all.told), all.register, all.replay) ends told input all.stands all.faults
 
-  -- how far a session came that was broken off
+  -- how far a session went that was cut short
   abbrev stop_of : List ℕ → List Output → ℕ → Stop
   stop_of given outs made = record { changes = (whole setting' given x.register).changes; answered = answered outs (length (octets_of outs)); made = made }
 
@@ -148,7 +148,7 @@ replay_one (Some k) r s made = made
 made_one : (change : Option Change) (r s : Register) → Makes change r s → Makes change r (register_after r change)
 made_one change r s made = subst (Makes change r) (made_register change r s made) made
 
--- what a stop leaves within a call: the change is made or not
+-- what a crash leaves within a call: the change is made or not
 pub left_before : (change : Option Change) (old new : View) → IsBefore change old new → LeavesSome (with_change [] change) 0 0 old.register new
 left_before None old new h = record {
   kept = omega arith;
@@ -211,9 +211,9 @@ left_all changes least old new after le made same left =
       };
     }
 
--- an operator's call that was carried out is a job that is done or broken off
+-- an operator's call that was carried out is a job that is done or cut short
 module _ {R W : Type 0} (remaining : R → Option (List ℕ)) (contents : W → Option (List ℕ)) (book : BookData) (x y : View) (a b : CallJob W) where
-  -- the office told a fault within the call, with so many changes made
+  -- the office returned an error within the call, with this many changes made
   refused_call : (deed : Deed) (made : ℕ) → b.call ≡ a.call → b.result ≡ Some (Err fault.Office) → IsDeed book x.register a.call deed
       → IsUndecided deed (scene contents x a.writer) (scene contents y b.writer)
       → CallRefused contents book x.register a b (record { changes = with_change [] deed.change; answered = 0; made = made })
@@ -300,7 +300,7 @@ module _ {R W : Type 0} (remaining : R → Option (List ℕ)) (contents : W → 
         ends = record { faults = h.1.faults; stands = h.1.stands; left = h.1.left };
       })
 
--- jobs in turn
+-- jobs in order
 module _ {R W : Type 0} (remaining : R → Option (List ℕ)) (contents : W → Option (List ℕ)) (book : BookData) where
   abbrev Jobs : Type 0
   Jobs = List (Job R W)
@@ -408,7 +408,7 @@ module _ {R W : Type 0} (remaining : R → Option (List ℕ)) (contents : W → 
           faults = job.faults ∙ h.faults;
         }
 
-    -- a job is broken off, and the list ends
+    -- a job is cut short, and the list ends
     pub running_stops : (f : RunFault) → IsJobStopped remaining contents book old new here b f → IsStopped remaining contents book first.register first.told new olds (set news i b) f
     running_stops f job = record {
       entries = h.entries;

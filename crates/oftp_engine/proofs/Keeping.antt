@@ -1,4 +1,4 @@
--- Each event keeps the invariant, where each step of a session is a step.
+-- Each event preserves the invariant, if each step of a session does.
 use Rattle.std.proofs.Common.{◌≡◌, ℕ, Bool, true, false, cond, List, [], ◌∷◌, Option, None, Some, refl}
 use Rattle.oftp_wire.specs.declared.command.Command.{Command}
 use Rattle.oftp_register.specs.Register.{Register}
@@ -12,7 +12,7 @@ use Rattle.oftp_engine.proofs.Orders.{deed_ordered}
 use Rattle.oftp_engine.proofs.Stepped.{IsStep, stands_stepped}
 use Rattle.oftp_engine.proofs.Promised.{two_stations_from}
 
--- what is left to show: of each turn and of each command that comes
+-- what is left to prove of each turn and of each command that arrives
 pub record StepsGoOn : Type 0 where
   pub turns : (w : World) (c : Course) → w.one.session ≡ Some c → WorldStands w → (after : Register) × IsStep w c (turned c.setting c.phase c.register) w.one.coming after
   pub takes : (w : World) (c : Course) (command : Command) (rest : List Command) → w.one.session ≡ Some c → w.one.coming ≡ command ∷ rest → WorldStands w

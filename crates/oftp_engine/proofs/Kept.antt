@@ -1,4 +1,4 @@
--- Each change that rests on its grounds keeps the files of two stations fitting: whole registers.
+-- Each change that has its grounds keeps the files of two stations consistent: whole registers.
 use Rattle.std.proofs.Common.{◌≡◌, ℕ, Bool, true, false, cond, [], ◌++◌, Option, None, Some, is_some, Result, Ok, refl, ap, sym, ◌∙◌, subst}
 use Rattle.std.proofs.lemmas.Bool.{false≢true}
 use Rattle.std.specs.Option.{option_map}
@@ -61,9 +61,9 @@ submitted_fits r s there file new h fit =
     subst (λ (z : Register). BothFit z there) (submitted_ok r s file h).1
     (λ i. subst (λ o. FileFits o (in_at there i)) (sym (named_push outgoing_name i r.outgoing file)) (fits_new file (out_at r i) (same_identity file.identity i) (in_at there i) new (fit.0 i)), fit.1)
 
--- a response is filed
+-- a response is added
 
--- a response was issued to a whole file alone
+-- a response was issued only to a whole file
 pub answered_whole : (kind : ResponseKind) (e : Incoming) → IsSoundIncoming e → IsAnsweredBy kind e → e.state ≡ Whole
 answered_whole kind e sound a = by e.state refl
   where

@@ -1,4 +1,4 @@
--- What a station's register keeps for ever, so that what is on its way to the other one stays true.
+-- What a station's register never loses, so that what is on its way to the other stays true.
 use Rattle.std.proofs.Common.{◌≡◌, ℕ, Bool, true, false, cond, ◌||◌, ◌&&◌, nat_le, List, [], ◌++◌, length, map, Option, None, Some, Result, Ok, refl, ap, sym, ◌∙◌, subst}
 use Rattle.std.specs.Option.{option_map}
 use Rattle.oftp_register.specs.declared.change.Cause.{Cause}
@@ -22,7 +22,7 @@ use Rattle.oftp_register.proofs.AdditionLemmas.{filed_ok, submitted_ok}
 use Rattle.oftp_register.proofs.ByIdentityLemmas.{changed_named, started_named, named_push, named_map, settled_name}
 use Rattle.oftp_engine.proofs.Fitting.{IsSameContent, issued_first, sent_answers}
 
--- what an incoming file keeps
+-- what an incoming file never loses
 pub record IsLaterFile (e e' : Incoming) : Type 0 where
   pub whole : e.state ≡ Whole → e'.state ≡ Whole
   pub answered : (kind : ResponseKind) → IsAnsweredBy kind e → IsAnsweredBy kind e'

@@ -1,4 +1,4 @@
--- What a stop leaves of a session, in the words of a served one, is what a stop of a world leaves.
+-- What a crash leaves of a session, in the words of `serve`, is what a crash of a station leaves.
 use Rattle.std.proofs.Common.{◌≡◌, ℕ, ◌≤◌, true, nat_le, List, length, Some, Result, sym, ap, ◌∙◌, subst, arith}
 use Rattle.std.proofs.lemmas.Bool.{and_from, cond-true, le-leb}
 use Rattle.std.specs.Result.{result_unwrap_or}
@@ -12,7 +12,7 @@ use Rattle.oftp_engine.specs.World.{Doing, FailsInStep, Happening, Stops, StopsI
 use Rattle.oftp_engine.proofs.Courses.{output_later}
 use Rattle.oftp_engine.proofs.Stops.{answered_more}
 
--- a stop may leave so many changes
+-- a crash may leave this many changes
 may_leave : (c : Course) (out : List Output) (n : ℕ) → latest out ≤ n → n ≤ length c.changes → may_stop c out n ≡ true
 may_leave c out n least most = and_from (nat_le (latest out) n) (nat_le n (length c.changes)) (le-leb (latest out) n least) (le-leb n (length c.changes) most)
 
@@ -24,7 +24,7 @@ module _ (w : World) (c : Course) (out : List Output) (low made : ℕ) (left : R
   stops : may_stop c out p.count ≡ true
   stops = let a = p.least in let l = least in may_leave c out p.count (omega arith) p.most
 
-  -- a stop there, and a fault of the office there
+  -- a crash there, and an error of the office there
   stop_leaves : register_of (stops_at w c out p.count).one ≡ left
   stop_leaves =
       let after : World = record w { one = stopped_with w.one (left_after w.one.start c p.count) } in

@@ -1,4 +1,4 @@
--- What is left to show of the steps: of one session by itself, and of the link between two.
+-- What is left to prove of the steps: of one session alone, and of the link between two.
 use Rattle.std.proofs.Common.{◌≡◌, false, List, ◌∷◌, Some, subst}
 use Rattle.oftp_wire.specs.declared.command.Command.{Command}
 use Rattle.oftp_register.specs.Register.{Register}
@@ -18,12 +18,12 @@ use Rattle.oftp_engine.proofs.StepGrounds.{came_grounds, turned_grounds}
 use Rattle.oftp_engine.proofs.Next.{came_next, turned_next}
 use Rattle.oftp_engine.proofs.Keeping.{StepsGoOn, two_stations_on}
 
--- a step of one session: its change is made, and leaves a sound register, what the next phase says of it, and room
+-- a step of one session: its change is made, and leaves a sound register, the facts of the next phase, and room
 pub record GoesOn (r : Register) (step : Step) : Type 0 where
   pub proceeds : Proceeds r step
   pub room : HasRoom step.phase
 
--- of two sessions with each other: what is said may come to the other, and they meet again
+-- of two sessions with each other: what is sent may arrive, and they are consistent again
 pub record MeetsAgain (w : World) (c d : Course) (step : Step) (rest : List Command) : Type 0 where
   pub said : MayCome (register_after c.register step.change) d.phase (with_said w.other.coming step.output)
   pub meet : is_over step.phase ≡ false → Meet (Some (advance c step)) rest (Some d) (with_said w.other.coming step.output)
@@ -87,6 +87,6 @@ steps_from link = record {
       ));
 }
 
--- the promise, from what is left
+-- the promise, from what is left to prove
 pub two_stations_left : LinkGoesOn → TwoStations
 two_stations_left link = two_stations_on (steps_from link)

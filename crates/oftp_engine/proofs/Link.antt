@@ -1,4 +1,4 @@
--- DATA and EFID between two sessions: what is said may come to the other, and the link between both goes on.
+-- DATA and EFID between two sessions: what is sent may arrive, and the link between both goes on.
 use Rattle.std.proofs.Common.{◌≡◌, ℕ, zero, suc, ◌+◌, ◌-◌, ◌≤◌, Bool, List, [], ◌∷◌, ◌++◌, take, drop, map, slice_get, None, Some, refl, ap, sym, ◌∙◌, subst, arith, append_assoc}
 use Rattle.std.proofs.lemmas.List.{append-nil, map-append, take-append-drop}
 use Rattle.oftp_wire.specs.declared.command.Command.{Command}
@@ -14,7 +14,7 @@ use Rattle.oftp_session.specs.Sending.{payloads_in}
 use Rattle.oftp_engine.proofs.Standing.{ComesFrom, IsBeginning, MayTake, MayCome, IsTaking, Talk}
 use Rattle.oftp_engine.proofs.Says.{out_entry}
 
--- payloads on the way, and what comes behind them
+-- payloads on the way, and what comes after them
 pub datas_may_come : (r : Register) (i : Identity) (from : ℕ) (payloads on_the_way : List (List ℕ)) (behind : List Command) → MayTake r i from (payloads ++ on_the_way) behind
     → MayTake r i from payloads (map command.Data on_the_way ++ behind)
 datas_may_come r i from payloads [] behind h = subst (λ x. MayTake r i from x behind) (append-nil payloads) h
@@ -49,7 +49,7 @@ sent_begins r contact t n sound entry room = record {
   split = take-append-drop n (payloads_in contact t);
 }
 
--- what the listener has and what is on its way, as the speaker knows it
+-- what the listener has and what is on its way, as the speaker knows
 taken_so : (r : Register) (identity : Identity) (from : ℕ) (payloads : List (List ℕ)) (behind : List Command) (other : Talk) (k : IsTaking identity from payloads behind other) (more : List Command)
     → MayTake r identity from payloads more → MayTake r k.receipt.file.identity k.receipt.from k.receipt.payloads (map command.Data k.on_the_way ++ more)
 taken_so r identity from payloads behind other k more h =
@@ -58,7 +58,7 @@ taken_so r identity from payloads behind other k more h =
     (subst (λ c. MayTake r identity c (k.receipt.payloads ++ k.on_the_way) more) (sym k.from_row)
     (subst (λ x. MayTake r identity from x more) (sym k.all) h)))
 
--- DATA is said: the payload may come to the listener
+-- DATA is sent: the payload may arrive at the listener
 pub data_may_come : (r : Register) (contact : Contact) (t : Transfer) (payload : List ℕ) (other : Talk) → IsSound r → entry_at t.number r.outgoing ≡ Some t.file
     → 128 ≤ contact.link.buffer → slice_get (payloads_in contact t) t.sent ≡ Some payload
     → IsTaking t.file.identity t.from (take t.sent (payloads_in contact t)) [] other → MayCome r other.phase (other.coming ++ command.Data payload ∷ [])
@@ -86,7 +86,7 @@ data_link contact t payload other next k = record {
   all = sym (append_assoc k.receipt.payloads k.on_the_way (payload ∷ [])) ∙ ap (λ x. x ++ payload ∷ []) k.all ∙ take_one_more t.sent (payloads_in contact t) payload next;
 }
 
--- EFID is said behind the last payload alone
+-- EFID is sent only after the last payload
 pub efid_may_come : (r : Register) (contact : Contact) (t : Transfer) (efid : Efid) (other : Talk) → IsSound r → entry_at t.number r.outgoing ≡ Some t.file → 128 ≤ contact.link.buffer
     → slice_get (payloads_in contact t) t.sent ≡ None
     → IsTaking t.file.identity t.from (take t.sent (payloads_in contact t)) [] other → MayCome r other.phase (other.coming ++ command.Efid efid ∷ [])
@@ -119,7 +119,7 @@ efid_link contact t efid other none k = record {
   all = k.all ∙ none_left t.sent (payloads_in contact t) none;
 }
 
--- the listener takes a payload, and the link goes on: rows that it keeps don't change what names the file
+-- the listener takes a payload, and the link goes on: rows that it keeps don't change the identity of the file
 pub payload_link : (contact : Contact) (f g : Receipt) (payload : List ℕ) (calls : Bool) (identity : Identity) (from : ℕ) (payloads on_the_way : List (List ℕ)) (behind : List Command)
     → f.file.identity ≡ identity → f.from ≡ from → f.payloads ++ payload ∷ on_the_way ≡ payloads
     → g.file.identity ≡ f.file.identity → g.from ≡ f.from → g.payloads ≡ f.payloads ++ payload ∷ []

@@ -1,4 +1,4 @@
--- A command that comes to a listener or to one that opens, and the link between two sessions.
+-- A command that arrives at a listener or at a session that opens, and the link between two sessions.
 use Rattle.std.proofs.Common.{◌≡◌, ◌⊎◌, ℕ, ◌+◌, Bool, true, nat_lt, List, [], ◌∷◌, ◌++◌, length, map, take, All, Option, None, Some, is_some, Result, Ok, Err, refl, ap, sym, ◌∙◌, subst, inl, inr}
 use Rattle.std.proofs.lemmas.List.Elements.{All-append, All-cons, All-head, All-nil, All-tail}
 use Rattle.oftp_wire.specs.declared.command.Command.{Command}
@@ -46,15 +46,15 @@ use Rattle.oftp_engine.proofs.TakeLinks.{fails_links, leaves_links}
 use Rattle.oftp_engine.proofs.Link.{payload_link}
 use Rattle.oftp_engine.proofs.Heard.{IsGreeted, Heard, Greeted, Response, Offered, Sent, Ended, HearsResponse, HearsOffer, HearsData, HearsEnd, heard, one_left}
 
--- one with the first command that comes to it
+-- a session with the first command that arrives
 abbrev to : Bool → Phase → Command → List Command → Talk
 to calls p c coming = record { calls = calls; phase = p; coming = c ∷ coming }
 
--- the other one, with what comes to it now
+-- the other session, with what is on its way to it now
 abbrev now_with : Talk → List Command → Talk
 now_with other coming = record other { coming = coming }
 
--- where the one can't speak, the other one did
+-- if the one can't speak, the other did
 hears : (calls : Bool) (p : Phase) (c : Command) (coming : List Command) (other : Talk) → (Speaks (to calls p c coming) p other → ⊥) → Linked (to calls p c coming) other
     → Heard c coming (to calls p c coming) other
 hears calls p c coming other mute s = elim s [ inl k ↦ absurd (mute k) | inr k ↦ heard c coming (to calls p c coming) other other.phase refl refl k ]
@@ -213,7 +213,7 @@ offer_links setting contact r after sfid calls coming other made h = by (verdict
               (SfnaComes _ (ap (λ x. x ++ answer ∷ []) h.none) (record { contact = contact; listens = refl; told = h.alone })));
         }
 
--- a response came to a listener
+-- a response arrived at a listener
 heard_response : (contact : Contact) (c : Command) (calls : Bool) (coming : List Command) (other : Talk) → IsResponseCommand c → Linked (to calls (ListenerIdle contact) c coming) other
     → HearsResponse c coming (to calls (ListenerIdle contact) c coming) other
 heard_response contact c calls coming other is (inl k) = absurd (let l = one_left c command.Cd coming k.comes in subst IsResponseCommand l.0 is)
@@ -225,7 +225,7 @@ heard_response contact c calls coming other is (inr k) = elim (heard c coming (t
   | Ended h ↦ absurd (let q : ListenerIdle contact ≡ Receiving h.takes.contact h.takes.receipt = h.takes.takes in cc)
 ]
 
--- an offer came to a listener
+-- an offer arrived at a listener
 heard_offer : (contact : Contact) (sfid : Sfid) (calls : Bool) (coming : List Command) (other : Talk) → Linked (to calls (ListenerIdle contact) (command.Sfid sfid) coming) other
     → HearsOffer (command.Sfid sfid) coming (to calls (ListenerIdle contact) (command.Sfid sfid) coming) other
 heard_offer contact sfid calls coming other (inl k) = absurd (let l = one_left (command.Sfid sfid) command.Cd coming k.comes in let q : command.Sfid sfid ≡ command.Cd = l.0 in cc)
@@ -237,7 +237,7 @@ heard_offer contact sfid calls coming other (inr k) = elim (heard (command.Sfid 
   | Ended h ↦ absurd (let q : ListenerIdle contact ≡ Receiving h.takes.contact h.takes.receipt = h.takes.takes in cc)
 ]
 
--- the direction came to a listener
+-- CD arrived at a listener
 heard_direction : (contact : Contact) (calls : Bool) (coming : List Command) (other : Talk) → Linked (to calls (ListenerIdle contact) command.Cd coming) other → MaySpeak [] coming other
 heard_direction contact calls coming other (inl k) = record { comes = (one_left command.Cd command.Cd coming k.comes).1; listens = k.listens }
 heard_direction contact calls coming other (inr k) = elim (heard command.Cd coming (to calls (ListenerIdle contact) command.Cd coming) other other.phase refl refl k) [
@@ -265,7 +265,7 @@ listen_links setting contact r after _ calls coming other made come s = fails_li
 
 -- one that takes a file
 
--- a file on its way: whose it is, from which row on, its payloads that were sent, and what comes behind them
+-- a file on its way: its identity, its first row, its payloads that were sent, and what comes after them
 record Flow : Type 0 where
   identity : Identity
   from : ℕ
@@ -281,13 +281,13 @@ data_flow contact t = record { identity = t.file.identity; from = t.from; payloa
 abbrev end_flow : Contact → Transfer → Efid → Flow
 end_flow contact t efid = record { identity = t.file.identity; from = t.from; payloads = payloads_in contact t; behind = command.Efid efid ∷ [] }
 
--- the other one sends payloads of a file, or has sent all of them
+-- the other session sends payloads of a file, or has sent all of them
 record IsFeeding (w : Flow) (other : Talk) : Type 0 where
   credits : All IsCredit other.coming
   may : (s : Register) (coming : List Command) → All IsCredit coming → MayCome s other.phase coming
   goes : (coming : List Command) (one : Talk) → All IsCredit coming → TakesFlow w one → Speaks (now_with other coming) other.phase one
 
--- CDT alone may come to one that sends
+-- only CDT may arrive at a session that sends
 credits_come : (coming : List Command) → All IsCredit coming → MayCredit coming
 credits_come [] h = tt
 credits_come (command.Cdt ∷ coming) h = credits_come coming (All-tail IsCredit command.Cdt coming h)
@@ -360,7 +360,7 @@ data_links contact f payload r after calls coming other w made come feeds n =
     either_links (nat_lt contact.link.buffer (length payload + 1)) (fails BufferSizeError) (on_taken contact f payload (taken (carried_by f) payload)) r after calls coming other
     (λ m. fails_links BufferSizeError r after calls coming other m come) (by_taken (taken (carried_by f) payload)) made
   where
-    -- the window is full: its rows are kept, and CDT is said
+    -- the window is full: its rows are kept, and CDT is sent
     kept : (t : Taking) → let g : Receipt = with_rows (with_payload f payload) (rows_to_keep (with_payload f payload) t) in
         Links calls coming other (answers (Receiving contact g) (keeping f.number (rows_to_keep (with_payload f payload) t)) command.Cdt) after
     kept t =
@@ -383,7 +383,7 @@ data_links contact f payload r after calls coming other w made come feeds n =
           meet = λ _. inr (feeds.goes other.coming _ feeds.credits (took_next contact f g payload calls coming w n refl refl refl));
         }) m
 
--- EFID stands behind the last payload
+-- EFID comes after the last payload
 ended_alone : (contact : Contact) (f : Receipt) (efid was : Efid) (calls : Bool) (coming : List Command) (identity : Identity) (from : ℕ) (payloads : List (List ℕ))
     → IsTaking identity from payloads (command.Efid was ∷ []) (to calls (Receiving contact f) (command.Efid efid) coming) → (coming ≡ []) × (f.file.identity ≡ identity)
 ended_alone contact f efid was calls coming identity from payloads k = (by k.on_the_way k.told, ap (λ (x : Receipt). x.file.identity) is ∙ k.same)
@@ -404,7 +404,7 @@ not_ended contact f efid calls coming identity from payloads k = by k.on_the_way
     by [] told = let q : command.Efid efid ∷ coming ≡ [] = told in cc
     by (p ∷ ps) told = let q : command.Efid efid ∷ coming ≡ command.Data p ∷ (map command.Data ps ++ []) = told in cc
 
--- the answer to EFID behind credit: where the file is whole, it may come
+-- the answer to EFID after credit: if the file is whole, it may arrive
 answer_comes : (s : Register) (t : Transfer) (coming : List Command) (answer : Command) → All IsCredit coming → MayAnswerEnd s t.file (answer ∷ []) → MayAnswerEnd s t.file (coming ++ answer ∷ [])
 answer_comes s t [] answer h k = k
 answer_comes s t (command.Cdt ∷ coming) answer h k = tt
@@ -438,7 +438,7 @@ end_links contact f efid r after calls coming other sound holds made come h =
         answered (command.Efpa (record { change_direction = asks_to_speak contact r })) tt (whole, tt) (Some (Close f.number rows))
     by_verdict («end».Refuse reason) m = answered (command.Efna (record { reason = end_number reason; text = [] })) tt tt (Some (GiveUp f.number))
 
--- what comes to one that takes a file
+-- what arrives at a session that receives a file
 heard_file : (contact : Contact) (f : Receipt) (c : Command) (calls : Bool) (coming : List Command) (other : Talk) → Linked (to calls (Receiving contact f) c coming) other
     → HearsData (to calls (Receiving contact f) c coming) other ⊎ HearsEnd (to calls (Receiving contact f) c coming) other
 heard_file contact f c calls coming other s = elim (hears calls (Receiving contact f) c coming other (λ k. k) s) [

@@ -18,7 +18,7 @@ use Rattle.oftp_engine.proofs.Conversations.{heard_more, no_room}
 use Rattle.oftp_engine.proofs.Phases.{ending_from, input_ending}
 use Rattle.oftp_engine.proofs.Reading.{gave_on}
 
--- while it reads: what the conversation has heard, where the office is clean and stood
+-- while it reads: what the conversation has heard, if the office is clean and was open
 pub record IsReading {R : Type 0} (remaining : R → Option (List ℕ)) (before now : Port R) (Clean Stood : Type 0)
     (setting : Setting) (talk : Dialogue) (first here : Scene) : Type 0 where
   pub given : List ℕ
@@ -28,7 +28,7 @@ pub record IsReading {R : Type 0} (remaining : R → Option (List ℕ)) (before 
   pub heard : Clean → Stood → HasHeard setting given talk first here
   pub needed : Clean → Stood → IsNeeded setting first.office.register given
 
--- it went on from there, answers this, and has read nothing that it didn't need
+-- it went on from there, returned this, and has read nothing that it didn't need
 pub record HasGoneOn (setting : Setting) (given : List ℕ) (talk : Dialogue) (first now : Scene) (answer : Result (Option Ending) RunFault) : Type 0 where
   pub came : ComesTo setting given talk first now answer
   pub needed : IsNeeded setting first.office.register given
@@ -59,7 +59,7 @@ module _ {setting : Setting} {given : List ℕ} {talk : Dialogue} {first now : S
       let c = subst (λ (x : Option Ending). ComesTo setting given talk first now (let r : Result (Option Ending) RunFault = Ok x in r)) some h.came in
       record { all = c.all; ends = same ∙ ending_from (whole setting given first.office.register).phase end c.ends; needed = h.needed }
 
-  -- a fault ended it
+  -- an error ended it
   pub served_fault : {f : RunFault} → HasGoneOn setting given talk first now (let r : Result (Option Ending) RunFault = Err f in r)
       → Serves setting given first now (let r : Result End RunFault = Err f in r)
   served_fault h = h.came
@@ -69,17 +69,17 @@ module _ {setting : Setting} {given : List ℕ} {talk : Dialogue} {first now : S
       → IsServed setting given first now Input
   served_input h none = let l = listens h none in record { all = l.all; ends = input_ending (whole setting given first.office.register).phase l.live; needed = h.needed }
 
-  -- the reader told a fault
+  -- the reader returned an error
   pub cut_short : {found : Option Ending} → HasGoneOn setting given talk first now (let r : Result (Option Ending) RunFault = Ok found in r) → found ≡ None
       → IsCutShort setting given first now
   cut_short h none = let l = listens h none in record { all = l.all; live = l.live }
 
-  -- the octets that came then found no room
+  -- there was no room for the octets that arrived
   pub out_of_room : {found : Option Ending} {answer : Result End RunFault} → HasGoneOn setting given talk first now (let r : Result (Option Ending) RunFault = Ok found in r)
       → found ≡ None → (piece : List ℕ) → 0 < length piece → answer ≡ Err fault.Memory → Serves setting (given ++ piece) first now answer
   out_of_room h none piece some same = subst (Serves setting (given ++ piece) first now) (sym same) (no_room setting given piece talk first now (listens h none) some)
 
--- one piece more was read and heard
+-- one more piece was read and heard
 pub read_on : {R : Type 0} (remaining : R → Option (List ℕ)) (before now next : Port R) (given piece : List ℕ) (n : ℕ) (Clean Stood : Type 0)
     (setting : Setting) (talk fed : Dialogue) (first here : Scene)
     → Gave remaining before now given → now.faults ≡ before.faults → now.ended ≡ before.ended → Gives remaining now next piece n → 0 < n

@@ -1,4 +1,4 @@
--- What may come stays so as a session takes what comes, and as it speaks.
+-- What may arrive stays consistent as a session executes commands, and as it speaks.
 use Rattle.std.proofs.Common.{ℕ, ◌+◌, Bool, true, false, cond, nat_le, nat_lt, List, [], ◌∷◌, ◌++◌, length, drop, slice_get, Option, None, Some, Result, Ok, Err, refl, arith}
 use Rattle.oftp_wire.specs.declared.command.Command.{Command}
 use Rattle.oftp_wire.specs.declared.command.Command.TheVariants as command
@@ -38,7 +38,7 @@ use Rattle.oftp_session.specs.Steps.{came, turned}
 use Rattle.oftp_session.proofs.Turns.{each_turn}
 use Rattle.oftp_engine.proofs.Standing.{IsQuiet, IsOfferOf, IsBeginning, MayTake, MayHear, MayAnswerStart, MayCredit, MayAnswerEnd, MayAnswerResponse, MayOpen, MayCome}
 
--- where nothing comes but an end of the session, it may come in each phase in which no file comes
+-- if nothing but the end of the session is on its way, it may arrive in each phase in which no file is received
 
 quiet_hear : (r : Register) (coming : List Command) → IsQuiet coming → MayHear r coming
 quiet_hear r [] h = tt
@@ -76,11 +76,11 @@ credit_answer r file (command.Cdt ∷ coming) h = tt
 credit_answer r file (command.Esid e ∷ coming) h = tt
 credit_answer r file (_ ∷ coming) h = absurd h
 
--- what comes where a file is offered to a listener: from the answered row on, no payload is a beginning
+-- what may arrive after an offer to a listener: from the answered row on, no payload is a beginning
 begins_none : (there : Register) (sfid : Sfid) (from : ℕ) → IsOfferOf there sfid → IsBeginning there (offered_identity sfid) from []
 begins_none there sfid from o = (payloads_of o.file.format 2 (drop from o.file.rows), record { file = o.file; found = o.found; size = 2; room = omega arith; split = refl })
 
--- what comes to a listener
+-- what may arrive at a listener
 
 offer_next : (setting : Setting) (contact : Contact) (r there : Register) (sfid : Sfid) (coming : List Command) → IsOfferOf there sfid → IsQuiet coming
     → MayCome there (offer_step setting contact r sfid).phase coming
@@ -109,7 +109,7 @@ listener_next setting contact r there (command.Nerp nerp) coming h = response_ne
 listener_next setting contact r there command.Cd coming h = h
 listener_next setting contact r there _ coming h = tt
 
--- what comes where a file comes
+-- what may arrive while a file is received
 
 data_next : (contact : Contact) (r there : Register) (f : Receipt) (payload : List ℕ) (coming : List Command) → MayTake there f.file.identity f.from (f.payloads ++ payload ∷ []) coming
     → MayCome there (data_step contact f payload).phase coming
@@ -150,7 +150,7 @@ receiving_next contact r there f (command.Data payload) coming h = data_next con
 receiving_next contact r there f (command.Efid efid) coming h = end_next contact r there f efid coming h.1
 receiving_next contact r there f _ coming h = tt
 
--- what comes to a speaker
+-- what may arrive at a speaker
 
 start_answer_next : (contact : Contact) (there : Register) (offer : Offer) (c : Command) (coming : List Command) → MayAnswerStart there offer.file (c ∷ coming)
     → MayCome there (came_awaiting_start contact offer c).phase coming
@@ -193,7 +193,7 @@ unfolding unexpected
 idle_next there (command.Esid esid) coming = tt
 idle_next there _ coming = tt
 
--- what comes where a session opens
+-- what may arrive while a session opens
 
 respond_next : (there : Register) (c : Command) (coming : List Command) → MayCome there (unexpected c).phase coming
 unfolding unexpected
@@ -223,7 +223,7 @@ unfolding came_awaiting_ssid unexpected
 await_next setting there (command.Ssid ssid) coming h = opened_next setting ssid.mode (ssid_verdict setting ssid) there coming h
 await_next setting there _ coming h = tt
 
--- a session takes what comes
+-- a session executes a command
 pub came_next : (setting : Setting) (p : Phase) (r there : Register) (c : Command) (coming : List Command) → MayCome there p (c ∷ coming) → MayCome there (came setting p r c).phase coming
 unfolding came
 came_next setting ResponderOpening r there c coming h = respond_next there c coming

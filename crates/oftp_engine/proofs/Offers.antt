@@ -43,7 +43,7 @@ use Rattle.oftp_engine.specs.InsideOperating.{Attempts, came_out_as}
 use Rattle.oftp_engine.specs.InsideSubmitting.{AreFieldsOf, IsOffer, came_big, came_numbered, named_by}
 use Rattle.oftp_engine.proofs.Deciding.{decides}
 
--- how many octets a local form has: in V five more for each record
+-- the number of octets of a local form: in V five more for each record
 local_long : (rows : List (List ℕ)) → length (local_of Variable rows) ≡ 5 * length rows + units_in rows
 local_long [] = refl
 local_long (row ∷ rows) =
@@ -78,7 +78,7 @@ found_out identity n (f ∷ files) =
       | inr other ↦ rw other (found_out identity (n + 1) files)
     ]
 
--- a new file is found behind the others
+-- a new file is found after the others
 finds_new : (identity : Identity) (n : ℕ) (files : List Outgoing) (file : Outgoing) → list_any (λ (f : Outgoing). same_identity f.identity identity) files ≡ false
     → same_identity file.identity identity ≡ true → find (is_of identity) (numbered outgoing_entry n (files ++ file ∷ [])) ≡ Some (outgoing_entry (n + length files) file)
 finds_new identity n [] file none same =
@@ -97,7 +97,7 @@ module _ (identity : Identity) (s : Submission) (rows : List (List ℕ)) where
   abbrev submission : Change
   submission = change.Submit identity s.format s.longest s.description.now rows
 
-  -- a file whose identity is there is refused
+  -- a file whose identity exists is refused
   pub refuses_again : (r : Register) → is_outgoing r identity ≡ true → registered identity s rows r ≡ refuses refusal.Duplicate
   unfolding apply
   refuses_again r there =
@@ -111,7 +111,7 @@ module _ (identity : Identity) (s : Submission) (rows : List (List ℕ)) where
       subst (λ (x : Register). look_out x identity ≡ Some (outgoing_entry (1 + length r.outgoing) file)) added.1
       (finds_new identity 1 r.outgoing file added.0 (same_self identity))
 
--- a call that does something of one kind does something of another that has it
+-- a call that does something of one kind does something of a wider kind
 pub attempts_as : (verb : List ℕ) (P Q : Deed → Type 0) (old new : View) (result : Result Outcome RunFault) → ((deed : Deed) → P deed → Q deed)
     → Attempts verb P old new result → Attempts verb Q old new result
 attempts_as verb P Q old new (Ok out) f a = (a.0, f a.0 a.1, a.2)
@@ -120,11 +120,11 @@ attempts_as verb P Q old new (Err fault.Write) f a = a
 attempts_as verb P Q old new (Err fault.Office) f a = (a.0, f a.0 a.1, a.2)
 attempts_as verb P Q old new (Err fault.Memory) f a = a
 
--- a refusal before the office was asked
+-- a refusal before the office was called
 pub refuses_now : (verb : List ℕ) (P : Deed → Type 0) (now : View) (reason : Refusal) → now.stands → P (refuses reason) → Attempts verb P now now (Ok (outcome.Refused reason))
 refuses_now verb P now reason stood is = (refuses reason, is, record { told = refl; line = refl; register = refl; stands = stood; faults = refl })
 
--- the office told a fault in a call that changes nothing
+-- the office returned an error in a call that changes nothing
 faults_unchanged : (verb : List ℕ) (deed : Deed) (old new : View) → deed.change ≡ None → (new.is_open → new.register ≡ old.register) → Only old.register new
     → new.told ≡ next_count old.told → Attempts verb (λ (d : Deed). d ≡ deed) old new (let r : Result Outcome RunFault = Err fault.Office in r)
 faults_unchanged verb deed old new none same left counts = (
@@ -136,7 +136,7 @@ faults_unchanged verb deed old new none same left counts = (
   },
 )
 
--- a file that is too big
+-- a file that exceeds the limits
 module _ (identity : Identity) (old new : View) where
   abbrev there : Bool
   there = is_outgoing old.register identity
@@ -179,7 +179,7 @@ module _ (identity : Identity) (s : Submission) (rows : List (List ℕ)) (old mi
   abbrev verb' : List ℕ
   verb' = codes "done: submit "
 
-  -- the office told a fault in the look-up
+  -- the office returned an error in the look-up
   faults_made : apply old.register change' ≡ Ok mid.register → (new.is_open → new.register ≡ mid.register) → Only mid.register new → new.told ≡ next_count old.told
       → Attempts verb' (λ (deed : Deed). deed ≡ registered identity s rows old.register) old new (let r : Result Outcome RunFault = Err fault.Office in r)
   faults_made made same left counts =
@@ -273,7 +273,7 @@ names_file book p fields s h code =
     ∙ ap (λ (x : List ℕ). record { dataset = s.dataset.now; date = s.date.now; time = x; originator = book.station.code; destination = p.code }) h.time
     ∙ ap (λ (x : List ℕ). record { dataset = s.dataset.now; date = s.date.now; time = s.time.now; originator = book.station.code; destination = x }) code
 
--- a file that isn't too big is one that a register may have
+-- a file within the limits is one that a register may have
 pub is_file : (s : Submission) (rows : List (List ℕ)) (limits : Limits) → IsFileOf s rows → is_too_big limits rows ≡ false → IsFile s.format s.longest rows
 is_file s rows limits file small = record {
   longest = file.fields.longest;
@@ -281,7 +281,7 @@ is_file s rows limits file small = record {
   fits = file.content.0;
 }
 
--- what is in an option
+-- the value of an option
 pub none_at : {T P : Type 0} (o : Option T) → o ≡ None → IfNone o P → P
 none_at None e h = h
 none_at (Some x) e h = absurd (cc)
@@ -298,7 +298,7 @@ missing_at f found code to ps value same none = ap (λ (x : List ℕ). is_some (
 found_at : (p : Partner) (code to : List ℕ) (ps : List Partner) → Some p ≡ partner_at code ps → code ≡ to → partner_at to ps ≡ Some p
 found_at p code to ps value same = ap (λ (x : List ℕ). partner_at x ps) (sym same) ∙ sym value
 
--- the partner to whom a file goes is in the book, and its fields name the file
+-- the partner that gets a file is in the book, and its fields identify the file
 pub record IsAddressed (book : BookData) (s : Submission) (p : Partner) (fields : Fields) : Type 0 where
   pub found : partner_at s.to.now book.partners ≡ Some p
   pub named : named_by book p fields ≡ identity_of book s
@@ -313,7 +313,7 @@ is_addressed book s p fields code h value same =
 pub offered_file : (s : Submission) (offer : Offer) → IsOffer s offer → IsFileOf s offer.rows
 offered_file s offer h = record { fields = h.fields.ranges; content = h.content }
 
--- what is handed in is a file, and its fate is decided
+-- what is submitted is a file, and it is registered or refused
 module _ (book : BookData) (r : Register) (s : Submission) (rows : List (List ℕ)) (file : IsFileOf s rows) where
   abbrev here : Bool
   here = is_some (partner_at s.to.now book.partners)
@@ -339,7 +339,7 @@ module _ (book : BookData) (r : Register) (s : Submission) (rows : List (List �
       ] in
       inl (rows, file, is ∙ again ∙ ap (cond (is_outgoing r identity) (refuses refusal.Duplicate)) (sym within) ∙ sym (cond-true here _ (refuses refusal.Unknown) found))
 
--- a file came with the code of a partner in the book, and is named by what was read of it
+-- a submitted file has the code of a partner in the book, and its identity is that of its fields
 pub record IsArrived (book : BookData) (s : Submission) (offer : Offer) (identity : Identity) : Type 0 where
   pub offered : IsOffer s offer
   pub found : is_some (partner_at s.to.now book.partners) ≡ true
@@ -352,7 +352,7 @@ arrived book s read offer p code identity is some value same named =
     let to = is_addressed book s p offer.fields code offered.fields value same in
     record { offered = offered; found = ap is_some to.found; named = named ∙ to.named }
 
--- such a file is refused as too big, or registered
+-- such a file exceeds the limits and is refused, or it is registered
 module _ (book : BookData) (s : Submission) (offer : Offer) (identity : Identity) (it : IsArrived book s offer identity) (old new : View) (result : Result Outcome RunFault) where
   pub attempts_big : is_too_big old.register.limits offer.rows ≡ true
       → Attempts (codes "done: submit ") (λ deed. deed ≡ cond (is_outgoing old.register identity) (refuses refusal.Duplicate) (refuses refusal.Limit)) old new result

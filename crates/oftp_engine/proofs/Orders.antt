@@ -1,4 +1,4 @@
--- What an operator's call changes: a file that is to be sent, or a response, fit and made.
+-- What an operator's call changes: a file is submitted, or a response issued, fit and made.
 use Rattle.std.proofs.Common.{◌≡◌, ℕ, ◌+◌, Bool, true, false, cond, ◌&&◌, nat_le, is_some, List, [], length, None, Result, Ok, Err, refl, sym, ap, ◌∙◌, subst, inl, inr}
 use Rattle.std.specs.Prelude.{codes}
 use Rattle.oftp_partners.specs.Book.{BookData, partner_at}
@@ -75,7 +75,7 @@ deed_ordered book r (operator.Refuse n reason text) deed is =
     by true = decided_order (codes "done: refuse ") n issue (apply r issue) (issue_order n NegativeEndResponse reason text.now tt)
     by false = tt
 
--- a deed of a call at one book and register, and what the call does at each
+-- what a call does at one book and register, and at each
 record IsDoneSo (book : BookData) (r : Register) (call : Operator) (deed : Deed) : Type 0 where
   order : Order
   same : order.call ≡ call

@@ -1,4 +1,4 @@
--- What each change makes of the entry of a file that comes in parts.
+-- What each change does to the entry of a file that comes in parts.
 use Rattle.std.proofs.Common.{◌≡◌, ℕ, List, [], ◌++◌, take, Option, None, Some, Result, Ok, refl, sym, ◌∙◌, subst, inl, inr}
 use Rattle.std.specs.Prelude.{⊤}
 use Rattle.oftp_vfile.specs.declared.format.Format.{Format}
@@ -21,7 +21,7 @@ use Rattle.oftp_register.proofs.ByIdentityLemmas.{changed_named, started_named}
 use Rattle.oftp_engine.specs.Parts.{File, IsSoFar, IsUnbroken}
 use Rattle.oftp_engine.proofs.PartRows.{cut_begins}
 
--- what a change rests on, where it is of the file: rows that are kept go on to begin it, and those that close it make it whole
+-- the grounds of a change of the file: rows that are kept continue a beginning of it, and those that close it make it whole
 abbrev pub PartGrounds : File → Identity → Register → Change → Type 0
 PartGrounds file identity r (change.Keep n rows) =
     (e : Incoming) → entry_at n r.incoming ≡ Some e → e.identity ≡ identity → BeginsWith file.rows (e.rows ++ rows)
@@ -65,7 +65,7 @@ module _ (file : File) where
       let made = sent_of_ok x x.response y h in
       subst (λ (z : Incoming). IsSoFar file (Some z)) made.3 (answered_entry x (Some made.1) was)
 
-  -- a start cuts a beginning
+  -- a start cuts the rows to a beginning
   started_entry : (identity : Identity) (format : Format) (longest : ℕ) (description : List ℕ) (count : ℕ) (old : Option Incoming) (new : Incoming)
       → WasStarted (new_incoming identity format longest description) count old new → IsSoFar file old → IsSoFar file (Some new)
   started_entry identity format longest description count None new was so_far =
@@ -96,7 +96,7 @@ module _ (file : File) where
         let now = changed_named incoming_name g same IsSo n r.incoming part.0 sound.incoming_once part.1 (λ x y e d old is. step x y e is d (old is)) first in
         subst (λ (z : Register). IsSoFar file (in_at z identity)) part.2 (now identity refl)
 
-    -- a change of nothing that comes
+    -- a change that doesn't concern an incoming file
     at_outgoing : (g : Outgoing → Result Outgoing Cause) (n : ℕ) → on_outgoing g n r ≡ Ok s → IsSoFar file (in_at s identity)
     at_outgoing g n h =
         let part = mapped_ok (λ files. record r { outgoing = files }) (at_number g n r.outgoing) s h in

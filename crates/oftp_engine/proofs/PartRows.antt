@@ -1,4 +1,4 @@
--- Rows of a file that come in parts: what is kept of them, cut anywhere, begins the file, and what closes it makes it whole.
+-- Rows of a file that come in parts: what is kept of them, cut off anywhere, is a beginning of the file, and what closes it makes it whole.
 use Rattle.std.proofs.Common.{◌≡◌, ℕ, zero, suc, ◌+◌, ◌-◌, ◌≤◌, List, [], ◌∷◌, ◌++◌, length, take, drop, ap, sym, ◌∙◌, arith, append_assoc, length-drop}
 use Rattle.std.proofs.lemmas.List.{drop-append-le, take-append-drop}
 use Rattle.std.proofs.Math.Seq.{drop-append_seam}
@@ -20,7 +20,7 @@ module _ (file kept : List (List ℕ)) (was : BeginsWith file kept) where
       let split = ap (λ x. x ++ was.0) (sym (take-append-drop count kept)) in
       (drop count kept ++ was.0, was.1 ∙ split ∙ append_assoc (take count kept) (drop count kept) was.0)
 
-  -- what is carried from a row on, less what is kept of it already, leaves a beginning
+  -- what is carried from a row on, without what is kept of it already, leaves a beginning
   pub keep_begins : (carried : List (List ℕ)) (from : ℕ) → from ≤ length kept → BeginsWith (drop from file) carried
       → BeginsWith file (kept ++ drop (length kept - from) carried)
   keep_begins carried from within now =
@@ -31,7 +31,7 @@ module _ (file kept : List (List ℕ)) (was : BeginsWith file kept) where
       let rest : was.0 ≡ drop n carried ++ drop (n - length carried) now.0 = sym seam ∙ ap (drop n) both ∙ drop_of_append n carried now.0 in
       (drop (n - length carried) now.0, was.1 ∙ ap (λ x. kept ++ x) rest ∙ sym (append_assoc kept (drop n carried) (drop (n - length carried) now.0)))
 
-  -- what is carried to the end from a row on, less what is kept of it already, makes the file whole
+  -- what is carried to the end from a row on, without what is kept of it already, makes the file whole
   pub close_whole : (rows : List (List ℕ)) (tail : List ℕ) (from : ℕ) → from ≤ length kept → length kept ≤ from + length rows
       → closed rows tail ≡ drop from file → kept ++ closed (drop (length kept - from) rows) tail ≡ file
   close_whole rows tail from within most all =

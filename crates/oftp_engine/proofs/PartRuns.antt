@@ -1,4 +1,4 @@
--- Over a run, and over jobs in turn, a file that comes in parts is what its parts carry.
+-- Over a run, and over jobs in order, a file that comes in parts is what its parts carry.
 use Rattle.std.proofs.Common.{◌≡◌, ℕ, zero, suc, ◌+◌, ◌≤◌, ◌&&◌, ◌||◌, not, Bool, true, false, cond, List, [], ◌∷◌, ◌++◌, length, take, Option, None, Some, Result, Ok, Err, refl, ap, sym, ◌∙◌, subst, inl, inr, arith, length-append}
 use Rattle.std.specs.Prelude.{codes, is_some, nat_le}
 use Rattle.std.proofs.lemmas.Bool.{cases_lt}
@@ -48,12 +48,12 @@ use Rattle.oftp_engine.proofs.PartChanges.{part_change}
 use Rattle.oftp_engine.proofs.PartSteps.{IsPartPhase, IsPartStep, StepGrounds, came_part, turned_part}
 use Rattle.oftp_engine.proofs.Phases.{fails_proceed, step_proceeds}
 
--- a register in which the file is as it may be
+-- a register in which the file is in an allowed state
 pub record IsSoIn (file : File) (identity : Identity) (r : Register) : Type 0 where
   pub sound : IsSound r
   pub so_far : IsSoFar file (in_at r identity)
 
--- a course from a register: the file is as it may be after the first so many of the changes
+-- a course from a register: the file is in an allowed state after each prefix of the changes
 pub record IsPartCourse (file : File) (identity : Identity) (start : Register) (c : Course) : Type 0 where
   pub sound : Sound start c
   pub phase : IsPartPhase file identity c.phase
@@ -102,7 +102,7 @@ module _ (file : File) (identity : Identity) (start : Register) where
         before = more_before c.changes step.change (register_after c.register step.change) sound.replay now h.before;
       }
 
-  -- the due turns
+  -- the turns that are due
   part_turns : (n : ℕ) (limit : Option ℕ) (c : Course) → IsPartCourse file identity start c → IsPartCourse file identity start (turns n limit c)
   unfolding turns
   part_turns zero limit c h = h
@@ -119,7 +119,7 @@ module _ (file : File) (identity : Identity) (start : Register) where
   unfolding settled
   part_settled limit c h = part_turns (turns_due c.phase) limit c h
 
-  -- what comes
+  -- a command that arrives
   fails_so : (r : Register) (reason : SessionReason) → IsPartStep file identity r (fails reason)
   fails_so r reason = record { grounds = tt; phase = tt }
 
@@ -201,13 +201,13 @@ issue_so file identity r s n kind reason text response so made =
     let issue = change.Issue n kind reason text in
     record { sound = apply_keeps r issue s so.sound response made; so_far = part_change file identity r s so.so_far issue so.sound tt made }
 
--- what a deed leaves that is decided by a change
+-- what is left after a call that is decided by a change
 decided_so : (file : File) (identity : Identity) (r s : Register) (verb : List ℕ) (n : ℕ) (change : Change) (result : Result Register Cause) → IsSoIn file identity r
     → (apply r change ≡ Ok s → IsSoIn file identity s) → Makes (decided verb n change result).change r s → IsSoIn file identity s
 decided_so file identity r s verb n change (Ok after) so step made = step made
 decided_so file identity r s verb n change (Err cause) so step made = subst (IsSoIn file identity) (sym made) so
 
--- a file that is handed in goes, and nothing that comes changes
+-- a submitted file is outgoing, and no incoming file changes
 submit_so : (file : File) (identity : Identity) (r s : Register) (name : Identity) (format : Format) (longest : ℕ) (description : List ℕ) (rows : List (List ℕ))
     → IsFile format longest rows → IsSoIn file identity r → apply r (change.Submit name format longest description rows) ≡ Ok s → IsSoIn file identity s
 unfolding IsFit
@@ -259,7 +259,7 @@ call_leaves file identity book (operator.Refuse n reason text) deed r s so is ma
     by true made = decided_so file identity r s verb n issue (apply r issue) so (issue_so file identity r s n NegativeEndResponse reason text.now tt so) made
     by false made = subst (IsSoIn file identity) (sym made) so
 
--- jobs in turn
+-- jobs in order
 
 pub job_leaves : (file : File) (identity : Identity) (job : JobData) (r s : Register) → IsSoIn file identity r → MayDo file identity job r → JobLeaves job r s → IsSoIn file identity s
 job_leaves file identity (OfSession session) r s so may left = session_leaves file identity session r s so may left

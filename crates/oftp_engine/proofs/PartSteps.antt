@@ -1,4 +1,4 @@
--- What each step of a session makes of a file that comes in parts, by cases of phase.
+-- What each step of a session does to a file that comes in parts, by cases of phase.
 use Rattle.std.proofs.Common.{◌≡◌, ℕ, zero, suc, ◌+◌, ◌==◌, ◌&&◌, nat_le, nat_lt, not, Bool, true, false, cond, List, [], ◌∷◌, ◌++◌, length, take, drop, slice_get, Option, None, Some, unwrap_or, Result, Ok, Err, refl, ap, sym, ◌∙◌, subst, inl, inr, arith, length-append}
 use Rattle.std.specs.Prelude.{⊤}
 use Rattle.std.proofs.lemmas.Bool.{eqb-true, not-false}
@@ -63,7 +63,7 @@ use Rattle.oftp_engine.specs.Parts.{CarriesPart, File, IsPartCommand, IsSoFar, I
 use Rattle.oftp_engine.proofs.PartChanges.{PartGrounds}
 use Rattle.oftp_engine.proofs.PartRows.{close_whole, keep_begins}
 
--- the file comes: the entry is of its layout, and what came is a part of it
+-- the file is received: the entry is of its layout, and what was received is a part of it
 pub record IsPartReceipt (file : File) (f : Receipt) : Type 0 where
   pub format : f.file.format ≡ file.format
   pub longest : f.file.longest ≡ file.longest
@@ -78,7 +78,7 @@ abbrev pub StepGrounds : File → Identity → Register → Option Change → Ty
 StepGrounds file identity r None = ⊤
 StepGrounds file identity r (Some change) = PartGrounds file identity r change
 
--- a step whose change has its grounds, and whose phase goes on so
+-- a step whose change has its grounds, and whose phase is consistent
 pub record IsPartStep (file : File) (identity : Identity) (r : Register) (step : Step) : Type 0 where
   pub grounds : StepGrounds file identity r step.change
   pub phase : IsPartPhase file identity step.phase
@@ -92,7 +92,7 @@ module _ (file : File) (identity : Identity) (r : Register) where
   either_step true x y h k = h
   either_step false x y h k = k
 
-  -- steps of which nothing is asked
+  -- steps without a premise
   fails_part : (reason : SessionReason) → IsPartStep file identity r (fails reason)
   fails_part reason = record { grounds = tt; phase = tt }
 
@@ -193,7 +193,7 @@ module _ (file : File) (identity : Identity) (r : Register) where
       let payload = slice_get (payloads_in contact t) t.sent in
       either_step (nat_lt 0 (credit_left contact t)) (sends_next contact t payload) (quiet (Sending contact t)) (sends_part contact t payload) (record { grounds = tt; phase = tt })
 
-  -- the own turn
+  -- a turn
   pub turned_part : (setting : Setting) (p : Phase) → IsPartPhase file identity p → IsPartStep file identity r (turned setting p r)
   turned_part setting p = each_turn (λ q s. IsPartPhase file identity q → IsPartStep file identity r s) setting r (record {
     greeting = λ h. record { grounds = tt; phase = tt };
@@ -214,7 +214,7 @@ module _ (file : File) (identity : Identity) (r : Register) where
       either_step (is_between setting contact response.identity) (answers (ListenerIdle contact) (filing r response) command.Rtr) (fails InvalidData)
       (record { grounds = filing_part response; phase = tt }) (fails_part InvalidData)
 
-  -- a file starts: what is left of it is carried yet
+  -- a file starts: the rest of it is still to be carried
   sfid_part : (setting : Setting) (contact : Contact) (sfid : Sfid) → IsPartCommand file identity (ListenerIdle contact) (command.Sfid sfid)
       → IsPartStep file identity r (offer_step setting contact r sfid)
   unfolding offer_step
@@ -238,7 +238,7 @@ module _ (file : File) (identity : Identity) (r : Register) where
   listen_part setting contact command.Cd part = record { grounds = tt; phase = tt }
   listen_part setting contact other part = unexpected_part other
 
-  -- what is known of the file's entry while it comes
+  -- what is known of the file's entry while it is received
   module _ (f : Receipt) (sound : IsSound r) (so_far : IsSoFar file (in_at r identity)) (holds : IsReceived r f) (own : f.file.identity ≡ identity) (part : IsPartReceipt file f) where
     own_entry : IsSoFar file (Some f.file)
     own_entry = at f.number holds.entry
@@ -265,7 +265,7 @@ module _ (file : File) (identity : Identity) (r : Register) where
         subst (λ a. Carries a file.longest f.payloads t.rows t.tail t.stage) (same.0 ∙ part.format)
         (subst (λ l. Carries t.format l f.payloads t.rows t.tail t.stage) (same.1 ∙ part.longest) c)
 
-    -- rows that are kept go on to begin the file
+    -- rows that are kept continue a beginning of the file
     own_keeps : BeginsWith file.rows (f.file.rows ++ rows_to_keep f (carried_by f))
     own_keeps =
         let t = carried_by f in
@@ -307,7 +307,7 @@ module _ (file : File) (identity : Identity) (r : Register) where
             let e = length-append (octets_in (front ++ xs)) tail in
             omega (arith, h, a, b, c, d, e, length-append (octets_in xs) tail, length-append (octets_in front) (octets_in xs), length-append (octets_in front) (octets_in ys))
 
-  -- the entry with the number of a file that comes
+  -- the entry with the number of a file that is received
   its_entry : (f : Receipt) (e : Incoming) → IsReceived r f → entry_at f.number r.incoming ≡ Some e → f.file ≡ e
   its_entry f e holds at = let both : Some f.file ≡ Some e = sym holds.entry ∙ at in cc
 
@@ -406,7 +406,7 @@ module _ (file : File) (identity : Identity) (r : Register) where
   receive_part contact f (command.Efid efid) sound so_far holds was part = end_part contact f efid sound so_far holds was part
   receive_part contact f other sound so_far holds was part = unexpected_part other
 
-  -- a command that comes
+  -- a command that arrives
   pub came_part : (setting : Setting) (p : Phase) (c : Command) → Suits p r → IsSoFar file (in_at r identity) → IsPartPhase file identity p → IsPartCommand file identity p c
       → IsPartStep file identity r (came setting p r c)
   unfolding came

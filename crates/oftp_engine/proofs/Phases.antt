@@ -1,5 +1,5 @@
--- What a run needs of the session's steps: each change is one that the register takes, how a session that is over has ended, and
--- which session is open.
+-- What a run needs of the session's steps: the register accepts each change, how a session that is over has ended, and which session is
+-- open.
 use Rattle.std.proofs.Common.{◌≡◌, ◌≢◌, true, false, Option, None, Some, Result, Ok, Err, refl, sym, ap, ◌∙◌, is_some}
 use Rattle.std.proofs.lemmas.Bool.{false≢true}
 use Rattle.oftp_wire.specs.declared.command.Command.{Command}
@@ -37,7 +37,7 @@ over_from p e h = ap is_some (sym h)
 pub live_from : (p : Phase) (e : Option Ending) → e ≡ ending_of p → e ≡ None → is_over p ≡ false
 live_from p e h none = ap is_some (sym h ∙ none)
 
--- where octets are awaited, the end of the input is how the session ends
+-- if octets are missing, the end of the input is how the session ends
 pub input_ending : (p : Phase) → is_over p ≡ false → Input ≡ ending p
 input_ending p h = at (ending_of p) h
   where
@@ -71,7 +71,7 @@ open_unbroken (Sends contact shipment) h unbroken = refl
 open_unbroken (Awaits contact number) h unbroken = refl
 open_unbroken Broken h unbroken = absurd (unbroken refl)
 
--- so is one with an own turn
+-- a session with a due turn is open
 pub open_due : (s : Standing) → is_due s ≡ true → is_closed s ≡ false
 open_due (At p) h = turn_live p h
 open_due (Receives contact reception) h = refl
@@ -80,6 +80,6 @@ open_due (Sends contact shipment) h = refl
 open_due (Awaits contact number) h = refl
 open_due Broken h = absurd (false≢true h)
 
--- and one in a phase isn't broken
+-- a session in a phase isn't broken
 pub at_unbroken : (p : Phase) (s : Standing) → s ≡ At p → s ≢ Broken
 at_unbroken p s h broken = let no : ⊥ = cc in no

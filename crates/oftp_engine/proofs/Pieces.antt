@@ -1,4 +1,4 @@
--- The rows of a file that are handed out, and what an office told that was asked for them.
+-- The rows of a file that are returned, and the errors of the office.
 use Rattle.std.proofs.Common.{◌≡◌, ℕ, zero, suc, ◌+◌, ◌<◌, ◌≤◌, List, [], ◌∷◌, length, take, drop, All, Option, None, Some, Ok, Err, inl, inr, refl, sym, ap, subst, arith}
 use Rattle.std.proofs.lemmas.List.{length-drop, length-take-le, append-nil}
 use Rattle.std.proofs.lemmas.List.Elements.{All-nil, All-cons}
@@ -57,7 +57,7 @@ known_file : (e : IncomingEntry) (o : Option Incoming) → option_map (incoming_
 known_file e None h = absurd (cc)
 known_file e (Some f) h = (f, refl, cc)
 
--- the rows that a register hands out of its file are a piece of it
+-- the rows that a register returns of its file are a piece of it
 pub piece_fits : (r : Register) (e : IncomingEntry) (from most : ℕ) → IsSound r → HasFile r e → from + most ≤ e.rows
     → IsPiece e from most (rows_of r side.Incoming e.no from most)
 piece_fits r e from most sound has few =
@@ -83,7 +83,7 @@ piece_fits r e from most sound has few =
     } in
     subst (λ (rows : List (List ℕ)). IsPiece e from most (take most (drop from rows))) (sym (rows_of_incoming r e.no f known.1)) at
 
--- an office that was asked once
+-- an office that was called once
 module _ {T : Type 0} (Tells : Register → T → Type 0) (old new : View) where
   pub answered_once : (x : T) → LooksUp Tells old new (Ok x) → OfficeAnswered old new
   answered_once x looked = record { told = looked.counts; stays = λ clean stood. let now = looked.stays clean stood in (now, looked.register clean stood (new.opens now)) }
@@ -98,7 +98,7 @@ module _ {T : Type 0} (Tells : Register → T → Type 0) (old new : View) where
       counted office.Memory fails counts = counts
       counted (office.Refused cause) fails counts = absurd fails
 
--- it handed out rows that are no piece of the file: a register has no such file
+-- it returned rows that aren't a piece of the file: a register doesn't have this file
 pub misfits : (old new : View) (e : IncomingEntry) (from most : ℕ) (rows : List (List ℕ)) → (old.clean → old.stands → IsSound old.register)
     → LooksUp (λ (r : Register) (rows : List (List ℕ)). rows ≡ rows_of r side.Incoming e.no from most) old new (Ok rows) → from + most ≤ e.rows
     → (IsPiece e from most rows → ⊥) → OfficeUnanswered e old new

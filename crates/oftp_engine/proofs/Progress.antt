@@ -1,4 +1,4 @@
--- How far the engine has come, one part after another.
+-- How far the engine is, one part after another.
 use Rattle.oftp_wire.specs.declared.reason.SessionReason.TheVariants.{ProtocolViolation}
 use Rattle.std.proofs.Common.{◌≡◌, ℕ, ◌-◌, ◌<◌, ◌≤◌, true, false, List, [], ◌∷◌, ◌++◌, length, take, drop, Option, None, Some, refl, sym, ap, ◌∙◌, subst, arith, append_assoc, length-append, length-drop, inl, inr}
 use Rattle.std.proofs.lemmas.List.{append-nil, take-append-le, drop-append-le}
@@ -167,7 +167,7 @@ took_later a b z xs ys zs p q = subst (Took a z) (sym (append_assoc xs ys zs)) (
 said_later : (a b z : Scene) (count : ℕ) → b.told ≡ a.told → IsSaid b z count → IsSaid a z count
 said_later a b z count same h = elim h [ inl all ↦ inl (all.0, all.1 ∙ same) | inr part ↦ inr (part.0, part.1 ∙ ap next_count same) ]
 
--- what leads to d, so that what d reaches is reached
+-- what leads to d, so that the run reaches what d reaches
 record Before (c : Course) (s : List ℕ) (d : Course) (t : List ℕ) (old new : Scene) : Type 0 where
   reaches : (at next : Course) → Reaches d t at next → Reaches c s at next
   leads : (at : Course) (u : List ℕ) → Leads d t at u → (v : List ℕ) × Leads c s at v × (length u ≤ length v)
@@ -239,7 +239,7 @@ fails_later c d s t a b z f w h = fails_from c d s t a b z f before h
       told = w.told;
     }
 
--- a due turn, whatever is there to be read
+-- a due turn, whatever octets are there
 
 pub leads_turn : (c : Course) (s : List ℕ) → has_turn c.phase ≡ true → Leads c s (turned_in c) s
 leads_turn c s h = leads_step c (turned c.setting c.phase c.register) s s [] refl (turned_proceeds c.setting c.phase c.register) (λ more limit stopped. run_turn limit (s ++ more) c h stopped)
@@ -247,7 +247,7 @@ leads_turn c s h = leads_step c (turned c.setting c.phase c.register) s s [] ref
 pub reaches_turn : (c : Course) (s : List ℕ) → has_turn c.phase ≡ true → Reaches c s c (turned_in c)
 reaches_turn c s h = reaches_step c (turned c.setting c.phase c.register) s s (λ more limit stopped. run_turn limit (s ++ more) c h stopped)
 
--- a whole frame, and octets that begin none
+-- a whole frame, and octets that don't begin with one
 
 pub command_more : (n : ℕ) (s more : List ℕ) → 5 ≤ n → n ≤ length s → command_in n (s ++ more) ≡ command_in n s
 command_more n s more five there =
@@ -267,7 +267,7 @@ over_step : (c : Course) (step : Step) → is_over step.phase ≡ true → is_ov
 unfolding advance
 over_step c step h = h
 
--- octets that begin with a frame, or with none that may come, are there
+-- octets that begin with a frame, or with none that could follow
 pub told_some : (s : List ℕ) (h : Head) → front 100003 s ≡ h → IsTold h → 0 < length s
 unfolding front
 told_some [] h e told = absurd (subst IsTold (sym e) told)
@@ -281,7 +281,7 @@ leads_bad c s f turn over bad more limit stopped =
     run_bad limit (s ++ more) c f turn over stopped (front_more 100003 s more told ∙ bad)
     ∙ sym (run_over limit (s ++ more) (advance c (fails ProtocolViolation)) (over_step c (fails ProtocolViolation) refl))
 
--- the turns are taken whatever is there to be read
+-- the turns are made whatever octets are there
 
 pub went_with : (c d : Course) (s : List ℕ) (a b : Scene) → Went c [] d [] a b → Went c s d s a b
 went_with c d s a b w = record {

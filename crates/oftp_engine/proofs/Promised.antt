@@ -38,7 +38,7 @@ fit_content r s fit i = fits_content (out_at r i) (in_at s i) (fit i)
 pub fit_answered : (r s : Register) → AllFit r s → ResponsesAreIssued r s
 fit_answered r s fit i = fits_answered (out_at r i) (in_at s i) (fit i)
 
--- the register of a station is one that a stop may leave
+-- the register of a station is one that a crash may leave
 leaves_now : (start : Register) (session : Option Course) → IfAny session (IsInSession start) → LeftBy start session (register_in start session)
 leaves_now s None h = refl
 leaves_now s (Some c) h = h.now

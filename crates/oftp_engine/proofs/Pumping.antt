@@ -22,7 +22,7 @@ use Rattle.oftp_engine.specs.InsideServing.{Fails, IsOver, IsWaiting, Made, Pump
 use Rattle.oftp_engine.proofs.Phases.{fails_proceed, live_from, step_proceeds}
 use Rattle.oftp_engine.proofs.Progress.{fails_later, fails_step, fails_with, leads_bad, leads_frame, leads_step, reaches_step, told_some, went_on, went_step, went_with}
 
--- while it pumps: how far it came, and that the stream told no fault
+-- while it pumps: how far it went, and that the stream returned no error
 pub record IsPumping (c : Course) (s : List ℕ) (stream : Stream) (seen : Seen) (old new : Scene) : Type 0 where
   pub come : Comes c s stream.rest seen old new
   pub limit : stream.limit ≡ 100003
@@ -37,7 +37,7 @@ err_at : {T : Type 0} (c : Course) (step : Step) (seen : Seen) (a b : Scene) (r 
     → Stepped c step seen a b r → r ≡ Err f → StepFails c step a b f
 err_at c step seen a b r f h e = subst (Stepped c step seen a b) e h
 
--- what `next` showed: a command, of which the stream is shorter, or none
+-- what `next` returned: a command, by which the stream is shorter, or none
 found : (s : Stream) (f : Option (Bor (List ℕ))) (o : Option (Bor (List ℕ))) → Ok (option_copied f) ≡ next_of s s.told → f ≡ o
     → next_of s s.told ≡ Ok (option_copied o)
 found s f o e h = sym e ∙ ap (λ (x : Option (Bor (List ℕ))). Ok (option_copied x)) h
@@ -75,16 +75,16 @@ module _ (k : Course) (s t u : List ℕ) (seen : Seen) (a b : Scene) (p : Comes 
   step_failed : (z : Scene) (f : RunFault) → StepFails p.at step b z f → Fails k s a z f
   step_failed z f h = fails_later k p.at s t a b z f p.went (fails_step p.at step t b z f (proceeds p.now.suits) (reaches_step p.at step t u goes) (λ _. inl some) h)
 
--- One turn of the loop: it came so far before.
+-- One iteration of the loop, from how far it went before.
 module _ (k : Course) (s : List ℕ) (stream : Stream) (seen0 : Seen) (first old : Scene) (p : IsPumping k s stream seen0 first old) (stood : first.office.stands) where
-  -- an own turn failed
+  -- a turn failed
   pub turn_fails : (after : Stream) (seen : Seen) (z : Scene) (f : RunFault) (result : Result (Option Ending) RunFault)
       → (old.office.stands → (d : Course) → IsAt d seen0 old → Fails d [] old z f) → result ≡ Err f → Pumped k s after seen first z result
   turn_fails after seen z f result fails same =
       let failed = fails_with p.come.at stream.rest old z f (fails (p.come.went.stands stood) p.come.at p.come.now) in
       subst (Pumped k s after seen first z) (sym same) (fails_later k p.come.at s stream.rest first old z f p.come.went failed)
 
-  -- every due turn is taken
+  -- every due turn is made
   module _ (seen : Seen) (mid : Scene) (turns : old.office.stands → (d : Course) → IsAt d seen0 old → Settles d seen old mid)
       (ended : Option Ending) (shows : (q : Phase) → Stands q seen → ended ≡ ending_of q) where
     abbrev taken : Settles p.come.at seen old mid
@@ -119,7 +119,7 @@ module _ (k : Course) (s : List ℕ) (stream : Stream) (seen0 : Seen) (first old
             told = p.told;
           })
 
-      -- a command came
+      -- a command arrived
       module _ (f : Option (Bor (List ℕ))) (o : Bor (List ℕ)) (e : Ok (option_copied f) ≡ next_of stream stream.told) (h : f ≡ Some o) where
         abbrev read : (n : ℕ) × (front stream.limit stream.rest ≡ Whole n) × (command_in n stream.rest ≡ o.now) × (left_of stream stream.told ≡ past stream n)
         read = next_some stream o.now (found stream f (Some o) e h)
@@ -140,7 +140,7 @@ module _ (k : Course) (s : List ℕ) (stream : Stream) (seen0 : Seen) (first old
         some : 0 < length stream.rest
         some = told_some stream.rest (Whole read.0) (limit_front stream (Whole read.0) p.limit read.1) tt
 
-        -- it was taken
+        -- it was executed
         pub obeyed : (next : Seen) (z : Scene)
             → (mid.office.stands → (d : Course) → is_over d.phase ≡ false → IsAt d seen mid → Made d (step_on d.setting d.phase d.register (command_of o.now)) next mid z)
             → IsPumping k s after next first z
@@ -152,7 +152,7 @@ module _ (k : Course) (s : List ℕ) (stream : Stream) (seen0 : Seen) (first old
               told = p.told;
             })
 
-        -- it was taken in part
+        -- it was executed in part
         pub obey_fails : (next : Seen) (z : Scene) (f : RunFault) (result : Result (Option Ending) RunFault)
             → (mid.office.stands → (d : Course) → is_over d.phase ≡ false → IsAt d seen mid
             → StepFails d (step_on d.setting d.phase d.register (command_of o.now)) mid z f)
@@ -162,7 +162,7 @@ module _ (k : Course) (s : List ℕ) (stream : Stream) (seen0 : Seen) (first old
             (step_failed k s stream.rest (drop read.0 stream.rest) seen first mid settled step proceeds goes (take read.0 stream.rest) (cut read.0 stream.rest) some z f
             (fails (settled.went.stands stood) settled.at live settled.now))
 
-      -- no header stood where one has to be
+      -- there was no header where one is expected
       module _ {T : Type 0} (x : FrameFault) (e : Err x ≡ next_of stream stream.told) (next : Seen) (z : Scene) (refused : Result T RunFault)
           (stepped : (d : Course) → IsAt d seen mid → Stepped d (fails ProtocolViolation) next mid z refused) where
         abbrev bad : (front stream.limit stream.rest ≡ Bad x) × (left_of stream stream.told ≡ with_fault stream x)
@@ -189,7 +189,7 @@ module _ (k : Course) (s : List ℕ) (stream : Stream) (seen0 : Seen) (first old
             subst (λ (t : Stream). IsOver k s t.rest next first z (Own ProtocolViolation)) (sym (left ∙ bad.1))
             (record { come = come; ends = over_after settled.at ProtocolViolation })
 
-        -- the writer told a fault within the ESID
+        -- the writer returned an error within the ESID
         pub refuse_fails : (f : RunFault) (result : Result (Option Ending) RunFault) → refused ≡ Err f → result ≡ Err f → Pumped k s after next first z result
         refuse_fails f result failed same =
             subst (Pumped k s after next first z) (sym same)

@@ -1,4 +1,4 @@
--- What is out of a queue of commands is read as those whose frames are whole.
+-- The octets that are out of a queue of commands are read as those whose frames are whole.
 use Rattle.std.proofs.Common.{◌≡◌, ℕ, zero, suc, ◌+◌, ◌*◌, ◌≤◌, ◌<◌, Bool, true, false, cond, ltb, ◌||◌, ◌==◌, List, [], ◌∷◌, ◌++◌, length, take, drop, map, fold, Option, None, Some, Result, Ok, Err, refl, sym, ap, ◌∙◌, subst, arith, append_assoc}
 use Rattle.std.proofs.lemmas.List.{append-nil, drop-append-le, drop_at, take-append-drop, take-append-le, take_at}
 use Rattle.std.proofs.lemmas.Bool.{ltb-false, ltb-true, lt-ltb}
@@ -40,7 +40,7 @@ use Rattle.oftp_engine.proofs.Spells.{GoesOnInRange, IsInRange, came_in_range, f
 use Rattle.oftp_engine.proofs.Standing.{OfBuffer}
 use Rattle.oftp_engine.proofs.EachStep.{run_keeps}
 
--- a beginning of a frame stands for no fault
+-- a beginning of a frame is no error
 
 whole_of : (b p : Bool) (n k : ℕ) → cond b (Bad BadLength) (cond p Waits (Whole n)) ≡ Whole k → (b ≡ false) × (n ≡ k)
 whole_of true p n k e = absurd (let h : ⊥ = cc in h)
@@ -83,7 +83,7 @@ none_waits limit s waits m more small e =
     let whole : front limit s ≡ Whole (length m + 4) = ap (front limit) e ∙ front_frame limit m more small in
     let h : ⊥ = cc in h
 
--- which commands of a queue are whole in its first octets, and what is left of these
+-- which commands of a queue are whole in its first octets, and the octets after them
 record Cut (said : List Command) (octets : List ℕ) : Type 0 where
   heard : List Command
   lost : List Command
@@ -190,14 +190,14 @@ queues_are_heard said octets lost each e =
       session = λ limit c. ap (λ (x : List ℕ). run limit x c) cut.whole ∙ folds limit (map Canon cut.heard) cut.rest None c cut.each cut.waits ∙ over_heard limit cut.heard c cut.same;
     }
 
--- one command more
+-- one more command
 one_said : (said : List Command) (c : Command) → AllByRecursion IsSayable said → IsSayable c → AllByRecursion IsSayable (said ++ c ∷ [])
 one_said [] c all say = (say, tt)
 one_said (m ∷ ms) c all say = (all.0, one_said ms c all.1 say)
 
--- what a session says
+-- what a session sends
 
--- an output is the frame of a command, which under a premise a frame can say
+-- an output is the frame of a command, which under a premise a frame can hold
 record IsFrame (Premise : Type 0) (o : Output) : Type 0 where
   command : Command
   is : o.octets ≡ frame_of command

@@ -1,4 +1,4 @@
--- What one call did, behind all that was done before it: of `pump`, and of a reader.
+-- What one call did after all that was done before it: a call of `pump`, and of a reader.
 use Rattle.std.proofs.Common.{◌≡◌, ℕ, List, [], ◌++◌, take, Option, length, ◌<◌, sym, ap, ◌∙◌, subst, arith, append_assoc, length-append, inl}
 use Rattle.std.proofs.lemmas.List.{append-nil, length-take-le}
 use Rattle.std.specs.Io.KnownBytes.{Consumes}
@@ -32,7 +32,7 @@ over_on k s t u seen0 seen1 a b z end p w = record {
   ends = w.ends;
 }
 
--- more octets came
+-- more octets arrived
 
 leads_more : (c d : Course) (s t x : List ℕ) → Leads c s d t → Leads c (s ++ x) d (t ++ x)
 leads_more c d s t x h = record {
@@ -87,7 +87,7 @@ gave_kept remaining before now next given g h =
       most = h.most ∙ g.most;
     }
 
--- the piece finds no room
+-- there is no room for the piece
 pub short_on : (k : Course) (s t x : List ℕ) (seen : Seen) (a z : Scene) → 0 < length x → Comes k s t seen a z → IsShort k (s ++ x) a z
 short_on k s t x seen a z some h = record {
   at = h.at;

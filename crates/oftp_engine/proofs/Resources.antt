@@ -1,4 +1,4 @@
--- No run says that resources aren't available.
+-- No run sends ESID 08.
 use Rattle.std.proofs.Common.{◌≢◌, ℕ, List, Option, None, Some}
 use Rattle.std.proofs.lemmas.List.Elements.{All-nil, All-push}
 use Rattle.std.specs.List.{All}
@@ -12,7 +12,7 @@ use Rattle.oftp_engine.specs.Runs.{Course, Output, advance, started, with_output
 use Rattle.oftp_engine.specs.Serving.{last_frame}
 use Rattle.oftp_engine.proofs.EachStep.{run_says}
 
--- a course that has no ESID 08 out
+-- a course without ESID 08
 
 abbrev IsOtherFrame : Output → Type 0
 IsOtherFrame o = o.octets ≢ last_frame

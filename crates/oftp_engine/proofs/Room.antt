@@ -1,4 +1,5 @@
--- What holds of the smaller of two buffers holds in each phase of an open session. So each has room in a DATA for a subrecord: at least 128 octets.
+-- What holds of the smaller of two buffers holds in each phase of an open session. So each DATA has room for a subrecord: at least 128
+-- octets.
 use Rattle.std.proofs.Common.{◌≡◌, ℕ, ◌+◌, ◌≤◌, ◌==◌, ◌&&◌, ◌||◌, not, min, nat_le, nat_lt, Bool, true, false, cond, List, length, slice_get, Option, None, Some, Result, Ok, Err, refl, ap, subst, arith}
 use Rattle.std.proofs.lemmas.Bool.{ltb-false, or_parts}
 use Rattle.std.specs.Str.{bytes_eq}
@@ -40,15 +41,15 @@ use Rattle.oftp_session.specs.Links.{LinkData}
 use Rattle.oftp_session.proofs.Turns.{each_turn}
 use Rattle.oftp_engine.proofs.Standing.{HasRoom, OfBuffer}
 
--- a step leaves the fact of the buffer
+-- a step preserves the fact of the buffer
 abbrev StepHasBuffer : (ℕ → Type 0) → Step → Type 0
 StepHasBuffer P step = OfBuffer P step.phase
 
--- it holds of the smaller of the station's size and of one that a partner may offer
+-- it holds of the smaller of the station's size and one that a partner may offer
 abbrev pub SizesOf : (ℕ → Type 0) → Setting → Type 0
 SizesOf P setting = (theirs : ℕ) → 128 ≤ theirs → P (min setting.book.station.buffer theirs)
 
--- a verdict behind a test that fails
+-- a verdict after a test that fails
 passes : {A B : Type 0} (b : Bool) (e : B) (x : Result A B) (a : A) → (let f : Result A B = Err e in cond b f x) ≡ Ok a → (b ≡ false) × (x ≡ Ok a)
 passes true e x a h = absurd (cc)
 passes false e x a h = (refl, h)

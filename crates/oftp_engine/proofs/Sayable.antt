@@ -1,4 +1,4 @@
--- Each command that a session spells can be said by a frame, and each that is read is in its ranges.
+-- A frame can hold each command that a session sends, and each command that is read is in its ranges.
 use Rattle.std.proofs.Common.{◌≡◌, ℕ, ◌<◌, ◌≤◌, ◌^◌, Bool, true, false, List, [], ◌∷◌, length, refl, ap, arith}
 use Rattle.std.proofs.lemmas.Str.{IsUtf8-nil}
 use Rattle.std.specs.Prelude.{codes}
@@ -54,7 +54,7 @@ mode_fits Send = (refl, refl)
 mode_fits Receive = (refl, refl)
 mode_fits Both = (refl, refl)
 
--- letters alone
+-- only letters
 
 pub ssrm_sayable : IsSayable command.Ssrm
 ssrm_sayable = sayable command.Ssrm (tt, (tt, (tt, tt))) refl

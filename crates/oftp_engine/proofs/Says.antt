@@ -1,4 +1,4 @@
--- What a station says is true of its register.
+-- What a station sends is true of its register.
 use Rattle.std.proofs.Common.{◌≡◌, ℕ, zero, suc, ◌+◌, ◌/◌, ◌&&◌, Bool, true, false, cond, not, nat_lt, List, [], ◌∷◌, ◌++◌, map, find, slice_get, Option, None, Some, is_none, Ok, refl, ap, sym, ◌∙◌, subst, inl, inr, arith}
 use Rattle.std.proofs.lemmas.Bool.{cases_Bool, cond-true, cond-false}
 use Rattle.std.specs.List.{filter_map}
@@ -47,7 +47,7 @@ use Rattle.oftp_engine.specs.TwoStations.{Has, IfAny, IsAnsweredBy}
 use Rattle.oftp_engine.proofs.Standing.{IsOfferOf, IsIssuedBy, IsWholeAt}
 use Rattle.oftp_register.proofs.ByIdentityLemmas.{found_named, one_changed, same_self, named_all}
 
--- SFNA 13 is said of a whole file alone.
+-- SFNA 13 is sent only of a whole file.
 
 duplicate : (reason : StartReason) → start_number reason ≡ 13 → reason ≡ DuplicateFile
 duplicate InvalidFilename h = absurd (omega (arith, h))
@@ -63,7 +63,7 @@ passed : {A : Type 0} (b : Bool) (x y v : A) → (x ≡ v → ⊥) → cond b x 
 passed true x y v not_so h = absurd (not_so h)
 passed false x y v not_so h = h
 
--- the verdict that a file was received before is given of one that was
+-- the verdict that a file was received before is only given if it was
 pub duplicate_received : (sfid : Sfid) (found : Option IncomingEntry) (full : Bool) (terms : Terms) (retry : Bool)
     → start_verdict sfid found full terms ≡ start.Refuse DuplicateFile retry → is_received found ≡ true
 duplicate_received sfid found full terms retry h =
@@ -107,7 +107,7 @@ refusal_is_true r sfid full terms reason retry h is =
     received_found (offered_identity sfid) 1 r.incoming (duplicate_received sfid (look_in r (offered_identity sfid)) full terms retry
     (h ∙ ap (λ x. let v : StartVerdict = start.Refuse x retry in v) same))
 
--- EFPA is said of a whole file alone: the file that was closed.
+-- EFPA is sent only of a whole file: the one that was closed.
 
 pub closed_is_whole : (r s : Register) (f : Receipt) (rows : List (List ℕ)) → IsSound r → IsReceived r f → on_incoming (closed rows) f.number r ≡ Ok s → IsWholeAt s f.file.identity
 closed_is_whole r s f rows sound holds h = by f.number holds.entry h
@@ -127,7 +127,7 @@ closed_is_whole r s f rows sound holds h = by f.number holds.entry h
         found_named incoming_name n part.0 c.new f.file.identity once' c.entry_now (ap (λ z. same_identity z f.file.identity) name ∙ same_self f.file.identity) in
         subst (λ (z : Register). IsWholeAt z f.file.identity) part.2 (subst (λ o. Has o (λ (x : Incoming). x.state ≡ Whole)) (sym found) whole)
 
--- SFID is said of a file of the station, with its header.
+-- SFID is sent of a file of the station, with its header.
 
 layout_format : (format : Format) (longest : ℕ) → format_of (layout_of format longest) ≡ format
 layout_format Fixed longest = refl
@@ -145,7 +145,7 @@ pub out_entry : (r : Register) (n : ℕ) (x : Outgoing) → IsSound r → entry_
 out_entry r zero x sound e = absurd (cc)
 out_entry r (suc n) x sound e = found_named outgoing_name n r.outgoing x x.identity sound.outgoing_once e (same_self x.identity)
 
--- what a command says of the register of the station that it comes from
+-- what a command means for the register of the station that sent it
 abbrev pub IsTrueOf : Register → Command → Type 0
 IsTrueOf r (command.Sfid sfid) = IsOfferOf r sfid
 IsTrueOf r (command.Eerp eerp) = IsIssuedBy r (end_response eerp)
@@ -158,7 +158,7 @@ offer_is_true r n file from sound e =
     let s : IsSoundOutgoing file = named_all outgoing_name IsSoundOutgoing file.identity r.outgoing file sound.outgoing found in
     record { file = file; found = found; format = layout_format file.format file.longest; longest = layout_longest file.format file.longest s.longest }
 
--- EERP and NERP are said of responses that were issued.
+-- EERP and NERP are sent of responses that were issued.
 
 pub record IsIssuedEntry (xs : List Incoming) (e : IssuedEntry) : Type 0 where
   pub place : ℕ
@@ -210,7 +210,7 @@ response_is_true : (station : List ℕ) (r : Register) (e : IssuedEntry) (kind :
 response_is_true station r e EndResponse is h = subst (λ k. Has (in_at r e.identity) (IsAnsweredBy k)) (sym is) h
 response_is_true station r e NegativeEndResponse is h = subst (λ k. Has (in_at r e.identity) (IsAnsweredBy k)) (sym is) h
 
--- what a speaker says next
+-- what a speaker sends next
 nothing_is_true : (contact : Contact) (done : WhenDone) (r : Register) → IfAny (nothing_next contact done).output (IsTrueOf r)
 nothing_is_true contact ChangeDirection r = tt
 nothing_is_true contact EndSession r = tt

@@ -1,4 +1,4 @@
--- From what one call of `pump` did to what a conversation has come to, over all octets that it has heard.
+-- From what one call of `pump` did to what a conversation has done over all octets that it has heard.
 use Rattle.std.proofs.Common.{◌≡◌, false, ℕ, List, Option, None, Some, Result, Ok, Err, sym, ap, ◌∙◌, subst}
 use Rattle.oftp_wire.specs.Stream.{Stream}
 use Rattle.oftp_register.specs.Offices.{Only}
@@ -17,15 +17,14 @@ use Rattle.oftp_engine.proofs.Ending.{KeepsLaw, whole_over, whole_waits, is_whol
 use Rattle.oftp_engine.proofs.Progress.{fails_later}
 use Rattle.oftp_engine.proofs.Reading.{over_on, wait_on}
 
--- A conversation had heard `given` and stood where `seen0` and `before` stand. One call of `pump` went on to `seen` and `stream`, with this
--- answer.
+-- A conversation had heard `given` and was at `seen0` and `before`. One call of `pump` went on to `seen` and `stream`, with this result.
 pub record HasPumped (setting : Setting) (given : List ℕ) (before stream : Stream) (seen0 seen : Seen) (first old new : Scene) (answer : Result (Option Ending) RunFault) : Type 0 where
   pub heard : HasHeard setting given (record { seen = seen0; stream = before }) first old
   pub law : KeepsLaw first.office new.office
   pub pumped : Pumped heard.come.at before.rest stream seen old new answer
 
 module _ {setting : Setting} {given : List ℕ} {before stream : Stream} {seen0 seen : Seen} {first old new : Scene} where
-  -- by the law of an office
+  -- by the contracts of an office
   pub has_pumped : {answer : Result (Option Ending) RunFault} → HasHeard setting given (record { seen = seen0; stream = before }) first old
       → (new.office.stands → Only new.office.register new.office)
       → (old.office.stands → (c : Course) → before.limit ≡ 100003 → before.told ≡ None → IsAt c seen0 old → Pumped c before.rest stream seen old new answer)
@@ -60,7 +59,7 @@ module _ {setting : Setting} {given : List ℕ} {before stream : Stream} {seen0 
         ends = over.ends ∙ ap (λ (x : Course). ending_of x.phase) (sym at);
       }
 
-  -- a fault ended it
+  -- an error ended it
   fails_over : (fault : RunFault) → HasPumped setting given before stream seen0 seen first old new (let r : Result (Option Ending) RunFault = Err fault in r)
       → ServesErr setting given first new fault
   fails_over fault h =

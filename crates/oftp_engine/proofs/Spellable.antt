@@ -1,4 +1,4 @@
--- Each change that is in its ranges leaves a register so, and so do an operator's calls.
+-- Each change that is in its ranges leaves such a register, and so does an operator's call.
 use Rattle.std.proofs.Common.{◌≡◌, ℕ, zero, suc, ◌+◌, ◌<◌, Bool, true, false, cond, ◌&&◌, nat_le, is_some, List, [], ◌∷◌, ◌++◌, length, All, Option, None, Some, Result, Ok, Err, refl, sym, subst, inl, inr, arith}
 use Rattle.std.proofs.lemmas.Bool.{and_parts, cond_both, leb-true}
 use Rattle.std.proofs.lemmas.List.Elements.{All-cons, All-head, All-map, All-nil, All-push, All-tail, All-weaker}
@@ -47,7 +47,7 @@ IsSpellableChange (change.Start identity format longest description count) = IsI
 IsSpellableChange (change.Issue n kind reason text) = (reason < 100) × AreWords text
 IsSpellableChange _ = Unit {0}
 
--- files that come
+-- incoming files
 
 still_open : (file : Incoming) (rows : List (List ℕ)) (next : IncomingState) (after : Incoming) → IsSpellableIncoming file → if_open file rows next file.state ≡ Ok after → IsSpellableIncoming after
 still_open file rows next after it h =
@@ -92,7 +92,7 @@ started_spellable r header count (file ∷ files) after it all h =
         let part = mapped_ok (λ fs. file ∷ fs) (started_in r header count files) after g in
         subst (All IsSpellableIncoming) part.2 (All-cons IsSpellableIncoming file part.0 (All-head IsSpellableIncoming file files all) (later part.0 part.1))
 
--- files that go
+-- outgoing files
 
 allowed_spellable : (allowed : Bool) (file after : Outgoing) → IsSpellableOutgoing file → if_allowed allowed file ≡ Ok after → IsSpellableOutgoing after
 allowed_spellable allowed file after it h = subst IsSpellableOutgoing (allowed_ok allowed file after h).1 it

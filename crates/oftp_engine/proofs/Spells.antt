@@ -1,4 +1,4 @@
--- Each step of a session that is in its ranges says a command that a frame can say, and stays in its ranges, by cases of phase.
+-- Each step of a session that is in its ranges sends a command that a frame can hold, and stays in its ranges, by cases of phase.
 use Rattle.std.proofs.Common.{◌≡◌, ℕ, suc, ◌+◌, ◌<◌, ◌≤◌, ◌==◌, ◌&&◌, nat_le, nat_lt, Bool, true, false, cond, List, [], ◌∷◌, length, Option, None, Some, slice_get, Result, Ok, Err, refl, sym, subst, arith}
 use Rattle.std.specs.Option.{IfSome}
 use Rattle.std.specs.Str.{bytes_eq}
@@ -75,7 +75,7 @@ pub record IsInRange (setting : Setting) (p : Phase) (r : Register) : Type 0 whe
   pub buffer : OfBuffer IsBufferSize p
   pub spellable : IsSpellable r
 
--- what a step says, and what its change adds, is in its ranges
+-- what a step sends, and what its change adds, is in its ranges
 pub record StepSpells (step : Step) : Type 0 where
   pub said : IfSome step.output IsSayable
   pub change : IfSome step.change IsSpellableChange
@@ -317,7 +317,7 @@ sends_spells contact r t sound holds size =
         says_spells _ _ (data_sayable payload (omega (arith, fits.1, size.1)))
     by None h = record { said = efid_sayable t.file (all_at IsSoundOutgoing t.number r.outgoing t.file sound.outgoing holds.entry); change = tt }
 
--- a command that comes, and an own turn
+-- a command that arrives, and a turn
 
 came_spells : (setting : Setting) (p : Phase) (r : Register) (c : Command) → IsInRange setting p r → IsFit c → StepSpells (came setting p r c)
 unfolding came

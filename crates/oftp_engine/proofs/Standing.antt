@@ -1,4 +1,4 @@
--- What holds of two stations after every event: of each file, of what is on its way, and of the two sessions.
+-- The invariant of two stations: of each file, of what is on its way, and of the two sessions.
 use Rattle.std.specs.Prelude.{◌≡◌, ℕ, ◌≤◌, ◌⊎◌, Bool, true, false, List, [], ◌∷◌, ◌++◌, length, take, drop, map, Option, None, Some, is_some, Ok, ⊤, All}
 use Rattle.oftp_wire.specs.declared.command.Command.{Command}
 use Rattle.oftp_wire.specs.declared.command.Command.TheVariants as command
@@ -30,7 +30,7 @@ use Rattle.oftp_engine.specs.TwoStations.{Has, IfAny, is_handed, IsAnsweredBy}
 
 -- One file, by its identity: as the sender has it, and as the receiver has it.
 
--- the receiver has a beginning of the file; all of it where it is whole, and that where the sender holds it as handed over
+-- the receiver has a beginning of the file, or all of it if it is whole there; it is whole there if the sender holds it as handed over
 pub record IsPartOf (f : Outgoing) (e : Incoming) : Type 0 where
   pub format : e.format ≡ f.format
   pub longest : e.longest ≡ f.longest
@@ -52,7 +52,7 @@ AllFit sender receiver = (identity : Identity) → FileFits (out_at sender ident
 
 -- What is on its way to a station. The register is that of the station that sent it.
 
--- nothing that the station will take but an end of the session
+-- nothing that the station executes but an end of the session
 abbrev pub IsQuiet : List Command → Type 0
 IsQuiet [] = ⊤
 IsQuiet (command.Esid esid ∷ coming) = ⊤
@@ -65,11 +65,11 @@ pub record IsOfferOf (sender : Register) (sfid : Sfid) : Type 0 where
   pub format : format_of sfid.layout ≡ file.format
   pub longest : longest_of sfid.layout ≡ file.longest
 
--- a response was issued by the station that it comes from
+-- a response was issued by the station that sent it
 abbrev pub IsIssuedBy : Register → Received → Type 0
 IsIssuedBy sender response = Has (in_at sender response.identity) (IsAnsweredBy response.kind)
 
--- payloads are the first of those of the sender's file from a row on, and these come next
+-- payloads are the first ones of the sender's file from a row on, and these follow
 pub record ComesFrom (sender : Register) (identity : Identity) (from : ℕ) (payloads next : List (List ℕ)) : Type 0 where
   pub file : Outgoing
   pub found : out_at sender identity ≡ Some file
@@ -80,14 +80,14 @@ pub record ComesFrom (sender : Register) (identity : Identity) (from : ℕ) (pay
 abbrev pub IsBeginning : Register → Identity → ℕ → List (List ℕ) → Type 0
 IsBeginning sender identity from payloads = (next : List (List ℕ)) × ComesFrom sender identity from payloads next
 
--- what may come where a file comes: payloads in their order, and EFID behind the last one alone
+-- what may arrive while a file is received: payloads in order, and EFID only after the last one
 abbrev pub MayTake : Register → Identity → ℕ → List (List ℕ) → List Command → Type 0
 MayTake sender identity from payloads [] = IsBeginning sender identity from payloads
 MayTake sender identity from payloads (command.Data payload ∷ coming) = MayTake sender identity from (payloads ++ payload ∷ []) coming
 MayTake sender identity from payloads (command.Efid efid ∷ coming) = ComesFrom sender identity from payloads [] × IsQuiet coming
 MayTake sender identity from payloads (_ ∷ coming) = IsBeginning sender identity from payloads
 
--- what may come to a listener
+-- what may arrive at a listener
 abbrev pub MayHear : Register → List Command → Type 0
 MayHear sender [] = ⊤
 MayHear sender (command.Sfid sfid ∷ coming) = IsOfferOf sender sfid × IsQuiet coming
@@ -96,25 +96,25 @@ MayHear sender (command.Nerp nerp ∷ coming) = IsIssuedBy sender (negative_end_
 MayHear sender (command.Cd ∷ coming) = IsQuiet coming
 MayHear sender (_ ∷ coming) = ⊤
 
--- the file is whole at the station that says so
+-- the file is whole at the station that sends this
 abbrev pub IsWholeAt : Register → Identity → Type 0
 IsWholeAt receiver identity = Has (in_at receiver identity) (λ e. e.state ≡ Whole)
 
--- what may come where SFID was sent: SFNA 13 only where the file is whole
+-- what may arrive after SFID: SFNA 13 only if the file is whole
 abbrev pub MayAnswerStart : Register → Outgoing → List Command → Type 0
 MayAnswerStart receiver file [] = ⊤
 MayAnswerStart receiver file (command.Sfpa sfpa ∷ coming) = IsQuiet coming
 MayAnswerStart receiver file (command.Sfna sfna ∷ coming) = (sfna.reason ≡ 13 → IsWholeAt receiver file.identity) × IsQuiet coming
 MayAnswerStart receiver file (_ ∷ coming) = ⊤
 
--- what may come where DATA is sent: CDT alone
+-- what may arrive while DATA is sent: only CDT
 abbrev pub MayCredit : List Command → Type 0
 MayCredit [] = ⊤
 MayCredit (command.Cdt ∷ coming) = MayCredit coming
 MayCredit (command.Esid esid ∷ coming) = ⊤
 MayCredit (_ ∷ coming) = ⊥
 
--- what may come where EFID was sent: EFPA only where the file is whole
+-- what may arrive after EFID: EFPA only if the file is whole
 abbrev pub MayAnswerEnd : Register → Outgoing → List Command → Type 0
 MayAnswerEnd receiver file [] = ⊤
 MayAnswerEnd receiver file (command.Efpa efpa ∷ coming) = IsWholeAt receiver file.identity × IsQuiet coming
@@ -132,7 +132,7 @@ MayOpen (command.Ssrm ∷ coming) = IsQuiet coming
 MayOpen (command.Ssid ssid ∷ coming) = IsQuiet coming
 MayOpen (_ ∷ coming) = ⊤
 
--- what may come in each phase
+-- what may arrive in each phase
 abbrev pub MayCome : Register → Phase → List Command → Type 0
 MayCome there ResponderOpening coming = MayOpen coming
 MayCome there InitiatorOpening coming = MayOpen coming
@@ -150,7 +150,7 @@ MayCome there (EndedThere reason) coming = ⊤
 
 -- Two sessions with each other. Only one of them speaks at a time.
 
--- a session as the other one meets it: whether it called, its phase, and what is on its way to it
+-- a session as the other one sees it: whether it called, its phase, and what is on its way to it
 pub record Talk : Type 0 where
   pub calls : Bool
   pub phase : Phase
@@ -162,7 +162,7 @@ pub record IsTold (coming : List Command) (talk : Talk) : Type 0 where
   pub listens : talk.phase ≡ ListenerIdle contact
   pub told : talk.coming ≡ coming
 
--- a listener that takes the file of this identity from a row on, after so many payloads, and with these commands behind them
+-- a listener that receives the file of this identity from a row on, after this many payloads, and with these commands after them
 pub record IsTaking (identity : Identity) (from : ℕ) (payloads : List (List ℕ)) (behind : List Command) (talk : Talk) : Type 0 where
   pub contact : Contact
   pub receipt : Receipt
@@ -196,13 +196,13 @@ pub record IsOpening (calls : Bool) (phase : Phase) (coming : List Command) (tal
 abbrev pub IsCalling : List Command → Talk → Type 0
 IsCalling coming talk = IsOpening true InitiatorOpening coming talk
 
--- a responder that greets next the one that calls
+-- a responder that sends SSRM next to the initiator
 pub record MayGreet (talk other : Talk) : Type 0 where
   pub role : talk.calls ≡ false
   pub none : talk.coming ≡ []
   pub calling : IsCalling [] other
 
--- a responder that greeted: its SSRM is on its way, or the initiator's SSID
+-- a responder that sent SSRM: that is on its way, or the initiator's SSID
 pub data HasGreeted (coming : List Command) (other : Talk) : Type 0 where
   SsrmGoes : coming ≡ [] → IsCalling (command.Ssrm ∷ []) other → HasGreeted coming other
   SsidComes : (ssid : Ssid) → coming ≡ command.Ssid ssid ∷ [] → IsOpening true AwaitingSsid [] other → HasGreeted coming other
@@ -217,7 +217,7 @@ abbrev pub OpensWith : Bool → List Command → Talk → Type 0
 OpensWith false coming other = HasGreeted coming other
 OpensWith true coming other = IsLetIn coming other
 
--- these commands are on their way to the one that may speak, and nothing to the other, which listens
+-- these commands are on their way to the session that may speak, and nothing to the other, which listens
 pub record MaySpeak (commands coming : List Command) (other : Talk) : Type 0 where
   pub comes : coming ≡ commands
   pub listens : IsTold [] other
@@ -233,17 +233,17 @@ pub data HasOffered (offer : Offer) (coming : List Command) (other : Talk) : Typ
   SfpaComes : (from : ℕ) → coming ≡ command.Sfpa (record { restart = from }) ∷ [] → IsTaking offer.file.identity from [] [] other → HasOffered offer coming other
   SfnaComes : (sfna : Sfna) → coming ≡ command.Sfna sfna ∷ [] → IsTold [] other → HasOffered offer coming other
 
--- one that sends a file: credit alone comes back
+-- one that sends a file: only credit comes back
 pub record IsSending (contact : Contact) (t : Transfer) (coming : List Command) (other : Talk) : Type 0 where
   pub credits : All IsCredit coming
   pub takes : IsTaking t.file.identity t.from (take t.sent (payloads_in contact t)) [] other
 
--- one that has sent a file: its EFID is on its way, or the answer behind the last credit
+-- one that has sent a file: its EFID is on its way, or the answer after the last credit
 pub data HasEnded (contact : Contact) (t : Transfer) (coming : List Command) (other : Talk) : Type 0 where
   EfidGoes : All IsCredit coming → (efid : Efid) → IsTaking t.file.identity t.from (payloads_in contact t) (command.Efid efid ∷ []) other → HasEnded contact t coming other
   AnswerComes : (credits : List Command) → All IsCredit credits → (answer : Command) → IsEndAnswer answer → coming ≡ credits ++ answer ∷ [] → IsTold [] other → HasEnded contact t coming other
 
--- The one that may speak next, by its phase and by what is on its way to it, and the other one (RFC 5024, section 4).
+-- The session that may speak next, by its phase and by what is on its way to it, and the other one (RFC 5024, section 4).
 abbrev pub Speaks : Talk → Phase → Talk → Type 0
 Speaks talk ResponderOpening other = MayGreet talk other
 Speaks talk InitiatorOpening other = ⊥
@@ -275,11 +275,11 @@ OfBuffer P (AwaitingEnd contact t) = P contact.link.buffer
 OfBuffer P (EndedHere reason) = ⊤
 OfBuffer P (EndedThere reason) = ⊤
 
--- what holds of a session: its phase of its register, enough room in a DATA for a subrecord, and what may come
+-- the invariant of a session: its phase and its register, enough room in a DATA for a subrecord, and what may arrive
 abbrev pub HasRoom : Phase → Type 0
 HasRoom p = OfBuffer (λ size. 128 ≤ size) p
 
--- the registers that a stop may leave in a session that began with a register: from the last change that was answered on
+-- the registers that a crash may leave of a session that began with a register: from the last change that was answered on
 pub record MayLeave (start : Register) (c : Course) (r : Register) : Type 0 where
   pub changes : ℕ
   pub least : latest c.outputs ≤ changes
@@ -293,7 +293,7 @@ LeftBy start (Some c) r = MayLeave start c r
 abbrev pub StationLeaves : Station → Register → Type 0
 StationLeaves s r = LeftBy s.start s.session r
 
--- what may come to a station from the other one, whose register may be any that a stop would leave now
+-- what may arrive at a station from the other, whose register may be any that a crash would leave now
 abbrev pub MayComeTo : Option Course → List Command → Station → Type 0
 MayComeTo None coming other = coming ≡ []
 MayComeTo (Some c) coming other = (there : Register) → StationLeaves other there → MayCome there c.phase coming
@@ -310,14 +310,14 @@ pub record IsInSession (start : Register) (c : Course) : Type 0 where
 abbrev pub talk_of : Course → List Command → Talk
 talk_of c coming = record { calls = is_some c.setting.called; phase = c.phase; coming = coming }
 
--- where both have a session, it is one with each other
+-- if both have a session, they have it with each other
 abbrev pub Meet : Option Course → List Command → Option Course → List Command → Type 0
 Meet None coming other coming' = ⊤
 Meet (Some c) coming None coming' = ⊤
 Meet (Some c) coming (Some d) coming' =
     Speaks (talk_of c coming) c.phase (talk_of d coming') ⊎ Speaks (talk_of d coming') d.phase (talk_of c coming)
 
--- one station, and what comes to it
+-- one station, and what is on its way to it
 pub record IsSoundStation (s other : Station) : Type 0 where
   pub registers : (r : Register) → StationLeaves s r → IsSound r
   pub room : 128 ≤ s.book.station.buffer
@@ -332,6 +332,6 @@ pub record WorldStands (w : World) : Type 0 where
   pub to_one : (r r' : Register) → StationLeaves w.one r → StationLeaves w.other r' → AllFit r' r
   pub meet : Meet w.one.session w.one.coming w.other.session w.other.coming
 
--- each event keeps the invariant
+-- each event preserves the invariant
 abbrev pub KeepsStanding : Type 0
 KeepsStanding = (w : World) (e : Event) → WorldStands w → WorldStands (after_event w e)

@@ -1,4 +1,4 @@
--- Each change of a session rests on its grounds: what came says so.
+-- Each change of a session has its grounds, by what is on its way.
 use Rattle.std.proofs.Common.{◌≡◌, ℕ, zero, suc, ◌+◌, ◌==◌, Bool, true, false, cond, ◌&&◌, nat_lt, nat_le, List, [], ◌∷◌, ◌++◌, length, drop, slice_get, Option, None, Some, Result, Ok, Err, refl, ap, sym, ◌∙◌, subst, append_assoc}
 use Rattle.std.proofs.lemmas.Bool.{and_parts, eqb-true}
 use Rattle.std.proofs.lemmas.List.{append-nil}
@@ -54,7 +54,7 @@ use Rattle.oftp_engine.proofs.Standing.{IsPartOf, FileFits, AllFit, IsWholeAt, I
 use Rattle.oftp_engine.proofs.Grounds.{OfEntry, Grounds}
 use Rattle.oftp_register.proofs.ByIdentityLemmas.{found_named, same_self, named_all}
 
--- what comes first is a beginning, whatever comes behind it
+-- what comes first is a beginning, whatever follows
 pub take_begins : (there : Register) (identity : Identity) (from : ℕ) (payloads : List (List ℕ)) (coming : List Command) → MayTake there identity from payloads coming
     → IsBeginning there identity from payloads
 take_begins there identity from payloads [] h = h
@@ -75,7 +75,7 @@ one_entry o x y h k = cc
 has_found : {A : Type 0} (o : Option A) (x : A) (P : A → Type 0) → o ≡ Some x → P x → Has o P
 has_found o x P e p = subst (λ z. Has z P) (sym e) p
 
--- what the file that comes and the file that is sent have in common
+-- what the file that is received and the file that is sent have in common
 part_of : (r there : Register) (f : Receipt) (file : Outgoing) → IsSound r → IsReceived r f → AllFit there r → out_at there f.file.identity ≡ Some file → IsPartOf file f.file
 part_of r there f file sound holds fit found =
     let here : in_at r f.file.identity ≡ Some f.file = in_entry r f.number f.file sound holds.entry in
@@ -279,7 +279,7 @@ unfolding unexpected
 idle_grounds r there (command.Esid esid) = tt
 idle_grounds r there _ = tt
 
--- openings change nothing
+-- opening a session changes nothing
 
 respond_grounds : (r there : Register) (c : Command) → IfAny (unexpected c).change (Grounds r there)
 unfolding unexpected
@@ -308,7 +308,7 @@ unfolding came_awaiting_ssid unexpected
 await_grounds setting r there (command.Ssid ssid) = opened_grounds setting ssid.mode (ssid_verdict setting ssid) r there
 await_grounds setting r there _ = tt
 
--- what comes
+-- a command that arrives
 pub came_grounds : (setting : Setting) (p : Phase) (r there : Register) (c : Command) (coming : List Command) → IsSound r → IsSound there → Holds p r → AllFit there r
     → MayCome there p (c ∷ coming) → IfAny (came setting p r c).change (Grounds r there)
 unfolding came
@@ -326,7 +326,7 @@ came_grounds setting (AwaitingEnd contact t) r there c coming sound sound' holds
 came_grounds setting (EndedHere reason) r there c coming sound sound' holds fit h = tt
 came_grounds setting (EndedThere reason) r there c coming sound sound' holds fit h = tt
 
--- an own command
+-- a turn
 item_grounds : (setting : Setting) (contact : Contact) (done : WhenDone) (r there : Register) (i : Option Item) → IfAny (on_item setting contact done r i).change (Grounds r there)
 item_grounds setting contact done r there (Some (item.Response e)) = tt
 item_grounds setting contact done r there (Some (item.File e)) = offers_grounds done e.no (entry_at e.no r.outgoing)

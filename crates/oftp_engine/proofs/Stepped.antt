@@ -1,4 +1,4 @@
--- A step keeps the invariant, where it does what a step of a session does.
+-- A step preserves the invariant, if it does what a step of a session does.
 use Rattle.std.proofs.Common.{◌≡◌, ◌⊎◌, ◌≤◌, Bool, true, false, cond, List, [], ◌∷◌, ◌++◌, Option, None, Some, is_some, refl, ap, sym, ◌∙◌, subst, inl, inr, arith}
 use Rattle.oftp_wire.specs.declared.command.Command.{Command}
 use Rattle.oftp_register.specs.Register.{Register}
@@ -15,12 +15,12 @@ use Rattle.oftp_session.specs.Calls.{Makes}
 use Rattle.oftp_engine.proofs.Stops.{counted_next, leaves_next, replay_next, made_after, latest_next}
 use Rattle.oftp_engine.proofs.Events.{at_session, step_fits}
 
--- what comes to the other one, with what was said behind it
+-- what is on its way to the other station, with what was sent after it
 abbrev pub with_said : List Command → Option Command → List Command
 with_said coming None = coming
 with_said coming (Some command) = coming ++ command ∷ []
 
--- what a step of a session does, in a world that stands
+-- what a step of a session does, in a world with the invariant
 pub record IsStep (w : World) (c : Course) (step : Step) (rest : List Command) (after : Register) : Type 0 where
   pub made : Makes step.change c.register after
   pub sound : IsSound after
@@ -48,7 +48,7 @@ built w one x h registers room session coming fit comes meet = record {
     coming_of None k = k
     coming_of (Some c) k = k
 
--- what is told to a station with a session, and to one without
+-- what is sent to a station with a session, and to one without
 told_by : (s : Station) (output : Option Command) (P : Station → Type 0)
     → ((session : Option Course) → s.session ≡ session → P (record s { coming = cond (is_some session) (with_said s.coming output) s.coming })) → P (told s output)
 told_by s None P k = by s.session refl
@@ -90,7 +90,7 @@ stands_stepped w c step rest after e h s = by_over (is_over step.phase) refl
     now : MayLeave w.one.start (advance c step) (advance c step).register
     now = let k : IsInSession w.one.start c = subst (λ o. IfAny o (IsInSession w.one.start)) e h.one.session in latest_next w.one.start c step after k.counted k.replay s.made
 
-    -- what may come to the other one
+    -- what may arrive at the other station
     same_said : (output : Option Command) → step.output ≡ output → output ≡ None → with_said w.other.coming step.output ≡ w.other.coming
     same_said output is none = ap (with_said w.other.coming) (is ∙ none)
 

@@ -44,12 +44,12 @@ pub ok_same : (x y : List ℕ) → (let r : Result (List ℕ) SessionFault = Ok 
 unfolding ok_of
 ok_same x y e = ap ok_of e
 
--- the register and what a stop leaves, after a step that was made
+-- the register and what a crash leaves, after a step that was made
 pub made_register : (change : Option Change) (r new : Register) → Makes change r new → new ≡ register_after r change
 made_register None r new h = h
 made_register (Some k) r new h = sym (ap (λ (x : Result Register Cause). result_unwrap_or x r) h)
 
--- a call that did its step, and the write of what it said
+-- a call that made its step, and the write of its frame
 pub stepped_ok : {T W : Type 0} (contents : W → Option (List ℕ)) (a d : Port W) (x y : View) (c : Course) (step : Step) (seen : Seen) (said : List ℕ) (result : Result T RunFault) →
     seen.setting ≡ c.setting → IsMade step.change step.output x y said → x.register ≡ c.register → Suits step.phase (register_after c.register step.change) →
     Stands step.phase seen → Recalls seen y.register → Sent contents a d said (is_ok result) → IfErr result (λ f. f ≡ fault.Write) →
@@ -79,7 +79,7 @@ stepped_ok contents a d x y c step seen said (Err f) setting made same suits sta
       told = sent.faults;
     })
 
--- an ESID of the engine's own, which leaves the office alone
+-- an ESID of the engine, which doesn't use the office
 module _ {T W : Type 0} (contents : W → Option (List ℕ)) (a d : Port W) (x : View) (before seen : Seen) (reason : SessionReason) (result : Result T RunFault)
     (setting : seen.setting ≡ before.setting)
     (over : OnOk result (Stands (EndedHere reason) seen)) (sent : Sent contents a d (frame_of (esid_of reason)) (is_ok result))
@@ -113,11 +113,11 @@ module _ {T W : Type 0} (contents : W → Option (List ℕ)) (a d : Port W) (x :
   pub stepped_refuse : Stepped c (fails reason) seen (scene contents x a) (scene contents x d) result
   stepped_refuse = refused result over sent err
 
--- where a session stands at a course, what holds at the session's own book and register holds at the course's
+-- if a session is at a course, what holds at the session's own book and register holds at the course's
 pub at_course : (P : Setting → Register → Type 0) (c : Course) (seen : Seen) (now : Scene) → IsAt c seen now → P seen.setting now.office.register → P c.setting c.register
 at_course P c seen now at h = subst (λ (r : Register). P c.setting r) at.register (subst (λ (setting : Setting). P setting now.office.register) at.setting h)
 
--- a call that the office broke off, and the last words
+-- a call that failed by an error of the office, and the last frame
 broken_cases : (x y : View) (c : Course) (step : Step) → x.register ≡ c.register → IsBefore step.change x y ⊎ IsAfter step.change x y → StaysBefore c step y ⊎ StaysAfter c step y
 unfolding advance
 broken_cases x y c step same (inl h) = inl (record {
@@ -160,7 +160,7 @@ stepped_memory contents a x y c h same =
     let took : Took (scene contents x a) (scene contents y a) [] = record { contents = appends_none (contents a.inner); taken = omega arith } in
     record { took = took; register = h.register ∙ same; stands = λ _. h.stands; faults = h.faults; told = refl }
 
--- a call of a session that stands at a course does what the course's next step says, and what the engine makes of it
+-- a call of a session that is at a course makes the course's next step, and the engine does the rest
 module _ {W : Type 0} (contents : W → Option (List ℕ)) (a d : Port W) (x y : View) (c : Course) (seen : Seen) (step : Setting → Register → Step)
     (at : IsAt c seen (scene contents x a)) where
   here : (P : Step → Type 0) → P (step seen.setting x.register) → P (step c.setting c.register)
@@ -193,7 +193,7 @@ sends_at p (Sends contact shipment) h e = let found = phase_sent p contact shipm
 sends_at p (Awaits contact number) h e = absurd (let no : ⊥ = cc in no)
 sends_at p Broken h e = absurd (let no : ⊥ = cc in no)
 
--- a fault of the session's is none of the reader's
+-- an error of the session isn't one of the reader
 pub run_fault_own : (f : SessionFault) → IsOwn (run_fault f)
 run_fault_own session.Ended = tt
 run_fault_own session.Office = tt

@@ -1,4 +1,4 @@
--- Which registers a stop may leave after a step: the one after it, and, where nothing was said, those before.
+-- Which registers a crash may leave after a step: the one after it, and, if nothing was sent, those before.
 use Rattle.std.proofs.Common.{◌≡◌, ◌⊎◌, ℕ, zero, suc, ◌+◌, ◌-◌, ◌<◌, ◌≤◌, List, [], ◌∷◌, ◌++◌, length, take, fold, Option, None, Some, Result, Ok, Err, refl, ap, sym, ◌∙◌, subst, inl, inr, arith}
 use Rattle.std.proofs.lemmas.List.{length-append, take_all, take-append-le}
 use Rattle.std.proofs.lemmas.Bool.{cases_lt}
@@ -38,7 +38,7 @@ answered_more (o ∷ outputs) later (suc m) (suc n) h =
     let ih = answered_more outputs later (suc m - length o.octets) (suc n - length o.octets) (omega (arith, h)) in
     omega (arith, ih)
 
--- a frame that was said is an answer
+-- a frame that was sent is an answer
 said_answers : (outputs : List Output) (command : Command) (n : ℕ) → n ≤ latest (outputs ++ record { octets = frame_of command; after = n } ∷ [])
 unfolding frame_of
 said_answers outputs command n =
@@ -64,7 +64,7 @@ from_result result zero changes r h = by result h
 from_result result (suc n) [] r h = (r, h)
 from_result result (suc n) (k ∷ ks) r h = from_result (go_on_by result k) n ks r h
 
--- the register of a number of changes, whatever stands for a refusal
+-- the register of a number of changes, whatever a refusal gives
 left_same : (start : Register) (c : Course) (changes : List Change) (n : ℕ) (r d : Register) → apply_all start changes ≡ Ok r
     → result_unwrap_or (apply_all start (take n changes)) d ≡ result_unwrap_or (apply_all start (take n changes)) c.register
 left_same start c changes n r d h =
@@ -76,14 +76,14 @@ pub made_after : (r : Register) (change : Option Change) (after : Register) → 
 made_after r None after h = sym h
 made_after r (Some k) after h = ap (λ (x : Result Register Cause). result_unwrap_or x r) h
 
--- the changes of a session go on with it
+-- the changes of a session are extended by it
 pub replay_next : (start : Register) (c : Course) (step : Step) (after : Register) → apply_all start c.changes ≡ Ok c.register → Makes step.change c.register after
     → apply_all start (advance c step).changes ≡ Ok (advance c step).register
 unfolding advance
 replay_next start c step after h made =
     replay_step start c.register c.changes step.change h (subst (Makes step.change c.register) (sym (made_after c.register step.change after made)) made)
 
--- after a step a stop leaves the register after it, or, where nothing was said, one that it might have left before
+-- after a step a crash leaves the register after it, or, if nothing was sent, one that it might have left before
 pub leaves_next : (start : Register) (c : Course) (step : Step) (after r : Register) → latest c.outputs ≤ length c.changes → apply_all start c.changes ≡ Ok c.register
     → Makes step.change c.register after → MayLeave start (advance c step) r
     → (r ≡ after) ⊎ ((step.output ≡ None) × MayLeave start c r)
@@ -135,7 +135,7 @@ counted_next c step counted =
     let n = length (with_change c.changes step.change) in
     counted_output n c.outputs step.output (counted_more (length c.changes) n c.outputs (more_changes c.changes step.change) counted)
 
--- the register after a step is one that a stop may leave then
+-- the register after a step is one that a crash may leave then
 pub latest_next : (start : Register) (c : Course) (step : Step) (after : Register) → Counted (length c.changes) c.outputs → apply_all start c.changes ≡ Ok c.register
     → Makes step.change c.register after → MayLeave start (advance c step) (advance c step).register
 latest_next start c step after counted h made =

@@ -1,4 +1,4 @@
--- A command that comes, and the link between two sessions: what is said may come to the other, and they meet again.
+-- A command that arrives, and the link between two sessions: what is sent may arrive, and they are consistent again.
 use Rattle.std.proofs.Common.{◌≡◌, ℕ, Bool, true, false, cond, nat_le, nat_lt, List, [], ◌∷◌, ◌++◌, All, None, refl, ap, sym, ◌∙◌, subst, inl}
 use Rattle.std.proofs.lemmas.Bool.{true≢false}
 use Rattle.std.proofs.lemmas.List.Elements.{All-head, All-tail, All-nil}
@@ -35,7 +35,7 @@ pub leaves_links : (reason : ℕ) (r after : Register) (calls : Bool) (coming : 
     → Links calls coming other (leaves reason) after
 leaves_links reason r after calls coming other made come = record { said = subst (λ x. MayCome x other.phase other.coming) (sym made) come; meet = λ o. absurd (true≢false o) }
 
--- nothing is said
+-- nothing is sent
 silent_links : (r after : Register) (step : Step) (calls : Bool) (coming : List Command) (other : Talk) → step.output ≡ None → IsSound r → Makes step.change r after
     → MayCome r other.phase other.coming
     → (let one : Talk = record { calls = calls; phase = step.phase; coming = coming } in Linked one other) → Links calls coming other (changes step.phase step.change) after
@@ -120,7 +120,7 @@ sending_takes contact t r after command.Cdt calls coming other sound made come s
 sending_takes contact t r after (command.Esid e) calls coming other sound made come s = leaves_links e.reason r after calls coming other made come
 sending_takes contact t r after _ calls coming other sound made come s = fails_links ProtocolViolation r after calls coming other made come
 
--- the answer to EFID stands behind nothing
+-- the answer to EFID is alone on its way
 answer_alone : (c : Command) (rest credits : List Command) (answer : Command) → (IsCredit c → ⊥) → All IsCredit credits → c ∷ rest ≡ credits ++ answer ∷ [] → rest ≡ []
 answer_alone c rest [] answer other all h = (one_left c answer rest h).1
 answer_alone c rest (x ∷ xs) answer other all h = absurd (other (let q : c ∷ rest ≡ x ∷ (xs ++ answer ∷ []) = h in let same : c ≡ x = cc in subst IsCredit (sym same) (All-head IsCredit x xs all)))

@@ -1,4 +1,4 @@
--- A turn, and the link between two sessions: what is said may come to the other, and they meet again.
+-- A turn, and the link between two sessions: what is sent may arrive, and they are consistent again.
 use Rattle.std.proofs.Common.{◌≡◌, ◌⊎◌, ℕ, ◌≤◌, Bool, true, false, cond, nat_lt, List, [], ◌∷◌, ◌++◌, take, slice_get, All, Option, None, Some, refl, ap, sym, subst, inl, inr}
 use Rattle.std.proofs.lemmas.Bool.{true≢false}
 use Rattle.oftp_wire.specs.declared.command.Command.{Command}
@@ -80,7 +80,7 @@ pub either_links : (b : Bool) (x y : Step) (r after : Register) (calls : Bool) (
 either_links true x y r after calls coming other one two made = one made
 either_links false x y r after calls coming other one two made = two made
 
--- where the one isn't patient, it is the one that speaks
+-- if the one isn't waiting, it is the one that speaks
 pub mine : (one other : Talk) → (IsPatient one.phase → ⊥) → Linked one other → Speaks one one.phase other
 mine one other busy s = elim s [ inl k ↦ k | inr k ↦ absurd (busy (speaks_patient other one other.phase k)) ]
 
@@ -88,7 +88,7 @@ quiet_links : (r after : Register) (p : Phase) (calls : Bool) (coming : List Com
     → (let one : Talk = record { calls = calls; phase = p; coming = coming } in Linked one other) → MayCome r other.phase other.coming → Links calls coming other (quiet p) after
 quiet_links r after p calls coming other made s come = record { said = subst (λ x. MayCome x other.phase other.coming) (sym made) come; meet = λ _. s }
 
--- a listener is told one command, where nothing was on its way
+-- one command goes to a listener, to which nothing was on its way
 hears_next : (after : Register) (other : Talk) (c : Command) → IsTold [] other → MayHear after (c ∷ []) → MayCome after other.phase (other.coming ++ c ∷ [])
 hears_next after other c k h = subst (λ p. MayCome after p (other.coming ++ c ∷ [])) (sym k.listens) (subst (λ x. MayHear after (x ++ c ∷ [])) (sym k.told) h)
 

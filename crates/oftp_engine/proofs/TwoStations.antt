@@ -1,4 +1,4 @@
--- The promise of two stations: of commands that come, each of the two goes on, and they meet again.
+-- The promise of two stations: each of the two goes on from commands that arrive, and they are consistent again.
 use Rattle.std.proofs.Common.{◌≡◌, List, ◌∷◌, Some, is_some, sym, subst}
 use Rattle.std.proofs.lemmas.Bool.{true≢false}
 use Rattle.oftp_wire.specs.declared.command.Command.{Command}
@@ -17,13 +17,13 @@ use Rattle.oftp_engine.proofs.TurnLinks.{Linked, Links, mine, turned_links}
 use Rattle.oftp_engine.proofs.TakeLinks.{rtr_links, start_answer_links, sending_takes, end_answer_links, idle_links, respond_links}
 use Rattle.oftp_engine.proofs.ListenLinks.{initiate_links, await_links, listen_links, receive_links}
 
--- a command that comes to one of two sessions with each other
+-- a command that arrives at one of two sessions with each other
 abbrev pub TakesLink : Type 0
 TakesLink = (setting : Setting) (p : Phase) (r after : Register) (c : Command) (coming : List Command) (other : Talk) → IsSound r → Holds p r → HasRoom p → Makes (came setting p r c).change r after
     → (let one : Talk = record { calls = is_some setting.called; phase = p; coming = c ∷ coming } in Linked one other) → MayCome r other.phase other.coming
     → Links (is_some setting.called) coming other (came setting p r c) after
 
--- and so it is, for all phases
+-- the same, for all phases
 takes_link : TakesLink
 unfolding came
 takes_link setting ResponderOpening r after c coming other sound holds room made s come = respond_links r after c (is_some setting.called) coming other made come

@@ -1,4 +1,4 @@
--- The events of two stations are what the calls do: each deed of an operator's call is one, and so is what a stop leaves of a session.
+-- The events of two stations are what the calls do: what an operator's call does, and what a crash leaves of a session.
 use Rattle.std.specs.Prelude.{◌≡◌, ℕ, ◌≤◌, List, length, None, Some}
 use Rattle.oftp_register.specs.declared.change.Change.{Change}
 use Rattle.oftp_register.specs.Register.{Register}
@@ -16,17 +16,17 @@ pub record IsOrdered (w : World) (call : Operator) (after : Register) : Type 0 w
   pub same : order.call ≡ call
   pub does : happens w (Orders order) ≡ record w { one = record w.one { start = after } }
 
--- each deed of an operator's call, to any partner of the book, is an event, which leaves the register that `operate` leaves
+-- what an operator's call does, to any partner of the book, is an event, which leaves the register that `operate` leaves
 abbrev pub DeedsAreOrders : Type 0
 DeedsAreOrders = (w : World) (call : Operator) (deed : Deed) (after : Register) → w.one.session ≡ None → IsDeed w.one.book w.one.start call deed
     → Makes deed.change w.one.start after → IsOrdered w call after
 
--- the register that a stop leaves of these changes, in the words of `serve`: a content stands for it
+-- a register that a crash may leave after these changes, in the words of `serve`
 abbrev pub MayBeLeft : List Change → Register → ℕ → ℕ → Register → Type 0
 MayBeLeft changes start least made left = IsPrefix (λ (content r : Register). r ≡ content) changes start least made left
 
--- What `serve` says that a stop leaves, an event leaves: between two steps; or within a step, where the outputs before it are out and so many
--- octets of its own, and the station stops there or its office tells a fault.
+-- What `serve` says that a crash may leave, an event leaves. The crash is between two steps; or it is within a step, where the outputs
+-- before it and some octets of its own are out, and the station crashes there or its office returns an error.
 pub record StopsLeavePrefixes : Type 0 where
   pub between : (w : World) (c : Course) (made : ℕ) (left : Register) → w.one.session ≡ Some c
       → MayBeLeft c.changes w.one.start (answered c.outputs (length (octets_of c.outputs))) made left

@@ -1,4 +1,4 @@
--- Inside: what an operator's call has come to before its line is out, for the functions of src/operating.rt and submitting.rt.
+-- Inside: the result of an operator's call before its line is out, for the functions of src/operating.rt and submitting.rt.
 use Rattle.std.specs.Prelude.{◌≡◌, ℕ, ◌⊎◌, ⊤, List, Result, Ok, Err, codes}
 use Rattle.oftp_register.specs.declared.office.OfficeFault.{OfficeFault}
 use Rattle.oftp_register.specs.declared.office.OfficeFault.TheVariants as office
@@ -15,13 +15,13 @@ use Rattle.oftp_engine.specs.Operating.{Deed, NeedsMemory, done_line, refusal_li
 use Rattle.oftp_engine.specs.declared.operating.Operator.TheVariants as operator
 use Rattle.oftp_engine.specs.Operated.{IsMadeBefore}
 
--- how the line of a call that is done begins
+-- the beginning of the line of a call that was carried out
 abbrev pub verb_of : Operator → List ℕ
 verb_of (operator.Submit submission) = codes "done: submit "
 verb_of (operator.Release n) = codes "done: release "
 verb_of (operator.Refuse n reason text) = codes "done: refuse "
 
--- what is told where a call came out so, and the line
+-- what is returned for a result, and its line
 abbrev pub told_as : Outcome → Told
 told_as (outcome.Done n) = told.Done
 told_as (outcome.Refused refusal) = told.Refused refusal
@@ -38,12 +38,12 @@ pub record IsDecided (verb : List ℕ) (deed : Deed) (old new : View) (outcome :
   pub stands : new.stands
   pub faults : new.told ≡ old.told
 
--- the office told a fault
+-- the office returned an error
 pub record IsOpen (deed : Deed) (old new : View) : Type 0 where
   pub cases : IsBefore deed.change old new ⊎ IsMadeBefore deed.change old new
   pub faults : new.told ≡ next_count old.told
 
--- memory ran out before the office was asked
+-- out of memory before the office was called
 pub record IsUntouched (old new : View) : Type 0 where
   pub register : new.register ≡ old.register
   pub stands : new.stands
@@ -55,14 +55,14 @@ AttemptsErr IsIt old new fault.Write = ⊥
 AttemptsErr IsIt old new fault.Office = (deed : Deed) × IsIt deed × IsOpen deed old new
 AttemptsErr IsIt old new fault.Memory = IsUntouched old new
 
--- a fault of a call before its line is written
+-- an error of a call before its line is written
 abbrev pub MayFail : Operator → RunFault → Type 0
 MayFail call fault.Read = ⊥
 MayFail call fault.Write = ⊥
 MayFail call fault.Office = ⊤
 MayFail call fault.Memory = NeedsMemory call
 
--- what a commit comes to that answers this, for the file with a number
+-- the result of a commit of a change of the file with a number
 abbrev pub came_out_as : ℕ → OfficeFault → Result Outcome RunFault
 came_out_as n office.Store = Err fault.Office
 came_out_as n office.Memory = Err fault.Office
@@ -72,7 +72,7 @@ abbrev pub came_out : {T : Type 0} → ℕ → Result T OfficeFault → Result O
 came_out n (Ok x) = Ok (outcome.Done n)
 came_out n (Err fault) = came_out_as n fault
 
--- a call is attempted that does a deed of this kind
+-- a call was tried that does a deed of this kind
 abbrev pub Attempts : List ℕ → (Deed → Type 0) → View → View → Result Outcome RunFault → Type 0
 Attempts verb IsIt old new (Ok outcome) = (deed : Deed) × IsIt deed × IsDecided verb deed old new outcome
 Attempts verb IsIt old new (Err fault) = AttemptsErr IsIt old new fault

@@ -8,7 +8,7 @@ use Rattle.oftp_engine.specs.declared.serving.RunFault.{RunFault}
 use Rattle.oftp_engine.specs.declared.serving.RunFault.TheVariants as fault
 use Rattle.oftp_engine.specs.Jobs.{Entry, Stop, JobDone, JobStops, LeavesSome, EndsWith, share_of}
 
--- a fault of a job's ports doesn't end its list
+-- an error of a job's ports doesn't end its list
 abbrev pub IsGoneOn : {T U : Type 0} → Result T RunFault → Result U RunFault → Type 0
 IsGoneOn (Ok x) (Ok y) = ⊤
 IsGoneOn (Ok x) (Err told) = ⊥
@@ -31,7 +31,7 @@ module _ {R W : Type 0} (remaining : R → Option (List ℕ)) (contents : W → 
     pub stands : new.stands
     pub faults : new.told ≡ old.told
 
-  -- one job is broken off
+  -- one job was cut short
   pub record IsJobStopped (old new : View) (before after : Job R W) (fault : RunFault) : Type 0 where
     pub stop : Stop
     pub stops : JobStops remaining contents book old.register before after stop fault

@@ -1,4 +1,4 @@
--- Inside: how far the engine has come in a run, for the functions of src/serving.rt.
+-- Inside: how far the engine is in a run, for the functions of src/serving.rt.
 use Rattle.std.specs.Prelude.{◌≡◌, ℕ, ◌<◌, ◌⊎◌, Bool, false, List, [], ◌++◌, length, take, Option, None, Some, Result, Ok, Err}
 use Rattle.oftp_wire.specs.Stream.{Stream, front, Waits}
 use Rattle.oftp_register.specs.Offices.{View, Only, WithOrWithout, next_count}
@@ -16,12 +16,12 @@ use Rattle.oftp_engine.specs.declared.serving.RunFault.TheVariants as fault
 use Rattle.oftp_engine.specs.Serving.{Scene, Took, IsSaid, MayRunOut, last_frame}
 use Rattle.oftp_engine.specs.Progress.{Comes, Grows, IsAt, Leads, Went}
 
--- the run that comes from c with the octets s comes to d, which it leaves for e
+-- the run from c over the octets s reaches d, and goes on from e
 pub record Reaches (c : Course) (s : List ℕ) (d e : Course) : Type 0 where
   pub grows : Grows c d
   pub same : (more : List ℕ) (limit : Option ℕ) → is_stopped limit d ≡ false → (u : List ℕ) × (run limit (s ++ more) c ≡ run limit u e)
 
--- the writer told a fault within the output of a step
+-- the writer returned an error within the output of a step
 pub record BreaksOff (c : Course) (s : List ℕ) (old new : Scene) : Type 0 where
   pub at : Course
   pub step : Step
@@ -36,8 +36,8 @@ pub record BreaksOff (c : Course) (s : List ℕ) (old new : Scene) : Type 0 wher
   pub faults : new.office.told ≡ old.office.told
   pub told : new.told ≡ next_count old.told
 
--- the office told a fault within a step: the register is the one before it, and a stop may leave either; or it is the one
--- after it, and nothing else is left
+-- The office returned an error within a step. Either the register is the one before it, and a crash may leave the one before or the one
+-- after; or the register is the one after it, and a crash leaves nothing else.
 pub record StaysBefore (at : Course) (step : Step) (now : View) : Type 0 where
   pub same : now.is_open → now.register ≡ at.register
   pub left : WithOrWithout step.change at.register now
@@ -46,7 +46,7 @@ pub record StaysAfter (at : Course) (step : Step) (now : View) : Type 0 where
   pub same : now.is_open → now.register ≡ (advance at step).register
   pub left : Only (advance at step).register now
 
--- the office told a fault within a step
+-- the office returned an error within a step
 pub record OfficeFails (c : Course) (s : List ℕ) (old new : Scene) : Type 0 where
   pub at : Course
   pub step : Step
@@ -60,7 +60,7 @@ pub record OfficeFails (c : Course) (s : List ℕ) (old new : Scene) : Type 0 wh
   pub cases : StaysBefore at step new.office ⊎ StaysAfter at step new.office
   pub faults : new.office.told ≡ next_count old.office.told
 
--- memory ran out where the run had come, between two of its steps
+-- out of memory at the point that the run had reached, between two of its steps
 pub record IsShort (c : Course) (s : List ℕ) (old new : Scene) : Type 0 where
   pub at : Course
   pub rest : List ℕ
@@ -74,7 +74,7 @@ pub record IsShort (c : Course) (s : List ℕ) (old new : Scene) : Type 0 where
   pub faults : new.office.told ≡ old.office.told
   pub told : new.told ≡ old.told
 
--- what a fault leaves. A function that doesn't read tells none of the reader
+-- what an error leaves; a function that doesn't read returns none of the reader
 abbrev pub Fails : Course → List ℕ → Scene → Scene → RunFault → Type 0
 Fails c s old new fault.Read = ⊥
 Fails c s old new fault.Write = BreaksOff c s old new
@@ -89,7 +89,7 @@ pub record Made (c : Course) (step : Step) (seen : Seen) (old new : Scene) : Typ
   pub faults : new.office.told ≡ old.office.told
   pub told : new.told ≡ old.told
 
--- one step at a course: it is made, and the writer told a fault within its output
+-- one step at a course: it is made, and the writer returned an error within its output
 pub record MadePart (c : Course) (step : Step) (old new : Scene) : Type 0 where
   pub count : ℕ
   pub short : count < length (framed step.output)
@@ -99,7 +99,7 @@ pub record MadePart (c : Course) (step : Step) (old new : Scene) : Type 0 where
   pub faults : new.office.told ≡ old.office.told
   pub told : new.told ≡ next_count old.told
 
--- one step at a course: the office told a fault
+-- one step at a course: the office returned an error
 pub record NotMade (c : Course) (step : Step) (old new : Scene) : Type 0 where
   pub count : ℕ
   pub took : Took old new (take count last_frame)
@@ -107,7 +107,7 @@ pub record NotMade (c : Course) (step : Step) (old new : Scene) : Type 0 where
   pub cases : StaysBefore c step new.office ⊎ StaysAfter c step new.office
   pub faults : new.office.told ≡ next_count old.office.told
 
--- one step at a course: memory ran out, and nothing is changed
+-- one step at a course: out of memory, and nothing is changed
 pub record NoMemory (c : Course) (old new : Scene) : Type 0 where
   pub took : Took old new []
   pub register : new.office.register ≡ c.register
@@ -125,11 +125,11 @@ abbrev pub Stepped : {T : Type 0} → Course → Step → Seen → Scene → Sce
 Stepped c step seen old new (Ok x) = Made c step seen old new
 Stepped c step seen old new (Err fault) = StepFails c step old new fault
 
--- the last frame is out, or the writer told a fault within it
+-- the last frame is out, or the writer returned an error within it
 abbrev pub LastWords : {W : Type 0} → (W → Option (List ℕ)) → Port W → Port W → Type 0
 LastWords contents old new = (all : Bool) × Sent contents old new last_frame all
 
--- every due turn is taken
+-- every turn that is due was made
 pub record Settles (c : Course) (seen : Seen) (old new : Scene) : Type 0 where
   pub at : Course
   pub went : Went c [] at [] old new
@@ -140,12 +140,12 @@ abbrev pub TurnsTaken : {T : Type 0} → Course → Seen → Scene → Scene →
 TurnsTaken c seen old new (Ok x) = Settles c seen old new
 TurnsTaken c seen old new (Err fault) = Fails c [] old new fault
 
--- the session is over, and has ended so
+-- the session is over, and has ended like this
 pub record IsOver (c : Course) (s t : List ℕ) (seen : Seen) (old new : Scene) (end : Ending) : Type 0 where
   pub come : Comes c s t seen old new
   pub ends : Some end ≡ ending_of come.at.phase
 
--- nothing is due and no whole frame is there
+-- no turn is due, and the octets have no whole frame
 pub record IsWaiting (c : Course) (s : List ℕ) (stream : Stream) (seen : Seen) (old new : Scene) : Type 0 where
   pub come : Comes c s stream.rest seen old new
   pub turn : has_turn come.at.phase ≡ false
@@ -159,13 +159,13 @@ Pumped c s stream seen old new (Ok (Some end)) = IsOver c s stream.rest seen old
 Pumped c s stream seen old new (Ok None) = IsWaiting c s stream seen old new
 Pumped c s stream seen old new (Err fault) = Fails c s old new fault
 
--- the fault that a session's fault is to its caller; `Ended` is never met, since a session that is closed isn't called
+-- the error of a session as its caller gets it; `Ended` never occurs, since a session that is closed isn't called
 abbrev pub run_fault : SessionFault → RunFault
 run_fault session.Ended = fault.Memory
 run_fault session.Office = fault.Office
 run_fault session.Memory = fault.Memory
 
--- after a session's fault the last words are out where the office told it, and else nothing
+-- after a session's error the last frame is out if the office returned the error, and otherwise nothing
 abbrev pub BrokeOff : {W : Type 0} → (W → Option (List ℕ)) → Port W → Port W → SessionFault → Type 0
 BrokeOff contents old new session.Ended = new ≡ old
 BrokeOff contents old new session.Office = LastWords contents old new

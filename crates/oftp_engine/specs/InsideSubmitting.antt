@@ -1,4 +1,4 @@
--- Inside: what the steps of a submission have read of it, for the functions of src/submitting.rt.
+-- Inside: what the steps of a submission have read, for the functions of src/submitting.rt.
 use Rattle.std.specs.Prelude.{◌≡◌, Option, None, Some, Result, Ok, Err}
 use Rattle.oftp_partners.specs.Book.{BookData}
 use Rattle.oftp_partners.specs.declared.partner.Partner.{Partner}
@@ -24,22 +24,22 @@ pub record AreFieldsOf (s : Submission) (fields : Fields) : Type 0 where
   pub time : fields.time ≡ s.time.now
   pub description : fields.description ≡ s.description.now
 
--- the file that was read is the one that was handed in
+-- the file that was read is the one that was submitted
 pub record IsOffer (s : Submission) (offer : Offer) : Type 0 where
   pub fields : AreFieldsOf s offer.fields
   pub content : IsLocal s.format s.longest s.content.now offer.rows
 
--- what names a file of these fields that goes to a partner
+-- the identity of an outgoing file with these fields
 abbrev pub named_by : BookData → Partner → Fields → Identity
 named_by book partner fields = record { dataset = fields.dataset; date = fields.date; time = fields.time; originator = book.station.code; destination = partner.code }
 
--- what a file that is too big comes to, once its identity was looked up
+-- the result for a file that exceeds the limits, once its identity was looked up
 abbrev pub came_big : Result (Option OutgoingEntry) OfficeFault → Result Outcome RunFault
 came_big (Ok None) = Ok (outcome.Refused refusal.Limit)
 came_big (Ok (Some file)) = Ok (outcome.Refused refusal.Duplicate)
 came_big (Err told) = Err fault.Office
 
--- what a file that was registered comes to, once its identity was looked up. It is there, where what was read is what was written
+-- the result for a registered file, once its number was looked up; it is found, if the store reads what was written
 abbrev pub came_numbered : Result (Option OutgoingEntry) OfficeFault → Result Outcome RunFault
 came_numbered (Ok None) = Err fault.Office
 came_numbered (Ok (Some file)) = Ok (outcome.Done file.no)

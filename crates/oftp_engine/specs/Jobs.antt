@@ -23,13 +23,13 @@ use Rattle.oftp_engine.specs.Serving.{last_frame}
 use Rattle.oftp_engine.specs.Served.{Gave, InputEnded, IsNeeded, IsPrefix, ReaderTold, StopsBetween, StopsWithin, setting_of, whole}
 use Rattle.oftp_engine.specs.Operating.{Deed, IsDeed, NeedsMemory}
 
--- A job as its ports tell. Of a session: the octets that its reader gave, and how many its writer had taken if it told a fault. Of an
--- operator's call: what it does, and the same of its writer.
+-- A job as its ports report it. For a session: the octets that its reader gave, and how many its writer had taken if it returned an error.
+-- For an operator's call: what it does, and the same of its writer.
 pub data Entry : Type 0 where
   SessionEntry : (setting : Setting) (given : List ℕ) (stop : Option ℕ) → Entry
   CallEntry : (deed : Deed) (stop : Option ℕ) → Entry
 
--- what a job makes: its changes, its outputs, and the register after it
+-- the effect of a job: its changes, its outputs, and the register after it
 pub record Share : Type 0 where
   pub changes : List Change
   pub outputs : List Output
@@ -49,7 +49,7 @@ abbrev pub share_of : Register → Entry → Share
 share_of r (SessionEntry setting given stop) = session_share (run stop given (started setting r))
 share_of r (CallEntry deed stop) = call_share r deed
 
--- the register after jobs, and all changes that they make
+-- the register after jobs, and all their changes
 abbrev pub after_jobs : Register → List Entry → Register
 after_jobs r [] = r
 after_jobs r (e ∷ es) = after_jobs (share_of r e).register es
@@ -58,12 +58,12 @@ abbrev pub changes_of : Register → List Entry → List Change
 changes_of r [] = []
 changes_of r (e ∷ es) = (share_of r e).changes ++ changes_of (share_of r e).register es
 
--- octets are out, or a beginning of them where the writer told a fault
+-- octets are out, or a beginning of them if the writer returned an error
 abbrev pub IsOut : {W : Type 0} → (W → Option (List ℕ)) → Port W → Port W → List ℕ → Option ℕ → Type 0
 IsOut contents old new octets None = Wrote contents old new octets × (new.faults ≡ old.faults)
 IsOut contents old new octets (Some n) = Wrote contents old new (take n octets) × (n < length octets) × (new.faults ≡ next_count old.faults)
 
--- how a session ended that its list went on after
+-- the result of a session that its list went on after
 abbrev pub SessionEnds : Setting → Register → List ℕ → Option ℕ → Result End RunFault → Type 0
 SessionEnds setting r given stop (Ok end) = (stop ≡ None) × (end ≡ ending (whole setting given r).phase) × IsNeeded setting r given
 SessionEnds setting r given stop (Err fault.Read) = (stop ≡ None) × (is_over (whole setting given r).phase ≡ false)
@@ -84,7 +84,7 @@ pub record SessionServed {R W : Type 0} (remaining : R → Option (List ℕ)) (c
   pub reader_told : ReaderTold old.reader new.reader answer
   pub input_ended : InputEnded remaining old.reader new.reader answer
 
--- what a call told that its list went on after
+-- the result of a call that its list went on after
 abbrev pub CallEnds : Deed → Option ℕ → Result Told RunFault → Type 0
 CallEnds deed stop (Ok told) = (stop ≡ None) × (told ≡ deed.told)
 CallEnds deed stop (Err fault.Read) = ⊥
@@ -102,14 +102,14 @@ pub record CallCarriedOut {W : Type 0} (contents : W → Option (List ℕ)) (boo
   pub result : new.result ≡ Some answer
   pub ends : CallEnds deed stop answer
 
--- What a job that was broken off leaves: all the changes that it makes where it isn't, how many of these stand with an output of which
--- an octet is out, and how many are made.
+-- What a job that was cut short leaves: all changes that it would make, how many of these come before an output of which an octet is out,
+-- and how many are made.
 pub record Stop : Type 0 where
   pub changes : List Change
   pub answered : ℕ
   pub made : ℕ
 
--- a session was broken off by a fault: whole outputs of it are out, and no more was made than its changes
+-- a session was cut short by an error: whole outputs of it are out, and nothing beyond its changes was made
 pub record SessionCut {R W : Type 0} (remaining : R → Option (List ℕ)) (book : BookData) (r : Register) (old new : SessionJob R W) (stop : Stop) (fault : RunFault) : Type 0 where
   pub role : new.role ≡ old.role
   pub given : List ℕ
@@ -122,8 +122,8 @@ pub record SessionCut {R W : Type 0} (remaining : R → Option (List ℕ)) (book
   pub reader : new.reader.faults ≡ old.reader.faults
   pub result : new.result ≡ Some (Err fault)
 
--- the office told a fault within a session: behind the whole outputs ESID 08 is out, or as much of it as the writer took before it told a
--- fault
+-- The office returned an error within a session. After the whole outputs ESID 08 is out, or as much of it as the writer took before it
+-- returned an error.
 pub record SessionRefused {R W : Type 0} (remaining : R → Option (List ℕ)) (contents : W → Option (List ℕ)) (book : BookData) (r : Register)
     (old new : SessionJob R W) (stop : Stop) : Type 0 where
   pub cut : SessionCut remaining book r old new stop fault.Office
@@ -132,7 +132,7 @@ pub record SessionRefused {R W : Type 0} (remaining : R → Option (List ℕ)) (
   pub out : Wrote contents old.writer new.writer (octets_of cut.outs ++ take count last_frame)
   pub said : ((count ≡ length last_frame) × (new.writer.faults ≡ old.writer.faults)) ⊎ ((count < length last_frame) × (new.writer.faults ≡ next_count old.writer.faults))
 
--- memory ran out within a session: the whole outputs are out, and no more
+-- out of memory within a session: the whole outputs are out, and nothing else
 pub record SessionShort {R W : Type 0} (remaining : R → Option (List ℕ)) (contents : W → Option (List ℕ)) (book : BookData) (r : Register)
     (old new : SessionJob R W) (stop : Stop) : Type 0 where
   pub cut : SessionCut remaining book r old new stop fault.Memory
@@ -140,7 +140,7 @@ pub record SessionShort {R W : Type 0} (remaining : R → Option (List ℕ)) (co
   pub out : Wrote contents old.writer new.writer (octets_of cut.outs)
   pub unfailed : new.writer.faults ≡ old.writer.faults
 
--- the office told a fault within a call: nothing is out
+-- the office returned an error within a call: nothing is out
 pub record CallRefused {W : Type 0} (contents : W → Option (List ℕ)) (book : BookData) (r : Register) (old new : CallJob W) (stop : Stop) : Type 0 where
   pub deed : Deed
   pub is : IsDeed book r old.call deed
@@ -151,7 +151,7 @@ pub record CallRefused {W : Type 0} (contents : W → Option (List ℕ)) (book :
   pub least : stop.answered ≡ 0
   pub result : new.result ≡ Some (Err fault.Office)
 
--- memory ran out within a call: nothing is out, and nothing is changed
+-- out of memory within a call: nothing is out, and nothing is changed
 pub record CallShort {W : Type 0} (contents : W → Option (List ℕ)) (old new : CallJob W) (stop : Stop) : Type 0 where
   pub needs : NeedsMemory old.call
   pub call : new.call ≡ old.call
@@ -161,7 +161,7 @@ pub record CallShort {W : Type 0} (contents : W → Option (List ℕ)) (old new 
   pub least : stop.answered ≡ 0
   pub result : new.result ≡ Some (Err fault.Memory)
 
--- the office told a fault in this call, or it stands, a stop leaves its register and memory ran out
+-- the office returned an error in this call; or it is out of memory, the office is open, and a crash leaves its register
 pub record OfficeTold (told : ℕ) (new : View) : Type 0 where
   pub faults : new.told ≡ next_count told
 
@@ -176,7 +176,7 @@ EndsWith told new fault.Write = ⊥
 EndsWith told new fault.Office = OfficeTold told new
 EndsWith told new fault.Memory = OfficeStands told new
 
--- a stop leaves the register after some of these changes, from so many on, and so many or one fewer are made in the office
+-- a crash leaves the register after at least `least` of these changes, and the office made that many or one fewer
 pub record LeavesSome (changes : List Change) (least made : ℕ) (r : Register) (new : View) : Type 0 where
   pub kept : least ≤ made
   pub few : made ≤ length changes
@@ -202,7 +202,7 @@ module _ {R W : Type 0} (remaining : R → Option (List ℕ)) (contents : W → 
   JobsDone r (e ∷ es) (old ∷ olds) [] = ⊥
   JobsDone r (e ∷ es) (old ∷ olds) (new ∷ news) = JobDone r e old new × JobsDone (share_of r e).register es olds news
 
-  -- a job is broken off by a fault
+  -- a job is cut short by an error
   abbrev pub SessionStops : Register → SessionJob R W → SessionJob R W → Stop → RunFault → Type 0
   SessionStops r old new stop fault.Read = ⊥
   SessionStops r old new stop fault.Write = ⊥
@@ -231,8 +231,8 @@ module _ {R W : Type 0} (remaining : R → Option (List ℕ)) (contents : W → 
     pub left : Only new.register new
     pub faults : new.told ≡ told
 
-  -- The list ended within a job: those before it are done, and those behind it as they were. Of all the changes, those of the jobs before
-  -- it and its own, those are made that were answered, at least.
+  -- The list ended within a job. Those before it are done, and those after it are unchanged. Of all changes of the jobs before it and of
+  -- its own, at least those that were answered are made.
   pub record IsStopped (r : Register) (told : ℕ) (new : View) (olds news : List (Job R W)) (fault : RunFault) : Type 0 where
     pub entries : List Entry
     pub before : List (Job R W)
@@ -248,7 +248,7 @@ module _ {R W : Type 0} (remaining : R → Option (List ℕ)) (contents : W → 
     pub leaves : LeavesSome (changes_of r entries ++ stop.changes) (length (changes_of r entries) + stop.answered) (length (changes_of r entries) + stop.made) r new
     pub ends : EndsWith told new fault
 
-  -- what a list of jobs that answers this has done
+  -- what a list of jobs with this result has done
   abbrev pub Runs : {T : Type 0} → View → View → List (Job R W) → List (Job R W) → Result T RunFault → Type 0
   Runs old new olds news (Ok x) = IsRun old.register old.told new olds news
   Runs old new olds news (Err fault) = IsStopped old.register old.told new olds news fault

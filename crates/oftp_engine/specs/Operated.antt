@@ -13,12 +13,12 @@ use Rattle.oftp_engine.specs.declared.serving.RunFault.TheVariants as fault
 use Rattle.oftp_engine.specs.Operating.{Deed, IsDeed, NeedsMemory}
 use Rattle.oftp_engine.specs.Serving.{Scene, Took}
 
--- the change registers a file, whose number is looked up once it is made
+-- the change registers a file, whose number is looked up afterwards
 abbrev pub Registers : Option Change → Type 0
 Registers (Some (change.Submit identity format longest description rows)) = ⊤
 Registers _ = ⊥
 
--- the office told a fault after the change was made: in a look-up of the file's number
+-- the office returned an error after the change was made, in the look-up of the file's number
 pub record IsMadeBefore (change : Option Change) (old new : View) : Type 0 where
   pub registers : Registers change
   pub after : Register
@@ -36,7 +36,7 @@ pub record IsOperated (deed : Deed) (old new : Scene) (told' : Told) : Type 0 wh
   pub faults : new.office.told ≡ old.office.told
   pub unfailed : new.told ≡ old.told
 
--- the writer told a fault: a beginning of the line is out, and the change is made
+-- the writer returned an error: a beginning of the line is out, and the change is made
 pub record IsHalfTold (deed : Deed) (old new : Scene) : Type 0 where
   pub count : ℕ
   pub short : count < length deed.line
@@ -47,14 +47,14 @@ pub record IsHalfTold (deed : Deed) (old new : Scene) : Type 0 where
   pub faults : new.office.told ≡ old.office.told
   pub failed : new.told ≡ next_count old.told
 
--- the office told a fault: nothing is out, and the change is made or not
+-- the office returned an error: nothing is out, and the change is made or not
 pub record IsUndecided (deed : Deed) (old new : Scene) : Type 0 where
   pub out : Took old new []
   pub cases : IsBefore deed.change old.office new.office ⊎ IsMadeBefore deed.change old.office new.office
   pub faults : new.office.told ≡ next_count old.office.told
   pub unfailed : new.told ≡ old.told
 
--- memory ran out: nothing is out, and nothing is changed
+-- out of memory: nothing is out, and nothing is changed
 pub record IsNotDone (old new : Scene) : Type 0 where
   pub out : Took old new []
   pub register : new.office.register ≡ old.office.register
@@ -69,7 +69,7 @@ OperatesErr book call old new fault.Write = (deed : Deed) × IsDeed book old.off
 OperatesErr book call old new fault.Office = (deed : Deed) × IsDeed book old.office.register call deed × IsUndecided deed old new
 OperatesErr book call old new fault.Memory = NeedsMemory call × IsNotDone old new
 
--- what a call that answers this has done
+-- what a call with this result has done
 abbrev pub Operates : BookData → Operator → Scene → Scene → Result Told RunFault → Type 0
 Operates book call old new (Ok told) = (deed : Deed) × IsDeed book old.office.register call deed × IsOperated deed old new told
 Operates book call old new (Err fault) = OperatesErr book call old new fault

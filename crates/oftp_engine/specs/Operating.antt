@@ -1,4 +1,4 @@
--- What an operator's call makes of a register, and what it says.
+-- What an operator's call does to a register, and the line that it writes.
 use Rattle.std.specs.Prelude.{◌≡◌, ℕ, ◌+◌, ◌<◌, ◌≤◌, ◌⊎◌, Bool, ◌&&◌, ◌||◌, nat_le, nat_lt, is_some, if◌then◌else◌, List, [], ◌++◌, length, codes, Option, None, Some, Result, Ok, Err}
 use Rattle.std.specs.Fmt.{decimal}
 use Rattle.oftp_wire.specs.Octets.{IsDigits, IsName}
@@ -23,7 +23,7 @@ use Rattle.oftp_engine.specs.declared.submitting.Submission.{Submission}
 use Rattle.oftp_engine.specs.declared.operating.Told.{Told}
 use Rattle.oftp_engine.specs.declared.operating.Told.TheVariants as told
 
--- what a call does: its change, if it makes one, what it is told and the line that it says
+-- the effect of a call: its change, if it makes one, its result and its line
 pub record Deed : Type 0 where
   pub change : Option Change
   pub told : Told
@@ -40,11 +40,11 @@ refusal_line refusal.Field = codes "refused: 5 field\n"
 abbrev pub refuses : Refusal → Deed
 refuses refusal = record { change = None; told = told.Refused refusal; line = refusal_line refusal }
 
--- the line of a call that is done, which ends with the number of its file
+-- the line of a call that was carried out, which ends with the number of its file
 abbrev pub done_line : List ℕ → ℕ → List ℕ
 done_line verb n = verb ++ decimal n ++ codes "\n"
 
--- the refusal that a register's cause is to the operator
+-- the refusal that the operator gets for a register's cause
 abbrev pub refusal_of : Cause → Refusal
 refusal_of cause.Duplicate = refusal.Duplicate
 refusal_of cause.Unknown = refusal.Unknown
@@ -59,9 +59,9 @@ decided verb n change (Err cause) = refuses (refusal_of cause)
 abbrev pub makes : List ℕ → ℕ → Change → Register → Deed
 makes verb n change r = decided verb n change (apply r change)
 
--- files that go
+-- outgoing files
 
--- the fields of a submission are in their ranges, its content aside (RFC 5024, section 5.3.3)
+-- the fields of a submission are in their ranges, except its content (RFC 5024, section 5.3.3)
 pub record AreInRange (s : Submission) : Type 0 where
   pub named : 0 < length s.dataset.now
   pub dataset : IsName 26 s.dataset.now
@@ -70,28 +70,28 @@ pub record AreInRange (s : Submission) : Type 0 where
   pub longest : IsLongest s.format s.longest
   pub description : length s.description.now ≤ 999
 
--- what is handed in is the virtual file of these rows: the content is their local form
+-- what is submitted is the virtual file of these rows: the content is their local form
 pub record IsFileOf (s : Submission) (rows : List (List ℕ)) : Type 0 where
   pub fields : AreInRange s
   pub content : IsLocal s.format s.longest s.content.now rows
 
--- it is no virtual file
+-- what is submitted isn't a virtual file
 abbrev pub IsNoFile : Submission → Type 0
 IsNoFile s = (rows : List (List ℕ)) → IsFileOf s rows → ⊥
 
--- what names a file that the station sends
+-- the identity of a file that the station sends
 abbrev pub identity_of : BookData → Submission → Identity
 identity_of book s = record { dataset = s.dataset.now; date = s.date.now; time = s.time.now; originator = book.station.code; destination = s.to.now }
 
--- the file has more octets or more rows than a station keeps
+-- the file has more octets or more rows than the limits allow
 abbrev pub is_too_big : Limits → List (List ℕ) → Bool
 is_too_big limits rows = nat_lt limits.octets (units_in rows) || nat_lt MOST_ROWS (length rows)
 
--- a file of these rows is registered, to be sent. Its number is one more than there are files that go
+-- a file of these rows is registered, to be sent. Its number is one more than the number of outgoing files.
 abbrev pub registered : Identity → Submission → List (List ℕ) → Register → Deed
 registered identity s rows r = makes (codes "done: submit ") (1 + length r.outgoing) (change.Submit identity s.format s.longest s.description.now rows) r
 
--- it goes to a partner in the book, under an identity that no other has, and is within the limits
+-- it is for a partner in the book, its identity is new, and it is within the limits
 abbrev pub submitted : BookData → Register → Submission → List (List ℕ) → Deed
 submitted book r s rows =
     if is_some (partner_at s.to.now book.partners)
@@ -100,11 +100,11 @@ submitted book r s rows =
     else registered (identity_of book s) s rows r))
     else refuses refusal.Unknown
 
--- what is handed in is a file and is submitted, or it is none and is refused
+-- what is submitted is a file and is registered, or it isn't one and is refused
 abbrev pub Submits : BookData → Register → Submission → Deed → Type 0
 Submits book r s deed = ((rows : List (List ℕ)) × IsFileOf s rows × (deed ≡ submitted book r s rows)) ⊎ (IsNoFile s × (deed ≡ refuses refusal.Field))
 
--- responses to a file that came
+-- responses to an incoming file
 
 abbrev pub released : Register → ℕ → Deed
 released r n = makes (codes "done: release ") n (change.Issue n EndResponse 0 []) r
@@ -114,13 +114,13 @@ refused r n reason text = if nat_le reason 99 && nat_le (length text) 999
     then makes (codes "done: refuse ") n (change.Issue n NegativeEndResponse reason text) r
     else refuses refusal.Field
 
--- what a call makes of a register, by a book
+-- what a call does to a register, by a book
 abbrev pub IsDeed : BookData → Register → Operator → Deed → Type 0
 IsDeed book r (operator.Submit submission) deed = Submits book r submission deed
 IsDeed book r (operator.Release n) deed = deed ≡ released r n
 IsDeed book r (operator.Refuse n reason text) deed = deed ≡ refused r n reason text.now
 
--- Memory may run out in a call that reads a content. A content that is no file is refused without it
+-- Only a call that reads a content may run out of memory. A content that isn't a file is refused without it.
 abbrev pub NeedsMemory : Operator → Type 0
 NeedsMemory (operator.Submit submission) = IsNoFile submission → ⊥
 NeedsMemory (operator.Release n) = ⊥

@@ -12,7 +12,7 @@ use Rattle.oftp_engine.specs.TwoStations.{ContentArrives, ResponsesAreIssued}
 abbrev pub new_station : BookData → Partner → Limits → Station
 new_station book partner limits = record { book = book; partner = partner; start = empty limits; session = None; coming = [] }
 
--- what a book and its limits are: as `read` and the program give them
+-- the ranges of a book and its limits, as `read` and the program give them
 pub record IsLawful (book : BookData) (limits : Limits) : Type 0 where
   pub buffer : 128 ≤ book.station.buffer
   pub files : limits.files ≤ MOST_FILES

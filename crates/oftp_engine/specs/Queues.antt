@@ -1,4 +1,4 @@
--- What a station has out, cut off anywhere, and what the other one hears of it.
+-- What a station has out, cut off anywhere, and what the other station reads of it.
 use Rattle.std.specs.Prelude.{◌≡◌, ℕ, ◌+◌, ◌≤◌, ◌||◌, if◌then◌else◌, List, [], ◌∷◌, ◌++◌, length, map, take, Option, None, Result, Ok}
 use Rattle.std.specs.List.{AllByRecursion, flat_map}
 use Rattle.oftp_wire.specs.declared.command.Command.{Command}
@@ -16,26 +16,27 @@ use Rattle.oftp_engine.specs.Ranges.{StartsInRange}
 use Rattle.oftp_engine.specs.Runs.{Course, Output, advance, is_stopped, octets_of, run, settled, started}
 use Rattle.oftp_engine.specs.Serving.{last_frame}
 
--- a command that a frame can say: each field is in its range, and the frame is none too long
+-- a command that a frame can hold: each field is in its range, and the frame isn't too long
 abbrev pub IsSayable : Command → Type 0
 IsSayable command = IsFit command × (length (Canon command) + 4 ≤ 100003)
 
--- commands as they are out: their frames, one after another
+-- commands as octets: their frames, one after another
 abbrev pub in_frames : List Command → List ℕ
 in_frames commands = flat_map frame_of commands
 
--- what is read of the octets of these commands
+-- what is read from the octets of these commands
 abbrev pub as_read : List Command → List (Result Command WireFault)
 as_read commands = map (λ command. command_of (Canon command)) commands
 
--- a session over commands that come: the due turns, then the next command, and so on
+-- a session over commands that arrive: the turns that are due, then the next command, and so on
 abbrev pub over_queue : Option ℕ → List Command → Course → Course
 over_queue limit [] c = settled limit c
 over_queue limit (m ∷ ms) c = let d = settled limit c in
     if is_over d.phase || is_stopped limit d then d else over_queue limit ms (advance d (came d.setting d.phase d.register m))
 
--- Of what was said these octets are out. Heard are the first commands, those whose frames are whole, each as it was said; the others are
--- lost. The octets can be read in no other way, and what is left of them is no fault. A session over them is the one over these commands.
+-- These octets are out of what was sent. The other station hears the first commands, those whose frames are whole, each as it was sent; the
+-- others are lost. The octets can be read in no other way, and the rest of them is no error. A session over them is the one over these
+-- commands.
 pub record IsHeard (said : List Command) (octets : List ℕ) : Type 0 where
   pub heard : List Command
   pub lost : List Command
@@ -45,11 +46,11 @@ pub record IsHeard (said : List Command) (octets : List ℕ) : Type 0 where
   pub same : as_read heard ≡ map Ok heard
   pub session : (limit : Option ℕ) (c : Course) → run limit octets c ≡ over_queue limit heard c
 
--- commands that are out as frames, cut off anywhere, are heard so
+-- commands that are out as frames, cut off anywhere, are heard like this
 abbrev pub QueuesAreHeard : Type 0
 QueuesAreHeard = (said : List Command) (octets lost : List ℕ) → AllByRecursion IsSayable said → in_frames said ≡ octets ++ lost → IsHeard said octets
 
--- What a session says are commands, each as a frame. Where it begins in the ranges of book and register, a frame can say each of them.
+-- A session sends commands, each as a frame. If it begins in the ranges of book and register, a frame can hold each of them.
 abbrev pub RunsSayCommands : Type 0
 RunsSayCommands = (limit : Option ℕ) (setting : Setting) (given : List ℕ) (r : Register)
     → (said : List Command) × (map (λ (o : Output). o.octets) (run limit given (started setting r)).outputs ≡ map frame_of said)
@@ -61,27 +62,27 @@ pub record IsQueue (octets : List ℕ) : Type 0 where
   pub lost : List ℕ
   pub all : in_frames said ≡ octets ++ lost
 
--- What is out where a session ends: these outputs, a beginning of their octets where the writer told a fault, or behind them a beginning of
--- ESID 08 where the office told one (specs/Served.antt).
+-- What is out where a session ends: these outputs, or a beginning of their octets if the writer returned an error, or a beginning of ESID
+-- 08 after them if the office returned one (specs/Served.antt).
 pub record SaysQueues (outs : List Output) : Type 0 where
   pub whole : IsQueue (octets_of outs)
   pub cut : (count : ℕ) → IsQueue (take count (octets_of outs))
   pub ended : (count : ℕ) → IsQueue (octets_of outs ++ take count last_frame)
 
--- so it is wherever a run ends
+-- this holds wherever a run ends
 abbrev pub RunsSayQueues : Type 0
 RunsSayQueues = (limit : Option ℕ) (setting : Setting) (given : List ℕ) (r : Register) (outs later : List Output)
     → (run limit given (started setting r)).outputs ≡ outs ++ later → SaysQueues outs
 
--- The commands of these outputs, and how the other station hears them where so many octets of them are out, or ESID 08 or a beginning of it
--- behind them all.
+-- The commands of these outputs, and how the other station hears them when some octets of them are out, or all of them and ESID 08 or a
+-- beginning of it.
 pub record AreHeard (outs : List Output) : Type 0 where
   pub said : List Command
   pub frames : map (λ (o : Output). o.octets) outs ≡ map frame_of said
   pub cut : (count : ℕ) → IsHeard said (take count (octets_of outs))
   pub ended : (count : ℕ) → IsHeard (said ++ esid_of ResourcesNotAvailable ∷ []) (octets_of outs ++ take count last_frame)
 
--- so it is wherever a run ends that begins in its ranges
+-- this holds wherever a run ends that begins in its ranges
 abbrev pub RunsAreHeard : Type 0
 RunsAreHeard = (limit : Option ℕ) (setting : Setting) (given : List ℕ) (r : Register) (outs later : List Output)
     → (run limit given (started setting r)).outputs ≡ outs ++ later → StartsInRange setting r → AreHeard outs

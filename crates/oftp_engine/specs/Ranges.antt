@@ -1,4 +1,4 @@
--- The ranges of what a session spells of a book and of a register (RFC 5024, section 5.3).
+-- The ranges of the fields that a session sends of a book and of a register (RFC 5024, section 5.3).
 use Rattle.std.specs.Prelude.{◌≡◌, ℕ, ◌<◌, ◌≤◌, ⊤, List, length, take, All, IfSome, Option, Ok}
 use Rattle.std.specs.Str.{IsUtf8}
 use Rattle.oftp_wire.specs.Octets.{IsDigits, IsName}
@@ -15,7 +15,7 @@ use Rattle.oftp_engine.specs.declared.operating.Operator.TheVariants as operator
 use Rattle.oftp_engine.specs.Operating.{Deed, IsDeed}
 use Rattle.oftp_engine.specs.Runs.{run, started}
 
--- what names a file
+-- the identity of a file
 pub record IsIdentity (identity : Identity) : Type 0 where
   pub dataset : IsName 26 identity.dataset
   pub date : IsDigits 8 identity.date
@@ -23,7 +23,7 @@ pub record IsIdentity (identity : Identity) : Type 0 where
   pub originator : IsName 25 identity.originator
   pub destination : IsName 25 identity.destination
 
--- a description, or the words of a response
+-- a description, or the text of a response
 abbrev pub AreWords : List ℕ → Type 0
 AreWords text = (length text ≤ 999) × IsUtf8 text
 
@@ -32,7 +32,7 @@ pub record IsSpellableAnswer (response : Issued) : Type 0 where
   pub reason : response.reason < 100
   pub text : AreWords response.text
 
--- of a file that comes its responses tell what names it, of one that goes SFID its description too
+-- the responses of an incoming file send its identity; SFID of an outgoing file sends its description too
 pub record IsSpellableIncoming (f : Incoming) : Type 0 where
   pub identity : IsIdentity f.identity
   pub response : IfSome f.response IsSpellableAnswer
@@ -41,26 +41,26 @@ pub record IsSpellableOutgoing (f : Outgoing) : Type 0 where
   pub identity : IsIdentity f.identity
   pub description : AreWords f.description
 
--- what a session says of a register is in its ranges
+-- what a session sends of a register is in its ranges
 pub record IsSpellable (r : Register) : Type 0 where
   pub incoming : All IsSpellableIncoming r.incoming
   pub outgoing : All IsSpellableOutgoing r.outgoing
 
--- a session begins with a book and a partner that is called, as they are read, and with a sound register in its ranges
+-- a session begins with a book and the partner that it calls, as they are read from a file, and with a sound register in its ranges
 pub record StartsInRange (setting : Setting) (r : Register) : Type 0 where
   pub book : IsBook setting.book
   pub called : IfSome setting.called IsPartner
   pub sound : IsSound r
   pub spellable : IsSpellable r
 
--- the words of an operator's call are a text
+-- the texts of an operator's call are UTF-8
 abbrev pub HasWords : Operator → Type 0
 HasWords (operator.Submit submission) = IsUtf8 submission.description.now
 HasWords (operator.Release n) = ⊤
 HasWords (operator.Refuse n reason text) = IsUtf8 text.now
 
--- Each register that a station comes to is in its ranges: the first one, those after a session's changes, wherever it stops, and those
--- after an operator's calls.
+-- Each register of a station is in its ranges: the first one, those after a session's changes, wherever it stops, and those after an
+-- operator's calls.
 pub record RangesAreKept : Type 0 where
   pub first : (limits : Limits) → IsSpellable (empty limits)
   pub sessions : (limit : Option ℕ) (setting : Setting) (given : List ℕ) (r s : Register) (n : ℕ) → StartsInRange setting r

@@ -1,4 +1,4 @@
--- ESID 08, that resources aren't available, tells a fault of the office: no run has it.
+-- ESID 08, resources not available, reports an error of the office: no run has it.
 use Rattle.std.specs.Prelude.{◌≢◌, ℕ, All, List, Option, Err}
 use Rattle.oftp_vfile.specs.declared.format.TakeFault.TheVariants.{Memory}
 use Rattle.oftp_vfile.specs.Reading.{taken}
@@ -8,11 +8,12 @@ use Rattle.oftp_session.specs.Settings.{Setting}
 use Rattle.oftp_engine.specs.Runs.{Output, run, started}
 use Rattle.oftp_engine.specs.Serving.{last_frame}
 
--- no output of a run is the frame of ESID 08, whatever the book, the partner, the octets and the register, also where the writer told a fault
+-- no output of a run is the frame of ESID 08, whatever the book, the partner, the octets and the register, and whether or not the writer
+-- returned an error
 abbrev pub RunsNeverLackResources : Type 0
 RunsNeverLackResources = (limit : Option ℕ) (setting : Setting) (given : List ℕ) (r : Register)
     → All (λ (o : Output). o.octets ≢ last_frame) (run limit given (started setting r)).outputs
 
--- for want of memory no payload is refused
+-- no payload is refused for lack of memory
 abbrev pub PayloadsNeverLackMemory : Type 0
 PayloadsNeverLackMemory = (t : Taking) (payload : List ℕ) → taken t payload ≢ Err Memory

@@ -1,4 +1,4 @@
--- A whole session over the octets that were read: the fold of the steps. It knows no pieces, buffers or transactions.
+-- A whole session over the octets that were read: the fold of the steps. It has no pieces, buffers or transactions.
 use Rattle.std.specs.Prelude.{ℕ, zero, suc, max, ◌-◌, Bool, false, nat_lt, not, ◌&&◌, ◌||◌, if◌then◌else◌, List, [], ◌∷◌, ◌++◌, length, drop, Option, None, Some, Result, Ok, Err}
 use Rattle.std.specs.List.{flat_map}
 use Rattle.oftp_wire.specs.Kinds.{command_of}
@@ -18,12 +18,12 @@ use Rattle.oftp_session.specs.declared.session.Ending.TheVariants as ended
 use Rattle.oftp_engine.specs.declared.serving.End.{End}
 use Rattle.oftp_engine.specs.declared.serving.End.TheVariants.{Own, Partner, Input}
 
--- a frame that went out, and how many changes were made before it
+-- a frame that was sent, and how many changes were made before it
 pub record Output : Type 0 where
   pub octets : List ℕ
   pub after : ℕ
 
--- a session so far: its book, its phase, the register, the changes that were made and the frames that went out, in order
+-- a session so far: its book, its phase, the register, the changes that were made and the frames that were sent, in order
 pub record Course : Type 0 where
   pub setting : Setting
   pub phase : Phase
@@ -42,7 +42,7 @@ abbrev pub with_change : List Change → Option Change → List Change
 with_change changes None = changes
 with_change changes (Some change) = changes ++ change ∷ []
 
--- a command that is sent goes out as a frame
+-- a command is sent as a frame
 abbrev pub with_output : List Output → Option Command → ℕ → List Output
 with_output outputs None after = outputs
 with_output outputs (Some command) after = outputs ++ record { octets = frame_of command; after = after } ∷ []
@@ -57,12 +57,13 @@ advance c s = record {
   outputs = with_output c.outputs s.output (length (with_change c.changes s.change));
 }
 
--- octets that spell no command end the session, for the reason that their fault has; one without a reason is never met, since it is of writing
+-- octets that aren't a command end the session, for the reason of their error; an error without a reason never occurs here, since only
+-- encoding returns it
 abbrev pub refusal : Option SessionReason → Step
 refusal (Some reason) = fails reason
 refusal None = fails CommandNotRecognised
 
--- what comes: a command, or octets that spell none
+-- what arrives: a command, or octets that aren't one
 abbrev pub step_on : Setting → Phase → Register → Result Command WireFault → Step
 step_on setting p r (Ok command) = came setting p r command
 step_on setting p r (Err fault) = refusal (reason_of fault)
@@ -73,12 +74,12 @@ came_in c octets = advance c (step_on c.setting c.phase c.register (command_of o
 abbrev pub turned_in : Course → Course
 turned_in c = advance c (turned c.setting c.phase c.register)
 
--- a writer that told a fault had taken so many octets: the session stops at the output that passes this number
+-- a writer that returned an error had taken this many octets: the session stops at the output that exceeds this number
 unfoldable pub is_stopped : Option ℕ → Course → Bool
 is_stopped None c = false
 is_stopped (Some n) c = nat_lt n (length (octets_of c.outputs))
 
--- every due turn, at most so many
+-- the turns that are due, at most this many
 unfoldable pub turns : ℕ → Option ℕ → Course → Course
 turns zero limit c = c
 turns (suc n) limit c = if has_turn c.phase && not (is_stopped limit c) then turns n limit (turned_in c) else c
@@ -86,7 +87,7 @@ turns (suc n) limit c = if has_turn c.phase && not (is_stopped limit c) then tur
 unfoldable pub settled : Option ℕ → Course → Course
 settled limit c = turns (turns_due c.phase) limit c
 
--- the next command in the octets, and how the session goes on with the rest. A header at fault ends it
+-- the next command in the octets, and how the session goes on with the rest; a faulty header ends it
 unfoldable pub on_front : (List ℕ → Course → Course) → List ℕ → Course → Head → Course
 on_front go_on s c (Whole n) = go_on (drop n s) (came_in c (command_in n s))
 on_front go_on s c Waits = c
@@ -95,16 +96,16 @@ on_front go_on s c (Bad fault) = advance c (fails ProtocolViolation)
 unfoldable pub next_in : Option ℕ → (List ℕ → Course → Course) → List ℕ → Course → Course
 next_in limit go_on s c = if is_over c.phase || is_stopped limit c then c else on_front go_on s c (front 100003 s)
 
--- the due turns, then the next command, and so on
+-- the turns that are due, then the next command, and so on
 unfoldable pub run_by : ℕ → Option ℕ → List ℕ → Course → Course
 run_by zero limit s c = c
 run_by (suc n) limit s c = next_in limit (run_by n limit) s (settled limit c)
 
--- the whole session, from a course and the octets that come: each command takes some of these
+-- the whole session, from a course over the octets that arrive; each command uses up some of these
 unfoldable pub run : Option ℕ → List ℕ → Course → Course
 run limit s c = run_by (suc (length s)) limit s c
 
--- how a session ended, as the end of a served one
+-- how a session ended, as the result of `serve`
 abbrev pub ended_as : Ending → End
 ended_as (ended.Own reason) = Own reason
 ended_as (ended.Partner reason) = Partner reason
@@ -113,11 +114,11 @@ abbrev pub end_of : Option Ending → End
 end_of None = Input
 end_of (Some ending) = ended_as ending
 
--- how a session ends that read all there is: as its phase says, else by the end of the input
+-- how a session ends that read all octets: as its phase says, or else by the end of the input
 abbrev pub ending : Phase → End
 ending p = end_of (ending_of p)
 
--- the largest number of changes that stands with an output of which one of the first n octets is
+-- the number of changes before the last output of which one of the first n octets is
 abbrev pub answered : List Output → ℕ → ℕ
 answered [] n = 0
 answered (o ∷ os) zero = 0

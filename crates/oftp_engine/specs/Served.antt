@@ -20,8 +20,8 @@ use Rattle.oftp_io.specs.Ports.{IsDone}
 use Rattle.oftp_engine.specs.Runs.{Course, Output, advance, run, started, octets_of, ending, answered}
 use Rattle.oftp_engine.specs.Serving.{MayRunOut, Scene, Took, IsSaid, last_frame}
 
--- the octets that a reader gave in a call: as many as its port counts, at most as many as the port's limit left, and the next
--- ones that it had, where these are known
+-- The octets that a reader gave in a call: as many as its port counts, at most what the port's limit left, and the next ones that it had,
+-- where these are known.
 pub record Gave {R : Type 0} (remaining : R → Option (List ℕ)) (old new : Port R) (given : List ℕ) : Type 0 where
   pub bytes : Consumes (remaining old.inner) (remaining new.inner) given
   pub count : new.moved ≡ old.moved + length given
@@ -32,12 +32,12 @@ pub record Gave {R : Type 0} (remaining : R → Option (List ℕ)) (old new : Po
 abbrev pub whole : Setting → List ℕ → Register → Course
 whole setting given r = run None given (started setting r)
 
--- the session over these octets, from a register, whose writer had taken so many octets when it told a fault
+-- the session over these octets, from a register, whose writer had taken this many octets when it returned an error
 abbrev pub broken_off : Setting → ℕ → List ℕ → Register → Course
 broken_off setting taken given r = run (Some taken) given (started setting r)
 
--- what a stop leaves holds the register after n of these changes, all made, from so many on, where the office's register is the one
--- after n or n - 1 of them
+-- What a crash leaves holds the register after n of these changes, all made, where n is at least `low`. The office's register is the one
+-- after n or n - 1 of them.
 pub record IsPrefix {C : Type 0} (holds' : C → Register → Type 0) (changes : List Change) (r : Register) (low made : ℕ) (content : C) : Type 0 where
   pub count : ℕ
   pub least : low ≤ count
@@ -50,7 +50,7 @@ pub record IsPrefix {C : Type 0} (holds' : C → Register → Type 0) (changes :
 abbrev pub OfficeLeaves : Course → Register → ℕ → ℕ → View → Type 0
 OfficeLeaves c r least made now = (content : now.Content) → now.may_leave content → IsPrefix now.holds c.changes r least made content
 
--- what was read ends in a piece of 4,096 octets at most that the session still needed: it went on before it
+-- the last piece that was read, of 4,096 octets at most, was needed: the session was still open before it
 pub record IsNeeded (setting : Setting) (r : Register) (given : List ℕ) : Type 0 where
   pub before : List ℕ
   pub last : List ℕ
@@ -59,8 +59,8 @@ pub record IsNeeded (setting : Setting) (r : Register) (given : List ℕ) : Type
   pub some : 0 < length given → 0 < length last
   pub live : 0 < length last → is_over (whole setting before r).phase ≡ false
 
--- the session stopped within a step, after these outputs and so many changes, that of the step made or not: with the octets that come
--- behind it would have gone on so
+-- The session stopped within a step, after these outputs and this many changes, with the change of that step made or not. With the octets
+-- that follow it would have gone on like this.
 pub record StopsWithin (setting : Setting) (given : List ℕ) (r : Register) (outs : List Output) (made : ℕ) : Type 0 where
   pub at : Course
   pub step : Step
@@ -71,8 +71,8 @@ pub record StopsWithin (setting : Setting) (given : List ℕ) (r : Register) (ou
   pub register : apply_all r at.changes ≡ Ok at.register
   pub within : (made ≡ length at.changes) ⊎ (made ≡ length (advance at step).changes)
 
--- the session stopped between two of its steps, after these outputs and so many changes: with the octets that aren't answered yet it
--- would have gone on so
+-- The session stopped between two of its steps, after these outputs and this many changes. With the octets that aren't answered yet it
+-- would have gone on like this.
 pub record StopsBetween (setting : Setting) (given : List ℕ) (r : Register) (outs : List Output) (made : ℕ) : Type 0 where
   pub at : Course
   pub gone : List ℕ
@@ -89,7 +89,7 @@ module _ (setting : Setting) (given : List ℕ) (old new : Scene) where
   abbrev pub course : Course
   course = whole setting given old.office.register
 
-  -- the same, where its writer told a fault after so many octets
+  -- the same, where its writer returned an error after this many octets
   abbrev pub cut_off : ℕ → Course
   cut_off taken = broken_off setting taken given old.office.register
 
@@ -103,7 +103,7 @@ module _ (setting : Setting) (given : List ℕ) (old new : Scene) where
     pub faults : new.office.told ≡ old.office.told
     pub told : new.told ≡ old.told
 
-  -- the writer told a fault: a beginning of the outputs is out, as long as what it took, and the session stopped there
+  -- the writer returned an error: a beginning of the outputs is out, as long as what it took, and the session stopped there
   pub record IsBrokenOff : Type 0 where
     pub taken : ℕ
     pub short : taken < length (octets_of (cut_off taken).outputs)
@@ -115,8 +115,9 @@ module _ (setting : Setting) (given : List ℕ) (old new : Scene) where
     pub faults : new.office.told ≡ old.office.told
     pub told : new.told ≡ next_count old.told
 
-  -- the office told a fault: whole outputs are out, and after them ESID 08 or as much of it as the writer took before it told a fault.
-  -- The register is the one after some changes, at least those that were answered, and at most those up to the step that it stopped within
+  -- The office returned an error. Whole outputs are out, and after them ESID 08 or as much of it as the writer took before it returned an
+  -- error. The register is the one after some changes, at least those that were answered, and at most those up to the step in which the
+  -- session stopped.
   pub record IsOfficeFault : Type 0 where
     pub outs : List Output
     pub later : List Output
@@ -133,7 +134,7 @@ module _ (setting : Setting) (given : List ℕ) (old new : Scene) where
     pub within : OfficeLeaves (advance stopped.at stopped.step) old.office.register (answered outs (length (octets_of outs))) made new.office
     pub faults : new.office.told ≡ next_count old.office.told
 
-  -- memory ran out: a beginning of the outputs is out, and nothing of the next step is made
+  -- out of memory: a beginning of the outputs is out, and nothing of the next step is made
   pub record IsOutOfMemory : Type 0 where
     pub outs : List Output
     pub later : List Output
@@ -149,13 +150,13 @@ module _ (setting : Setting) (given : List ℕ) (old new : Scene) where
     pub faults : new.office.told ≡ old.office.told
     pub told : new.told ≡ old.told
 
-  -- the session ended so, and nothing was read that it didn't need
+  -- the session ended like this, and nothing was read that it didn't need
   pub record IsServed (end : End) : Type 0 where
     pub all : IsWhole
     pub ends : end ≡ ending course.phase
     pub needed : IsNeeded setting old.office.register given
 
-  -- the reader told a fault while the session went on
+  -- the reader returned an error while the session was open
   pub record IsCutShort : Type 0 where
     pub all : IsWhole
     pub live : is_over course.phase ≡ false
@@ -166,12 +167,12 @@ ServesErr setting given old new fault.Write = IsBrokenOff setting given old new
 ServesErr setting given old new fault.Office = IsOfficeFault setting given old new
 ServesErr setting given old new fault.Memory = IsOutOfMemory setting given old new
 
--- what a call that answers this has done
+-- what a call with this result has done
 abbrev pub Serves : Setting → List ℕ → Scene → Scene → Result End RunFault → Type 0
 Serves setting given old new (Ok end) = IsServed setting given old new end
 Serves setting given old new (Err fault) = ServesErr setting given old new fault
 
--- what a reader told in a call that answers this
+-- the errors of a reader in a call with this result
 abbrev pub ReaderErr : {R : Type 0} → Port R → Port R → RunFault → Type 0
 ReaderErr old new fault.Read = new.faults ≡ next_count old.faults
 ReaderErr old new fault.Write = new.faults ≡ old.faults
@@ -182,7 +183,7 @@ abbrev pub ReaderTold : {R : Type 0} → Port R → Port R → Result End RunFau
 ReaderTold old new (Ok end) = new.faults ≡ old.faults
 ReaderTold old new (Err fault) = ReaderErr old new fault
 
--- what a writer told in a call that answers this. After a fault of the office its own, within the last words, isn't answered
+-- the errors of a writer in a call with this result. After an error of the office, one of the writer within ESID 08 isn't returned.
 abbrev pub WriterErr : {W : Type 0} → Port W → Port W → RunFault → Type 0
 WriterErr old new fault.Read = new.faults ≡ old.faults
 WriterErr old new fault.Write = new.faults ≡ next_count old.faults
@@ -193,18 +194,18 @@ abbrev pub WriterTold : {T W : Type 0} → Port W → Port W → Result T RunFau
 WriterTold old new (Ok x) = new.faults ≡ old.faults
 WriterTold old new (Err fault) = WriterErr old new fault
 
--- a session ends by its input only where no more is to come; in another end the port sees none
+-- a session ends by the end of its input only where no octet is left; at any other end the port sees no end of input
 abbrev pub EndSeen : {R : Type 0} → (R → Option (List ℕ)) → Port R → Port R → End → Type 0
 EndSeen remaining old new (Own reason) = new.ended ≡ old.ended
 EndSeen remaining old new (Partner reason) = new.ended ≡ old.ended
 EndSeen remaining old new Input = IsDone remaining new
 
--- the same of each way out: a session that is broken off sees no end
+-- the same for each result: a session that is cut short sees no end of input
 abbrev pub InputEnded : {R : Type 0} → (R → Option (List ℕ)) → Port R → Port R → Result End RunFault → Type 0
 InputEnded remaining old new (Ok end) = EndSeen remaining old new end
 InputEnded remaining old new (Err fault) = new.ended ≡ old.ended
 
--- whom a session calls
+-- the partner that a session calls
 abbrev pub called_in : Role → Option Entry
 called_in Responder = None
 called_in (Initiator partner) = Some partner.now

@@ -7,12 +7,12 @@ use Rattle.oftp_session.specs.Phases.{Phase, Transfer, Sending, frame_of, esid_o
 use Rattle.oftp_session.specs.declared.state.Contact.{Contact}
 use Rattle.oftp_io.specs.declared.port.Port.{Port}
 
--- what is said last after a fault of the office
+-- the frame that is sent last after an error of the office
 abbrev pub last_frame : List ℕ
 last_frame = frame_of (esid_of ResourcesNotAvailable)
 
--- what an office and a writer show: the office's view, what the writer holds and how many octets it took, and the faults that it told.
--- The counts run modulo 2^64
+-- What an office and a writer show: the office's view, the contents of the writer, how many octets it took, and how many errors it
+-- returned. The counts run modulo 2^64.
 pub record Scene : Type 1 where
   pub office : View
   pub contents : Option (List ℕ)
@@ -24,11 +24,11 @@ pub record Took (old new : Scene) (octets : List ℕ) : Type 0 where
   pub contents : Appends old.contents new.contents octets
   pub taken : new.taken % 2 ^ 64 ≡ (old.taken + length octets) % 2 ^ 64
 
--- so many octets of the last frame are out: all, or fewer where the writer told a fault
+-- this many octets of the last frame are out: all, or fewer if the writer returned an error
 abbrev pub IsSaid : Scene → Scene → ℕ → Type 0
 IsSaid old new count = ((count ≡ length last_frame) × (new.told ≡ old.told)) ⊎ ((count < length last_frame) × (new.told ≡ next_count old.told))
 
--- memory may run out where octets came that aren't answered yet, and where a file is sent
+-- memory may run out where octets arrived that aren't answered yet, and while a file is sent
 abbrev pub MayRunOut : Phase → List ℕ → Type 0
 MayRunOut p rest = (0 < length rest) ⊎ (contact : Contact) × (transfer : Transfer) × (p ≡ Sending contact transfer)
 

@@ -1,4 +1,4 @@
--- Two stations, and what is on its way between them.
+-- Two stations, and the commands on their way between them.
 use Rattle.std.specs.Prelude.{◌≡◌, ℕ, ◌&&◌, Bool, true, false, nat_le, if◌then◌else◌, List, [], ◌∷◌, ◌++◌, length, take, fold, Option, None, Some, is_some}
 use Rattle.std.specs.Result.{result_unwrap_or}
 use Rattle.oftp_wire.specs.declared.command.Command.{Command}
@@ -16,8 +16,8 @@ use Rattle.oftp_engine.specs.declared.operating.Operator.{Operator}
 use Rattle.oftp_engine.specs.Operating.{Deed, IsDeed}
 use Rattle.oftp_engine.specs.Runs.{Course, Output, started, advance, answered, octets_of}
 
--- a station: its book and its entry for the other one, the register that its last session left, its session if it has one, and the
--- commands that are on their way to it
+-- A station: its book and its entry for the other station, the register that its last session left, its session if it has one, and the
+-- commands that are on their way to it.
 pub record Station : Type 0 where
   pub book : BookData
   pub partner : Partner
@@ -40,7 +40,7 @@ stopped_with s r = record s { start = r; session = None; coming = [] }
 abbrev pub with_course : Station → Course → Station
 with_course s c = if is_over c.phase then stopped_with s c.register else record s { session = Some c }
 
--- a command that goes to a station: it is lost where there is no session
+-- a command that goes to a station; it is lost where there is no session
 abbrev pub told : Station → Option Command → Station
 told s None = s
 told s (Some command) = if is_some s.session then record s { coming = s.coming ++ command ∷ [] } else s
@@ -53,33 +53,33 @@ pub record World : Type 0 where
 abbrev pub turned_round : World → World
 turned_round w = record { one = w.other; other = w.one }
 
--- a step of the one station, and its output goes to the other
+-- a step of the one station, whose output goes to the other
 abbrev pub stepped : World → Course → Step → World
 stepped w c s = record { one = with_course w.one (advance c s); other = told w.other s.output }
 
--- What a stop leaves: the register after so many of the changes of the session. All octets of these outputs are out, so those changes stay
--- that they answered.
+-- What a crash leaves: the register after a prefix of the changes of the session. All octets of these outputs are out, so the changes that
+-- they answered are among them.
 abbrev pub latest : List Output → ℕ
 latest outputs = answered outputs (length (octets_of outputs))
 
 abbrev pub left_after : Register → Course → ℕ → Register
 left_after start c n = result_unwrap_or (apply_all start (take n c.changes)) c.register
 
--- a stop may leave so many changes of a session of which these outputs are out
+-- a crash may leave this many changes of a session of which these outputs are out
 abbrev pub may_stop : Course → List Output → ℕ → Bool
 may_stop c out n = nat_le (latest out) n && nat_le n (length c.changes)
 
--- the station stops there
+-- the station crashes there
 abbrev pub stops_at : World → Course → List Output → ℕ → World
 stops_at w c out n = if may_stop c out n then record w { one = stopped_with w.one (left_after w.one.start c n) } else w
 
--- its office tells a fault there: the session ends, and the other one is told so
+-- its office returns an error there: the session ends, and ESID 08 goes to the other station
 abbrev pub fails_at : World → Course → List Output → ℕ → World
 fails_at w c out n = if may_stop c out n
     then record { one = stopped_with w.one (left_after w.one.start c n); other = told w.other (Some (esid_of ResourcesNotAvailable)) }
     else w
 
--- what the one station does next in a session: the due turn, or the next command
+-- the next step of the one station in a session: the turn that is due, or the next command
 pub data Doing : Type 0 where
   TakesTurn : Doing
   TakesCommand : Doing
@@ -94,27 +94,27 @@ left_of TakesTurn coming = coming
 left_of TakesCommand [] = []
 left_of TakesCommand (command ∷ coming) = coming
 
--- an operator's call, and what it does by each book and of each register, as `operate` does it (specs/Operating.antt)
+-- an operator's call, and what it does by each book and of each register, as for `operate` (specs/Operating.antt)
 pub record Order : Type 0 where
   pub call : Operator
   pub deed : BookData → Register → Deed
   pub is : (book : BookData) (r : Register) → IsDeed book r call (deed book r)
 
--- a change that no session makes: a file is to be sent, to anyone, or a response to a file that came
+-- a change that no session makes: submitting a file, to anyone, or issuing a response to an incoming file
 abbrev pub is_ordered : Change → Bool
 is_ordered (Submit identity format longest description rows) = true
 is_ordered (Issue n kind reason text) = true
 is_ordered _ = false
 
--- such a change by another caller of the office, whatever its names and words, fit as `commit` asks
+-- such a change by another caller of the office, with any identity and texts that fit, as `commit` asks
 pub record Alteration : Type 0 where
   pub change : Change
   pub ordered : is_ordered change ≡ true
   pub fit : (r : Register) → IsFit r change
 
--- what happens at the one station: it does a step, loses the connection, stops between steps or within one, ends the session at a fault
--- of its office within a step, does what an operator asks, has its office altered so by another caller, or calls the other. A stop, or a
--- fault of the office, leaves so many of the session's changes
+-- What happens at the one station: it makes a step, loses the connection, crashes between steps or within one, ends the session at an error
+-- of its office within a step, does an operator's call, has its office changed by another caller, or calls the other. A crash, or an error
+-- of the office, leaves a number of the session's changes.
 pub data Happening : Type 0 where
   Does : Doing → Happening
   Breaks : Happening
@@ -125,7 +125,7 @@ pub data Happening : Type 0 where
   Alters : Alteration → Happening
   Calls : Happening
 
--- a happening where the station has a session
+-- what happens where the station has a session
 abbrev pub does : World → Course → List Command → Option Step → World
 does w c rest None = w
 does w c rest (Some s) = stepped (record w { one = record w.one { coming = rest } }) c s
@@ -148,7 +148,7 @@ in_session w c (Orders order) = w
 in_session w c (Alters alteration) = w
 in_session w c Calls = w
 
--- both begin a session: the one calls
+-- both begin a session: the first one calls
 abbrev pub begins : Station → Option Partner → Station
 begins s called = record s { session = Some (started (record { book = s.book; called = called }) s.start); coming = [] }
 
@@ -160,7 +160,7 @@ calls w (Some c) = w
 abbrev pub changed_by : World → Option Change → World
 changed_by w change = record w { one = record w.one { start = register_after w.one.start change } }
 
--- a happening where it has none
+-- what happens where it has none
 unfoldable pub without_session : World → Happening → World
 without_session w (Does doing) = w
 without_session w Breaks = w

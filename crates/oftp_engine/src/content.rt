@@ -1,4 +1,4 @@
-//! The content of a file that came, as a file of its own.
+//! Writing the content of an incoming file, as `fetch` needs it.
 
 ghost use Rattle.std.specs.Prelude.{◌≡◌, ◌≢◌, ◌+◌, ◌≤◌, ◌↔◌, IfErr, IfOk, IsTrue};
 ghost use Rattle.oftp_io.specs.Ports.{Puts};
@@ -14,14 +14,19 @@ use oftp_vfile::{Row, VFile};
 use std::alloc::Global;
 use std::io::Write;
 
-/// How many rows are held at once.
+/// The number of rows in memory at a time.
 const WINDOW: u64 = 64;
 
-/// Writes the local form of an incoming file, some rows at a time. The register stays as it was.
+/// Writes the local form of an incoming file, some rows at a time. The register is unchanged.
 ///
 /// # Errors
-/// [`RunFault::Office`] where the office told a fault, or rows that are none of the file, which no office does that has the file;
-/// [`RunFault::Write`] where the writer told one; [`RunFault::Memory`] where memory ran out. A beginning of the file is written then.
+///
+/// - [`RunFault::Office`]: the office returned an error, or rows that aren't those of the file. An office that has the file returns no such
+///   rows.
+/// - [`RunFault::Write`]: the writer returned an error.
+/// - [`RunFault::Memory`]: out of memory.
+///
+/// After an error a beginning of the file is written.
 #[tactic(auto, using(crate::proofs::Fetching::fetched_none, crate::proofs::Fetching::fetched_whole, crate::proofs::Fetching::fetches_err, crate::proofs::Fetching::unwritten))]
 pub fn write_content<O: Office, W: Write>(
     alloc: Global,
@@ -48,7 +53,7 @@ pub fn write_content<O: Office, W: Write>(
     Ok(())
 }
 
-// The local form of so many rows of a file from one on. Rows that are none of its file are a fault of the office.
+// The local form of `most` rows of a file from row `from` on. Rows that aren't those of the file are an error of the office.
 #[tactic(auto, using(crate::proofs::Pieces::answered_once, crate::proofs::Pieces::misfits, crate::proofs::Pieces::unanswered_once))]
 fn piece_of<O: Office>(
     alloc: Global,
@@ -81,7 +86,7 @@ fn piece_of<O: Office>(
     }
 }
 
-// Whether these are so many rows of a file from one on; all but the last of a file are full.
+// Whether these are `most` rows of a file from row `from` on. Only the last block of a file may be shorter than the others.
 fn is_piece(entry: &IncomingEntry, rows: &[Row], from: u64, most: u64) -> bool
     requires { from + most ≤ entry.now.rows }
     ensures { IsTrue result ↔ IsPiece entry.now from most rows.now }

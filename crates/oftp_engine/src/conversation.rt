@@ -1,4 +1,4 @@
-//! A session that hears octets in pieces.
+//! A session that gets its octets in pieces.
 
 ghost use Rattle.std.specs.Prelude.{◌≡◌, ◌≢◌, ℕ, List, OnErr, OnOk, IfErr};
 ghost use Rattle.oftp_session.specs.Settings.{Setting};
@@ -18,13 +18,13 @@ use std::alloc::Global;
 use std::io::Write;
 use std::marker::Model;
 
-/// The greatest frame, its header counted (RFC 5024, section 8).
+/// The length of the longest frame in octets, with its header (RFC 5024, section 8).
 const LONGEST_FRAME: usize = 100_003;
 
-/// One session with a partner, over any office and any writer. It hears octets in pieces, however these are cut, goes on as far as they
-/// reach, and waits for more.
+/// One session with a partner, over any office and any writer. It gets octets in pieces of any length, goes on as far as they reach, and
+/// waits for more.
 ///
-/// Where it waits, its caller has the office: look-ups that tell no fault change nothing of what [`go_on`] promises of the session.
+/// While it waits, its caller may use the office. Look-ups that return no error don't affect what [`go_on`] promises.
 ///
 /// [`go_on`]: Conversation::go_on
 #[derive(Drop)]
@@ -42,7 +42,7 @@ impl<'b> Model for Conversation<'b> {
 }
 
 impl<'b> Conversation<'b> {
-    /// A conversation by a book and in a role, before its first step. It takes no memory.
+    /// A new conversation, by a book and in a role. It allocates nothing.
     pub fn new(alloc: Global, book: &'b Book, role: Role<'b>) -> Conversation<'b>
         ensures fresh { IsFresh (setting_of book.entry.now role.entry) result }
         ensures unbroken { result.seen.standing ≢ Broken }
@@ -53,15 +53,15 @@ impl<'b> Conversation<'b> {
         }
     }
 
-    /// Takes all that is due and whole, and writes the answers. It answers how the session ended, or `None` where it waits for more
-    /// octets. It must not be called after a fault.
+    /// Executes all commands that are complete and all turns that are due, and writes the answers. It returns how the session ended, or
+    /// `None` where it waits for more octets. It must not be called after an error.
     ///
-    /// At each `None` what is out since the conversation began, the register, and what a stop leaves are those of the session over all
-    /// the octets that it has heard. So it is at the end.
+    /// At each `None`, the octets written since the conversation began, the register, and what a crash leaves are those of the session over
+    /// all octets heard so far. The same holds at the end.
     ///
     /// # Errors
     ///
-    /// Those of [`serve`](crate::serve) but for [`RunFault::Read`], with what they leave.
+    /// Those of [`serve`](crate::serve) except [`RunFault::Read`], with what they leave.
     pub fn go_on<O: Office, W: Write>(
         &mut self,
         office: &mut O,
@@ -80,12 +80,12 @@ impl<'b> Conversation<'b> {
         pump(&mut self.session, office, &mut self.stream, writer)
     }
 
-    /// Hears the next octets. None of them is looked at before the next [`go_on`].
+    /// Appends the next octets of the stream. They are read by the next [`go_on`].
     ///
     /// # Errors
     ///
-    /// [`RunFault::Memory`] where there is no room for them: the conversation is then as it was. After an end that octets brought which
-    /// are no frame, this error comes whatever room there is.
+    /// [`RunFault::Memory`] where there is no room for the octets. The conversation is then unchanged. After octets that were no frame
+    /// ended the session, each call returns this error; no clause says this.
     ///
     /// [`go_on`]: Conversation::go_on
     pub fn hear(&mut self, octets: &[u8]) -> Result<(), RunFault>

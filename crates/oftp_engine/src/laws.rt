@@ -1,4 +1,4 @@
-//! What holds of runs.
+//! Theorems about runs of sessions.
 
 ghost use Rattle.std.specs.Prelude.{◌≡◌, ◌<◌, ◌++◌, ℕ, [], All, List, Option, Ok};
 ghost use Rattle.oftp_wire.specs.declared.frame_fault.FrameFault.{FrameFault};
@@ -27,45 +27,46 @@ use oftp_io::Port;
 use oftp_register::Office;
 use std::io::{Read, Write};
 
-/// A run over the octets of a stream is the fold over the commands of its frames and the fault behind them.
+/// A run over the octets of a stream is the fold over the commands in its frames, with the error after them.
 pub fn folds_over_frames()
     ensures { (limit : Option ℕ) (stream : List ℕ) (commands : List (List ℕ)) (fault : Option FrameFault) (c : Course)
         → All (λ octet. octet < 256) stream → Reads 100003 stream commands fault
         → run limit stream c ≡ over_commands limit commands fault c }
 {}
 
-/// What a station says, its frames one after another, is cut off anywhere: the other one hears the commands whose frames are whole, as
-/// they were said, and no fault; and its session over these octets is the one over these commands. It does nothing; its contract is
-/// the law.
+/// The frames of a station, one after another, may be cut off anywhere. The other station then reads the commands whose frames are whole,
+/// each as it was sent, without an error. Its session over these octets is the one over these commands. The function does nothing; its
+/// contract is the theorem.
 pub fn queues_are_heard()
     ensures { QueuesAreHeard }
 {}
 
-/// What a session says are commands, each as a frame, and what it has out at its end, or at a fault, is these frames in order, cut off
-/// somewhere. Where it begins with a book, a partner and a register whose fields are in range, each of these commands is one that a
-/// frame can say, so the other one hears the first of them as they were said. It does nothing; its contract is the law.
+/// A session sends commands, each as a frame. What it has out at its end, or at an error, is these frames in order, cut off somewhere. If
+/// it begins with a book, a partner and a register whose fields are in range, a frame can hold each of these commands, so the other station
+/// reads the first of them as they were sent. The function does nothing; its contract is the theorem.
 pub fn runs_say_queues()
     ensures commands { RunsSayCommands }
     ensures queues { RunsSayQueues }
     ensures heard { RunsAreHeard }
 {}
 
-/// The fields of a register stay in range: those of an empty one are, and they are after the changes of a session, wherever it stops,
-/// and after an operator's call whose words are a text. It does nothing; its contract is the law.
+/// The fields of a register stay in range: in an empty register, after the changes of a session, wherever it stops, and after an operator's
+/// call whose texts are UTF-8. The function does nothing; its contract is the theorem.
 pub fn ranges_are_kept()
     ensures { RangesAreKept }
 {}
 
-/// No output of a run is ESID 08, whatever the book, the partner, the octets and the register, also where the writer told a fault; and no
-/// payload is refused for want of memory. So ESID 08 comes only where the office told a fault. It does nothing; its contract is the law.
+/// No output of a run is ESID 08, whatever the book, the partner, the octets and the register, and whether or not the writer returned an
+/// error. No payload is refused for lack of memory. So ESID 08 is sent only after an error of the office. The function does nothing; its
+/// contract is the theorem.
 pub fn runs_never_lack_resources()
     ensures runs { RunsNeverLackResources }
     ensures payloads { PayloadsNeverLackMemory }
 {}
 
-/// What a [`Conversation`](crate::Conversation) has heard goes from call to call: it begins with nothing, each piece that it hears comes
-/// behind those before it, and where it waits, it waits on after others had the office and left it as it was, as after look-ups. It does
-/// nothing; its contract is the law.
+/// What a [`Conversation`](crate::Conversation) has heard carries over from call to call. It begins with nothing, and each piece is
+/// appended to those before it. Where it waits, it still waits after others have used the office and left it as it was, as look-ups do. The
+/// function does nothing; its contract is the theorem.
 pub fn conversations_hear_pieces<O: Office, W: Write>()
     ensures begins { (setting : Setting) (talk : Dialogue) (first : O) (front : Port W) → (O.view first).clean → (O.view first).stands → IsFresh setting talk
         → HasHeard setting [] talk (scene W.contents (O.view first) front) (scene W.contents (O.view first) front) }
@@ -77,21 +78,21 @@ pub fn conversations_hear_pieces<O: Office, W: Write>()
         → Listens setting given talk (scene W.contents (O.view first) front) (scene W.contents (O.view later) here) }
 {}
 
-/// The changes of a run from a sound register are all made, one after another.
+/// All changes of a run from a sound register are made, one after another.
 pub fn changes_are_made()
     ensures { (limit : Option ℕ) (setting : Setting) (given : List ℕ) (r : Register) → IsSound r
         → apply_all r (run limit given (started setting r)).changes ≡ Ok (run limit given (started setting r)).register }
 {}
 
-/// A file that comes in parts, over any sessions that break anywhere, with an operator's calls between them, is at each time as it
-/// may be: nothing of it is here, or a beginning, or the file as one transfer gives it. It does nothing; its contract is the law.
+/// A file comes in parts, over any sessions that break anywhere, with an operator's calls between them. At each time the register has
+/// nothing of it, or a beginning, or the file as one transfer gives it. The function does nothing; its contract is the theorem.
 pub fn jobs_make_the_file()
     ensures { JobsMakeTheFile }
 {}
 
-/// A list of jobs grows: it begins with none, and jobs that are done behind jobs are one list with them, whatever these come to. While a
-/// session waits behind such a list, the register is the one after all changes of the list and of the session so far. It does nothing;
-/// its contract is the law.
+/// A list of jobs begins empty, and jobs that are done after a list are one list with it, whatever their results. While a session waits
+/// after such a list, the register is the one after all changes of the list and of the session so far. The function does nothing; its
+/// contract is the theorem.
 pub fn lists_grow<O: Office, R: Read, W: Write>()
     ensures begins { (book : BookData) (first : O) → (O.view first).clean → (O.view first).stands
         → IsRun R.remaining W.contents book (O.view first).register (O.view first).told (O.view first) [] [] }
@@ -110,32 +111,32 @@ pub fn lists_grow<O: Office, R: Read, W: Write>()
         ≡ Ok (O.view now).register }
 {}
 
-/// So it is over one session, after each of its changes. It does nothing; its contract is the law.
+/// The same for one session, after each of its changes. The function does nothing; its contract is the theorem.
 pub fn parts_make_the_file()
     ensures { PartsMakeTheFile }
 {}
 
-/// A start that is accepted finds as many rows as it names, and leaves exactly these. It does nothing; its contract is the law.
+/// An accepted start names no more rows than there are, and leaves exactly those. The function does nothing; its contract is the theorem.
 pub fn no_count_passes()
     ensures { NoCountPasses }
 {}
 
-/// Two stations that only the connection joins keep their promise after every list of events: sessions, commands that come or are
-/// lost, breaks, stops and faults of an office at any change, operators' calls, and files and responses that another caller commits.
-/// What the one holds as handed over is whole at the other, what is whole there is a file of the one, and what the one holds as
-/// delivered or returned was answered so there. It does nothing; its contract is the law.
+/// Two stations that share only the connection keep their promise after every list of events. An event is a session, a command that arrives
+/// or is lost, a break, a crash or an error of an office at any change, an operator's call, or a file or response that another caller
+/// commits. What one station holds as handed over is whole at the other. What is whole there is a file of the first. What the first holds
+/// as delivered or returned was answered so there. The function does nothing; its contract is the theorem.
 pub fn two_stations()
     ensures { TwoStations }
 {}
 
-/// Each deed of an operator's call at a station without a session, to any partner of its book, is an event of two stations: it leaves
-/// the register that [`operate`](crate::operate) leaves, and nothing else is changed. It does nothing; its contract is the law.
+/// What an operator's call does at a station without a session, to any partner of its book, is an event of two stations. The event leaves
+/// the register that [`operate`](crate::operate) leaves, and changes nothing else. The function does nothing; its contract is the theorem.
 pub fn deeds_are_orders()
     ensures { DeedsAreOrders }
 {}
 
-/// What a stop leaves of a session, in the words of [`serve`](crate::serve), is what an event of two stations leaves: between two steps
-/// or within one, where so many octets of its frame are out. It does nothing; its contract is the law.
+/// What a crash leaves of a session, in the words of [`serve`](crate::serve), is what an event of two stations leaves. The crash is between
+/// two steps, or within one of which any number of octets is out. The function does nothing; its contract is the theorem.
 pub fn stops_leave_prefixes()
     ensures { StopsLeavePrefixes }
 {}

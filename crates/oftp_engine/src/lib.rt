@@ -1,4 +1,4 @@
-//! Sessions over any office, any reader and any writer. The engine owns no policy: which step follows is the session's.
+//! Sessions over any office, any reader and any writer. The engine has no policy: the session decides on each step.
 #![tactic(auto)]
 
 mod content;

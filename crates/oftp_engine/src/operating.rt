@@ -1,4 +1,4 @@
-//! What an operator does with a register, and the line that tells it.
+//! An operator's calls on a register, and the lines that report them.
 
 ghost use Rattle.std.specs.Prelude.{◌≡◌, ◌≤◌, ℕ, List, length, codes, IfOk, IfErr, is_ok};
 ghost use Rattle.oftp_register.specs.Soundness.{IsFit};
@@ -20,52 +20,52 @@ use oftp_wire::{Count, Text};
 use std::alloc::Global;
 use std::io::Write;
 
-/// What an operator wants done.
+/// A call of an operator.
 #[derive(Clone, Copy, Drop)]
 pub enum Operator<'a> {
-    /// A file is to be sent to a partner.
+    /// Submit a file, which will be sent to a partner.
     Submit(Submission<'a>),
-    /// An incoming file was delivered: its end response is to be sent.
+    /// Issue the End-to-End Response of an incoming file, which was delivered.
     Release {
         /// The file's number.
         no: u64,
     },
-    /// An incoming file wasn't delivered: its negative end response is to be sent.
+    /// Issue the Negative End Response of an incoming file, which wasn't delivered.
     Refuse {
         /// The file's number.
         no: u64,
-        /// Why it wasn't, 0 to 99.
+        /// The reason code, 0 to 99.
         reason: u64,
         /// The reason in words, at most 999 octets.
         text: &'a str,
     },
 }
 
-/// Why a call is refused. Where two reasons fit, the first of Field, Unknown, Duplicate, State and Limit is told.
+/// Why a call is refused. Where several apply, it is the first of Field, Unknown, Duplicate, State and Limit.
 #[derive(Clone, Copy, Debug, Drop, PartialEq, Eq)]
 pub enum Refusal {
-    /// A file of this identity was submitted already.
+    /// There is a submitted file with this identity.
     Duplicate,
     /// There is no such partner, or no file with this number.
     Unknown,
     /// The file isn't whole, or has a response.
     State,
-    /// The file is too big, or there are too many.
+    /// The file exceeds the limits, or there are as many files as they allow.
     Limit,
-    /// A field is out of its range, or the content is no file of its format.
+    /// A field is out of its range, or the content isn't a file of its format.
     Field,
 }
 
-/// What a call came to.
+/// The result of a call.
 #[derive(Clone, Copy, Debug, Drop, PartialEq, Eq)]
 pub enum Told {
-    /// It is done.
+    /// The call was carried out.
     Done,
-    /// It is refused, and nothing is changed.
+    /// The call was refused, and nothing was changed.
     Refused(Refusal),
 }
 
-// What a call came to, before its line is out. A call that is done has the number of its file.
+// The result of a call before its line is written. A call that was carried out has the number of its file.
 #[derive(Clone, Copy, Drop)]
 pub(crate) enum Outcome {
     Done(u64),
@@ -86,7 +86,7 @@ impl From<Cause> for Refusal {
 }
 
 impl Refusal {
-    // The line that tells it.
+    // The line that reports the refusal.
     fn line(self) -> &'static [u8]
         ensures { result.now ≡ refusal_line self }
     {
@@ -101,7 +101,7 @@ impl Refusal {
 }
 
 impl<'a> Operator<'a> {
-    // How its line begins where it is done.
+    // The beginning of the line that reports the call.
     fn verb(&self) -> &'static [u8]
         ensures verb { result.now ≡ verb_of self.now }
         ensures short { length result.now ≤ 20 }
@@ -114,7 +114,7 @@ impl<'a> Operator<'a> {
     }
 }
 
-// The line of a call that is done. It takes no memory.
+// The line of a call that was carried out. It allocates nothing.
 fn line_of(verb: &[u8], no: u64) -> ArrayVec<u8, 48>
     requires { length verb.now ≤ 20 }
     ensures { result.items ≡ done_line verb.now no }
@@ -143,7 +143,7 @@ fn say<W: Write>(writer: &mut Port<W>, line: &[u8], told: Told) -> Result<Told, 
     }
 }
 
-// Writes the line of what a call came to.
+// Writes the line that reports a result.
 #[tactic(auto, using(oftp_io::proofs::Puts::puts_none, oftp_io::proofs::Puts::puts_on, oftp_io::proofs::Puts::puts_sent))]
 fn tell<W: Write>(writer: &mut Port<W>, verb: &[u8], outcome: Outcome) -> Result<Told, RunFault>
     requires { length verb.now ≤ 20 }
@@ -159,7 +159,7 @@ fn tell<W: Write>(writer: &mut Port<W>, verb: &[u8], outcome: Outcome) -> Result
     }
 }
 
-// What a commit comes to.
+// The result of a commit.
 pub(crate) fn outcome_of(made: Result<(), OfficeFault>, no: u64) -> Result<Outcome, RunFault>
     ensures { result ≡ came_out no made }
 {
@@ -170,7 +170,7 @@ pub(crate) fn outcome_of(made: Result<(), OfficeFault>, no: u64) -> Result<Outco
     }
 }
 
-// Lets the office decide on a change of the file with a number.
+// Commits a change of the file with a number, and returns the office's verdict.
 fn decide<O: Office>(office: &mut O, change: Change<'_>, no: u64) -> Result<Outcome, RunFault>
     ensures clean { (O.view office.new).clean → (O.view office.old).clean }
     ensures does { (O.view office.new).clean → (O.view office.old).stands → IsFit (O.view office.old).register change.entry → (verb : List ℕ)
@@ -181,7 +181,7 @@ fn decide<O: Office>(office: &mut O, change: Change<'_>, no: u64) -> Result<Outc
     outcome_of(made, no)
 }
 
-// Releases a file.
+// Issues the End-to-End Response of a file.
 fn release<O: Office>(office: &mut O, no: u64) -> Result<Outcome, RunFault>
     ensures clean { (O.view office.new).clean → (O.view office.old).clean }
     ensures does { (O.view office.new).clean → (O.view office.old).stands
@@ -200,7 +200,7 @@ fn release<O: Office>(office: &mut O, no: u64) -> Result<Outcome, RunFault>
     decide(office, change, no)
 }
 
-// Refuses a file.
+// Issues the Negative End Response of a file.
 fn refuse<O: Office>(office: &mut O, no: u64, reason: u64, text: &str) -> Result<Outcome, RunFault>
     ensures clean { (O.view office.new).clean → (O.view office.old).clean }
     ensures does { (O.view office.new).clean → (O.view office.old).stands
@@ -222,7 +222,7 @@ fn refuse<O: Office>(office: &mut O, no: u64, reason: u64, text: &str) -> Result
     decide(office, change, no)
 }
 
-// Does what is wanted, but for the line.
+// Carries out a call, without its line.
 fn attempt<O: Office>(
     alloc: Global,
     office: &mut O,
@@ -241,17 +241,17 @@ fn attempt<O: Office>(
     }
 }
 
-/// Does what an operator wants, and writes the line that tells it, ended by LF: `done: submit NO`, `done: release NO` or
-/// `done: refuse NO` with the file's number, or `refused: 1 duplicate`, `refused: 2 unknown`, `refused: 3 state`, `refused: 4 limit`
-/// or `refused: 5 field`.
+/// Carries out an operator's call and writes the line that reports it, ended by LF. The line is `done: submit NO`, `done: release NO` or
+/// `done: refuse NO` with the file's number; or `refused: 1 duplicate`, `refused: 2 unknown`, `refused: 3 state`, `refused: 4 limit` or
+/// `refused: 5 field`.
 ///
-/// Where it is done, a stop leaves the change from before the first octet of the line on.
+/// The change is committed before the first octet of the line is written, so that a crash doesn't undo it.
 ///
 /// # Errors
 ///
-/// [`RunFault::Write`] only where the writer told a fault: a beginning of the line is out, and what it tells is done.
-/// [`RunFault::Office`] where the office told a fault: nothing is out, and a stop leaves the register with the change or without.
-/// [`RunFault::Memory`] where a growth was refused in reading the content of a file: nothing is out, and nothing is changed.
+/// - [`RunFault::Write`] only where the writer returned an error. A beginning of the line is out, and what the line says is done.
+/// - [`RunFault::Office`]: the office returned an error. Nothing is out, and a crash leaves the register with the change or without it.
+/// - [`RunFault::Memory`]: out of memory while the content of a file was read. Nothing is out, and nothing is changed.
 pub fn operate<O: Office, W: Write>(
     alloc: Global,
     office: &mut O,

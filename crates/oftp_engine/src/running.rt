@@ -1,4 +1,4 @@
-//! A list of jobs, one after another.
+//! Lists of jobs, done one after another.
 
 ghost use Rattle.std.specs.Prelude.{◌≡◌, [], ◌∷◌, None};
 ghost use Rattle.oftp_engine.specs.Jobs.{Runs};
@@ -12,27 +12,27 @@ use oftp_register::Office;
 use std::alloc::Global;
 use std::io::{Read, Write};
 
-/// A session that is to be served, with its ports.
+/// A session as a job, with its ports.
 #[derive(Drop)]
 pub struct SessionJob<'b, R, W> {
-    /// Who calls whom.
+    /// Which side calls.
     pub role: Role<'b>,
-    /// What the partner says.
+    /// The octets from the partner.
     pub reader: Port<R>,
-    /// What the station says.
+    /// The octets to the partner.
     pub writer: Port<W>,
-    /// What [`serve`] answered, once the session was served.
+    /// What [`serve`] returned, once the session was served.
     pub result: Option<Result<End, RunFault>>,
 }
 
-/// An operator's call that is to be carried out, with its port.
+/// An operator's call as a job, with its port.
 #[derive(Drop)]
 pub struct CallJob<'a, W> {
-    /// What is wanted.
+    /// The call.
     pub call: Operator<'a>,
-    /// Where the line goes that tells it.
+    /// The output for the line that reports it.
     pub writer: Port<W>,
-    /// What [`operate`] answered, once the call was carried out.
+    /// What [`operate`] returned, once the call was carried out.
     pub result: Option<Result<Told, RunFault>>,
 }
 
@@ -46,7 +46,7 @@ pub enum Job<'a, R, W> {
 }
 
 impl<'a, R, W> Job<'a, R, W> {
-    /// A session that is to be served in a role over these ports.
+    /// The job of a session in a role, over these ports.
     pub fn session(role: Role<'a>, reader: Port<R>, writer: Port<W>) -> Job<'a, R, W>
         ensures { result ≡ Job.Session (record { role = role.entry; reader = reader; writer = writer; result = None }) }
     {
@@ -58,7 +58,7 @@ impl<'a, R, W> Job<'a, R, W> {
         })
     }
 
-    /// An operator's call whose line goes to this port.
+    /// The job of an operator's call whose line goes to this port.
     pub fn call(call: Operator<'a>, writer: Port<W>) -> Job<'a, R, W>
         ensures { result ≡ Job.Call (record { call = call.entry; writer = writer; result = None }) }
     {
@@ -70,7 +70,7 @@ impl<'a, R, W> Job<'a, R, W> {
     }
 }
 
-// What a job's answer is to its list: a fault of the job's ports doesn't end it.
+// The result of a list after a job's result. An error of the job's ports doesn't end the list.
 fn go_on<T>(answer: &Result<T, RunFault>) -> Result<(), RunFault>
     ensures { IsGoneOn answer.now result }
 {
@@ -81,7 +81,7 @@ fn go_on<T>(answer: &Result<T, RunFault>) -> Result<(), RunFault>
     }
 }
 
-// Serves a session, and leaves its answer in the job.
+// Serves a session and stores the result in its job.
 fn serve_job<O: Office, R: Read, W: Write>(
     alloc: Global,
     office: &mut O,
@@ -99,7 +99,7 @@ fn serve_job<O: Office, R: Read, W: Write>(
     after
 }
 
-// Carries out an operator's call, and leaves its answer in the job.
+// Carries out an operator's call and stores the result in its job.
 fn operate_job<O: Office, R: Read, W: Write>(
     alloc: Global,
     office: &mut O,
@@ -133,12 +133,12 @@ fn do_job<O: Office, R: Read, W: Write>(
     }
 }
 
-/// Does the next job of a list that grows, and leaves its answer in it: [`run`] of this job alone. What the jobs before it did and what it
-/// does is what [`run`] does of the list of all of them ([`lists_grow`](crate::lists_grow)).
+/// Does the next job of a list and stores its result in it, as [`run`] does for this job alone. The jobs before it and this one are
+/// together what [`run`] does of the list of all of them ([`lists_grow`](crate::lists_grow)).
 ///
 /// # Errors
 ///
-/// As [`run`].
+/// Those of [`run`].
 pub fn do_next<O: Office, R: Read, W: Write>(
     alloc: Global,
     office: &mut O,
@@ -152,16 +152,16 @@ pub fn do_next<O: Office, R: Read, W: Write>(
     do_job(alloc, office, book, job)
 }
 
-/// Does a list of jobs, one after another, and leaves the answer of each in it: that of [`serve`] or of [`operate`]. A fault of a job's
-/// reader or writer ends that job alone.
+/// Does the jobs of a list in order, and stores the result of each in it: that of [`serve`] or of [`operate`]. An error of a job's reader
+/// or writer ends only that job.
 ///
-/// What the jobs have out and what they leave is the run of the list: each job goes on from the register that the one before it left.
+/// Each job starts from the register that the job before it left.
 ///
 /// # Errors
 ///
-/// [`RunFault::Office`] or [`RunFault::Memory`] where a job told it: the list ends there, and the jobs behind that one are as they
-/// were, without an answer. The register is then the one after a prefix of all the changes, with each that was answered; after
-/// [`RunFault::Memory`] a stop leaves this register, and after [`RunFault::Office`] such a one.
+/// [`RunFault::Office`] or [`RunFault::Memory`], where a job returned it. The list ends there, and the jobs after that one are unchanged,
+/// without a result. The register is the one after a prefix of all changes, with each that was answered. After [`RunFault::Memory`] a crash
+/// leaves this register. After [`RunFault::Office`] it leaves the register after such a prefix.
 pub fn run<O: Office, R: Read, W: Write>(
     alloc: Global,
     office: &mut O,

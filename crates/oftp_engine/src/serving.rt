@@ -24,15 +24,15 @@ use oftp_wire::{Command, Count, Deframer, SessionReason, parse};
 use std::alloc::Global;
 use std::io::{Read, Write};
 
-/// How many octets are read at once, at most.
+/// The number of octets that one read asks for.
 const PIECE: usize = 4096;
 
 /// How a session ended.
 #[derive(Clone, Copy, Debug, Drop, PartialEq, Eq)]
 pub enum End {
-    /// The station ended it, for this reason.
+    /// The station sent ESID with this reason.
     Own(SessionReason),
-    /// The partner ended it, for the reason of this number.
+    /// The partner sent ESID with this reason code.
     Partner(Count<2>),
     /// The input ended.
     Input,
@@ -49,7 +49,7 @@ impl From<Ending> for End {
     }
 }
 
-/// Who calls whom.
+/// Which side calls.
 #[derive(Clone, Copy, Drop)]
 pub enum Role<'b> {
     /// A partner calls the station.
@@ -58,20 +58,20 @@ pub enum Role<'b> {
     Initiator(&'b Partner),
 }
 
-/// Why a session was broken off.
+/// Why a session or a call was cut short.
 #[derive(Clone, Copy, Debug, Drop, PartialEq, Eq)]
 pub enum RunFault {
-    /// The reader told a fault.
+    /// The reader returned an error.
     Read,
-    /// The writer told a fault, or took no octet of a piece.
+    /// The writer returned an error, or accepted no octet.
     Write,
-    /// The office told a fault.
+    /// The office returned an error.
     Office,
-    /// Memory ran out.
+    /// Out of memory.
     Memory,
 }
 
-// Writes what a session said.
+// Writes the frame that a session returned, if there is one.
 #[tactic(auto, using(oftp_io::proofs::Puts::puts_none, oftp_io::proofs::Puts::puts_on, oftp_io::proofs::Puts::puts_sent))]
 fn write_out<W: Write>(port: &mut Port<W>, out: Out<'_>) -> Result<(), RunFault>
     ensures sent { Sent W.contents port.old port.new (said out.entry) (is_ok result) }
@@ -91,7 +91,7 @@ fn write_out<W: Write>(port: &mut Port<W>, out: Out<'_>) -> Result<(), RunFault>
     }
 }
 
-// Ends the session, which goes on, by an ESID.
+// Ends a session that is still open by sending ESID.
 #[tactic(auto, using(crate::proofs::Phases::open_goes_on, oftp_io::proofs::Puts::puts_none, oftp_io::proofs::Puts::puts_on, oftp_io::proofs::Puts::puts_sent))]
 fn end_with<W: Write>(
     session: &mut Session<'_>,
@@ -113,7 +113,7 @@ fn end_with<W: Write>(
     }
 }
 
-// After a fault of the office, the session's last words. A fault of this write isn't told.
+// Sends ESID 08 after an error of the office. An error of this write isn't returned.
 #[tactic(auto, using(oftp_io::proofs::Puts::puts_none, oftp_io::proofs::Puts::puts_on, oftp_io::proofs::Puts::puts_sent))]
 fn last_words<W: Write>(session: &mut Session<'_>, port: &mut Port<W>)
     requires { session.old.standing ≡ Broken }
@@ -129,7 +129,7 @@ fn last_words<W: Write>(session: &mut Session<'_>, port: &mut Port<W>)
     }
 }
 
-// After a session's fault: its last words, where the office told it.
+// Cuts a session short. If the office returned the error, ESID 08 is sent.
 #[tactic(auto, using(oftp_io::proofs::Puts::puts_none, oftp_io::proofs::Puts::puts_on, oftp_io::proofs::Puts::puts_sent))]
 fn break_off<W: Write>(
     session: &mut Session<'_>,
@@ -153,7 +153,7 @@ fn break_off<W: Write>(
     }
 }
 
-// Makes the own turn that is due, and writes it.
+// Executes the turn that is due, and writes its frame.
 #[tactic(auto, using(oftp_io::proofs::Puts::puts_none, oftp_io::proofs::Puts::puts_on, oftp_io::proofs::Puts::puts_sent, crate::proofs::Stepping::run_fault_own))]
 fn take_turn<O: Office, W: Write>(
     session: &mut Session<'_>,
@@ -179,7 +179,7 @@ fn take_turn<O: Office, W: Write>(
     }
 }
 
-// Takes a command that came, and writes the answer.
+// Executes a command that arrived, and writes the answer.
 #[tactic(auto, using(oftp_io::proofs::Puts::puts_none, oftp_io::proofs::Puts::puts_on, oftp_io::proofs::Puts::puts_sent, crate::proofs::Stepping::run_fault_own))]
 fn obey<O: Office, W: Write>(
     session: &mut Session<'_>,
@@ -204,7 +204,7 @@ fn obey<O: Office, W: Write>(
     }
 }
 
-// Takes the octets of a command, and writes the answer.
+// Decodes and executes the octets of a command, and writes the answer.
 #[tactic(auto, using(oftp_io::proofs::Puts::puts_none, oftp_io::proofs::Puts::puts_on, oftp_io::proofs::Puts::puts_sent))]
 fn take_command<O: Office, W: Write>(
     session: &mut Session<'_>,
@@ -233,7 +233,7 @@ fn take_command<O: Office, W: Write>(
     }
 }
 
-// Takes every due turn.
+// Executes every turn that is due.
 fn take_turns<O: Office, W: Write>(
     session: &mut Session<'_>,
     office: &mut O,
@@ -257,7 +257,8 @@ fn take_turns<O: Office, W: Write>(
     Ok(())
 }
 
-// Takes all that is due and whole. It answers how the session ended, or `None` where it needs more octets.
+// Executes all turns that are due and all commands that are complete. It returns how the session ended, or `None` where it needs more
+// octets.
 pub(crate) fn pump<O: Office, W: Write>(
     session: &mut Session<'_>,
     office: &mut O,
@@ -304,18 +305,20 @@ pub(crate) fn opened<'b>(alloc: Global, book: &'b Book, role: Role<'b>) -> Sessi
     }
 }
 
-/// Serves one session by a book and in a role, over the octets that `reader` gives and up to the partner's end, the station's own or the
-/// end of the input. Octets after the end aren't looked at.
+/// Serves one session by a book and in a role, over the octets of `reader`, until an ESID of the partner or of the station or the end of
+/// the input. Octets after the end aren't read as commands.
 ///
-/// What it has out and what it leaves are the run of the session over the octets that the reader gave.
+/// What is out and what is left in the register are those of the session's run over the octets that the reader gave.
 ///
 /// # Errors
 ///
-/// [`RunFault::Read`] only where the reader told a fault: all that came before it is answered and made. [`RunFault::Write`] only
-/// where the writer told one: the register then has each change that was answered, and that one too whose answer was being
-/// written. [`RunFault::Office`] where the office told a fault: an ESID 08 was written as far as the writer took it, and the
-/// register is the one after a prefix of the session's changes, with each that was answered. [`RunFault::Memory`] where a growth
-/// was refused: the register is such a one too.
+/// - [`RunFault::Read`] only where the reader returned an error. All octets before it are answered, and their changes made.
+/// - [`RunFault::Write`] only where the writer returned an error. The register has each change that was answered, and also the one whose
+///   answer was being written.
+/// - [`RunFault::Office`]: the office returned an error. ESID 08 was written as far as the writer accepted it. The register is the one
+///   after a prefix of the session's changes, with each that was answered.
+/// - [`RunFault::Memory`]: out of memory. The register is likewise the one after a prefix of the session's changes, with each that was
+///   answered.
 pub fn serve<O: Office, R: Read, W: Write>(
     alloc: Global,
     office: &mut O,
@@ -348,12 +351,12 @@ pub fn serve<O: Office, R: Read, W: Write>(
     }
 }
 
-/// Serves one session, as [`serve`], over an office in memory. What it promises has no premise, since what such an office reads is
-/// what was written.
+/// Serves one session, as [`serve`] does, over an office in memory. Its promises need no premise, because such an office always reads what
+/// was written.
 ///
 /// # Errors
 ///
-/// As [`serve`]; [`RunFault::Office`] only where the office's memory ran out.
+/// Those of [`serve`]. [`RunFault::Office`] comes only where the office is out of memory.
 pub fn serve_in_memory<R: Read, W: Write>(
     alloc: Global,
     office: &mut PlainOffice,

@@ -1,4 +1,4 @@
-//! A file is submitted: registered, to be sent to a partner.
+//! Submitting a file, which registers it to be sent to a partner.
 
 ghost use Rattle.std.specs.Prelude.{◌≡◌, ◌≤◌, ◌↔◌, ℕ, List, true, length, codes, if◌then◌else◌, IsTrue, IfOk, IfErr, IfSome, IfNone};
 ghost use Rattle.oftp_vfile.specs.LocalForm.{IsLocal};
@@ -18,7 +18,7 @@ use oftp_vfile::{Format, Limits, LocalFault, MOST_ROWS, Rows, VFile};
 use oftp_wire::{Digits, Text, X};
 use std::alloc::Global;
 
-/// How many digits tell the length of a record of V in the local form.
+/// The number of digits of a record's length in the local form of format V.
 const LENGTH_DIGITS: u64 = 5;
 
 /// A file that is to be sent to a partner.
@@ -30,19 +30,19 @@ pub struct Submission<'a> {
     pub date: &'a str,
     /// Its time stamp, HHMMSScccc.
     pub time: &'a str,
-    /// The code of the partner that it goes to.
+    /// The Identification Code of the partner that gets the file.
     pub to: &'a str,
     /// The format of its records.
     pub format: Format,
-    /// Its longest record in octets, 1 to 16,384 in F and V and 0 in U and T.
+    /// The longest record in octets: 1 to 16,384 in formats F and V, 0 in U and T.
     pub longest: u32,
-    /// What it is, in words, at most 999 octets.
+    /// The description, UTF-8 of at most 999 octets.
     pub description: &'a str,
-    /// The file in its local form.
+    /// The content in its local form.
     pub content: &'a [u8],
 }
 
-// The fields of a submission that is in its ranges.
+// The fields of a submission, each in its range.
 #[derive(Drop)]
 struct Fields<'a> {
     dataset: X<'a, 26>,
@@ -51,7 +51,7 @@ struct Fields<'a> {
     description: Text<'a>,
 }
 
-// A submission that is a file: its fields, and the rows of its content.
+// A submission that is a valid file: its fields, and the rows of its content.
 #[derive(Drop)]
 struct Offer<'a> {
     fields: Fields<'a>,
@@ -74,7 +74,7 @@ fn fields_of<'a>(submission: &Submission<'a>) -> Option<Fields<'a>>
     })
 }
 
-// The rows of a content, or `None` where it is no local form of the format.
+// The rows of a content, or `None` where it isn't the local form of the format.
 fn rows_of(
     alloc: Global,
     format: Format,
@@ -93,7 +93,7 @@ fn rows_of(
     }
 }
 
-// The file that is handed in, or `None` where it is none.
+// The file that is submitted, or `None` where it isn't a valid one.
 fn offer_of<'a>(alloc: Global, submission: &Submission<'a>) -> Result<Option<Offer<'a>>, RunFault>
     ensures some { IfOk result (λ found. IfSome found (IsOffer submission.now)) }
     ensures none { IfOk result (λ found. IfNone found (IsNoFile submission.now)) }
@@ -114,7 +114,7 @@ fn offer_of<'a>(alloc: Global, submission: &Submission<'a>) -> Result<Option<Off
     }
 }
 
-// What names a file of these fields to a partner.
+// The identity that a file with these fields has at a partner.
 fn name_of(book: &Book, partner: &Partner, fields: &Fields<'_>) -> Identity
     ensures { result ≡ named_by book.now partner.now fields.now }
 {
@@ -127,7 +127,7 @@ fn name_of(book: &Book, partner: &Partner, fields: &Fields<'_>) -> Identity
     }
 }
 
-// How many octets the rows of a content have: in V without the digits of their lengths.
+// The number of octets of a file. The length digits of format V don't count.
 fn units_of(format: Format, longest: u32, content: &[u8], rows: &Rows) -> u64
     requires { IsLocal format longest content.now rows.now }
     ensures { result ≡ units_in rows.now }
@@ -139,7 +139,7 @@ fn units_of(format: Format, longest: u32, content: &[u8], rows: &Rows) -> u64
     }
 }
 
-// Whether rows are more than a station keeps of a file.
+// Whether a file exceeds the limits of the station.
 fn are_too_many(limits: Limits, units: u64, rows: &Rows) -> bool
     requires { units ≡ units_in rows.now }
     ensures { result ≡ is_too_big limits rows.now }
@@ -147,7 +147,7 @@ fn are_too_many(limits: Limits, units: u64, rows: &Rows) -> bool
     units > limits.octets || rows.len() > MOST_ROWS
 }
 
-// What a file that is too big comes to, once its identity was looked up.
+// The result for a file that exceeds the limits, once its identity was looked up.
 fn outcome_of_big(found: Result<Option<OutgoingEntry>, OfficeFault>) -> Result<Outcome, RunFault>
     ensures { result ≡ came_big found }
 {
@@ -158,7 +158,7 @@ fn outcome_of_big(found: Result<Option<OutgoingEntry>, OfficeFault>) -> Result<O
     }
 }
 
-// Refuses a file that is too big: as a duplicate where its identity is there.
+// Refuses a file that exceeds the limits. It is a duplicate where its identity exists.
 fn refuse_big<O: Office>(office: &mut O, identity: &Identity) -> Result<Outcome, RunFault>
     ensures clean { (O.view office.new).clean → (O.view office.old).clean }
     ensures does { (O.view office.new).clean → (O.view office.old).stands → Attempts (codes "done: submit ")
@@ -170,18 +170,18 @@ fn refuse_big<O: Office>(office: &mut O, identity: &Identity) -> Result<Outcome,
     outcome_of_big(found)
 }
 
-// What a file that was registered comes to, once its identity was looked up.
+// The result for a registered file, once its number was looked up.
 fn outcome_of_number(found: Result<Option<OutgoingEntry>, OfficeFault>) -> Result<Outcome, RunFault>
     ensures { result ≡ came_numbered found }
 {
     match found {
         Ok(Some(file)) => Ok(Outcome::Done(file.no)),
-        // A file that was registered is there, where what was read is what was written.
+        // A registered file is found, if the store reads what was written.
         Ok(None) | Err(_) => Err(RunFault::Office),
     }
 }
 
-// Registers a file, and looks up its number.
+// Registers a file and looks up its number.
 fn register<O: Office>(
     office: &mut O,
     identity: &Identity,

@@ -1,15 +1,15 @@
--- What a port knows of the reader or the writer in it.
+-- What a port does to the reader or the writer in it.
 use Rattle.std.specs.Prelude.{◌≡◌, ℕ, ◌+◌, ◌-◌, ◌<◌, ◌≤◌, ◌%◌, ◌^◌, ◌⊎◌, Bool, true, false, List, length, take, Option, None, Some}
 use Rattle.std.specs.Io.KnownBytes.{Appends, Keeps, Consumes, IsAtEnd}
 use Rattle.oftp_io.specs.declared.port.Port.{Port}
 
 module _ {X : Type 0} where
-  -- no more is to come: the reader has no octet left, or the port has given as many as it may
+  -- the end of the input: the reader has no octet left, or the port has given as many as its limit allows
   pub record IsDone (remaining : X → Option (List ℕ)) (port : Port X) : Type 0 where
     pub ended : port.ended ≡ true
     pub cause : (port.most ≤ port.moved) ⊎ IsAtEnd (remaining port.inner)
 
-  -- a read that gave n octets at the front of the piece, none only at the end
+  -- a read that gave n octets, at the beginning of the slice; n is 0 only at the end
   pub record Gives (remaining : X → Option (List ℕ)) (old new : Port X) (piece : List ℕ) (n : ℕ) : Type 0 where
     pub fits : n ≤ length piece
     pub bytes : Consumes (remaining old.inner) (remaining new.inner) (take n piece)
@@ -20,7 +20,7 @@ module _ {X : Type 0} where
     pub faults : new.faults ≡ old.faults
     pub most : new.most ≡ old.most
 
-  -- a read that told a fault
+  -- a read at which the reader returned an error
   pub record GivesNothing (remaining : X → Option (List ℕ)) (old new : Port X) : Type 0 where
     pub bytes : Keeps (remaining old.inner) (remaining new.inner)
     pub moved : new.moved ≡ old.moved
@@ -32,12 +32,12 @@ module _ {X : Type 0} where
   Reads remaining old new piece None = GivesNothing remaining old new
   Reads remaining old new piece (Some n) = Gives remaining old new piece n
 
-  -- no write changes the limit of a port, nor whether the end came
+  -- no write changes the limit of a port, nor whether the end was read
   pub record IsSamePort (old new : Port X) : Type 0 where
     pub most : new.most ≡ old.most
     pub on : new.ended ≡ old.ended
 
-  -- a write that took n octets of the piece
+  -- a write that took n octets of the slice
   pub record Takes (contents : X → Option (List ℕ)) (old new : Port X) (piece : List ℕ) (n : ℕ) : Type 0 where
     pub some : 0 < n
     pub fits : n ≤ length piece
@@ -46,7 +46,7 @@ module _ {X : Type 0} where
     pub faults : new.faults ≡ old.faults
     pub same : IsSamePort old new
 
-  -- a write that told a fault
+  -- a write at which the writer returned an error
   pub record TakesNothing (contents : X → Option (List ℕ)) (old new : Port X) : Type 0 where
     pub bytes : Keeps (contents old.inner) (contents new.inner)
     pub moved : new.moved ≡ old.moved
@@ -74,7 +74,7 @@ module _ {X : Type 0} where
     pub faults : new.faults ≡ (old.faults + 1) % 2 ^ 64
     pub same : IsSamePort old new
 
-  -- all is out, or the writer told a fault
+  -- all octets are out, or the writer returned an error
   abbrev pub Sent : (X → Option (List ℕ)) → Port X → Port X → List ℕ → Bool → Type 0
   Sent contents old new octets true = SentAll contents old new octets
   Sent contents old new octets false = SentPart contents old new octets

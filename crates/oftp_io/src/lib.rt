@@ -1,4 +1,4 @@
-//! Ports: readers and writers that tell what they gave, took and told.
+//! Ports: readers and writers with counts of their octets and errors.
 #![tactic(auto)]
 
 mod port;

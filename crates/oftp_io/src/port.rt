@@ -1,11 +1,11 @@
-//! A reader or a writer, and what it moved and told.
+//! A reader or a writer with its counts.
 
 mod reading;
 mod writing;
 
 ghost use Rattle.std.specs.Prelude.{◌≡◌, false};
 
-/// A reader or a writer, with what it gave or took and told. The counts run modulo 2^64.
+/// A reader or a writer, with a count of the octets that it gave or took and a count of its errors. The counts run modulo 2^64.
 #[derive(Drop)]
 pub struct Port<X> {
     inner: X,
@@ -16,7 +16,7 @@ pub struct Port<X> {
 }
 
 impl<X> Port<X> {
-    /// The port of a reader or a writer. As a reader it gives at most `most` octets, and then the end.
+    /// The port of a reader or a writer. A reader gives at most `most` octets, and then its end.
     pub fn new(inner: X, most: u64) -> Port<X>
         ensures { result ≡ record { inner = inner; most = most; moved = 0; faults = 0; ended = false } }
     {
@@ -36,21 +36,21 @@ impl<X> Port<X> {
         self.moved
     }
 
-    /// How many faults it told. A write that takes no octet of a piece that isn't empty is one.
+    /// How many errors it returned. A write that takes no octet of a slice that isn't empty counts as one.
     pub fn faults(&self) -> u64
         ensures { result ≡ self.now.faults }
     {
         self.faults
     }
 
-    /// Whether the end of what it reads came: the end of the reader, or the limit.
+    /// Whether the end of the input was read: the end of the reader, or the limit.
     pub fn has_ended(&self) -> bool
         ensures { result ≡ self.now.ended }
     {
         self.ended
     }
 
-    /// The reader or the writer, for good.
+    /// Drops the port and returns the reader or the writer.
     pub fn into_inner(self) -> X
         ensures { result ≡ self.inner }
     {

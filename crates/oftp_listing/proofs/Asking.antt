@@ -1,4 +1,4 @@
--- What an office leaves that is asked one thing after another.
+-- What an office does in several look-ups.
 use Rattle.std.proofs.Common.{◌≡◌, ℕ, Result, Ok, Err, inl, inr, sym, subst, ◌∙◌, arith, refl, ◌⊎◌}
 use Rattle.oftp_register.specs.Register.{Register}
 use Rattle.oftp_register.specs.Offices.{View, LooksUp, Only, next_count}
@@ -6,11 +6,11 @@ use Rattle.oftp_register.specs.declared.office.OfficeFault.{OfficeFault}
 use Rattle.oftp_register.specs.declared.office.OfficeFault.TheVariants.{Store, Memory, Refused}
 use Rattle.oftp_listing.specs.Texts.{Asks}
 
--- a fault told is seen in the count
+-- an error that was returned is counted
 pub next_differs : (n : ℕ) → next_count n ≡ n → ⊥
 next_differs n e = omega (arith, e)
 
--- nothing was asked
+-- nothing was looked up
 pub asks_nothing : (v : View) → (v.clean → v.stands → Only v.register v) → Asks v v
 asks_nothing v alone = record {
   clean = λ k. k;
@@ -45,7 +45,7 @@ asks_once old new (Err Memory) looks = record {
 }
 asks_once old new (Err (Refused cause)) looks = absurd looks.unrefused
 
--- one thing after another, the first without a fault
+-- one look-up after another, the first without an error
 pub asks_on : (old now new : View) → Asks old now → now.told ≡ old.told → Asks now new → Asks old new
 asks_on old now new first untold next = record {
   clean = λ k. first.clean (next.clean k);

@@ -15,7 +15,7 @@ fields_fit buf spans count fields are =
     let same : length (take count spans) ≡ length fields = sym (length-map (take count spans) (header_bytes buf)) ∙ ap length are ∙ length-map fields name_and_value in
     omega (arith, same, length-take count spans)
 
--- what was found is what was heard
+-- the result of reading is the one of the definition
 pub found_reads : (buf : List ℕ) (spans : List HeaderSpan) (r : RequestSpans) (m t : Bor (List ℕ)) → length spans ≡ 64
     → ((h : RequestHead) (rest : List ℕ) → ReadsRequest buf h rest → length h.fields ≤ 64 → IsRequestAt buf spans r h) → IsRequestOf buf spans r → length buf ≤ 8192
     → m.now ≡ span_bytes buf r.method → t.now ≡ span_bytes buf r.path → (heard : Heard) → Hears buf heard → Reads heard (head.Whole m t)

@@ -1,4 +1,4 @@
--- A register without the content of its files is shown as the register is.
+-- A register without the content of its files is shown like the register.
 use Rattle.std.proofs.Common.{◌≡◌, ℕ, zero, suc, ◌+◌, Bool, List, [], ◌∷◌, ◌++◌, map, find, Option, None, Some, slice_get, refl, ap, sym, ◌∙◌}
 use Rattle.std.specs.List.{flat_map, filter_map}
 use Rattle.std.specs.Option.{option_map, unwrap_or}
@@ -35,7 +35,7 @@ option_same : {A B : Type 0} (f g : A → B) → ((x : A) → f x ≡ g x) → (
 option_same f g same None = refl
 option_same f g same (Some x) = ap Some (same x)
 
--- ---- what the look-ups tell
+-- ---- what the look-ups return
 
 units_blank : (rows : List (List ℕ)) → units_in (blank_rows rows) ≡ units_in rows
 units_blank [] = refl

@@ -1,4 +1,4 @@
--- The octets of the rows of a file that the office told in a list.
+-- The octets of a file that the office returned in a list.
 use Rattle.std.proofs.Common.{◌≡◌, ◌+◌, ◌-◌, ◌*◌, ◌^◌, ◌≤◌, ◌⊎◌, inl, inr, ℕ, zero, suc, min, List, [], ◌∷◌, length, map, take, drop, slice_get, Option, Some, None, Result, Ok, refl, sym, ap, subst, ◌∙◌, arith, take_all}
 use Rattle.std.specs.Option.{option_map, unwrap_or}
 use Rattle.std.proofs.lemmas.List.{length-drop}
@@ -23,7 +23,7 @@ use Rattle.oftp_register.proofs.FileRowLemmas.{few_units}
 use Rattle.oftp_register.proofs.FormatUnitLemmas.{units_of_file}
 use Rattle.oftp_listing.specs.InsideListed.{IsAmong, IsListed}
 
--- ---- what an answer tells further
+-- ---- what else a result says
 
 -- of a register that is sound
 pub looks_further : {S T : Type 0} {A : Register → S → Type 0} {B : Register → T → Type 0} (old new : View) (x : S) (y : T) → LooksUp A old new (Ok x)
@@ -38,7 +38,7 @@ looks_further old new x y looks sound further = record {
   counts = looks.counts;
 }
 
--- whether a fault is told or not
+-- whether or not an error is returned
 pub looks_weaker : {T : Type 0} {A B : Register → T → Type 0} (old new : View) (result : Result T OfficeFault) → LooksUp A old new result
     → (old.clean → old.stands → IsSound old.register) → ((r : Register) (x : T) → IsSound r → A r x → B r x) → LooksUp B old new result
 looks_weaker {A = A} {B = B} old new result looks sound weaker = record {
@@ -51,7 +51,7 @@ looks_weaker {A = A} {B = B} old new result looks sound weaker = record {
   counts = looks.counts;
 }
 
--- the office wasn't asked
+-- the office wasn't called
 pub looks_at_nothing : {T : Type 0} {A : Register → T → Type 0} (v : View) (x : T) → (v.clean → v.stands → Only v.register v) → (v.clean → v.stands → A v.register x) → LooksUp A v v (Ok x)
 looks_at_nothing v x alone told = record {
   clean = λ k. k;
@@ -75,7 +75,7 @@ records_listed r which n longest rows units sound listed is =
     let whole : rows * longest ≡ units_of r which n = ap (λ k. k * longest) listed.1 ∙ units_of_file r which n Fixed longest sound listed.0 in
     unsaturated (rows * longest) units is (subst (λ k. k ≤ MOST_UNITS) (sym whole) (few_units r which n sound)) ∙ whole
 
--- of blocks, of which the last alone is measured
+-- of blocks, of which only the last is measured
 pub blocks_listed : (bodies : List (List ℕ)) (rows full product octets units : ℕ) (last : List (List ℕ)) → full ≡ rows - 1 → last ≡ take 1 (drop full bodies)
     → (length last ≤ 1 → octets ≡ units_in last) → product ≡ min (full * BLOCK) (2 ^ 64 - 1) → units ≡ min (product + octets) (2 ^ 64 - 1)
     → rows ≡ length bodies → units_in_blocks bodies ≤ MOST_UNITS → units ≡ units_in_blocks bodies
@@ -107,7 +107,7 @@ stream_listed r which n longest rows units format (inr is) sound listed =
 
 -- ---- the files of a list
 
--- an entry of a list is that of a file in its place
+-- an entry of a list is that of the file at its place
 record IsOfFile {X E : Type 0} (entry : ℕ → X → E) (k : ℕ) (xs : List X) (i : ℕ) (e : E) : Type 0 where
   x : X
   there : slice_get xs i ≡ Some x

@@ -1,4 +1,4 @@
--- The text of a list, which grows by an object for each entry.
+-- The text of a list, to which each entry adds an object.
 use Rattle.std.proofs.Common.{◌≡◌, ℕ, ◌+◌, ◌<◌, ◌≤◌, arith, Bool, true, false, add-one, subst, zero, suc, List, [], ◌∷◌, ◌++◌, length, map, take, get_or, slice_get, Some, Ok, refl, ap, sym, ◌∙◌, append_assoc, append-nil, codes}
 use Rattle.std.proofs.Math.Seq.{take-suc}
 use Rattle.std.proofs.lemmas.List.{map-append, take_all}
@@ -17,12 +17,12 @@ use Rattle.oftp_listing.proofs.Asking.{asks_on, asks_once}
 
 -- ---- the text of a list, object by object
 
--- the texts with commas between them, and one in front where something stands before
+-- the texts with commas between them, and one first if something comes before
 abbrev pub joined : Bool → List Data → List ℕ
 joined later [] = []
 joined later (d ∷ ds) = comma_if later ++ (compact_text d ++ joined true ds)
 
--- whether the next stands behind another
+-- whether the next one comes after another
 abbrev pub is_later : List Data → Bool
 is_later [] = false
 is_later (d ∷ ds) = true
@@ -46,14 +46,14 @@ joined_more : (ds : List Data) (d : Data) → joined false (ds ++ d ∷ []) ≡ 
 joined_more [] d = append-nil (compact_text d)
 joined_more (x ∷ ds) d = rw (joined_on ds d) (three [] (compact_text x) (joined true ds) _)
 
--- the whole list behind what stood before
+-- the whole list after what came before
 list_closes : (front : List ℕ) (ds : List Data) → ((front ++ 91 ∷ []) ++ joined false ds) ++ 93 ∷ [] ≡ front ++ compact_text (list_of ds)
 list_closes front ds = append_assoc (front ++ 91 ∷ []) (joined false ds) (93 ∷ []) ∙ append_assoc front (91 ∷ []) _ ∙ ap (λ x. front ++ 91 ∷ x) (sym (joined_closes false ds))
 
 -- ---- the entries
 
--- behind what stood before, the text has the beginning of a list with some objects: those of the entries so far, of all that the office
--- told of
+-- After what came before, the text has the beginning of a list with some objects: those of the entries so far, of all that the office
+-- returned.
 pub record IsListing {E : Type 0} (all : Register → List E) (object : Register → E → Data) (old now : View) (told entries : List E) (front text : List ℕ) (later : Bool) : Type 0 where
   pub asks : Asks old now
   pub untold : now.told ≡ old.told
@@ -88,7 +88,7 @@ listing_begins all object old now told front looks = record {
   right = λ k s. refl;
 }
 
--- what the office tells later is of the register that it had at first
+-- what the office returns later is of the register that it had at first
 pub told_first : {T : Type 0} {Tells : Register → T → Type 0} (old now new : View) (x : T) → Asks old now → now.told ≡ old.told → LooksUp Tells now new (Ok x)
     → new.clean → old.stands → Tells old.register x
 told_first {Tells = Tells} old now new x asks untold looks k s =
@@ -96,12 +96,12 @@ told_first {Tells = Tells} old now new x asks untold looks k s =
     let stood = asks.stays untold before s in
     subst (λ r. Tells r x) (asks.register before s (now.opens stood)) (looks.answer k stood)
 
--- what is told of an entry of the list is told of the register that the office had at first
+-- what is returned of an entry of the list is of the register that the office had at first
 pub told_among : {E : Type 0} {Tells : Register → ℕ → Type 0} (all : Register → List E) (old now new : View) (told : List E) (e : E) (n : ℕ) → Asks old now → now.told ≡ old.told
     → (now.clean → old.stands → told ≡ all old.register) → IsAmong e told → LooksUp (λ r n. IsAmong e (all r) → Tells r n) now new (Ok n) → new.clean → old.stands → Tells old.register n
 told_among all old now new told e n asks untold whole among looks k s = told_first old now new n asks untold looks k s (subst (IsAmong e) (whole (looks.clean k) s) among)
 
--- one entry more, beside which the office told a number
+-- one more entry, for which the office returned a number
 pub listing_on : {E : Type 0} (all : Register → List E) (beside : Register → E → ℕ) (made : E → ℕ → Data) (old now new : View) (told entries : List E)
     (front text : List ℕ) (later : Bool) (e : E) (n : ℕ) (d : Data) (longer : List ℕ)
     → IsListing all (λ r e. made e (beside r e)) old now told entries front text later → IsAmong e told
@@ -142,7 +142,7 @@ listing_shows all object old now told entries front text later l = (list_of l.ob
 five : (a b c e f : List ℕ) → (((a ++ b) ++ c) ++ e) ++ f ≡ a ++ (b ++ (c ++ (e ++ f)))
 five a b c e f = append_assoc ((a ++ b) ++ c) e f ∙ append_assoc (a ++ b) c (e ++ f) ∙ append_assoc a b (c ++ (e ++ f))
 
--- the text of an object of two values, each put behind what stood before
+-- the text of an object of two values, each appended to what came before
 pub two_values : (front one middle both text : List ℕ) (issued received : Data) → front ≡ codes "{\"issued\":" → one ≡ front ++ compact_text issued
     → middle ≡ one ++ codes ",\"received\":" → both ≡ middle ++ compact_text received → text ≡ both ++ codes "}"
     → text ≡ compact_text (json.object (members ((codes "issued", issued) ∷ (codes "received", received) ∷ [])))
@@ -150,7 +150,7 @@ unfolding serde_json_on_literals
 two_values front one middle both text issued received a b c d e =
     rw (e, d, c, b, a) (five (codes "{\"issued\":") (compact_text issued) (codes ",\"received\":") (compact_text received) (codes "}"))
 
--- what is made of two answers, the second after the first
+-- what is made of two results, the second after the first
 pub finds_both : {A B C : Type 0} {TellsA : Register → A → Type 0} {TellsB : Register → B → Type 0} (TellsC : Register → C → Type 0) (old now new : View) (a : A) (b : B) (c : C)
     → Finds TellsA old now (Ok a) → Finds TellsB now new (Ok b) → ((r : Register) → TellsA r a → TellsB r b → TellsC r c) → Finds TellsC old new (Ok c)
 finds_both {TellsB = TellsB} TellsC old now new a b c first next made = record {

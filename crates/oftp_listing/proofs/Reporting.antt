@@ -1,4 +1,4 @@
--- A report that grows by a line for each entry.
+-- A report, to which each entry adds a line.
 use Rattle.std.proofs.Common.{◌≡◌, ℕ, List, [], ◌∷◌, ◌++◌, Ok, ap, sym, ◌∙◌, append_assoc, append-nil}
 use Rattle.std.proofs.lemmas.Grind.{flat_map-append}
 use Rattle.std.specs.List.{flat_map}
@@ -9,14 +9,14 @@ use Rattle.oftp_listing.proofs.Asking.{asks_on, asks_once}
 use Rattle.oftp_listing.specs.InsideListed.{IsAmong}
 use Rattle.oftp_listing.proofs.Listings.{told_among}
 
--- behind what stood before, the text has the lines of the entries so far, of all that the office told of
+-- after what came before, the text has the lines of the entries so far, of all that the office returned
 pub record IsReport {E : Type 0} (all : Register → List E) (line : Register → E → List ℕ) (old now : View) (told entries : List E) (front text : List ℕ) : Type 0 where
   pub asks : Asks old now
   pub untold : now.told ≡ old.told
   pub whole : now.clean → old.stands → told ≡ all old.register
   pub lines : now.clean → old.stands → text ≡ front ++ flat_map (line old.register) entries
 
--- one entry more, beside which the office told a number
+-- one more entry, for which the office returned a number
 pub report_on : {E : Type 0} (all : Register → List E) (beside : Register → E → ℕ) (made : E → ℕ → List ℕ) (old now new : View) (told entries : List E)
     (front text : List ℕ) (e : E) (n : ℕ) (line longer : List ℕ)
     → IsReport all (λ r e. made e (beside r e)) old now told entries front text → IsAmong e told

@@ -1,4 +1,4 @@
--- What the router answers to a target.
+-- What the router returns for a target.
 use Rattle.std.proofs.Common.{◌≡◌, ◌⊎◌, ◌-◌, ◌≤◌, ltb, leb, drop, ◌+◌, ◌==◌, ◌<◌, nat_le, ℕ, zero, suc, true, false, List, [], ◌∷◌, ◌++◌, length, codes, Option, Some, None, refl, sym, ap, ◌∙◌, inl, inr, option_map, option_and_then, arith, subst}
 use Rattle.std.proofs.lemmas.Bool.{cases_Bool}
 use Rattle.std.proofs.lemmas.Bool.Decides.{nat_tests}
@@ -19,7 +19,7 @@ use Rattle.oftp_listing.specs.Routes.{behind, either, is_unpadded, number_of, ro
 use Rattle.oftp_listing.specs.Rows.{all_in, all_out, one_in, one_out, responses, routes}
 use Rattle.oftp_listing.proofs.RowLemmas.{behind_is, first_behind, seek_byte, seek_none, slashed_cases, table, table_byte}
 
--- a text with a slash, and one without an octet, is no number
+-- a text with a slash, and an empty text, are no number
 slash_is_no_digit : (b : ℕ) → (b == 47) ≡ true → is_digit b ≡ false
 slash_is_no_digit b h = grind (arith, nat_tests)
 
@@ -38,7 +38,7 @@ no_number p (inr h) = elim (cases_Bool (is_unpadded p)) [
   | inl u ↦ elim (cases_Bool (nat_le (length p) 7)) [ inl n ↦ rw (u, n, no_digits p h) refl | inr n ↦ rw (u, n) refl ]
 ]
 
--- a table's rows find what the target asks for, front before the table's own text
+-- a table's rows find the route of the target, the front before the table's own text
 abbrev InTable : (p front : List ℕ) (whole : Route) (entry : ℕ → Route) (one all : RouteOf Place) → Option (RouteOf Place) → Type 0
 InTable p front whole entry one all res =
     ((res ≡ None) × (route_at p ≡ None))
@@ -93,7 +93,7 @@ finds_responses p None e = e
 finds_responses p (Some []) e = e
 finds_responses p (Some (c ∷ t)) e = rw (seek_byte ended c t refl refl, seek_none 0 t) e
 
--- what is left of the rows after the slash
+-- the rest of the rows after the slash
 abbrev fork : RowsOf (RouteOf Place)
 fork = step 47 routes
 
@@ -141,7 +141,7 @@ found_behind (y ∷ t) = rw (seek_byte fork y t refl refl) (elim (cases_Bool (10
   ]
 ])
 
--- what the router answers is what the target asks for
+-- what the router returns is the route of the target
 pub found_route : (p : List ℕ) → Finds p (first routes p)
 unfolding seek route_at
 found_route [] = refl

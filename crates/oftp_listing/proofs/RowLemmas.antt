@@ -1,4 +1,4 @@
--- What the search of a router finds in rows that go on with bytes.
+-- What the search of a router finds in rows that continue with bytes.
 use Rattle.std.proofs.Common.{◌≡◌, ℕ, zero, suc, ◌-◌, ◌==◌, nat_lt, true, false, cond, List, [], ◌∷◌, ◌++◌, length, Option, Some, None, refl, ap, ◌∙◌, inl, inr, ◌⊎◌, arith, option_and_then}
 use Rattle.std.proofs.lemmas.Bool.{cases_Bool}
 use Rattle.std.proofs.lemmas.Bool.Decides.{nat_tests}
@@ -7,7 +7,7 @@ use Rattle.matchit.specs.Rows.{RowsOf, param_token, catch_all_token}
 use Rattle.matchit.specs.Seek.{seek, first, step, own, or_else, param_step, has_slash}
 use Rattle.oftp_listing.specs.Routes.{behind}
 
--- what stands behind a word, and the word, are the text
+-- a word and what follows it are the text
 pub behind_is : (word text rest : List ℕ) → behind word text ≡ Some rest → text ≡ word ++ rest
 behind_is [] text rest e = cc e
 behind_is (c ∷ word) [] rest e = absurd (cc e)
@@ -20,7 +20,7 @@ module _ {K : Type 0} where
   abbrev pub no_rows : RowsOf K
   no_rows = []
 
-  -- each row with a word in front
+  -- each row after a word
   abbrev pub prefixed : List ℕ → RowsOf K → RowsOf K
   prefixed w [] = []
   prefixed w ((t, k) ∷ rows) = (w ++ t, k) ∷ prefixed w rows
@@ -45,7 +45,7 @@ module _ {K : Type 0} where
   or_none None = refl
   or_none (Some k) = refl
 
-  -- where no row goes on with a parameter or a catch-all, the next byte decides
+  -- if no row continues with a parameter or a catch-all, the next byte decides
   pub seek_byte : (rows : RowsOf K) (b : ℕ) (p : List ℕ) → step param_token rows ≡ no_rows → own (step catch_all_token rows) ≡ None
       → seek 0 rows (b ∷ p) ≡ seek 0 (step b rows) p
   unfolding seek
@@ -66,7 +66,7 @@ module _ {K : Type 0} where
   step_miss b x w [] n = refl
   step_miss b x w ((t, k) ∷ rows) n = rw n (step_miss b x w rows n)
 
-  -- rows behind a word are found where the path begins with it
+  -- rows after a word are found if the path begins with it
   pub first_behind : (w : List ℕ) (rows : RowsOf K) (p : List ℕ) → list_all (λ x. nat_lt x 256) w ≡ true
       → first (prefixed w rows) p ≡ option_and_then (first rows) (behind w p)
   unfolding seek
@@ -84,7 +84,7 @@ module _ {K : Type 0} where
         ]
   ]
 
-  -- a table's two rows: behind a slash one entry by a parameter, or the table itself
+  -- a table's two rows: after a slash one entry by a parameter, or the table itself
   abbrev pub table : K → K → RowsOf K
   table one all = (47 ∷ param_token ∷ [], one) ∷ ([], all) ∷ []
 

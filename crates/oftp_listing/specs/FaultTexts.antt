@@ -1,4 +1,4 @@
--- What a fault is called.
+-- The texts of the errors.
 use Rattle.std.specs.Prelude.{ℕ, List, codes}
 use Rattle.oftp_listing.specs.declared.fault.ListFault.{ListFault}
 use Rattle.oftp_listing.specs.declared.fault.ListFault.TheVariants.{Incomplete, Memory, Office, Write}

@@ -1,4 +1,4 @@
--- What the parts of an answer and of a report do: for private clauses alone.
+-- What the parts of an answer and of a report do. Only private functions cite this.
 use Rattle.std.specs.Prelude.{◌≡◌, ℕ, List, ◌++◌, Result, Ok, Err, IfOk}
 use Rattle.serde_json.specs.Data.{Data}
 use Rattle.serde_json.specs.Written.{compact_text}
@@ -8,7 +8,7 @@ use Rattle.oftp_listing.specs.declared.fault.ListFault.{ListFault}
 use Rattle.oftp_listing.specs.declared.fault.ListFault.TheVariants.{Incomplete, Memory, Office, Write}
 use Rattle.oftp_listing.specs.Texts.{Asks}
 
--- how the count of faults told goes on: where the office is named it told one
+-- the count of the office's errors; `Office` means that it returned one
 abbrev pub CountsFault : ℕ → ℕ → ListFault → Type 0
 CountsFault old new Office = new ≡ next_count old
 CountsFault old new Memory = new ≡ old
@@ -19,12 +19,12 @@ abbrev pub Counts : {T : Type 0} → ℕ → ℕ → Result T ListFault → Type
 Counts old new (Ok x) = new ≡ old
 Counts old new (Err fault) = CountsFault old new fault
 
--- the office was asked for what is told of its register
+-- the office was called for what is found in its register
 pub record Finds {T : Type 0} (Tells : Register → T → Type 0) (old new : View) (result : Result T ListFault) : Type 0 where
   pub asks : Asks old new
   pub answer : new.clean → old.stands → IfOk result (Tells old.register)
   pub counts : Counts old.told new.told result
 
--- behind what stood before, the text has something that is shown
+-- the text is `front` and then something that is shown
 abbrev pub IsDataBehind : List ℕ → List ℕ → Type 0
 IsDataBehind front text = (d : Data) × (text ≡ front ++ compact_text d)

@@ -1,10 +1,10 @@
--- What the octets of a request are by the grammar of a request's head.
+-- How the octets of a request are read, by the grammar of its head.
 use Rattle.std.specs.Prelude.{◌≡◌, ℕ, ◌<◌, ◌≤◌, ◌⊎◌, ◌++◌, List, [], length}
 use Rattle.httparse.specs.Grammar.{RequestHead, ReadsRequest, HasNoRequest, NeverHasRequest, EndsInTarget}
 use Rattle.oftp_listing.specs.declared.head.Head.{Head}
 use Rattle.oftp_listing.specs.declared.head.Head.TheVariants as head
 
--- what they are
+-- the result of reading
 pub data Heard : Type 0 where
   Unfinished : Heard
   Refused : Heard
@@ -20,7 +20,7 @@ pub record IsWhole (request m t : List ℕ) : Type 0 where
   pub method : head.method ≡ m
   pub target : head.target ≡ t
 
--- they don't begin with a head, but with more octets they are one of at most 64 fields
+-- they don't begin with a head, but could be completed to one of at most 64 fields
 pub record IsUnfinished (request : List ℕ) : Type 0 where
   pub short : length request ≤ 8192
   pub not_yet : HasNoRequest request
@@ -36,18 +36,18 @@ pub record IsCrowded (request : List ℕ) : Type 0 where
   pub reads : ReadsRequest request head rest
   pub many : 64 < length head.fields
 
--- there are more than 8,192, or whatever follows they begin with no head, or the head has too many fields
+-- there are more than 8,192 octets, or no continuation makes them begin with a head, or the head has too many fields
 abbrev pub IsRefused : List ℕ → Type 0
 IsRefused request = (8192 < length request) ⊎ ((NeverHasRequest request × ¬ (EndsInTarget request)) ⊎ IsCrowded request)
 
--- The octets of a request are this. Nothing is said where they end within the target, or where a head that isn't whole has more
--- than 64 fields already.
+-- The result for the octets of a request. Nothing is said where they end within the target, or where an incomplete head has more than 64
+-- fields already.
 abbrev pub Hears : List ℕ → Heard → Type 0
 Hears request Unfinished = IsUnfinished request
 Hears request Refused = IsRefused request
 Hears request (Whole method target) = IsWhole request method target
 
--- what was read is what was heard
+-- the code read this result
 abbrev pub Reads : Heard → Head → Type 0
 Reads Unfinished h = h ≡ head.Unfinished
 Reads Refused h = h ≡ head.Refused

@@ -1,4 +1,4 @@
--- Registers that differ in the content of files alone.
+-- Registers that differ only in the content of files.
 use Rattle.std.specs.Prelude.{◌≡◌, ℕ, List, map}
 use Rattle.oftp_register.specs.Register.{Register, Incoming, Outgoing}
 
@@ -20,6 +20,6 @@ blank_outgoing file = record file { rows = blank_rows file.rows }
 abbrev pub blank : Register → Register
 blank r = record r { incoming = map blank_incoming r.incoming; outgoing = map blank_outgoing r.outgoing }
 
--- both have the same files, but for the octets of their rows
+-- both have the same files, except the octets of their rows
 abbrev pub IsAlike : Register → Register → Type 0
 IsAlike r s = blank r ≡ blank s

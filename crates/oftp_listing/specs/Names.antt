@@ -1,4 +1,4 @@
--- How the listing and the reports name what an entry is.
+-- The names of states, kinds and reasons in the listing and the reports.
 use Rattle.std.specs.Prelude.{ℕ, ◌/◌, ◌%◌, List, [], ◌++◌, codes, decimal, Bool, true, false, Option, Some, None}
 use Rattle.oftp_vfile.specs.declared.format.Format.{Format}
 use Rattle.oftp_vfile.specs.declared.format.Format.TheVariants as format
@@ -23,7 +23,7 @@ abbrev pub kind_name : ResponseKind → List ℕ
 kind_name EndResponse = codes "EERP"
 kind_name NegativeEndResponse = codes "NERP"
 
--- the kind of the response to a file, if one was issued
+-- the kind of the response to a file, or `none` where none was issued
 abbrev pub response_name : Option IssuedResponse → List ℕ
 response_name None = codes "none"
 response_name (Some response) = kind_name response.kind
@@ -40,11 +40,11 @@ outgoing_state_name (Refused reason) = codes "refused"
 outgoing_state_name Delivered = codes "delivered"
 outgoing_state_name Returned = codes "returned"
 
--- a reason in its two digits
+-- the two digits of a reason code
 abbrev pub two_digits : ℕ → List ℕ
 two_digits reason = decimal (reason / 10) ++ decimal (reason % 10)
 
--- why the partner doesn't take a file, empty where it wasn't refused
+-- the reason of a refused file, empty for any other file
 abbrev pub refusal_name : OutgoingState → List ℕ
 refusal_name Waiting = []
 refusal_name Closing = []
@@ -53,7 +53,7 @@ refusal_name (Refused reason) = two_digits reason
 refusal_name Delivered = []
 refusal_name Returned = []
 
--- the reason of a response, empty in an end response
+-- the reason of a response, empty for an End-to-End Response
 abbrev pub reason_name : ResponseKind → ℕ → List ℕ
 reason_name EndResponse reason = []
 reason_name NegativeEndResponse reason = two_digits reason

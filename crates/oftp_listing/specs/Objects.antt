@@ -1,4 +1,4 @@
--- The objects of the listing, key by key.
+-- The JSON objects of the listing, key by key.
 use Rattle.std.specs.Prelude.{ℕ, List, [], ◌∷◌, codes}
 use Rattle.serde_json.specs.Data.{Data, boolean, number, object, string, unsigned, Members, member, no_members}
 use Rattle.oftp_register.specs.declared.entries.IncomingEntry.{IncomingEntry}
@@ -16,7 +16,7 @@ members (m ∷ ms) = member m.0 m.1 (members ms)
 abbrev pub count : ℕ → Data
 count n = number (unsigned n)
 
--- an incoming file, whose rows have so many octets
+-- an incoming file with this number of octets
 abbrev pub incoming_object : IncomingEntry → ℕ → Data
 incoming_object e units = object (members (
     (codes "dataset", string e.identity.dataset)
@@ -33,7 +33,7 @@ incoming_object e units = object (members (
     ∷ (codes "units", count units)
     ∷ []))
 
--- an outgoing file, whose rows have so many octets
+-- an outgoing file with this number of octets
 abbrev pub outgoing_object : OutgoingEntry → ℕ → Data
 outgoing_object e units = object (members (
     (codes "dataset", string e.identity.dataset)
@@ -60,7 +60,7 @@ issued_object e = object (members (
     ∷ (codes "sent", boolean (is_sent e.response.dispatch))
     ∷ []))
 
--- a response that came, to the outgoing file with this number, 0 where there is none
+-- a received response to the outgoing file with this number, 0 where there is none
 abbrev pub received_object : ReceivedEntry → ℕ → Data
 received_object e file = object (members (
     (codes "creator", string e.response.creator)

@@ -1,13 +1,13 @@
--- The text of a reply.
+-- The octets of an HTTP reply.
 use Rattle.std.specs.Prelude.{ℕ, ◌==◌, if◌then◌else◌, List, [], ◌++◌, length, codes, decimal}
 use Rattle.std.specs.Option.{unwrap_or}
 use Rattle.http.specs.StatusCode.{code_digits, reason_phrase}
 
--- the phrase of a status
+-- the reason phrase of a status
 unfoldable pub phrase_of : ℕ → List ℕ
 phrase_of status = unwrap_or (reason_phrase status) []
 
--- a method that isn't allowed is answered with the one that is
+-- the header line with the allowed method, if the status is 405
 unfoldable pub allow_of : ℕ → List ℕ
 allow_of status = if status == 405 then codes "Allow: GET\r\n" else []
 

@@ -23,13 +23,13 @@ use Rattle.oftp_listing.specs.Texts.{no_of}
 abbrev pub line : List (List ℕ) → List ℕ
 line fields = row_text default_writer fields
 
--- an incoming file, whose rows have so many octets
+-- an incoming file with this number of octets
 abbrev pub incoming_fields : IncomingEntry → ℕ → List (List ℕ)
 incoming_fields e units =
     decimal e.no ∷ e.identity.dataset ∷ e.identity.date ∷ e.identity.time ∷ e.identity.originator ∷ format_name e.format ∷ decimal e.rows ∷ decimal units
     ∷ incoming_state_name e.state ∷ response_name e.response ∷ []
 
--- an outgoing file, whose rows have so many octets
+-- an outgoing file with this number of octets
 abbrev pub outgoing_fields : OutgoingEntry → ℕ → List (List ℕ)
 outgoing_fields e units =
     decimal e.no ∷ e.identity.dataset ∷ e.identity.date ∷ e.identity.time ∷ e.identity.destination ∷ format_name e.format ∷ decimal e.rows ∷ decimal units
@@ -41,7 +41,7 @@ issued_fields e =
     decimal e.no ∷ kind_name e.response.kind ∷ reason_name e.response.kind e.response.reason
     ∷ (if is_sent e.response.dispatch then codes "yes" else codes "no") ∷ []
 
--- a response that came, to the outgoing file with this number, 0 where there is none
+-- a received response to the outgoing file with this number, 0 where there is none
 abbrev pub received_fields : ReceivedEntry → ℕ → List (List ℕ)
 received_fields e file =
     decimal e.no ∷ kind_name e.response.kind ∷ e.response.identity.dataset ∷ e.response.identity.date ∷ e.response.identity.time
@@ -62,11 +62,11 @@ incoming_line r e = line (incoming_fields e (units_of r side.Incoming e.no))
 abbrev pub outgoing_line : Register → OutgoingEntry → List ℕ
 outgoing_line r e = line (outgoing_fields e (units_of r side.Outgoing e.no))
 
--- the line of a response that came to the register
+-- the line of a received response of the register
 abbrev pub received_line : Register → ReceivedEntry → List ℕ
 received_line r e = line (received_fields e (no_of (look_out r e.response.identity)))
 
--- the lines under the heading
+-- the lines after the heading
 abbrev pub lines_of : ReportKind → Register → List ℕ
 lines_of Incoming r = flat_map (incoming_line r) (list_in r)
 lines_of Outgoing r = flat_map (outgoing_line r) (list_out r)
@@ -77,8 +77,8 @@ lines_of Received r = flat_map (received_line r) (list_received r)
 abbrev pub report_of : ReportKind → Register → List ℕ
 report_of kind r = heading kind ++ lines_of kind r
 
--- How the count of faults that the office told goes on over a report: where the office is named it told one. Nothing is written where
--- the office is named, or memory ran out.
+-- The count of the office's errors over a report; `Office` means that it returned one. Nothing is written after an error of the office or
+-- out of memory.
 abbrev pub ReportsFault : ℕ → ℕ → (unwritten : Type 0) → ListFault → Type 0
 ReportsFault old new unwritten Incomplete = ⊥
 ReportsFault old new unwritten Memory = (new ≡ old) × unwritten
@@ -89,7 +89,7 @@ abbrev pub Reports : {T : Type 0} → ℕ → ℕ → (unwritten : Type 0) → R
 Reports old new unwritten (Ok x) = new ≡ old
 Reports old new unwritten (Err fault) = ReportsFault old new unwritten fault
 
--- what a report has out, by what it answers: the text, or a beginning of it where the writer told a fault, else nothing
+-- what a report has out, by its result: the text, or a beginning of it if the writer returned an error, else nothing
 abbrev pub TextOut : {T W : Type 0} → (W → Option (List ℕ)) → Port W → Port W → List ℕ → Result T ListFault → Type 0
 TextOut contents old new text (Ok x) = SentAll contents old new text
 TextOut contents old new text (Err Incomplete) = ⊥
@@ -97,7 +97,7 @@ TextOut contents old new text (Err Memory) = new ≡ old
 TextOut contents old new text (Err Office) = new ≡ old
 TextOut contents old new text (Err Write) = SentPart contents old new text
 
--- what the writer told in a report that answers this
+-- the count of the writer's errors, by the result of a report
 abbrev pub WriterErr : {W : Type 0} → Port W → Port W → ListFault → Type 0
 WriterErr old new Incomplete = ⊥
 WriterErr old new Memory = new.faults ≡ old.faults

@@ -1,4 +1,4 @@
--- The rows of the router: for private clauses alone.
+-- The rows of the router. Only private functions cite them.
 use Rattle.std.specs.Prelude.{ℕ, List, [], ◌∷◌, ◌++◌, codes}
 use Rattle.matchit.specs.Rows.{RowsOf, param_token}
 use Rattle.matchit.specs.Router.{RouteOf}

@@ -1,4 +1,4 @@
--- What is answered to a request: the reply as a function of the request and the register.
+-- The reply to a request, as a function of the request and the register.
 use Rattle.std.specs.Prelude.{◌≡◌, ◌⊎◌, ℕ, Bool, true, false, if◌then◌else◌, List, [], ◌∷◌, map, codes, Option, Some, None, Result, Ok, Err, ⊤}
 use Rattle.std.specs.Option.{option_map, option_and_then}
 use Rattle.std.specs.Str.{bytes_eq}
@@ -29,12 +29,12 @@ shown_in r e = incoming_object e (units_of r side.Incoming e.no)
 abbrev pub shown_out : Register → OutgoingEntry → Data
 shown_out r e = outgoing_object e (units_of r side.Outgoing e.no)
 
--- the number of a file, 0 where there is none
+-- the number of a file, or 0 where there is none
 abbrev pub no_of : Option OutgoingEntry → ℕ
 no_of None = 0
 no_of (Some e) = e.no
 
--- the object of a response that came to the register
+-- the object of a received response of the register
 abbrev pub shown_received : Register → ReceivedEntry → Data
 shown_received r e = received_object e (no_of (look_out r e.response.identity))
 
@@ -49,7 +49,7 @@ shown_responses r = object (members (
     ∷ (codes "received", list_of (map (shown_received r) (list_received r)))
     ∷ []))
 
--- what a route shows of the register, nothing where its number names no entry
+-- what a route shows of the register, or nothing where its number isn't that of an entry
 abbrev pub shown : Register → Route → Option Data
 shown r Incoming = Some (list_of (map (shown_in r) (list_in r)))
 shown r (IncomingFile n) = option_map (shown_in r) (in_by_no r n)
@@ -57,7 +57,7 @@ shown r Outgoing = Some (list_of (map (shown_out r) (list_out r)))
 shown r (OutgoingFile n) = option_map (shown_out r) (out_by_no r n)
 shown r Responses = Some (shown_responses r)
 
--- the reply that shows something, or that there is nothing: another method than GET isn't allowed
+-- the reply that shows something, or that there is nothing; a method other than GET isn't allowed
 abbrev pub reply_to : (is_get : Bool) → Option Data → List ℕ
 reply_to is_get None = error_text 404
 reply_to is_get (Some d) = if is_get then reply_text 200 (compact_text d) else error_text 405
@@ -66,7 +66,7 @@ reply_to is_get (Some d) = if is_get then reply_text 200 (compact_text d) else e
 abbrev pub text_of : (is_get : Bool) → Option Route → Register → List ℕ
 text_of is_get route r = reply_to is_get (option_and_then (shown r) route)
 
--- the office is asked: for a list by GET alone, for one entry always
+-- the office is called: for a list only by GET, for one entry always
 abbrev pub is_asked : (is_get : Bool) → Option Route → Bool
 is_asked is_get None = false
 is_asked is_get (Some Incoming) = is_get
@@ -75,8 +75,8 @@ is_asked is_get (Some Outgoing) = is_get
 is_asked is_get (Some (OutgoingFile n)) = true
 is_asked is_get (Some Responses) = is_get
 
--- The office was asked by look-ups alone, and of these none but the last told a fault. Where what was read is what was written, an
--- office that stood has its register wherever it is open, and a stop leaves that register; it still stands, where it told no fault.
+-- The office was only read, and at most the last look-up returned an error. If the store reads what was written and the office was open,
+-- its register is unchanged wherever it is open, and a crash leaves that register. It stays open if it returned no error.
 pub record Asks (old new : View) : Type 0 where
   pub clean : new.clean → old.clean
   pub register : new.clean → old.stands → new.is_open → new.register ≡ old.register
@@ -84,37 +84,37 @@ pub record Asks (old new : View) : Type 0 where
   pub stays : new.told ≡ old.told → new.clean → old.stands → new.stands
   pub counts : (new.told ≡ old.told) ⊎ (new.told ≡ next_count old.told)
 
--- The office told no fault, and this is the reply. Over any store it shows something, or that there is nothing; where the office
--- stood and what was read is what was written, it is the reply of the register.
+-- The office returned no error, and this is the reply. Over any store it shows something, or that there is nothing. If the office was open
+-- and its store reads what was written, it is the reply for the register.
 pub record IsShown (is_get : Bool) (route : Option Route) (old new : View) (text : List ℕ) : Type 0 where
   pub untold : new.told ≡ old.told
   pub shown' : Option Data
   pub reply : text ≡ reply_to is_get shown'
   pub right : new.clean → old.stands → text ≡ text_of is_get route old.register
 
--- The office was asked and told a fault, and this is the reply.
+-- the office was called and returned an error, and this is the reply
 pub record IsFaulty (is_get : Bool) (route : Option Route) (old new : View) (text : List ℕ) : Type 0 where
   pub told : new.told ≡ next_count old.told
   pub asked : is_asked is_get route ≡ true
   pub reply : text ≡ (if is_get then error_text 503 else error_text 405)
 
--- a request for a route is answered, or memory ran out
+-- the result of a request for a route: its reply, or out of memory
 abbrev pub Serves : (is_get : Bool) → Option Route → (old new : View) → Result (List ℕ) ListFault → Type 0
 Serves is_get route old new (Ok text) = IsShown is_get route old new text ⊎ IsFaulty is_get route old new text
 Serves is_get route old new (Err fault) = fault ≡ Memory
 
--- a request that isn't understood is answered so, or memory ran out
+-- the result of a request that isn't understood: its reply, or out of memory
 abbrev pub Refuses : Result (List ℕ) ListFault → Type 0
 Refuses (Ok text) = text ≡ error_text 400
 Refuses (Err fault) = fault ≡ Memory
 
--- the answer to a request by what its octets are
+-- the answer to a request, by what its octets are
 abbrev pub Answers : Heard → (old new : View) → Result (List ℕ) ListFault → Type 0
 Answers Unfinished old new result = (new.told ≡ old.told) × (result ≡ Err Incomplete)
 Answers Refused old new result = (new.told ≡ old.told) × Refuses result
 Answers (Whole method target) old new result = Serves (bytes_eq method (codes "GET")) (route_at target) old new result
 
--- a fault of an answer
+-- an error of an answer
 abbrev pub IsListFault : ListFault → Type 0
 IsListFault Incomplete = ⊤
 IsListFault Memory = ⊤

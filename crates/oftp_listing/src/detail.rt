@@ -16,16 +16,16 @@ pub(crate) enum Detail<'a> {
     Text(&'a str),
     /// A number.
     Count(u64),
-    /// Whether something is so: a report says yes or no.
+    /// Yes or no.
     Flag(bool),
 }
 
 impl Detail<'_> {
-    /// Its value in an object.
+    /// Its value in a JSON object.
     ///
     /// # Errors
     ///
-    /// A growth was refused.
+    /// Out of memory.
     pub(crate) fn to_value(self, alloc: Global) -> Result<Value, AllocError>
         ensures { IfOk result (λ value. view value ≡ data_of self.entry) }
     {
@@ -36,11 +36,11 @@ impl Detail<'_> {
         }
     }
 
-    /// Adds it to the fields of a report's line.
+    /// Appends it to the fields of a report's line.
     ///
     /// # Errors
     ///
-    /// A growth was refused.
+    /// Out of memory.
     pub(crate) fn add_to(self, alloc: Global, fields: &mut ByteRecord) -> Result<(), AllocError>
         ensures fields { partial_of fields.old ≡ [] → OnOk result (fields_of fields.new ≡ fields_of fields.old ++ text_of self.entry ∷ []) }
         ensures whole { OnOk result (partial_of fields.new ≡ []) }

@@ -11,13 +11,13 @@ use std::fmt;
 /// Why there is no reply, or no report.
 #[derive(Clone, Copy, Debug, Drop, PartialEq, Eq)]
 pub enum ListFault {
-    /// The head of the request isn't whole.
+    /// The head of the request is incomplete.
     Incomplete,
-    /// A growth was refused.
+    /// Out of memory.
     Memory,
-    /// The office told a fault.
+    /// The office returned an error.
     Office,
-    /// The writer told a fault.
+    /// The writer returned an error.
     Write,
 }
 

@@ -1,25 +1,25 @@
-//! What the octets of a request ask.
+//! Reading the head of an HTTP request.
 
 ghost use Rattle.oftp_listing.specs.Heads.{Heard, Hears, Reads};
 
 use httparse::Status;
 use httparse::spans::{EMPTY_HEADER_SPAN, parse_request};
 
-/// How many octets a request may have.
+/// The most octets of a request.
 const MOST_OCTETS: usize = 8192;
 
-/// How many fields a head may have.
+/// The most fields of a head.
 const MOST_FIELDS: usize = 64;
 
-/// What the octets of a request are.
+/// The result of reading a request.
 pub(crate) enum Head<'a> {
-    /// The beginning of a head.
+    /// The octets are the beginning of a head.
     Unfinished,
-    /// No head that is answered.
+    /// The octets aren't a head that is accepted.
     Refused,
-    /// A head, and what may follow it.
+    /// The octets begin with a whole head.
     Whole {
-        /// The method, as GET.
+        /// The method, such as GET.
         method: &'a [u8],
         /// The target.
         target: &'a str,

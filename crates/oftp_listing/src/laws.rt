@@ -1,4 +1,4 @@
-//! Laws of the definitions.
+//! A theorem about the replies and reports.
 
 ghost use Rattle.std.specs.Prelude.{◌≡◌, Bool, Option};
 ghost use Rattle.oftp_register.specs.Register.{Register};
@@ -8,8 +8,8 @@ ghost use Rattle.oftp_listing.specs.Texts.{text_of};
 ghost use Rattle.oftp_listing.specs.declared.reports.ReportKind.{ReportKind};
 ghost use Rattle.oftp_listing.specs.declared.route.Route.{Route};
 
-/// No reply and no report shows an octet of a file: of registers that differ in the octets of their files' rows alone they are the
-/// same. It does nothing; its contract is the law.
+/// No reply and no report shows an octet of a file. Registers that differ only in the octets of their files' rows have the same replies and
+/// reports. The function does nothing; its contract is the theorem.
 pub fn content_is_hidden()
     ensures replies { (r s : Register) → IsAlike r s → (is_get : Bool) (route : Option Route) → text_of is_get route r ≡ text_of is_get route s }
     ensures reports { (r s : Register) → IsAlike r s → (kind : ReportKind) → report_of kind r ≡ report_of kind s }

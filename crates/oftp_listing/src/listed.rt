@@ -1,4 +1,4 @@
-//! What the listing and the reports need of an entry of any kind.
+//! What the listing and the reports need of each kind of entry.
 
 ghost use Rattle.std.specs.Prelude.{◌≡◌, false, IfErr, IfOk};
 ghost use Rattle.serde_json.specs.View.{view};
@@ -22,13 +22,13 @@ use oftp_register::{
 use serde_json::Value;
 use std::alloc::{AllocError, Global};
 
-/// Entries of one kind. With each a number is shown that it doesn't have itself: how many octets the rows of a file have, or which
-/// file a response answers.
+/// A kind of entry. Each entry is shown with a number that the entry itself doesn't have: the octets of a file, or the file that a response
+/// answers.
 pub(crate) trait Listed: Sized {
-    // which of a register they are, and what is shown of one
+    // its entries in a register, and what is shown of one
     ghost kind: { EntryKind Self };
 
-    /// All of them, in order of number.
+    /// All entries, in order of their numbers.
     fn list<O: Office>(office: &mut O) -> Result<Vec<Self>, OfficeFault>
         ensures looks { LooksUp (λ r told. told.items ≡ kind.entries r) (O.view office.old) (O.view office.new) result };
 
@@ -36,7 +36,7 @@ pub(crate) trait Listed: Sized {
     fn ask_beside<O: Office>(&self, office: &mut O) -> Result<u64, OfficeFault>
         ensures looks { LooksUp (λ r number. number ≡ kind.beside r self.now) (O.view office.old) (O.view office.new) result };
 
-    /// The number that is shown with an entry of the list that the office told.
+    /// The number that is shown with an entry of a list that the office returned.
     fn ask_in_list<O: Office>(&self, office: &mut O) -> Result<u64, OfficeFault>
         ensures looks { LooksUp (λ r number. IsAmong self.now (kind.entries r) → number ≡ kind.beside r self.now) (O.view office.old) (O.view office.new) result };
 
@@ -44,7 +44,7 @@ pub(crate) trait Listed: Sized {
     ///
     /// # Errors
     ///
-    /// A growth was refused.
+    /// Out of memory.
     fn to_object(&self, alloc: Global, number: u64) -> Result<Value, AllocError>
         ensures object { IfOk result (λ value. view value ≡ kind.object self.now number) }
         ensures integers { IfOk result (λ value. has_float (view value) ≡ false) };
@@ -53,7 +53,7 @@ pub(crate) trait Listed: Sized {
     ///
     /// # Errors
     ///
-    /// [`ListFault::Memory`]: a growth was refused.
+    /// [`ListFault::Memory`]: out of memory.
     fn to_line(&self, alloc: Global, number: u64) -> Result<Vec<u8>, ListFault>
         ensures text { IfOk result (λ text. text.items ≡ line (kind.fields self.now number)) }
         ensures fault { IfErr result (λ fault. fault ≡ Memory) };
@@ -123,7 +123,7 @@ impl Listed for OutgoingEntry {
     }
 }
 
-// Nothing more is shown with an issued response.
+// An issued response is shown without such a number.
 impl Listed for IssuedEntry {
     ghost kind = { issued_responses };
 
@@ -150,7 +150,7 @@ impl Listed for IssuedEntry {
     }
 }
 
-// The number of a file, 0 where there is none.
+// The number of a file, or 0 where there is none.
 fn no_of(file: &Option<OutgoingEntry>) -> u64
     ensures { result ≡ no_of file.now }
 {

@@ -1,4 +1,4 @@
-//! What is answered to a request.
+//! Answering a request.
 
 ghost use Rattle.std.specs.Prelude.{◌≡◌, [], ◌++◌, true, false, Some, IfErr, IfOk, IfSome, OnOk, is_some, map};
 ghost use Rattle.std.specs.Option.{option_map};
@@ -19,7 +19,7 @@ use oftp_register::{IncomingEntry, IssuedEntry, Office, OutgoingEntry, ReceivedE
 use serde_json::Value;
 use std::alloc::{AllocError, Global};
 
-// Adds an object to a text, and before it a comma where another stands before it in its list.
+// Appends an object to a text, after a comma if it isn't the first of its list.
 fn add_object(
     alloc: Global,
     object: &Value,
@@ -35,7 +35,7 @@ fn add_object(
     text.extend_from_slice(object.to_vec(alloc)?.as_slice())
 }
 
-// The text, and behind it the list of all entries of a kind. One object is held at a time.
+// Appends the list of all entries of a kind to the text. Only one object is in memory at a time.
 fn add_list<E: Listed + Drop, O: Office>(
     alloc: Global,
     front: Vec<u8>,
@@ -88,7 +88,7 @@ fn entry_text<E: Listed + Drop, O: Office>(
     Ok(Some(object.to_vec(alloc)?))
 }
 
-// The text of what a route shows, none where its number names no entry.
+// The text that a route shows, or `None` where its number isn't that of an entry.
 fn shown<O: Office>(
     alloc: Global,
     route: Route,
@@ -118,7 +118,7 @@ fn shown<O: Office>(
     }
 }
 
-// The reply to GET for a route.
+// The reply to GET on a route.
 fn show<O: Office>(alloc: Global, route: Route, office: &mut O) -> Result<Reply, ListFault>
     ensures serves { Serves true (Some route) (O.view office.old) (O.view office.new) result }
     ensures asks { Asks (O.view office.old) (O.view office.new) }
@@ -131,7 +131,7 @@ fn show<O: Office>(alloc: Global, route: Route, office: &mut O) -> Result<Reply,
     }
 }
 
-// Whether what a route names is there.
+// Whether there is something to show on a route.
 fn is_there<O: Office>(route: Route, office: &mut O) -> Result<bool, ListFault>
     ensures finds { Finds (λ r there. there ≡ is_some (shown r route)) (O.view office.old) (O.view office.new) result }
     ensures told { IfErr result (λ fault. (fault ≡ ListFault.Office) × (is_asked false (Some route) ≡ true)) }
@@ -143,7 +143,7 @@ fn is_there<O: Office>(route: Route, office: &mut O) -> Result<bool, ListFault>
     }
 }
 
-// The reply to another method for a route.
+// The reply to another method on a route.
 fn refuse<O: Office>(alloc: Global, route: Route, office: &mut O) -> Result<Reply, ListFault>
     ensures serves { Serves false (Some route) (O.view office.old) (O.view office.new) result }
     ensures asks { Asks (O.view office.old) (O.view office.new) }
@@ -155,7 +155,7 @@ fn refuse<O: Office>(alloc: Global, route: Route, office: &mut O) -> Result<Repl
     }
 }
 
-// The reply to a request for what a target asks for.
+// The reply to a request for a route, or for none.
 fn serve<O: Office>(
     alloc: Global,
     is_get: bool,
@@ -172,19 +172,20 @@ fn serve<O: Office>(
     }
 }
 
-/// The reply to a request, whose octets are the head and what may follow it, from what the office keeps. The office is asked by
-/// look-ups alone.
+/// The reply to a request, from the register of the office. The octets are the head and perhaps more. The office is only read.
 ///
-/// A head that is refused, or has more than 64 fields, and more than 8,192 octets are answered 400; a target that fits no route, or
-/// whose number names no entry, 404; another method than GET 405; and a fault that the office told 503, or 405 where the method
-/// isn't GET.
+/// - 400: the head isn't accepted or has more than 64 fields, or there are more than 8,192 octets.
+/// - 404: the target isn't a route, or its number isn't that of an entry.
+/// - 405: the method isn't GET. It is also the reply to another method than GET after an error of the office.
+/// - 503: the office returned an error.
 ///
 /// # Errors
 ///
-/// [`ListFault::Incomplete`] where the head isn't whole and there are at most 8,192 octets, and [`ListFault::Memory`].
+/// - [`ListFault::Incomplete`]: the head is incomplete, and there are at most 8,192 octets.
+/// - [`ListFault::Memory`]: out of memory.
 pub fn answer<O: Office>(alloc: Global, request: &[u8], office: &mut O) -> Result<Reply, ListFault>
     ensures texts { (heard : Heard) → Hears request.now heard → Answers heard (O.view office.old) (O.view office.new) result }
-    // They hold of all octets.
+    // These hold of all octets.
     ensures asks { Asks (O.view office.old) (O.view office.new) }
     ensures faults { IfErr result IsListFault }
 {

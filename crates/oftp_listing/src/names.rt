@@ -1,4 +1,4 @@
-//! How the listing and the reports name what an entry is.
+//! The names of states, kinds and reasons in the listing and the reports.
 
 ghost use Rattle.std.specs.Prelude.{◌≡◌, ◌<◌, IfOk, string_bytes};
 ghost use Rattle.oftp_listing.specs.Names.{format_name, incoming_state_name, is_sent, kind_name, outgoing_state_name, reason_name, refusal_name, response_name, two_digits};
@@ -46,7 +46,7 @@ pub(crate) fn kind_name(kind: ResponseKind) -> &'static str
     }
 }
 
-/// The kind of the response to a file, if one was issued.
+/// The kind of the response to a file, or `none` where none was issued.
 pub(crate) fn response_name(response: &Option<IssuedResponse>) -> &'static str
     ensures { result.now ≡ response_name response.now }
 {
@@ -56,7 +56,7 @@ pub(crate) fn response_name(response: &Option<IssuedResponse>) -> &'static str
     }
 }
 
-/// How far an incoming file has come.
+/// The state of an incoming file.
 pub(crate) fn incoming_state_name(state: IncomingState) -> &'static str
     ensures { result.now ≡ incoming_state_name state }
 {
@@ -66,7 +66,7 @@ pub(crate) fn incoming_state_name(state: IncomingState) -> &'static str
     }
 }
 
-/// How far an outgoing file has come.
+/// The state of an outgoing file.
 pub(crate) fn outgoing_state_name(state: OutgoingState) -> &'static str
     ensures { result.now ≡ outgoing_state_name state }
 {
@@ -80,7 +80,7 @@ pub(crate) fn outgoing_state_name(state: OutgoingState) -> &'static str
     }
 }
 
-// A reason in its two digits.
+// The two digits of a reason code.
 fn two_digits(alloc: Global, reason: Count<2>) -> Result<String, AllocError>
     ensures { IfOk result (λ text. string_bytes text ≡ two_digits reason) }
 {
@@ -88,11 +88,11 @@ fn two_digits(alloc: Global, reason: Count<2>) -> Result<String, AllocError>
     format!(in alloc; "{}{}", number / 10, number % 10)
 }
 
-/// Why the partner doesn't take a file, empty where it wasn't refused.
+/// The reason of a refused file, empty for any other file.
 ///
 /// # Errors
 ///
-/// A growth was refused.
+/// Out of memory.
 pub(crate) fn refusal_name(alloc: Global, state: OutgoingState) -> Result<String, AllocError>
     ensures { IfOk result (λ text. string_bytes text ≡ refusal_name state) }
 {
@@ -106,11 +106,11 @@ pub(crate) fn refusal_name(alloc: Global, state: OutgoingState) -> Result<String
     }
 }
 
-/// The reason of a response, empty in an end response.
+/// The reason of a response, empty for an End-to-End Response.
 ///
 /// # Errors
 ///
-/// A growth was refused.
+/// Out of memory.
 pub(crate) fn reason_name(
     alloc: Global,
     kind: ResponseKind,

@@ -1,4 +1,4 @@
-//! The objects of the listing.
+//! The JSON objects of the listing.
 
 ghost use Rattle.std.specs.Prelude.{◌≡◌, IfOk};
 ghost use Rattle.serde_json.specs.Data.{object};
@@ -16,10 +16,10 @@ use oftp_register::{IncomingEntry, IssuedEntry, OutgoingEntry, ReceivedEntry};
 use serde_json::{Map, Value, put};
 use std::alloc::{AllocError, Global};
 
-/// A key of an object, and what stands there.
+/// A key of an object with its value.
 pub(crate) type Member<'a> = (&'a str, Detail<'a>);
 
-/// The object of these members.
+/// The object with these members.
 pub(crate) fn object_of<'a>(alloc: Global, members: &[Member<'a>]) -> Result<Value, AllocError>
     ensures { IfOk result (λ value. view value ≡ object (gathered members.now)) }
 {
@@ -57,7 +57,7 @@ pub(crate) fn incoming_members<'a>(entry: &'a IncomingEntry, units: u64) -> [Mem
     ]
 }
 
-/// The members of an outgoing file, which was refused for this reason if it was.
+/// The members of an outgoing file, with the reason if it was refused.
 pub(crate) fn outgoing_members<'a>(
     entry: &'a OutgoingEntry,
     reason: &'a str,
@@ -88,7 +88,7 @@ pub(crate) fn outgoing_members<'a>(
     ]
 }
 
-/// The members of a response that was issued, with this reason.
+/// The members of an issued response, with its reason.
 pub(crate) fn issued_members<'a>(entry: &'a IssuedEntry, reason: &'a str) -> [Member<'a>; 4]
     ensures { reason.now ≡ reason_name entry.now.response.kind entry.now.response.reason → object (gathered result) ≡ issued_object entry.now }
 {
@@ -100,7 +100,7 @@ pub(crate) fn issued_members<'a>(entry: &'a IssuedEntry, reason: &'a str) -> [Me
     ]
 }
 
-/// The members of a response that came, with this reason, to the outgoing file with this number.
+/// The members of a received response, with its reason and the number of the outgoing file that it answers.
 pub(crate) fn received_members<'a>(
     entry: &'a ReceivedEntry,
     reason: &'a str,

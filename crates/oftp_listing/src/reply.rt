@@ -1,4 +1,4 @@
-//! The text of a reply.
+//! The octets of an HTTP reply.
 
 ghost use Rattle.std.specs.Prelude.{◌≡◌, ◌++◌, IfOk, decimal, length};
 ghost use Rattle.oftp_listing.specs.Replies.{allow_of, error_text, head_text, phrase_of, reply_text};
@@ -30,7 +30,7 @@ impl Reply {
     }
 }
 
-// The phrase of a status.
+// The reason phrase of a status.
 #[tactic(auto, unfolding(crate::specs::Replies::phrase_of))]
 fn phrase(status: StatusCode) -> &'static str
     ensures { result.now ≡ phrase_of status }
@@ -38,7 +38,7 @@ fn phrase(status: StatusCode) -> &'static str
     status.canonical_reason().unwrap_or("")
 }
 
-// The line that names the method which is allowed, where another isn't.
+// The header line with the allowed method, if the status is 405.
 #[tactic(auto, unfolding(crate::specs::Replies::allow_of))]
 fn allow(status: StatusCode) -> &'static str
     ensures { result.now ≡ allow_of status }
@@ -50,7 +50,7 @@ fn allow(status: StatusCode) -> &'static str
     }
 }
 
-// The head of a reply, with the length of its body in decimal.
+// The head of a reply, with the length of its body in decimal digits.
 #[tactic(auto, unfolding(crate::specs::Replies::head_text))]
 fn head(alloc: Global, status: StatusCode, body_length: &str) -> Result<Vec<u8>, AllocError>
     ensures { IfOk result (λ octets. octets.items ≡ head_text status body_length.now) }
@@ -69,11 +69,11 @@ fn head(alloc: Global, status: StatusCode, body_length: &str) -> Result<Vec<u8>,
     Ok(octets)
 }
 
-/// The reply with a body, in whose memory the head takes its place.
+/// The reply with this body. The head is inserted before the body, in the same vector.
 ///
 /// # Errors
 ///
-/// A growth was refused.
+/// Out of memory.
 pub(crate) fn body_reply(alloc: Global, body: Vec<u8>) -> Result<Reply, AllocError>
     ensures { IfOk result (λ reply. reply ≡ reply_text 200 body.items) }
 {
@@ -86,11 +86,11 @@ pub(crate) fn body_reply(alloc: Global, body: Vec<u8>) -> Result<Reply, AllocErr
     Ok(Reply { octets })
 }
 
-/// The reply whose body names its status. It takes memory for its own octets alone.
+/// The reply whose body names its status. It allocates only its own octets.
 ///
 /// # Errors
 ///
-/// A growth was refused.
+/// Out of memory.
 pub(crate) fn error_reply(alloc: Global, status: StatusCode) -> Result<Reply, AllocError>
     ensures { IfOk result (λ reply. reply ≡ error_text status) }
 {

@@ -1,4 +1,4 @@
-//! The reports.
+//! Reports as CSV.
 
 ghost use Rattle.std.specs.Prelude.{◌≡◌, ◌++◌, IfErr, IfOk, map};
 ghost use Rattle.std.specs.List.{flat_map};
@@ -25,21 +25,21 @@ use oftp_register::{IncomingEntry, IssuedEntry, Office, OutgoingEntry, ReceivedE
 use std::alloc::{AllocError, Global};
 use std::io::Write;
 
-/// What is reported.
+/// The subject of a report.
 #[derive(Clone, Copy, Debug, Drop, PartialEq, Eq)]
 pub enum ReportKind {
     /// The incoming files.
     Incoming,
     /// The outgoing files.
     Outgoing,
-    /// The responses that were issued.
+    /// The issued responses.
     Issued,
-    /// The responses that came.
+    /// The received responses.
     Received,
 }
 
 impl ReportKind {
-    // The first line.
+    // The heading of the report.
     fn heading(self) -> &'static [u8]
         ensures { result.now ≡ heading self }
     {
@@ -67,7 +67,7 @@ fn record_of(alloc: Global, details: &[Detail<'_>]) -> Result<ByteRecord, AllocE
     Ok(fields)
 }
 
-/// A line of comma-separated fields. Into a vector the writer fails for want of memory alone.
+/// A line of comma-separated fields. Writing into a vector fails only if memory runs out.
 pub(crate) fn line(alloc: Global, details: &[Detail<'_>]) -> Result<Vec<u8>, ListFault>
     ensures text { IfOk result (λ text. text.items ≡ line (map text_of details.now)) }
     ensures fault { IfErr result (λ fault. fault ≡ Memory) }
@@ -101,7 +101,7 @@ pub(crate) fn incoming_details<'a>(entry: &'a IncomingEntry, units: u64) -> [Det
     ]
 }
 
-/// The details of an outgoing file, which was refused for this reason if it was.
+/// The details of an outgoing file, with the reason if it was refused.
 pub(crate) fn outgoing_details<'a>(
     entry: &'a OutgoingEntry,
     reason: &'a str,
@@ -124,7 +124,7 @@ pub(crate) fn outgoing_details<'a>(
     ]
 }
 
-/// The details of a response that was issued, with this reason.
+/// The details of an issued response, with its reason.
 pub(crate) fn issued_details<'a>(entry: &'a IssuedEntry, reason: &'a str) -> [Detail<'a>; 4]
     ensures { reason.now ≡ reason_name entry.now.response.kind entry.now.response.reason → map text_of result ≡ issued_fields entry.now }
 {
@@ -136,7 +136,7 @@ pub(crate) fn issued_details<'a>(entry: &'a IssuedEntry, reason: &'a str) -> [De
     ]
 }
 
-/// The details of a response that came, with this reason, to the outgoing file with this number.
+/// The details of a received response, with its reason and the number of the outgoing file that it answers.
 pub(crate) fn received_details<'a>(
     entry: &'a ReceivedEntry,
     reason: &'a str,
@@ -158,7 +158,7 @@ pub(crate) fn received_details<'a>(
     ]
 }
 
-// The text, and behind it the lines of all entries of a kind.
+// Appends the lines of all entries of a kind to the text.
 fn add_lines<E: Listed + Drop, O: Office>(
     alloc: Global,
     front: Vec<u8>,
@@ -192,13 +192,14 @@ fn report_text<O: Office>(
     }
 }
 
-/// Writes a report of what the office keeps: a heading and a line for each entry, in order of number. The office is asked by look-ups
-/// alone, and all of them before the writer is.
+/// Writes a report of the office's register: a heading and a line for each entry, in order of their numbers. The office is only read, and
+/// the writer is called after all look-ups.
 ///
 /// # Errors
 ///
-/// [`ListFault::Office`] where the office told a fault, and [`ListFault::Memory`]: nothing is written then. [`ListFault::Write`] only
-/// where the writer told a fault in this call: it took a beginning of the report.
+/// - [`ListFault::Office`]: the office returned an error. Nothing is written.
+/// - [`ListFault::Memory`]: out of memory. Nothing is written.
+/// - [`ListFault::Write`] only where the writer returned an error in this call. It took a beginning of the report.
 pub fn report<O: Office, W: Write>(
     alloc: Global,
     kind: ReportKind,

@@ -1,4 +1,4 @@
-//! The routes.
+//! The routes of the listing.
 
 ghost use Rattle.std.specs.Prelude.{◌≡◌, [], IfOk, MatchResult, OnOk, codes, option_and_then};
 ghost use Rattle.oftp_listing.specs.declared.fault.ListFault.TheVariants.{Memory};
@@ -10,7 +10,7 @@ use crate::fault::ListFault;
 use matchit::{InsertError, Params, Router};
 use std::alloc::Global;
 
-/// What a target asks for.
+/// The route of a target.
 #[derive(Clone, Copy, Debug, Drop, PartialEq, Eq)]
 pub(crate) enum Route {
     /// All incoming files.
@@ -25,7 +25,7 @@ pub(crate) enum Route {
     Responses,
 }
 
-// What the router keeps of a route: all but its number.
+// A route without its number, as the router stores it.
 #[derive(Clone, Copy, Drop)]
 enum Place {
     Incoming,
@@ -53,7 +53,7 @@ fn number(text: &[u8]) -> Option<u64>
     Some(sum)
 }
 
-// Adds the five routes. They don't conflict, so its error is want of memory.
+// Adds the five routes. They don't conflict, so an error is out of memory.
 fn add_routes(router: &mut Router<Place>) -> Result<(), InsertError>
     ensures { router.old ≡ [] → OnOk result (router.new ≡ routes) }
 {
@@ -74,14 +74,14 @@ fn router(alloc: Global) -> Result<Router<Place>, InsertError>
     Ok(router)
 }
 
-// The number that a target has in its last segment.
+// The number in the last segment of a target.
 fn number_in(params: &Params<'_, '_>) -> Option<u64>
     ensures { AllText (parts_of params.now) → result ≡ option_and_then number_of (named (codes "id") (parts_of params.now)) }
 {
     number(params.get("id")?.as_bytes())
 }
 
-// What a target asks for by the router.
+// The route of a target, by the router.
 fn route_in(router: &Router<Place>, target: &str) -> Option<Route>
     requires { router.now ≡ routes }
     ensures { result ≡ route_at target.now }
@@ -98,11 +98,11 @@ fn route_in(router: &Router<Place>, target: &str) -> Option<Route>
     }
 }
 
-/// What a target asks for, if it fits a route.
+/// The route of a target, if it has one.
 ///
 /// # Errors
 ///
-/// [`ListFault::Memory`]: a growth was refused.
+/// [`ListFault::Memory`]: out of memory.
 pub(crate) fn find_route(alloc: Global, target: &str) -> Result<Option<Route>, ListFault>
     ensures { MatchResult result (λ route. route ≡ route_at target.now) (λ fault. fault ≡ Memory) }
 {

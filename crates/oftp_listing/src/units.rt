@@ -1,4 +1,4 @@
-//! How many octets the rows of a file have that the office told in a list.
+//! The number of octets of a file that the office returned in a list.
 
 ghost use Rattle.std.specs.Prelude.{◌≡◌, ◌≤◌, length};
 ghost use Rattle.oftp_vfile.specs.VirtualFile.{units_in};
@@ -11,7 +11,7 @@ ghost use Rattle.oftp_listing.specs.InsideListed.{IsListed};
 use oftp_register::{Office, OfficeFault, Side};
 use oftp_vfile::{BLOCK, Format, Rows};
 
-// How many octets these rows have, where there is one at most.
+// The number of octets of these rows, of which there is at most one.
 fn octets_of(rows: &Rows) -> u64
     ensures { length rows.now ≤ 1 → result ≡ units_in rows.now }
 {
@@ -21,7 +21,7 @@ fn octets_of(rows: &Rows) -> u64
     }
 }
 
-// How many octets the rows of a file have, where there are so many and all but the last are full blocks. The last alone is asked for.
+// The number of octets of a file with this number of rows, which are all full blocks but the last. Only the last row is read.
 fn ask_blocks<O: Office>(office: &mut O, side: Side, no: u64, rows: u64) -> Result<u64, OfficeFault>
     ensures looks { LooksUp (λ r units. rows ≡ length (file_rows r side no) → units_in_blocks (file_rows r side no) ≤ MOST_UNITS → units ≡ units_in_blocks (file_rows r side no))
         (O.view office.old) (O.view office.new) result }
@@ -34,8 +34,8 @@ fn ask_blocks<O: Office>(office: &mut O, side: Side, no: u64, rows: u64) -> Resu
     )
 }
 
-/// How many octets the rows of a file have that the office told in a list, with its number, its format, its longest record in octets
-/// and the number of its rows. In F none of its rows is asked for, in U and T the last one, and in V the office measures each.
+/// The number of octets of a file that the office returned in a list, with its number, its format, its longest record in octets and its
+/// number of rows. In format F no row is read, in U and T the last one, and in V the office measures each.
 ///
 /// # Errors
 ///

@@ -1,4 +1,4 @@
--- An index of octets, and the places of partners by their codes.
+-- An index by codes, and the places of partners by their codes.
 use Rattle.std.proofs.Common.{◌≡◌, ℕ, length, List, [], ◌∷◌, ◌++◌, Option, Some, None, option_map, is_some, Bool, true, false, cond, refl, sym, ◌∙◌, inl, inr, ⊎_elim, ◌⊎◌, subst, Vec, suc, get_or, ltb, arith}
 use Rattle.std.specs.declared.alloc.Global.{Global}
 use Rattle.std.specs.declared.cmp.Ordering.{Ordering}
@@ -19,12 +19,12 @@ use Rattle.oftp_partners.specs.declared.partner.Partner.{Partner}
 use Rattle.oftp_partners.specs.Book.{partner_at}
 use Rattle.oftp_partners.specs.Directory.{place_at, indexed_at, IsIndex}
 
--- an element behind one more
+-- an element after one more
 slice_get-more : {X : Type 0} (x : X) (xs : List X) (o : Option ℕ) → option_and_then (slice_get xs) o ≡ option_and_then (slice_get (x ∷ xs)) (option_map suc o)
 slice_get-more x xs None = refl
 slice_get-more x xs (Some i) = refl
 
--- a place is there as long as the next one is
+-- an index is within a list if the next one is
 is_some-suc : (o : Option ℕ) → is_some (option_map suc o) ≡ is_some o
 is_some-suc None = refl
 is_some-suc (Some i) = refl
@@ -34,7 +34,7 @@ cases_is_some : {X : Type 0} (o : Option X) → (o ≡ None) ⊎ (is_some o ≡ 
 cases_is_some None = inl refl
 cases_is_some (Some x) = inr refl
 
--- the partner of a code is the one at its place
+-- the partner with a code is the one at its index
 pub partner_at-place : (code : List ℕ) (ps : List Partner) → partner_at code ps ≡ option_and_then (slice_get ps) (place_at code ps)
 partner_at-place code [] = refl
 partner_at-place code (p ∷ ps) =
@@ -43,7 +43,7 @@ partner_at-place code (p ∷ ps) =
       | inr other ↦ rw other (partner_at-place code ps ∙ slice_get-more p ps (place_at code ps))
     ]
 
--- a code that no partner has has no place
+-- a code that no partner has has no index
 place_at-none : (code : List ℕ) (ps : List Partner) → partner_at code ps ≡ None → place_at code ps ≡ None
 place_at-none code [] h = refl
 place_at-none code (p ∷ ps) h =
@@ -52,7 +52,7 @@ place_at-none code (p ∷ ps) h =
       | inr other ↦ rw other (rw (place_at-none code ps (rw other at h)) refl)
     ]
 
--- the place of a partner behind all others, where no other has its code
+-- the index of a partner after all others, where no other has its code
 place_at-last : (code : List ℕ) (ps : List Partner) (x : Partner) → place_at code ps ≡ None → bytes_eq x.code code ≡ true → place_at code (ps ++ x ∷ []) ≡ Some (length ps)
 place_at-last code [] x h same = rw same refl
 place_at-last code (p ∷ ps) x h same =
@@ -64,12 +64,12 @@ place_at-last code (p ∷ ps) x h same =
       ]
     ]
 
--- a place stays, and so does its lack at other codes
+-- an index stays, and other codes still have none
 place_at-other : (code : List ℕ) (ps : List Partner) (x : Partner) → bytes_eq x.code code ≡ false → place_at code (ps ++ x ∷ []) ≡ place_at code ps
 place_at-other code [] x other = rw other refl
 place_at-other code (p ∷ ps) x other = rw (place_at-other code ps x other) refl
 
--- the places with one more partner behind, of a new code
+-- the indexes with one more partner, with a new code
 place_at-push : (code : List ℕ) (ps : List Partner) (x : Partner) → place_at x.code ps ≡ None → place_at code (ps ++ x ∷ []) ≡ cond (bytes_eq x.code code) (Some (length ps)) (place_at code ps)
 place_at-push code ps x new =
     elim (cases_Bool (bytes_eq x.code code)) [
@@ -77,22 +77,22 @@ place_at-push code ps x new =
       | inr other ↦ rw other (place_at-other code ps x other)
     ]
 
--- what an index tells leads to the partner
+-- what the index has leads to the partner
 pub partner_at-indexed : (m : BTreeMap (Vec ℕ Global) ℕ) (ps : List Partner) (code : List ℕ) (told : Option ℕ) → IsIndex m ps → told ≡ indexed_at m code
     → option_and_then (slice_get ps) told ≡ partner_at code ps
 partner_at-indexed m ps code told index is = rw (is, index code) (sym (partner_at-place code ps))
 
--- what `get` lends is the element
+-- what `get` borrows is the element
 pub slice_get-lent : (ps : List Partner) (i : ℕ) (lent : Option (Bor Partner)) → is_some lent ≡ ltb i (length ps)
     → IfSome lent (λ p. p.now ≡ get_or ps i p.now) → option_map (λ p. p.now) lent ≡ slice_get ps i
 slice_get-lent ps i None past h = sym (slice_get_past ps i (grind (arith, nat_tests)))
 slice_get-lent ps i (Some p) within h = sym (slice_get_read ps (length ps) i p.now refl (grind (arith, nat_tests)) h)
 
--- octets that differ from some differ from what equals these
+-- octets that differ from some differ from their equals
 apart : (bs cs ks : List ℕ) → bytes_eq bs cs ≡ false → is_eq (slice_cmp nat_cmp bs ks) ≡ true → is_eq (slice_cmp nat_cmp cs ks) ≡ false
 apart bs cs ks n y = is_eq-slice_cmp cs ks ∙ nat_list_eq_equiv.symm cs ks ∙ sym (nat_list_eq_equiv.congr bs ks cs (sym (is_eq-slice_cmp bs ks) ∙ y)) ∙ n
 
--- a change at one key leaves what another test finds
+-- a change at one key doesn't affect what another test finds
 module _ {K X : Type 0} (eq : K → K → Bool) (test : K → Bool) where
   other_entries : (old new : List (K × X)) → KeepsOthers eq test old new → (other : K → Bool) → IsKeyTest eq other → AreApart test other → lookup other new ≡ lookup other old
   unfolding KeepsOthers
@@ -102,7 +102,7 @@ module _ {K X : Type 0} (eq : K → K → Bool) (test : K → Bool) where
 abbrev octets_cmp : Vec ℕ Global → Vec ℕ Global → Ordering
 octets_cmp x y = slice_cmp nat_cmp x.items y.items
 
--- an index after a change at some octets
+-- an index after a change under one code
 indexed_at-update : (m n : BTreeMap (Vec ℕ Global) ℕ) (key : Vec ℕ Global) (w : Option ℕ) → UpdatesBy octets_cmp (octets_cmp key) m n w
     → (code : List ℕ) → indexed_at n code ≡ cond (bytes_eq key.items code) w (indexed_at m code)
 indexed_at-update m n key w h code =
@@ -112,7 +112,7 @@ indexed_at-update m n key w h code =
     ∙ sym (cond-false (bytes_eq key.items code) w (indexed_at m code) e))
     (cases_Bool (bytes_eq key.items code))
 
--- an index with one more partner, of a new code
+-- an index with one more partner, with a new code
 pub IsIndex-push : (m n : BTreeMap (Vec ℕ Global) ℕ) (key : Vec ℕ Global) (ps : List Partner) (x : Partner) (i : ℕ) → IsIndex m ps → partner_at x.code ps ≡ None
     → key.items ≡ x.code → i ≡ length ps → UpdatesBy octets_cmp (octets_cmp key) m n (Some i) → IsIndex n (ps ++ x ∷ [])
 IsIndex-push m n key ps x i index new named last up code =

@@ -1,4 +1,4 @@
--- A look-up finds each partner, as long as each new code is none before.
+-- A look-up finds each partner, if each code is new.
 use Rattle.std.proofs.Common.{◌≡◌, ℕ, ◌≤◌, length, List, [], ◌∷◌, ◌++◌, Option, Some, None, is_some, true, false, cond, refl, ◌∙◌, inl, inr, arith}
 use Rattle.std.proofs.lemmas.Bool.{cases_Bool, or_parts}
 use Rattle.std.specs.List.{AllByRecursion}
@@ -8,7 +8,7 @@ use Rattle.oftp_partners.specs.declared.partner.Station.{Station}
 use Rattle.oftp_partners.specs.declared.partner.Partner.{Partner}
 use Rattle.oftp_partners.specs.Book.{partner_at, is_taken, IsStation, IsPartner, ArePartners, IsBook}
 
--- a partner behind all others is found where no other is
+-- a partner after all others is found where no other is
 at_last : (code : List ℕ) (ps : List Partner) (x : Partner) → partner_at code ps ≡ None → partner_at code (ps ++ x ∷ []) ≡ cond (bytes_eq x.code code) (Some x) None
 at_last code [] x h = refl
 at_last code (p ∷ ps) x h =
@@ -26,7 +26,7 @@ at_more code (p ∷ ps) x q h =
       | inr other ↦ rw other (at_more code ps x q (rw other at h))
     ]
 
--- each partner is found with one more behind
+-- each partner is found with one more after it
 each_more : (qs ps : List Partner) (x : Partner) → AllByRecursion (λ p. partner_at p.code ps ≡ Some p) qs → partner_at x.code (ps ++ x ∷ []) ≡ Some x
     → AllByRecursion (λ p. partner_at p.code (ps ++ x ∷ []) ≡ Some p) (qs ++ x ∷ [])
 each_more [] ps x h last = (last, tt)
@@ -42,7 +42,7 @@ none_from : {X : Type 0} (o : Option X) → is_some o ≡ false → o ≡ None
 none_from None h = refl
 none_from (Some x) h = absurd (cc)
 
--- a code that isn't taken is no partner's
+-- a code that isn't taken isn't a partner's
 pub free_code : (s : Station) (ps : List Partner) (code : List ℕ) → is_taken s ps code ≡ false → partner_at code ps ≡ None
 unfolding is_taken
 free_code s ps code new = none_from _ (or_parts (bytes_eq s.code code) (is_some (partner_at code ps)) new).1

@@ -1,4 +1,4 @@
--- The book that a text stands for, or its first fault.
+-- The book in a text, or its first fault.
 use Rattle.std.specs.Prelude.{◌≡◌, ◌≤◌, length, ℕ, zero, suc, Bool, not, ◌||◌, nat_le, if◌then◌else◌, List, [], ◌∷◌, ◌++◌, Option, Some, None, Result, Ok, codes, is_some}
 use Rattle.std.specs.List.{AllByRecursion}
 use Rattle.std.specs.Str.{bytes_eq}
@@ -25,16 +25,16 @@ station_of members = do
   restart ← flag_at (codes "restart") members
   Ok (record { code = code; buffer = buffer; credit = credit; restart = restart })
 
--- the first partner of a code
+-- the first partner with a code
 abbrev pub partner_at : List ℕ → List Partner → Option Partner
 partner_at code [] = None
 partner_at code (p ∷ ps) = if bytes_eq p.code code then Some p else partner_at code ps
 
--- whether the station or an earlier partner has a code
+-- whether the station or an earlier partner has this code
 unfoldable pub is_taken : Station → List Partner → List ℕ → Bool
 is_taken station before code = bytes_eq station.code code || is_some (partner_at code before)
 
--- the partner of a table, behind those before it
+-- the partner of a table, after those before it
 unfoldable pub partner_in : Station → List Partner → Members → Result Partner BookFault
 partner_in station before members = do
   code ← code_at (codes "code") members
@@ -45,21 +45,21 @@ partner_in station before members = do
   address ← address_at (codes "address") members
   Ok (record { code = code; expects = expects; sends = sends; mode = mode; address = address })
 
--- the partner of an element, which is to be a table
+-- the partner of an element, which has to be a table
 unfoldable pub partner_of : Station → List Partner → Data → Result Partner BookFault
 partner_of station before value = else_fault WrongKind (as_table value) >>= λ members. partner_in station before members
 
--- the partners of the elements in turn, behind those before them
+-- the partners of the elements in order, after those before them
 abbrev pub partners_of : Station → List Partner → Items → Result (List Partner) BookFault
 partners_of station before no_items = Ok before
 partners_of station before (item value values) = partner_of station before value >>= λ p. partners_of station (before ++ p ∷ []) values
 
--- how many elements an array has
+-- the number of elements of an array
 abbrev pub count_of : Items → ℕ
 count_of no_items = zero
 count_of (item value values) = suc (count_of values)
 
--- the elements of the array, none where it is missing
+-- the elements of the array, or none where it is missing
 abbrev pub listed : Option Data → Result Items BookFault
 listed None = Ok no_items
 listed (Some value) = else_fault WrongKind (as_array value)
@@ -78,30 +78,30 @@ book_in members = do
   partners ← partners_of station [] items
   Ok (record { station = station; partners = partners })
 
--- BookOf: the book of a text, by the tree that it stands for in TOML, or the first fault
+-- BookOf: the book of a text, from its TOML tree, or the first fault
 unfoldable pub book_of : List ℕ → Result BookData BookFault
 book_of text = else_fault NotToml (parse_document text) >>= λ members. book_in members
 
--- a station in its ranges
+-- the station's values are in their ranges
 pub record IsStation (station : Station) : Type 0 where
   pub code : IsCode station.code
   pub buffer : IsBufferSize station.buffer
   pub credit : IsCredit station.credit
 
--- a partner in its ranges
+-- a partner's values are in their ranges
 pub record IsPartner (p : Partner) : Type 0 where
   pub code : IsCode p.code
   pub expects : IsPassword p.expects
   pub sends : IsPassword p.sends
   pub address : IsAddress p.address
 
--- partners in their ranges, each found by its code, and none by the station's
+-- the partners' values are in their ranges, each partner is found by its code, and none has the station's code
 pub record ArePartners (station : Station) (ps : List Partner) : Type 0 where
   pub ranges : AllByRecursion IsPartner ps
   pub found : AllByRecursion (λ p. partner_at p.code ps ≡ Some p) ps
   pub own : partner_at station.code ps ≡ None
 
--- what holds of each book
+-- the invariant of a book
 pub record IsBook (b : BookData) : Type 0 where
   pub station : IsStation b.station
   pub partners : ArePartners b.station b.partners

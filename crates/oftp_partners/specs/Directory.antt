@@ -7,15 +7,15 @@ use Rattle.std.specs.Str.{bytes_eq}
 use Rattle.std.specs.BTreeMap.{BTreeMap, get_by}
 use Rattle.oftp_partners.specs.declared.partner.Partner.{Partner}
 
--- the place of the first partner of a code
+-- the index of the first partner with a code
 abbrev pub place_at : List ℕ → List Partner → Option ℕ
 place_at code [] = None
 place_at code (p ∷ ps) = if bytes_eq p.code code then Some 0 else option_map suc (place_at code ps)
 
--- what an index of octets has under a code
+-- what an index has under a code
 abbrev pub indexed_at : BTreeMap (Vec ℕ Global) ℕ → List ℕ → Option ℕ
 indexed_at places code = get_by (λ key. slice_cmp nat_cmp code key.items) places
 
--- under each code the place of its partner
+-- under each code the index of its partner
 abbrev pub IsIndex : BTreeMap (Vec ℕ Global) ℕ → List Partner → Type 0
 IsIndex places ps = (code : List ℕ) → indexed_at places code ≡ place_at code ps

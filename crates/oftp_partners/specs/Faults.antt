@@ -1,4 +1,4 @@
--- What each fault of a book is called.
+-- The numbers and texts of a book's faults.
 use Rattle.std.specs.Prelude.{ℕ, List, codes}
 use Rattle.oftp_partners.specs.declared.fault.BookFault.{BookFault}
 use Rattle.oftp_partners.specs.declared.fault.BookFault.TheVariants.{NotToml, MissingKey, WrongKind, BadCode, BadNumber, DuplicateCode, TooMany, Memory}
@@ -14,7 +14,7 @@ number_of DuplicateCode = 6
 number_of TooMany = 7
 number_of Memory = 8
 
--- a fault in words
+-- the text of a fault
 abbrev pub fault_text : BookFault → List ℕ
 fault_text NotToml = codes "the text isn't TOML"
 fault_text MissingKey = codes "a key is missing"

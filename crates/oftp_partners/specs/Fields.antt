@@ -1,9 +1,9 @@
--- What a code, a password, an address and the station's numbers may be.
+-- The ranges of codes, passwords, addresses and the station's numbers.
 use Rattle.std.specs.Prelude.{ℕ, ◌≤◌, Bool, ◌&&◌, List, length, nat_le}
 use Rattle.std.specs.List.{list_all}
 use Rattle.oftp_wire.specs.Octets.{is_allowed, IsName}
 
--- an identification code: 1 to 25 allowed characters (RFC 5024, section 5.4)
+-- an Identification Code: 1 to 25 allowed characters (RFC 5024, section 5.4)
 abbrev pub IsCode : List ℕ → Type 0
 IsCode v = (1 ≤ length v) × IsName 25 v
 
@@ -15,15 +15,15 @@ IsPassword v = IsName 8 v
 abbrev pub IsAddress : List ℕ → Type 0
 IsAddress v = (1 ≤ length v) × (length v ≤ 255)
 
--- the size of a data exchange buffer, in octets (RFC 5024, section 5.3.2)
+-- a Data Exchange Buffer size in octets (RFC 5024, section 5.3.2)
 abbrev pub IsBufferSize : ℕ → Type 0
 IsBufferSize n = (128 ≤ n) × (n ≤ 16384)
 
--- a credit, in DATA commands (RFC 5024, section 5.3.2)
+-- a Credit in DATA commands (RFC 5024, section 5.3.2)
 abbrev pub IsCredit : ℕ → Type 0
 IsCredit n = (1 ≤ n) × (n ≤ 99)
 
--- whether a text is a value of a field X(n)
+-- whether a text may be the value of a field X(n)
 unfoldable pub is_name : ℕ → List ℕ → Bool
 is_name n v = nat_le (length v) n && list_all is_allowed v
 

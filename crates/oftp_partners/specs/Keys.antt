@@ -1,4 +1,4 @@
--- A key of a table: missing, of the wrong kind, of a bad content, or there.
+-- The value at a key of a table: missing, of the wrong type, not valid, or valid.
 use Rattle.std.specs.Prelude.{◌≡◌, ◌⊎◌, ℕ, ℤ, pos, nat_abs, int_le, Bool, ◌&&◌, if◌then◌else◌, List, Option, Some, None, Result, Ok, Err, MatchResult, codes}
 use Rattle.toml.specs.Data.{Data, Members, get_member, as_str, as_integer, as_bool, as_table}
 use Rattle.std.specs.Str.{bytes_eq}
@@ -9,33 +9,33 @@ use Rattle.oftp_partners.specs.declared.fault.BookFault.TheVariants.{MissingKey,
 use Rattle.oftp_partners.specs.Fields.{is_name, is_code, is_address}
 
 infixl 10 ◌>>=◌
--- the next step, behind a step that told no fault
+-- the next step, after a step without a fault
 abbrev pub ◌>>=◌ : {A B : Type 0} → Result A BookFault → (A → Result B BookFault) → Result B BookFault
 (Ok x) >>= f = f x
 (Err e) >>= f = Err e
 
--- the value, or the fault where there is none
+-- the value, or a fault where there is none
 abbrev pub else_fault : {A : Type 0} → BookFault → Option A → Result A BookFault
 else_fault e (Some x) = Ok x
 else_fault e None = Err e
 
--- a value where the test holds, or the fault
+-- a value if the test holds, or else the fault
 abbrev pub if_so : {A : Type 0} → Bool → BookFault → A → Result A BookFault
 if_so b e x = if b then Ok x else Err e
 
--- an answer, want of memory aside
+-- a result, if memory doesn't run out
 abbrev pub Answers : {A : Type 0} → Result A BookFault → Result A BookFault → Type 0
 Answers result expected = MatchResult result (λ x. expected ≡ Ok x) (λ e. (e ≡ Memory) ⊎ (expected ≡ Err e))
 
--- the code that a text is
+-- the text, if it is a code
 unfoldable pub code_of : List ℕ → Result (List ℕ) BookFault
 code_of text = if_so (is_code text) BadCode text
 
--- the password that a text is
+-- the text, if it is a password
 unfoldable pub password_of : List ℕ → Result (List ℕ) BookFault
 password_of text = if_so (is_name 8 text) BadCode text
 
--- the address that a text is
+-- the text, if it is an address
 unfoldable pub address_of : List ℕ → Result (List ℕ) BookFault
 address_of text = if_so (is_address text) BadCode text
 
@@ -43,15 +43,15 @@ address_of text = if_so (is_address text) BadCode text
 unfoldable pub mode_of : List ℕ → Result Mode BookFault
 mode_of text = if bytes_eq text (codes "S") then Ok Send else (if bytes_eq text (codes "R") then Ok Receive else (if bytes_eq text (codes "B") then Ok Both else Err BadCode))
 
--- the number that an integer within two bounds is
+-- the integer, if it is within two bounds
 unfoldable pub number_within : ℕ → ℕ → ℤ → Result ℕ BookFault
 number_within low high number = if_so (int_le (pos low) number && int_le number (pos high)) BadNumber (nat_abs number)
 
--- the size of a data exchange buffer that an integer is
+-- the integer, if it is a Data Exchange Buffer size
 unfoldable pub buffer_size_of : ℤ → Result ℕ BookFault
 buffer_size_of number = number_within 128 16384 number
 
--- the credit that an integer is
+-- the integer, if it is a Credit
 unfoldable pub credit_of : ℤ → Result ℕ BookFault
 credit_of number = number_within 1 99 number
 
@@ -91,10 +91,10 @@ mode_at key members = text_at key members >>= λ text. mode_of text
 unfoldable pub address_at : List ℕ → Members → Result (List ℕ) BookFault
 address_at key members = text_at key members >>= λ text. address_of text
 
--- the size of a data exchange buffer at a key
+-- the Data Exchange Buffer size at a key
 unfoldable pub buffer_size_at : List ℕ → Members → Result ℕ BookFault
 buffer_size_at key members = integer_at key members >>= λ number. buffer_size_of number
 
--- the credit at a key
+-- the Credit at a key
 unfoldable pub credit_at : List ℕ → Members → Result ℕ BookFault
 credit_at key members = integer_at key members >>= λ number. credit_of number

@@ -5,13 +5,13 @@ use Rattle.oftp_wire.specs.declared.command.Mode.{Mode}
 use Rattle.oftp_wire.specs.declared.command.Mode.TheVariants.{Send, Receive, Both}
 use Rattle.oftp_partners.specs.Book.{BookData}
 
--- a mode in a word
+-- the name of a mode
 abbrev pub mode_text : Mode → List ℕ
 mode_text Send = codes "Send"
 mode_text Receive = codes "Receive"
 mode_text Both = codes "Both"
 
--- a partner by its code, mode and address: no password comes in
+-- a partner by its code, mode and address, without its passwords
 abbrev pub partner_text : List ℕ → Mode → List ℕ → List ℕ
 partner_text code mode address = codes "Partner { code: " ++ (code ++ (codes ", mode: " ++ (mode_text mode ++ (codes ", address: " ++ (address ++ codes ", .. }")))))
 

@@ -14,7 +14,7 @@ use std::alloc::Global;
 use std::marker::Model;
 use toml::Table;
 
-/// The station and its partners, at most 1,000, each of a code of its own.
+/// The station and its partners, at most 1,000, each with a different Identification Code.
 #[derive(Drop)]
 pub struct Book {
     station: Station,
@@ -45,11 +45,12 @@ fn book_in(alloc: Global, table: &Table) -> Result<Book, BookFault>
     Ok(Book { station, directory })
 }
 
-/// The book that a TOML text stands for. Each partner costs a logarithmic number of comparisons of codes.
+/// Reads the book in a TOML text. Each partner takes a logarithmic number of comparisons of codes; no clause says this.
 ///
 /// # Errors
-/// The first fault, in the order of the keys: those of `station`, the number of partners, then partner by partner.
-/// `Memory` comes where a growth was refused.
+///
+/// The first fault, in this order: the keys of `station`, the number of partners, then each partner. [`BookFault::Memory`] may come at any
+/// point.
 #[tactic(auto, unfolding(crate::specs::Book::book_of))]
 pub fn read(alloc: Global, text: &str) -> Result<Book, BookFault>
     ensures value { Answers result (book_of text.now) }
@@ -63,7 +64,7 @@ pub fn read(alloc: Global, text: &str) -> Result<Book, BookFault>
 }
 
 impl Book {
-    /// The station itself. Takes no memory.
+    /// The station itself. It allocates nothing.
     pub fn station(&self) -> &Station
         ensures value { result.now ≡ self.now.station }
         ensures book { IsBook self.now }
@@ -71,7 +72,7 @@ impl Book {
         &self.station
     }
 
-    /// How many partners there are, 0 to 1,000. Takes no memory.
+    /// How many partners there are, 0 to 1,000. It allocates nothing.
     pub fn count(&self) -> usize
         ensures value { result ≡ length self.now.partners }
         ensures book { IsBook self.now }
@@ -79,7 +80,8 @@ impl Book {
         self.directory.len()
     }
 
-    /// The partner of a code, or `None` where no partner has it. Takes no memory, and a logarithmic number of comparisons.
+    /// The partner with a code, or `None` where no partner has it. It allocates nothing. It takes a
+    /// logarithmic number of comparisons; no clause says this.
     pub fn partner(&self, code: &[u8]) -> Option<&Partner>
         ensures value { option_map (λ p. p.now) result ≡ partner_at code.now self.now.partners }
         ensures book { IsBook self.now }

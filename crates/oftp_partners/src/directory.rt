@@ -1,4 +1,4 @@
-//! Partners, found by their codes.
+//! An index of partners by their codes.
 
 ghost use Rattle.std.specs.Prelude.{◌≡◌, ◌++◌, ◌∷◌, [], None, OnOk, OnErr, length, option_map};
 ghost use Rattle.oftp_partners.specs.Book.{partner_at};
@@ -8,7 +8,7 @@ use std::alloc::{AllocError, Global};
 use std::collections::BTreeMap;
 use std::marker::Model;
 
-/// Partners of different codes, in the order of the text. A look-up takes a logarithmic number of comparisons.
+/// Partners with different codes, in the order of the text. A look-up takes a logarithmic number of comparisons; no clause says this.
 #[derive(Drop)]
 pub(crate) struct Directory {
     partners: Vec<Partner>,
@@ -45,7 +45,7 @@ impl Directory {
         self.partners.len()
     }
 
-    /// The partner of a code.
+    /// The partner with a code.
     pub(crate) fn find(&self, code: &[u8]) -> Option<&Partner>
         ensures { option_map (λ p. p.now) result ≡ partner_at code.now self.now }
     {
@@ -53,7 +53,7 @@ impl Directory {
         self.partners.get(place)
     }
 
-    /// Adds a partner of a new code. An error leaves the partners as they were.
+    /// Adds a partner with a new code. After an error the partners are unchanged.
     pub(crate) fn add(&mut self, alloc: Global, partner: Partner) -> Result<(), AllocError>
         requires { partner_at partner.code self.old ≡ None }
         ensures ok { OnOk result (self.new ≡ self.old ++ partner ∷ []) }

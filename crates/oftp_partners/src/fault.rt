@@ -1,4 +1,4 @@
-//! Why a text is no book.
+//! Why a text isn't a partner book.
 
 ghost use Rattle.std.specs.Prelude.{◌≡◌, Some};
 ghost use Rattle.oftp_partners.specs.Faults.{number_of, fault_text};
@@ -8,29 +8,29 @@ use std::alloc::{AllocError, AllocFailed};
 use std::error::Error;
 use std::fmt;
 
-/// The first thing that is wrong with the text of a book.
+/// The first fault in the text of a book.
 #[derive(Clone, Copy, Debug, PartialEq, Eq, Hash)]
 pub enum BookFault {
     /// The text isn't TOML.
     NotToml,
-    /// A key isn't there.
+    /// A key is missing.
     MissingKey,
-    /// A value isn't of its key's kind.
+    /// A value has the wrong type for its key.
     WrongKind,
-    /// A code, a password, a mode or an address is none.
+    /// A code, a password, a mode or an address isn't valid.
     BadCode,
     /// A number is out of its range.
     BadNumber,
-    /// A partner has the code of an earlier partner or of the station.
+    /// A partner has the same code as an earlier partner or the station.
     DuplicateCode,
     /// There are more than 1,000 partners.
     TooMany,
-    /// A growth was refused.
+    /// Out of memory.
     Memory,
 }
 
 impl BookFault {
-    /// The fault's number, 1 to 8.
+    /// The number of the fault, 1 to 8.
     pub fn number(self) -> u8
         ensures { result ≡ number_of self }
     {

@@ -1,4 +1,4 @@
-//! Codes, passwords, addresses and numbers, which keep their ranges.
+//! Codes, passwords, addresses and numbers, each within its range.
 
 ghost use Rattle.std.specs.Prelude.{◌≡◌, string_bytes, IfOk};
 ghost use Rattle.oftp_partners.specs.Fields.{IsCode, IsPassword, IsAddress, IsBufferSize, IsCredit};
@@ -9,19 +9,19 @@ use oftp_wire::{Count, X};
 use std::alloc::Global;
 use std::marker::Model;
 
-/// How many octets the least data exchange buffer has (RFC 5024, section 5.3.2).
+/// The least Data Exchange Buffer size, in octets (RFC 5024, section 5.3.2).
 const LEAST_BUFFER: i64 = 128;
 
-/// How many octets the greatest data exchange buffer of the station has.
+/// The greatest Data Exchange Buffer size of the station, in octets.
 const GREATEST_BUFFER: i64 = 16_384;
 
-/// The least credit, in DATA commands.
+/// The least Credit, in DATA commands.
 const LEAST_CREDIT: i64 = 1;
 
-/// The greatest credit of the station, in DATA commands.
+/// The greatest Credit of the station, in DATA commands.
 const GREATEST_CREDIT: i64 = 99;
 
-/// The identification code of a station: 1 to 25 allowed characters (RFC 5024, section 5.4).
+/// An Identification Code: 1 to 25 allowed characters (RFC 5024, section 5.4).
 #[derive(Debug, Drop)]
 pub struct Code {
     characters: String,
@@ -39,10 +39,11 @@ impl Model for Code {
 }
 
 impl Code {
-    /// The code that a text is.
+    /// The code with these characters.
     ///
     /// # Errors
-    /// `BadCode` where it is none, else `Memory`.
+    ///
+    /// [`BookFault::BadCode`] where the text isn't a code, or else [`BookFault::Memory`].
     #[tactic(auto, unfolding(crate::specs::Keys::code_of, crate::specs::Fields::is_code, crate::specs::Fields::is_name))]
     pub fn new(alloc: Global, text: &str) -> Result<Code, BookFault>
         ensures value { Answers result (code_of text.now) }
@@ -91,10 +92,11 @@ impl Model for Password {
 }
 
 impl Password {
-    /// The password that a text is.
+    /// The password with these characters.
     ///
     /// # Errors
-    /// `BadCode` where it is none, else `Memory`.
+    ///
+    /// [`BookFault::BadCode`] where the text isn't a password, or else [`BookFault::Memory`].
     #[tactic(auto, unfolding(crate::specs::Keys::password_of, crate::specs::Fields::is_name))]
     pub fn new(alloc: Global, text: &str) -> Result<Password, BookFault>
         ensures value { Answers result (password_of text.now) }
@@ -117,7 +119,7 @@ impl Password {
     }
 }
 
-/// Where a partner is reached, as the program connects to it: 1 to 255 octets.
+/// The address to which the program connects to call a partner: 1 to 255 octets.
 #[derive(Debug, Drop)]
 pub struct Address {
     address: String,
@@ -135,10 +137,11 @@ impl Model for Address {
 }
 
 impl Address {
-    /// The address that a text is.
+    /// The address with these characters.
     ///
     /// # Errors
-    /// `BadCode` where it is none, else `Memory`.
+    ///
+    /// [`BookFault::BadCode`] where the text isn't an address, or else [`BookFault::Memory`].
     #[tactic(auto, unfolding(crate::specs::Keys::address_of, crate::specs::Fields::is_address))]
     pub fn new(alloc: Global, text: &str) -> Result<Address, BookFault>
         ensures value { Answers result (address_of text.now) }
@@ -161,7 +164,7 @@ impl Address {
     }
 }
 
-/// The size of the station's data exchange buffer: 128 to 16,384 octets (RFC 5024, section 5.3.2).
+/// The Data Exchange Buffer size of the station: 128 to 16,384 octets (RFC 5024, section 5.3.2).
 #[derive(Clone, Copy, Debug, PartialEq, Eq)]
 pub struct BufferSize {
     octets: u16,
@@ -181,10 +184,11 @@ impl Model for BufferSize {
 }
 
 impl BufferSize {
-    /// The size that a number of octets is.
+    /// The size of this number of octets.
     ///
     /// # Errors
-    /// `BadNumber` where it is none.
+    ///
+    /// [`BookFault::BadNumber`] where the number is out of range.
     #[tactic(auto, unfolding(crate::specs::Keys::buffer_size_of, crate::specs::Keys::number_within))]
     pub fn new(octets: i64) -> Result<BufferSize, BookFault>
         ensures value { result ≡ buffer_size_of octets }
@@ -215,7 +219,7 @@ impl BufferSize {
     }
 }
 
-/// The credit that the station offers: 1 to 99 DATA commands (RFC 5024, section 5.3.2).
+/// The Credit that the station offers: 1 to 99 DATA commands (RFC 5024, section 5.3.2).
 #[derive(Clone, Copy, Debug, PartialEq, Eq)]
 pub struct Credit {
     commands: u8,
@@ -235,10 +239,11 @@ impl Model for Credit {
 }
 
 impl Credit {
-    /// The credit that a number of DATA commands is.
+    /// The credit of this number of DATA commands.
     ///
     /// # Errors
-    /// `BadNumber` where it is none.
+    ///
+    /// [`BookFault::BadNumber`] where the number is out of range.
     #[tactic(auto, unfolding(crate::specs::Keys::credit_of, crate::specs::Keys::number_within))]
     pub fn new(commands: i64) -> Result<Credit, BookFault>
         ensures value { result ≡ credit_of commands }

@@ -1,4 +1,4 @@
-//! A key of a table, by its kind.
+//! The values at the keys of a table, by their types.
 
 ghost use Rattle.std.specs.Prelude.{◌≡◌, Ok, Err, MatchResult, IfOk, option_map};
 ghost use Rattle.toml.specs.Data.{get_member};
@@ -12,7 +12,7 @@ use oftp_wire::Mode;
 use std::alloc::Global;
 use toml::{Table, Value};
 
-/// The value at a key, where it is there.
+/// The value at a key, if there is one.
 pub(crate) fn found<'a>(table: &'a Table, key: &str) -> Option<&'a Value>
     ensures { option_map (λ v. view v.now) result ≡ get_member key.now (table_view table.now) }
 {
@@ -46,7 +46,7 @@ fn integer_at(table: &Table, key: &str) -> Result<i64, BookFault>
         .ok_or(BookFault::WrongKind)
 }
 
-/// Whether a key says `true` or `false`.
+/// The value `true` or `false` at a key.
 #[tactic(auto, unfolding(crate::specs::Keys::flag_at))]
 pub(crate) fn flag_at(table: &Table, key: &str) -> Result<bool, BookFault>
     ensures { result ≡ flag_at key.now (table_view table.now) }

@@ -1,6 +1,6 @@
 //! The partner book: the station, and the partners with which it exchanges files.
 //!
-//! [`read`] makes a [`Book`] of a TOML text, or tells its first [`BookFault`].
+//! [`read`] reads a [`Book`] from a TOML text, or returns the first [`BookFault`] in it.
 #![tactic(auto)]
 
 mod book;

@@ -1,4 +1,4 @@
-//! What is printed of a book: its codes, modes and addresses, and no password.
+//! What is printed of a book: codes, modes and addresses, but no password.
 
 ghost use Rattle.std.specs.Prelude.{◌≡◌, Some, codes};
 ghost use Rattle.oftp_partners.specs.Printed.{mode_text, partner_text, book_text};
@@ -27,7 +27,7 @@ impl fmt::Display for Address {
     }
 }
 
-/// Leaves the password out.
+/// It omits the password.
 impl fmt::Debug for Password {
     ghost debug_output = { λ _. Some (codes "Password(..)") };
 
@@ -46,7 +46,7 @@ fn mode_text(mode: Mode) -> &'static str
     }
 }
 
-/// Leaves the passwords out.
+/// It omits the passwords.
 impl fmt::Debug for Partner {
     ghost debug_output = { λ p. Some (partner_text p.code p.mode p.address) };
 

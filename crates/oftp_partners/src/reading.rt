@@ -1,4 +1,4 @@
-//! The station and the partners of a tree, key by key.
+//! Reading the station and the partners, key by key.
 
 ghost use Rattle.std.specs.Prelude.{◌≡◌, ℕ, Ok, Err, MatchResult, length, [], nat_le, ◌≤◌, true, false, IfOk};
 ghost use Rattle.toml.specs.View.{view, table_view, items_view};
@@ -13,7 +13,7 @@ use crate::partner::{Partner, Station};
 use std::alloc::Global;
 use toml::{Table, Value};
 
-/// How many partners a book has at most.
+/// The most partners of a book.
 const MOST_PARTNERS: usize = 1000;
 
 /// The station of the table `station`.
@@ -34,7 +34,7 @@ pub(crate) fn station_of(alloc: Global, table: &Table) -> Result<Station, BookFa
     })
 }
 
-/// Whether the station or a partner of the directory has a code.
+/// Whether the station or a partner in the directory has this code.
 #[tactic(auto, unfolding(crate::specs::Book::is_taken))]
 fn is_taken(station: &Station, directory: &Directory, code: &Code) -> bool
     ensures { result ≡ is_taken station.now directory.now code.now }
@@ -87,7 +87,7 @@ fn partner_of(
     }
 }
 
-/// The elements of the array `partner`, none where it is missing.
+/// The elements of the array `partner`, or none where it is missing.
 #[tactic(auto, unfolding(crate::specs::Book::partner_items))]
 pub(crate) fn partner_items(table: &Table) -> Result<&[Value], BookFault>
     ensures { MatchResult result
@@ -103,7 +103,7 @@ pub(crate) fn partner_items(table: &Table) -> Result<&[Value], BookFault>
     }
 }
 
-/// Whether a book may have a partner for each element.
+/// Whether a book may have this many partners.
 #[tactic(auto, using(crate::proofs::Items::count_of_view))]
 pub(crate) fn are_few(values: &[Value]) -> bool
     ensures value { result ≡ nat_le (count_of (items_view values.now)) 1000 }
@@ -112,7 +112,7 @@ pub(crate) fn are_few(values: &[Value]) -> bool
     values.len() <= MOST_PARTNERS
 }
 
-/// The partners of the elements, in turn.
+/// The partners of the elements, in order.
 #[tactic(auto, using(crate::proofs::Items::partners_of_step, crate::proofs::PartnersLemmas::are_partners_push, crate::proofs::PartnersLemmas::are_partners_none))]
 pub(crate) fn partners_of(
     alloc: Global,

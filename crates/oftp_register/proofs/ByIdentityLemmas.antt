@@ -1,4 +1,4 @@
--- What each change makes of the file of an identity.
+-- What each change does to the file with an identity.
 use Rattle.std.proofs.Common.{◌≡◌, ◌≢◌, ℕ, zero, suc, Bool, true, false, cond, ◌&&◌, List, [], ◌∷◌, ◌++◌, length, map, slice_get, All, Option, None, Some, Result, Ok, refl, ap, sym, ◌∙◌, subst, inl, inr}
 use Rattle.std.proofs.lemmas.Bool.{cases_Bool, cond-true, cond-false, or_parts, ltb-false}
 use Rattle.std.proofs.lemmas.List.Elements.{All-head, All-tail}
@@ -35,7 +35,7 @@ same_self i =
     ∙ is i.destination
 
 module _ {A : Type 0} (name : A → Identity) where
-  -- an entry isn't among those that have other names
+  -- an entry isn't among those that have other identities
   absent : (p : Identity → Bool) (n : ℕ) (xs : List A) (x : A) → list_any p (map name xs) ≡ false → slice_get xs n ≡ Some x → p (name x) ≡ false
   absent p n [] x h e = absurd (cc)
   absent p zero (y ∷ ys) x h e =
@@ -55,7 +55,7 @@ module _ {A : Type 0} (name : A → Identity) where
       let apart : same_identity (name y) i ≡ false = ap (λ z. same_identity (name y) z) (sym (same_identity-true (name x) i h)) ∙ other in
       cond-false (same_identity (name y) i) (Some y) (named name i ys) apart ∙ found_named n ys x i once.1 e h
 
-  -- what is found has the name that was looked for
+  -- what is found has the identity that was looked for
   pub named_is : (i : Identity) (xs : List A) (x : A) → named name i xs ≡ Some x → name x ≡ i
   named_is i [] x h = absurd (cc)
   named_is i (y ∷ ys) x h =
@@ -89,7 +89,7 @@ module _ {A : Type 0} (name : A → Identity) where
       by true = refl
       by false = refl
 
-  -- entries that are changed and keep their names
+  -- entries that are changed and keep their identities
   pub named_map : (g : A → A) → ((x : A) → name (g x) ≡ name x) → (i : Identity) (xs : List A) → named name i (map g xs) ≡ option_map g (named name i xs)
   named_map g same i [] = refl
   named_map g same i (x ∷ xs) =
@@ -149,7 +149,7 @@ module _ {A : Type 0} (name : A → Identity) where
           | inr e ↦ subst (P i) (sym (c.others i e)) (all i)
         ]
 
-    -- the entries of other names, after a change of the entry with a number
+    -- the entries of other identities, after a change of the entry with a number
     pub changed_others : (n : ℕ) (xs ys : List A) (i : Identity) → at_number f n xs ≡ Ok ys → option_map name (entry_at n xs) ≢ Some i → named name i ys ≡ named name i xs
     changed_others zero xs ys i h apart = absurd (cc)
     changed_others (suc n) xs ys i h apart =
@@ -159,7 +159,7 @@ module _ {A : Type 0} (name : A → Identity) where
           | inr e ↦ c.others i e
         ]
 
--- a file that a response settles keeps its name
+-- a file whose state a response sets keeps its identity
 pub settled_name : (kind : ResponseKind) (identity : Identity) (file : Outgoing) → (settled kind identity file).identity ≡ file.identity
 settled_name kind identity file = by (same_identity file.identity identity)
   where
@@ -231,7 +231,7 @@ started_named P r header count xs ys h step all i =
       | inr e ↦ subst (P i) (sym (s.others i e)) (all i)
     ]
 
--- identities that aren't one are told apart
+-- identities that aren't the same differ
 apart_of : (a i : Identity) → Some a ≢ Some i → same_identity a i ≡ false
 apart_of a i apart = elim (cases_Bool (same_identity a i)) [ inl e ↦ absurd (apart (ap Some (same_identity-true a i e))) | inr e ↦ e ]
 
@@ -259,7 +259,7 @@ submitted_elsewhere r s file h i apart =
     let pushed = pushed_elsewhere (out_at r i) file (same_identity file.identity i) (apart_of file.identity i apart) in
     subst (λ (z : Register). (in_at z i ≡ in_at r i) × (out_at z i ≡ out_at r i)) (submitted_ok r s file h).1 (refl, named_push outgoing_name i r.outgoing file ∙ pushed)
 
--- a file that comes
+-- an incoming file
 started_elsewhere : (r s : Register) (header : Incoming) (count : ℕ) → started r header count ≡ Ok s → (i : Identity) → Some header.identity ≢ Some i
     → (in_at s i ≡ in_at r i) × (out_at s i ≡ out_at r i)
 started_elsewhere r s header count h i apart =
@@ -267,7 +267,7 @@ started_elsewhere r s header count h i apart =
     let now = (started_view r header count r.incoming part.0 part.1).others i (apart_of header.identity i apart) in
     subst (λ (z : Register). (in_at z i ≡ in_at r i) × (out_at z i ≡ out_at r i)) part.2 (now, refl)
 
--- a response that came
+-- a received response
 settled_other : (kind : ResponseKind) (identity : Identity) (file : Outgoing) → same_identity file.identity identity ≡ false → settled kind identity file ≡ file
 settled_other kind identity file h = cond-false (same_identity file.identity identity) (record file { state = answered kind file.state }) file h
 
@@ -308,7 +308,7 @@ both_elsewhere r (change.Refuse n reason) s h i apart = on_outgoing_elsewhere (r
 both_elsewhere r (change.Reopen n) s h i apart = on_outgoing_elsewhere reopened reopened_same n r s h i apart
 both_elsewhere r (change.Send n) s h i apart = on_incoming_elsewhere sent sent_same n r s h i apart
 
--- a change is of one identity
+-- a change concerns one identity
 pub stays_elsewhere : (r : Register) (k : Change) (s : Register) → apply r k ≡ Ok s → StaysElsewhere r s k
 stays_elsewhere r k s h = record {
   incoming = λ i apart. (both_elsewhere r k s h i apart).0;

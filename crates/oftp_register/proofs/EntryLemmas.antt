@@ -1,4 +1,4 @@
--- The entry with a number: what is known of it, and what a change makes of it.
+-- The entry with a number: what is known of it, and what a change does to it.
 use Rattle.std.proofs.Common.{◌≡◌, ℕ, zero, suc, false, List, [], ◌∷◌, ◌++◌, All, Option, None, Some, is_some, slice_get, map, take, drop, Result, Ok, refl, ap, sym, ◌∙◌, subst}
 use Rattle.std.proofs.lemmas.List.Elements.{All-cons, All-head, All-nil, All-tail}
 use Rattle.oftp_register.specs.declared.change.Cause.{Cause}
@@ -39,7 +39,7 @@ at_entry_number {A = A} P (suc n) xs x e h = by n xs e
     by zero (y ∷ ys) e = let is : y ≡ x = cc in subst P (sym is) h
     by (suc n) (y ∷ ys) e = by n ys e
 
--- a change of the entry with a number is made, where the entry allows it
+-- a change of the entry with a number is made, if the entry allows it
 pub at_entry : {A : Type 0} (g : A → Result A Cause) (n : ℕ) (xs : List A) (x y : A) → entry_at n xs ≡ Some x → g x ≡ Ok y
     → (ys : List A) × (at_number g n xs ≡ Ok ys) × (entry_at n ys ≡ Some y)
 at_entry {A = A} g zero xs x y e h = absurd (cc)
@@ -79,11 +79,11 @@ open_silent file sound is = none file.response (open_unanswered file sound is)
     none (Some x) h = absurd (cc)
 
 module _ (r : Register) (n : ℕ) (file : Incoming) (entry : entry_at n r.incoming ≡ Some file) (is_open : file.state ≡ Open) where
-  -- what is asked of the open file is asked of it
+  -- a premise on the open file holds of it
   asked : (Q : Incoming → Type 0) → Q file → AtNumber (λ (f : Incoming). IfOpen f.state (Q f)) n r.incoming
   asked Q h = at_entry_number (λ (f : Incoming). IfOpen f.state (Q f)) n r.incoming file entry (subst (λ state. IfOpen state (Q file)) (sym is_open) h)
 
-  -- rows that go on an open file, or end it, are fit
+  -- rows that continue an open file, or end it, are fit
   pub keep_fit : (rows : List (List ℕ)) → GoesOn rows file → IsFit r (Keep n rows)
   unfolding IsFit
   keep_fit rows h = asked (GoesOn rows) h
@@ -102,7 +102,7 @@ module _ (r : Register) (n : ℕ) (file : Incoming) (entry : entry_at n r.incomi
   unfolding apply
   close_changes rows = changes_incoming (closed rows) n r file _ entry (ap (if_open file (file.rows ++ rows) Whole) is_open)
 
-  -- and its rows can be given up
+  -- and its rows can be deleted
   pub give_up_changes : IsChanged (λ (s : Register). s.incoming) n r (record file { rows = []; state = Open }) (apply r (GiveUp n))
   unfolding apply
   give_up_changes = changes_incoming given_up n r file _ entry (ap (if_open file [] Open) is_open)

@@ -17,14 +17,14 @@ use Rattle.oftp_register.proofs.LookUpLemmas.{entry_at-nowhere, entry_at-place}
 use Rattle.oftp_vfile.specs.declared.format.TheConstants.{MOST_ROWS}
 use Rattle.oftp_register.specs.declared.fit.TheConstants.{MOST_UNITS}
 
--- what holds of no rows, and of the rows of each entry, holds of those that a place finds
+-- what holds of no rows, and of the rows of each entry, holds of those at an index
 rows_at : {A : Type 0} (P : A → Type 0) (rows : A → List (List ℕ)) (Q : List (List ℕ) → Type 0) → Q [] → ((x : A) → P x → Q (rows x)) → (xs : List A) (i : ℕ) → All P xs
     → Q (unwrap_or (slice_get (map rows xs) i) [])
 rows_at P rows Q none each [] i all = none
 rows_at P rows Q none each (x ∷ xs) zero all = each x (All-head P x xs all)
 rows_at P rows Q none each (x ∷ xs) (suc i) all = rows_at P rows Q none each xs i (All-tail P x xs all)
 
--- and so of those that a number finds in a sound register
+-- so it holds of those of a number in a sound register
 file_rows_are : (Q : List (List ℕ) → Type 0) → Q [] → ((f : Incoming) → IsSoundIncoming f → Q f.rows) → ((f : Outgoing) → IsSoundOutgoing f → Q f.rows) → (r : Register) (which : Side) (n : ℕ)
     → IsSound r → Q (file_rows r which n)
 file_rows_are Q none comes goes r side.Incoming zero sound = none
@@ -54,7 +54,7 @@ rows_found view rows files n i len x length_is place is =
     let within : i < length files.items = omega (arith, place.1, length_is, files.ok.0) in
     ap (λ k. unwrap_or (entry_at k (map rows (map view files.items))) []) (place.0 ∙ add-one i) ∙ ap (λ e. unwrap_or e []) (entry_at-place view rows files.items i x within is)
 
--- there are none of a number that no file has
+-- a number without a file has none
 pub no_rows_found : {S A Z : Type 0} (view : S → A) (rows : A → List (List ℕ)) (files : Vec S Z) (n len : ℕ) → len ≡ vec_len files → IsPlace n len None
     → unwrap_or (entry_at n (map rows (map view files.items))) [] ≡ []
 no_rows_found view rows files n len length_is place =

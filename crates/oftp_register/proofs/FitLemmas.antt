@@ -25,14 +25,14 @@ at_place view P [] i x within is = absurd (omega (arith, within))
 at_place view P (z ∷ xs) zero x within is = (λ h. subst (λ y. P (view y)) (sym is) h, λ h. subst (λ y. P (view y)) is h)
 at_place view P (z ∷ xs) (suc i) x within is = at_place view P xs i x (omega (arith, within)) is
 
--- a number of no entry
+-- a number without an entry
 at_no_place : {A : Type 0} (P : A → Type 0) (n : ℕ) (xs : List A) → (nat_lt 0 n && nat_le n (length xs)) ≡ false → AtNumber P n xs
 at_no_place P zero xs h = tt
 at_no_place P (suc n) [] h = tt
 at_no_place P (suc zero) (x ∷ xs) h = absurd (omega (arith, above 0 (suc (length xs)) h))
 at_no_place P (suc (suc n)) (x ∷ xs) h = at_no_place P (suc n) xs (above_again n (length xs) h)
 
--- what is asked of the file with a number
+-- the premise on the file with a number
 pub fit_at : (o : Lists) (P : Incoming → Type 0) (n i len : ℕ) (x : IncomingFile) → len ≡ vec_len o.incoming → IsPlace n len (Some i) → x ≡ get_or o.incoming.items i x
     → AtNumber P n (map incoming_of o.incoming.items) ↔ P (incoming_of x)
 fit_at o P n i len x length_is place is =
@@ -44,12 +44,12 @@ fit_nowhere o P n len length_is h =
     let counted : length (map incoming_of o.incoming.items) ≡ len = length-map o.incoming.items incoming_of ∙ sym (length_is ∙ o.incoming.ok.0) in
     at_no_place P n (map incoming_of o.incoming.items) (ap (λ k. nat_lt 0 n && nat_le n k) counted ∙ h)
 
--- what a change of this register asks, by the test of it
+-- the premise of a change of this register, by its check
 pub tests_fit : (r : Register) (change kind : Change) (Asked : Type 0) (answer : Bool) → change ≡ kind → Asked ↔ IsFit r kind → IsTrue answer ↔ Asked → IsTrue answer ↔ IsFit r change
 tests_fit r change kind Asked answer is asks tests =
     (λ yes. subst (IsFit r) (sym is) (asks.0 (tests.0 yes)), λ fit. tests.1 (asks.1 (subst (IsFit r) is fit)))
 
--- what the changes ask of a file that is there
+-- the premises of the changes on a file that exists
 pub keep_asks : (r : Register) (n : ℕ) (rows : List (List ℕ)) → AtNumber (λ (f : Incoming). IfOpen f.state (GoesOn rows f)) n r.incoming ↔ IsFit r (change.Keep n rows)
 unfolding IsFit
 keep_asks r n rows = (λ h. h, λ h. h)
@@ -74,7 +74,7 @@ start_asks o files identity format longest description count lent =
       λ h. (h.0, subst OfEach (sym lent) (all_of Asked incoming_of o.incoming.items h.1)),
     )
 
--- a fit change leaves the register sound, whatever becomes of it
+-- a fit change leaves the register sound, whatever its outcome
 pub makes_sound : {T : Type 0} (old new : Lists) (k : Change) (result : Result T OfficeFault) → IsSound (register_in old) → IsFit (register_in old) k
     → CarriesOut register_in (apply (register_in old) k) old new result → IsSound (register_in new)
 makes_sound old new k (Ok x) sound fit h = apply_keeps (register_in old) k (register_in new) sound fit h

@@ -1,4 +1,4 @@
--- The octets of the rows of a file are told from its format, its longest record, their number and the last of them.
+-- The number of octets of a file follows from its format, its longest record, the number of its rows and the last row.
 use Rattle.std.proofs.Common.{◌≡◌, ◌+◌, ◌-◌, ◌*◌, ◌<◌, ◌≤◌, ◌++◌, ◌&&◌, ℕ, zero, suc, nat_lt, nat_le, List, [], ◌∷◌, length, drop, map, get_or, All, Option, None, Some, slice_get, refl, sym, ap, ◌∙◌, arith, add-one, length-append}
 use Rattle.std.specs.Prelude.{Vec}
 use Rattle.std.specs.Vec.{vec_len}
@@ -65,7 +65,7 @@ units_are_told Whole Text longest rows fits = blocks_counted rows fits
 
 -- ---- the file with a number
 
--- what is told of these rows in a format, if there is one: without one there are none
+-- the octets of these rows by a format, if there is one: without one there are none
 abbrev told_in : Option (Format × ℕ) → List (List ℕ) → ℕ
 told_in None rows = 0
 told_in (Some (format, longest)) rows = units_told format longest rows
@@ -90,20 +90,20 @@ pub units_of_file : (r : Register) (which : Side) (n : ℕ) (format : Format) (l
     → units_told format longest (file_rows r which n) ≡ units_of r which n
 units_of_file r which n format longest sound is = sym (told_of_file r which n sound ∙ ap (λ found. told_in found (file_rows r which n)) (sym is))
 
--- there are none of a number that no file has
+-- a number without a file has none
 pub units_of_none : (r : Register) (which : Side) (n : ℕ) → IsSound r → None ≡ file_format r which n → 0 ≡ units_of r which n
 units_of_none r which n sound is = sym (told_of_file r which n sound ∙ ap (λ found. told_in found (file_rows r which n)) (sym is))
 
 -- ---- a file in a list
 
--- what is told of the file with a number in a list
+-- the format of the file with a number in a list
 pub told_found : {S A B Z : Type 0} (view : S → A) (tell : A → B) (files : Vec S Z) (n i len : ℕ) (x : S) → len ≡ vec_len files → IsPlace n len (Some i)
     → x ≡ get_or files.items i x → option_map tell (entry_at n (map view files.items)) ≡ Some (tell (view x))
 told_found view tell files n i len x length_is place is =
     let within : i < length files.items = omega (arith, place.1, length_is, files.ok.0) in
     ap (λ k. option_map tell (entry_at k (map view files.items))) (place.0 ∙ add-one i) ∙ sym (slice_get-map tell (map view files.items) i) ∙ entry_at-place view tell files.items i x within is
 
--- nothing is told of a number that no file has
+-- a number without a file has no format
 pub told_nowhere : {S A B Z : Type 0} (view : S → A) (tell : A → B) (files : Vec S Z) (n len : ℕ) → len ≡ vec_len files → IsPlace n len None
     → option_map tell (entry_at n (map view files.items)) ≡ None
 told_nowhere view tell files n len length_is place =

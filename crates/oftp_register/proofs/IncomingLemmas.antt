@@ -1,4 +1,4 @@
--- What the changes of incoming files keep.
+-- What the changes of incoming files preserve.
 use Rattle.std.proofs.Common.{◌≡◌, ◌⊎◌, ℕ, true, false, cond, nat_lt, nat_le, ◌≤◌, List, [], ◌∷◌, ◌++◌, length, take, map, All, Option, None, Some, is_some, Result, Ok, Err, refl, ap, sym, ◌∙◌, subst, inl, inr, arith, length-append, length-take}
 use Rattle.std.proofs.lemmas.Bool.{cases_Bool, cond-true, cond-false, ltb-false}
 use Rattle.std.proofs.lemmas.List.Elements.{All-cons, All-head, All-tail, All-nil}
@@ -26,7 +26,7 @@ open_rows file sound is = subst (λ state. FitsState state file.format file.long
 pub open_unanswered : (file : Incoming) → IsSoundIncoming file → file.state ≡ Open → is_some file.response ≡ false
 open_unanswered file sound is = subst (λ state. IsAnsweredWhole state file.response) is sound.answered
 
--- a change that an open file alone allows
+-- a change that only an open file allows
 pub if_open_ok : (file : Incoming) (rows : List (List ℕ)) (next state : IncomingState) (after : Incoming) → if_open file rows next state ≡ Ok after
     → (state ≡ Open) × (record file { rows = rows; state = next } ≡ after)
 if_open_ok file rows next Open after h = (refl, cc)
@@ -58,7 +58,7 @@ given_up_sound file after sound h =
     let made = if_open_ok file [] Open file.state after h in
     subst IsSoundIncoming made.1 (in_state_sound file [] Open sound (omega arith) (full-nil file.format file.longest) (open_unanswered file sound made.0))
 
--- a response is issued to a whole file alone
+-- a response is issued only to a whole file
 pub issued_on_ok : (response : Issued) (file : Incoming) (state : IncomingState) (after : Incoming) → issued_on response file state ≡ Ok after
     → (state ≡ Whole) × (record file { response = Some response } ≡ after)
 issued_on_ok response file Open after h = absurd (cc)
@@ -124,7 +124,7 @@ issued_same response file after h = ap (λ (f : Incoming). f.identity) (sym (iss
 pub sent_same : (file after : Incoming) → sent file ≡ Ok after → after.identity ≡ file.identity
 sent_same file after h = ap (λ (f : Incoming). f.identity) (sym (sent_of_ok file file.response after h).3)
 
--- a file goes on where it is open and has these rows
+-- a file goes on if it is open and has these rows
 pub gone_on_ok : (header : Incoming) (count : ℕ) (file : Incoming) (state : IncomingState) (after : Incoming) → gone_on header count file state ≡ Ok after
     → (state ≡ Open) × (record header { rows = take count file.rows; response = file.response } ≡ after) × (nat_lt (length file.rows) count ≡ false)
 gone_on_ok header count file Open after h =
@@ -137,7 +137,7 @@ gone_on_ok header count file Open after h =
     ]
 gone_on_ok header count file Whole after h = absurd (cc)
 
--- a header that begins a file
+-- a header that starts a file
 pub record Begins (header : Incoming) : Type 0 where
   pub longest : IsLongest header.format header.longest
   pub state : header.state ≡ Open
@@ -154,7 +154,7 @@ begins_sound header begins = let none = full-nil header.format header.longest in
   answer = subst IsSoundAnswer (sym begins.response) tt;
 }
 
--- a file begins at its first row
+-- a file starts at its first row
 pub begun_ok : (r : Register) (header : Incoming) (count : ℕ) (after : Incoming) → begun r header count ≡ Ok after → (header ≡ after) × (count ≡ 0)
 begun_ok r header count after h =
     let full = nat_le r.limits.files (length r.incoming) in
@@ -207,7 +207,7 @@ started_sound r header count (file ∷ files) after begins all fit h =
           subst (All IsSoundIncoming) part.2 (All-cons IsSoundIncoming file part.0 first later))
     ]
 
--- the identities after a start: as before, or with one more that wasn't there
+-- the identities after a start: as before, or with one more that is new
 started_names : (r : Register) (header : Incoming) (count : ℕ) (files after : List Incoming) → started_in r header count files ≡ Ok after
     → (map (λ (f : Incoming). f.identity) after ≡ map (λ (f : Incoming). f.identity) files)
     ⊎ ((map (λ (f : Incoming). f.identity) after ≡ map (λ (f : Incoming). f.identity) files ++ header.identity ∷ [])
@@ -231,7 +231,7 @@ started_names r header count (file ∷ files) after h =
           ])
     ]
 
--- the start of a file keeps the identities apart
+-- the start of a file keeps the identities different
 pub started_once : (r : Register) (header : Incoming) (count : ℕ) (files after : List Incoming) → AreNamedOnce (map (λ (f : Incoming). f.identity) files) → started_in r header count files ≡ Ok after
     → AreNamedOnce (map (λ (f : Incoming). f.identity) after)
 started_once r header count files after once h =

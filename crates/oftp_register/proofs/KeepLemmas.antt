@@ -1,4 +1,4 @@
--- Each change keeps a register sound.
+-- Each change preserves a sound register.
 use Rattle.std.proofs.Common.{◌≡◌, ℕ, zero, suc, List, [], ◌∷◌, ◌++◌, map, All, Result, Ok, refl, sym, ◌∙◌, subst, arith}
 use Rattle.std.proofs.lemmas.List.{map-append}
 use Rattle.std.proofs.lemmas.List.Elements.{All-push}
@@ -77,7 +77,7 @@ submitted_sound r s file sound fit h =
     (subst AreNamedOnce (sym (map-append name r.outgoing (file ∷ [])))
     (once-append (map name r.outgoing) file.identity sound.outgoing_once (list_any-map (λ x. same_identity x file.identity) name r.outgoing ∙ made.0))))
 
--- a file that comes
+-- an incoming file
 start_keeps : (r s : Register) (header : Incoming) (count : ℕ) → IsSound r → Begins header
     → All (MayStart header.identity header.format header.longest count) r.incoming → started r header count ≡ Ok s → IsSound s
 start_keeps r s header count sound begins fit h =
@@ -86,7 +86,7 @@ start_keeps r s header count sound begins fit h =
     let once = started_once r header count r.incoming part.0 sound.incoming_once part.1 in
     subst IsSound part.2 (with_incoming r part.0 sound all once)
 
--- a response that comes
+-- a received response
 filed_sound : (r s : Register) (response : Received) → IsSound r → IsSoundReceived response → filed r response ≡ Ok s → IsSound s
 filed_sound r s response sound fit h =
     let made = filed_ok r s response h in
@@ -101,7 +101,7 @@ filed_sound r s response sound fit h =
       received_once = filed-append r.received response sound.received_once made.0;
     })
 
--- a change that is fit keeps the register sound
+-- a change that is fit preserves a sound register
 pub apply_keeps : (r : Register) (k : Change) (s : Register) → IsSound r → IsFit r k → apply r k ≡ Ok s → IsSound s
 unfolding apply IsFit
 apply_keeps r (change.Submit identity format longest description rows) s sound fit h =

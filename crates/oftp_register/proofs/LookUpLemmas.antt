@@ -31,7 +31,7 @@ numbered-push entry n (y ∷ xs) x =
     let e : n + 1 + length xs ≡ n + suc (length xs) = omega arith in
     ap (λ ys. entry n y ∷ ys) (numbered-push entry (n + 1) xs x ∙ ap (λ k. numbered entry (n + 1) xs ++ entry k x ∷ []) e)
 
--- a test that doesn't look at the number passes at the same place
+-- a test that doesn't use the number passes at the same place
 numbered_place : {S A B : Type 0} (view : S → A) (entry : ℕ → A → B) (p : B → Bool) (q : S → Bool) → ((n : ℕ) (x : S) → p (entry n (view x)) ≡ q x) → (n : ℕ) (xs : List S)
     → position_or_len p (numbered entry n (map view xs)) ≡ position_or_len q xs
 numbered_place view entry p q same n [] = refl
@@ -61,7 +61,7 @@ find-numbered-none view entry p q same n (x ∷ xs) h =
     let parts = or_parts (q x) (list_any q xs) h in
     cond-false (p (entry n (view x))) _ _ (same n x ∙ parts.0) ∙ find-numbered-none view entry p q same (n + 1) xs parts.1
 
--- what an identity finds stands at the place where the first of a lent list has it
+-- what an identity finds is at the place where the first of a borrowed list has it
 pub looked_at : {S A B : Type 0} (view : S → A) (entry : ℕ → A → B) (named : B → Identity) (name : S → Identity) → ((n : ℕ) (x : S) → named (entry n (view x)) ≡ name x) → (identity : Identity)
     (lent xs : List S) (told : Option ℕ) (i : ℕ) → lent ≡ xs → told ≡ position (λ x. same_identity (name x) identity) lent → told ≡ Some i
     → find (λ b. same_identity (named b) identity) (numbered entry 1 (map view xs)) ≡ slice_get (numbered entry 1 (map view xs)) i
@@ -125,7 +125,7 @@ found-miss view entry p i xs x within is fails =
 pub found-end : {S A B : Type 0} (view : S → A) (entry : ℕ → A → B) (p : B → Bool) (i : ℕ) (xs : List S) → length xs ≤ i → found_from view entry p i xs ≡ None
 found-end view entry p i xs past = ap (λ ys. find p (numbered entry (1 + i) (map view ys))) (drop_all i xs past)
 
--- the same of the entries that there are
+-- the same of all entries
 abbrev pub issued_from : {S A B : Type 0} → (S → A) → (ℕ → A → Option B) → (B → Bool) → ℕ → List S → Option B
 issued_from view entry p i xs = find p (filter_map (λ e. e) (numbered entry (1 + i) (map view (drop i xs))))
 
@@ -163,7 +163,7 @@ issued-miss view entry p i xs x within is h = issued-here view entry p i xs x wi
 pub issued-end : {S A B : Type 0} (view : S → A) (entry : ℕ → A → Option B) (p : B → Bool) (i : ℕ) (xs : List S) → length xs ≤ i → issued_from view entry p i xs ≡ None
 issued-end view entry p i xs past = ap (λ ys. find p (filter_map (λ e. e) (numbered entry (1 + i) (map view ys)))) (drop_all i xs past)
 
--- the entry at a place of a list that is lent
+-- the entry at a place of a list that is borrowed
 pub lent_place : {S : Type 0} (lent xs : List S) (i : ℕ) (x : S) → lent ≡ xs → i < length lent → x ≡ get_or lent i x → (i < length xs) × (x ≡ get_or xs i x)
 lent_place lent xs i x same within is = (subst (λ ys. i < length ys) same within, subst (λ ys. x ≡ get_or ys i x) same is)
 
@@ -173,13 +173,13 @@ fact_at view P [] i x all within is = absurd (omega arith)
 fact_at view P (z ∷ xs) zero x all within is = subst (λ y. P (view y)) (sym is) (All-head P (view z) (map view xs) all)
 fact_at view P (z ∷ xs) (suc i) x all within is = fact_at view P xs i x (All-tail P (view z) (map view xs) all) (omega arith) is
 
--- a fact of each view, at a place of a list that is lent
+-- a fact of each view, at a place of a list that is borrowed
 pub fact_lent : {S A : Type 0} (view : S → A) (P : A → Type 0) (lent xs : List S) (i : ℕ) (x : S) → All P (map view xs) → lent ≡ xs → i < length lent → x ≡ get_or lent i x → P (view x)
 fact_lent view P lent xs i x all same within is =
     let at = lent_place lent xs i x same within is in
     fact_at view P xs i x all at.0 at.1
 
--- the entry at a place is the one that was made of it
+-- the entry at a place is the one that it was made from
 pub made_at : {S A B Z : Type 0} (view : S → A) (entry : ℕ → A → B) (xs : Vec S Z) (i : ℕ) (x : S) (made : B) → i < vec_len xs → x ≡ get_or xs.items i x
     → made ≡ entry (i + 1) (view x) → Some made ≡ slice_get (numbered entry 1 (map view xs.items)) i
 made_at view entry xs i x made within is told =
@@ -199,7 +199,7 @@ listed_more view entry xs i x before after b within is so_far made pushed =
     ∙ ap (numbered entry 1) (sym (map-append view front (x ∷ [])))
     ∙ ap (λ ys. numbered entry 1 (map view ys)) (ap (λ y. front ++ y ∷ []) is ∙ sym (take_more xs i x within))
 
--- the same, where the list is lent
+-- the same, where the list is borrowed
 pub listed_lent : {S A B : Type 0} (view : S → A) (entry : ℕ → A → B) (lent xs : List S) (i : ℕ) (x : S) (before after : List B) (b : B) → lent ≡ xs → i < length lent → x ≡ get_or lent i x
     → before ≡ numbered entry 1 (map view (take i xs)) → b ≡ entry (i + 1) (view x) → after ≡ before ++ b ∷ [] → after ≡ numbered entry 1 (map view (take (i + 1) xs))
 listed_lent view entry lent xs i x before after b same within is =

@@ -1,4 +1,4 @@
--- Entries that are told apart by their identities.
+-- Entries that differ by their identities.
 use Rattle.std.proofs.Common.{◌≡◌, ℕ, Bool, true, false, ◌&&◌, ◌||◌, List, [], ◌∷◌, ◌++◌, map, refl, ap, ◌∙◌}
 use Rattle.std.specs.Str.{bytes_eq}
 use Rattle.std.specs.List.{list_any}
@@ -13,7 +13,7 @@ use Rattle.oftp_register.specs.Soundness.{AreFiledOnce, AreNamedOnce}
 abbrev made : List ℕ → List ℕ → List ℕ → List ℕ → List ℕ → Identity
 made dataset date time originator destination = record { dataset = dataset; date = date; time = time; originator = originator; destination = destination }
 
--- identities that name one file are equal
+-- identities of the same file are equal
 pub same_identity-true : (a b : Identity) → same_identity a b ≡ true → a ≡ b
 same_identity-true a b h =
     let all = and_parts (bytes_eq a.dataset b.dataset) (bytes_eq a.date b.date && (bytes_eq a.time b.time && (bytes_eq a.originator b.originator && bytes_eq a.destination b.destination))) h in
@@ -26,7 +26,7 @@ same_identity-true a b h =
     ∙ ap (λ x. made b.dataset b.date b.time x a.destination) ((bytes_eq-Decides a.originator b.originator).0 ends.0)
     ∙ ap (λ x. made b.dataset b.date b.time b.originator x) ((bytes_eq-Decides a.destination b.destination).0 ends.1)
 
--- one more name that isn't there yet
+-- one more identity that is new
 pub once-append : (xs : List Identity) (y : Identity) → AreNamedOnce xs → list_any (λ x. same_identity x y) xs ≡ false → AreNamedOnce (xs ++ y ∷ [])
 once-append [] y once new = (refl, tt)
 once-append (x ∷ xs) y once new =
@@ -35,7 +35,7 @@ once-append (x ∷ xs) y once new =
     let all = or_from (list_any (λ z. same_identity x z) xs) (same_identity x y || false) once.0 last in
     (list_any-append (λ z. same_identity x z) xs (y ∷ []) ∙ all, once-append xs y once.1 parts.1)
 
--- one more response that isn't there yet
+-- one more response that is new
 pub filed-append : (xs : List Received) (y : Received) → AreFiledOnce xs → list_any (is_response_to y.kind y.identity) xs ≡ false → AreFiledOnce (xs ++ y ∷ [])
 filed-append [] y once new = (refl, tt)
 filed-append (x ∷ xs) y once new =
@@ -44,7 +44,7 @@ filed-append (x ∷ xs) y once new =
     let all = or_from (list_any (λ (z : Received). is_response_to z.kind z.identity x) xs) (is_response_to y.kind y.identity x || false) once.0 last in
     (list_any-append (λ (z : Received). is_response_to z.kind z.identity x) xs (y ∷ []) ∙ all, filed-append xs y once.1 parts.1)
 
--- a test of values is a test of what they are of
+-- a test of values is a test of what they come from
 pub list_any-map : {A B : Type 0} (p : B → Bool) (f : A → B) (xs : List A) → list_any p (map f xs) ≡ list_any (λ x. p (f x)) xs
 list_any-map p f [] = refl
 list_any-map p f (x ∷ xs) = ap (λ b. p (f x) || b) (list_any-map p f xs)

@@ -1,4 +1,4 @@
--- What a change of the entry with a number keeps.
+-- What a change of the entry with a number preserves.
 use Rattle.std.proofs.Common.{◌≡◌, ℕ, zero, suc, List, [], ◌∷◌, map, All, Result, Ok, Err, refl, ap, sym, ◌∙◌, subst}
 use Rattle.std.proofs.lemmas.List.Elements.{All-cons, All-head, All-tail}
 use Rattle.oftp_register.specs.declared.change.Cause.{Cause}
@@ -10,7 +10,7 @@ pub mapped_ok : {A B : Type 0} (f : A → B) (r : Result A Cause) (y : B) → ma
 mapped_ok f (Ok x) y h = (x, refl, cc)
 mapped_ok f (Err cause) y h = absurd (cc)
 
--- a result is one thing
+-- a result is one value
 pub one_result : {A : Type 0} (r : Result A Cause) (x y : A) → r ≡ Ok x → r ≡ Ok y → x ≡ y
 one_result r x y g h = cc
 
@@ -29,7 +29,7 @@ at_number_keeps P Q f keeps (suc (suc n)) (x ∷ xs) ys all at h =
     let part = mapped_ok (λ zs. x ∷ zs) (at_number f (suc n) xs) ys h in
     subst (All P) part.2 (All-cons P x part.0 (All-head P x xs all) (at_number_keeps P Q f keeps (suc n) xs part.0 (All-tail P x xs all) at part.1))
 
--- what the entries are of
+-- the identities of the entries
 pub at_number_same : {A B : Type 0} (name : A → B) (f : A → Result A Cause) → ((x y : A) → f x ≡ Ok y → name y ≡ name x) → (n : ℕ) (xs ys : List A) → at_number f n xs ≡ Ok ys
     → map name ys ≡ map name xs
 at_number_same name f same zero xs ys h = absurd (cc)

@@ -1,4 +1,4 @@
--- What the changes of outgoing files keep.
+-- What the changes of outgoing files preserve.
 use Rattle.std.proofs.Common.{◌≡◌, ℕ, Bool, true, false, ◌&&◌, ◌||◌, nat_le, List, [], ◌∷◌, length, map, All, Ok, refl, ap, sym, ◌∙◌, subst, arith}
 use Rattle.std.proofs.lemmas.Bool.{cond_both, and_parts, leb-true}
 use Rattle.std.proofs.lemmas.List.Elements.{All-cons, All-head, All-tail, All-nil}
@@ -56,7 +56,7 @@ refused_same reason file after h = ap (λ (f : Outgoing). f.identity) (sym (allo
 pub reopened_same : (file after : Outgoing) → reopened file ≡ Ok after → after.identity ≡ file.identity
 reopened_same file after h = ap (λ (f : Outgoing). f.identity) (sym (allowed_ok (is_closing file.state) (record file { state = Waiting; mark = 0 }) after h).1)
 
--- a response that comes keeps the files sound and their identities
+-- a received response keeps the files sound and their identities
 settled_sound : (kind : ResponseKind) (identity : Identity) (file : Outgoing) → IsSoundOutgoing file → IsSoundOutgoing (settled kind identity file)
 settled_sound kind identity file sound =
     cond_both (same_identity file.identity identity) (record file { state = answered kind file.state }) file IsSoundOutgoing (λ _. with_state_sound file (answered kind file.state) sound) (λ _. sound)

@@ -22,15 +22,15 @@ at_number-within view f (z ∷ xs) zero x within is = ap (λ w. mapped (λ y. y 
 at_number-within view f (z ∷ xs) (suc i) x within is =
     ap (mapped (λ ys. view z ∷ ys)) (at_number-within view f xs i x (omega arith) is) ∙ mapped-mapped (λ ys. view z ∷ ys) (λ y. set (map view xs) i y) (f (view x))
 
--- a number above 0 that is no number of an entry is above the list
+-- a number above 0 without an entry is beyond the list
 pub above : (n m : ℕ) → (nat_lt 0 (suc n) && nat_le (suc n) m) ≡ false → m < suc n
 above n m h = elim (and_cases (nat_lt 0 (suc n)) (nat_le (suc n) m) h) [ inl e ↦ absurd (omega (arith, ltb-false 0 (suc n) e)) | inr e ↦ leb-false (suc n) m e ]
 
--- and so is the number before it above the rest of the list
+-- and so is the number before it beyond the rest of the list
 pub above_again : (n m : ℕ) → (nat_lt 0 (suc (suc n)) && nat_le (suc (suc n)) (suc m)) ≡ false → (nat_lt 0 (suc n) && nat_le (suc n) m) ≡ false
 above_again n m h = and_right (nat_lt 0 (suc n)) (nat_le (suc n) m) (lt-leb (suc n) m (omega (arith, above (suc n) (suc m) h)))
 
--- a number outside the list names nothing
+-- a number outside the list has no entry
 pub at_number-outside : {A : Type 0} (f : A → Result A Cause) (n : ℕ) (xs : List A) → (nat_lt 0 n && nat_le n (length xs)) ≡ false → at_number f n xs ≡ Err Unknown
 at_number-outside f zero xs h = refl
 at_number-outside f (suc n) [] h = refl
@@ -38,7 +38,7 @@ at_number-outside f (suc zero) (x ∷ xs) h = absurd (omega (arith, above 0 (suc
 at_number-outside f (suc (suc n)) (x ∷ xs) h =
     ap (mapped (λ ys. x ∷ ys)) (at_number-outside f (suc n) xs (above_again n (length xs) h))
 
--- a write of what stands there changes nothing
+-- a write of the same value changes nothing
 pub set_same : {X : Type 0} (xs : List X) (i : ℕ) (x : X) → x ≡ get_or xs i x → set xs i x ≡ xs
 set_same xs i x is = ap (set xs i) is ∙ set-get_or xs i x
 
@@ -47,7 +47,7 @@ pub map-set_same : {S A : Type 0} (view : S → A) (xs : List S) (i : ℕ) (x y 
 map-set_same view xs i x y is same =
     map-set view xs i y ∙ ap (set (map view xs) i) same ∙ sym (map-set view xs i x) ∙ ap (map view) (set_same xs i x is)
 
--- what a change makes of an entry it makes of the list
+-- what a change does to an entry, it does to the list
 pub makes_at : {S A T : Type 0} (view : S → A) (wanted : Result A Cause) (xs : List S) (i : ℕ) (x y : S) (result : Result T OfficeFault) → x ≡ get_or xs i x
     → CarriesOut view wanted x y result → CarriesOut (map view) (mapped (λ z. set (map view xs) i z) wanted) xs (set xs i y) result
 makes_at view wanted xs i x y (Ok u) is h = ap (mapped (λ z. set (map view xs) i z)) h ∙ ap Ok (sym (map-set view xs i y))
@@ -62,7 +62,7 @@ makes_at_number view f xs n i x y result number within is h =
     let e : at_number f n (map view xs) ≡ mapped (λ z. set (map view xs) i z) (f (view x)) = ap (λ k. at_number f k (map view xs)) (number ∙ add-one i) ∙ at_number-within view f xs i x within is in
     rw e (makes_at view (f (view x)) xs i x y result is h)
 
--- what a change makes of a part it makes of the whole
+-- what a change does to a part, it does to the whole
 pub makes_part : {S A B C T : Type 0} (part : S → A) (whole : B → C) (place : A → C) (wanted : Result A Cause) (old new : S) (was is : B) (result : Result T OfficeFault)
     → whole was ≡ place (part old) → whole is ≡ place (part new) → CarriesOut part wanted old new result → CarriesOut whole (mapped place wanted) was is result
 makes_part part whole place wanted old new was is (Ok u) before after h = ap (mapped place) h ∙ ap Ok (sym after)

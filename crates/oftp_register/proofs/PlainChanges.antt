@@ -1,4 +1,4 @@
--- What a change of one file makes of a register in memory.
+-- What a change of one file does to a register in memory.
 use Rattle.std.proofs.Common.{List, ◌≡◌, ℕ, ◌<◌, ◌&&◌, length, map, set, get_or, Some, None, Result, Err, refl, ap, ◌∙◌, nat_lt, nat_le, sym, arith}
 use Rattle.std.proofs.lemmas.List.{length-map}
 use Rattle.std.specs.Prelude.{Vec}
@@ -14,7 +14,7 @@ use Rattle.oftp_register.specs.Changes.{mapped, at_number, on_incoming, on_outgo
 use Rattle.oftp_register.specs.Lists.{IsPlace, CarriesOut, incoming_of, outgoing_of, register_in}
 use Rattle.oftp_register.proofs.Places.{at_number-outside, makes_at_number, makes_part}
 
--- a change of the entry with a number of one list, which has a place of its own in the register
+-- a change of the entry with a number in one list of the register
 changed_at : {S A T Z : Type 0} (view : S → A) (place : List A → Register) (f : A → Result A Cause) (files : Vec S Z) (o after : Lists) (n i len : ℕ) (x y : S) (result : Result T OfficeFault)
     → register_in o ≡ place (map view files.items) → register_in after ≡ place (map view (set files.items i y))
     → len ≡ vec_len files → IsPlace n len (Some i) → x ≡ get_or files.items i x → CarriesOut view (f (view x)) x y result
@@ -24,7 +24,7 @@ changed_at view place f files o after n i len x y result was now length_is at is
     makes_part (map view) register_in place (at_number f n (map view files.items)) files.items (set files.items i y) o after result was now
     (makes_at_number view f files.items n i x y result at.0 within is h)
 
--- a change of an entry that isn't there
+-- a change of an entry that doesn't exist
 unknown_at : {S A Z : Type 0} (view : S → A) (place : List A → Register) (f : A → Result A Cause) (files : Vec S Z) (n len : ℕ) → len ≡ vec_len files → IsPlace n len None
     → mapped place (at_number f n (map view files.items)) ≡ Err Unknown
 unknown_at view place f files n len length_is h =

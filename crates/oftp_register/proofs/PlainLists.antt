@@ -1,4 +1,4 @@
--- What a change that looks for an identity makes of a register in memory.
+-- What a change that looks for an identity does to a register in memory.
 use Rattle.std.proofs.Common.{◌≡◌, ℕ, ◌<◌, ◌≤◌, ◌+◌, zero, suc, Bool, true, false, cond, nat_le, List, [], ◌∷◌, ◌++◌, length, map, set, get_or, take, drop, Ok, Err, ap, sym, ◌∙◌, arith, add-one}
 use Rattle.std.specs.List.{list_any}
 use Rattle.std.proofs.lemmas.Bool.{cond-true, cond-false, le-leb, lt-leb}
@@ -15,7 +15,7 @@ use Rattle.oftp_register.proofs.NameLemmas.{list_any-map}
 pub map_pushed : {A B : Type 0} (view : A → B) (xs ys : List A) (x : A) (b : B) → ys ≡ xs ++ x ∷ [] → view x ≡ b → map view xs ++ b ∷ [] ≡ map view ys
 map_pushed view xs ys x b is same = sym (ap (map view) is ∙ map-append view xs (x ∷ []) ∙ ap (λ c. map view xs ++ c ∷ []) same)
 
--- a write at the place as far as which a list is mapped
+-- a write at the place up to which a list is mapped
 mapped_once_more : {A B : Type 0} (view : A → B) (g : B → B) (xs : List A) (i : ℕ) (x y : A) → i < length xs → x ≡ get_or xs i x → view y ≡ g (view x)
     → take (suc i) (map view (set xs i y)) ++ map g (drop (suc i) (map view (set xs i y))) ≡ take i (map view xs) ++ map g (drop i (map view xs))
 mapped_once_more view g [] i x y within is made = absurd (omega arith)
@@ -29,7 +29,7 @@ mapped_more view g xs i x y within is made = rw add-one (mapped_once_more view g
 pub mapped_all : {B : Type 0} (g : B → B) (bs : List B) (i : ℕ) → length bs ≤ i → bs ≡ take i bs ++ map g (drop i bs)
 mapped_all g bs i past = sym (ap (λ rest. take i bs ++ map g rest) (drop_all i bs past) ∙ append-nil (take i bs) ∙ take_all i bs past)
 
--- a file that is there
+-- a file that exists
 pub submit_duplicate : (o : Lists) (file : Outgoing) (files : List OutgoingFile) (there : Bool) → files ≡ o.outgoing.items
     → there ≡ list_any (λ (f : OutgoingFile). same_identity f.identity file.identity) files → there ≡ true → submitted (register_in o) file ≡ Err Duplicate
 submit_duplicate o file files there lent is found =
@@ -54,7 +54,7 @@ is_full view xs limit len n counted length_is full = le-leb limit _ (omega (arit
 pub is_not_full : {S A : Type 0} (view : S → A) (xs : List S) (limit len n : ℕ) → n ≡ length xs → len ≡ n → len < limit → nat_le limit (length (map view xs)) ≡ false
 is_not_full view xs limit len n counted length_is room = lt-leb limit _ (omega (arith, length-map xs view))
 
--- a response that is there
+-- a response that exists
 pub file_duplicate : (o : Lists) (response : Received) → has_received (register_in o) response.kind response.identity ≡ true → filed (register_in o) response ≡ Err Duplicate
 file_duplicate o response found = cond-true (has_received (register_in o) response.kind response.identity) _ _ found
 

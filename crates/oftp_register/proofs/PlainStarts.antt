@@ -1,4 +1,4 @@
--- What the start of a file makes of the incoming files.
+-- What the start of a file does to the incoming files.
 use Rattle.std.proofs.Common.{◌≡◌, ℕ, zero, suc, ◌<◌, ◌≤◌, ◌+◌, Bool, true, false, not, cond, ◌||◌, nat_lt, List, [], ◌∷◌, ◌++◌, length, map, set, get_or, Option, Some, None, Result, refl, ap, sym, ◌∙◌, inl, inr, arith}
 use Rattle.std.proofs.lemmas.Bool.{cond-true, cond-false, cases_Bool, ltb-false, or_parts}
 use Rattle.std.proofs.lemmas.List.Quantifiers.{position-Some}
@@ -35,7 +35,7 @@ started_in-new r header count (f ∷ files) none =
     ∙ ap (mapped (λ fs. incoming_of f ∷ fs)) (started_in-new r header count files parts.1)
     ∙ mapped-mapped (λ fs. incoming_of f ∷ fs) (λ file. map incoming_of files ++ file ∷ []) (begun r header count)
 
--- where no first place is found, no element passes
+-- if no first place is found, no element passes
 none_of : (b : Bool) (n rest : ℕ) (more : Bool) → suc n ≤ cond (not b) (1 + rest) 0 → (n ≤ rest → more ≡ false) → (b || more) ≡ false
 none_of true n rest more h k = absurd (omega arith)
 none_of false n rest more h k = k (omega arith)
@@ -52,7 +52,7 @@ position-None p xs h =
       | inr e ↦ ltb-false at (length xs) e
     ])
 
--- the start of a file that is there
+-- the start of a file that exists
 pub start_found : {T : Type 0} (o : Lists) (header : Incoming) (count : ℕ) (files : List IncomingFile) (found : Option ℕ) (i : ℕ) (x y : IncomingFile) (result : Result T OfficeFault)
     → files ≡ o.incoming.items
     → found ≡ position (λ (f : IncomingFile). same_identity f.identity header.identity) files → found ≡ Some i → x ≡ get_or o.incoming.items i x

@@ -1,4 +1,4 @@
--- Changes in turn.
+-- Changes in order.
 use Rattle.std.proofs.Common.{◌≡◌, ◌⊎◌, ◌≤◌, List, [], ◌∷◌, ◌++◌, fold, length, take, Ok, Err, refl, ap, sym, ◌∙◌, subst, inl, inr, arith, length-append, append_assoc, append-nil}
 use Rattle.std.specs.Bool.{⊤}
 use Rattle.std.proofs.lemmas.Grind.{fold-append}
@@ -12,13 +12,13 @@ use Rattle.oftp_register.specs.Changes.{apply, apply_all, go_on_by}
 use Rattle.oftp_register.specs.Soundness.{AreFit, IsFit}
 use Rattle.oftp_register.specs.Offices.{Commits, CommitsAll, CountsFault, EndsAt, IsAfterPrefix, IsRefused, Only, View}
 
--- what the changes so far have made of an office that stood
+-- what the changes so far did to an office that was open
 pub record HasMade (old now : View) (gone rest : List Change) : Type 0 where
   pub fit : AreFit now.register rest
   pub stands : now.stands
   pub made : apply_all old.register gone ≡ Ok now.register
 
--- how far the changes are made
+-- how many changes are made
 pub record IsGoing (changes : List Change) (old now : View) (gone rest : List Change) : Type 0 where
   pub clean : now.clean → old.clean
   pub whole : gone ++ rest ≡ changes
@@ -38,7 +38,7 @@ fit_later r s k rest later is fit made = (subst (AreFit r) is fit).1 s made
 pub apply_all-push : (r before : Register) (gone : List Change) (k : Change) → apply_all r gone ≡ Ok before → apply_all r (gone ++ k ∷ []) ≡ apply before k
 apply_all-push r before gone k made = fold-append go_on_by (Ok r) gone (k ∷ []) ∙ ap (λ so_far. go_on_by so_far k) made
 
--- one more change is gone
+-- one more change is done
 moved_on : {A : Type 0} (gone rest later all : List A) (x : A) → gone ++ rest ≡ all → rest ≡ x ∷ later → (gone ++ x ∷ []) ++ later ≡ all
 moved_on gone rest later all x whole is = append_assoc gone (x ∷ []) later ∙ ap (λ ys. gone ++ ys) (sym is) ∙ whole
 
@@ -47,14 +47,14 @@ stays_refused : (cause : Cause) (changes : List Change) → fold go_on_by (Err c
 stays_refused cause [] = refl
 stays_refused cause (k ∷ ks) = stays_refused cause ks
 
--- the changes so far are the first so many
+-- the changes so far are a prefix
 front_of : {A : Type 0} (gone rest all : List A) → gone ++ rest ≡ all → take (length gone) all ≡ gone
 front_of gone rest all whole = ap (take (length gone)) (sym whole) ∙ take_at gone rest (length gone) refl
 
 within_all : {A : Type 0} (gone rest all : List A) → gone ++ rest ≡ all → length gone ≤ length all
 within_all gone rest all whole = omega (arith, length-append gone rest, ap length whole)
 
--- what stands for the register after the changes so far
+-- the content holds the register after the changes so far
 left_at : (Holds : Register → Type 0) (r s : Register) (changes gone rest : List Change) → gone ++ rest ≡ changes → apply_all r gone ≡ Ok s → Holds s → IsAfterPrefix Holds r changes
 left_at Holds r s changes gone rest whole made h = record {
   made = length gone;
@@ -101,7 +101,7 @@ module _ (changes : List Change) (old now new : View) (gone rest later : List Ch
       ∙ ap (λ so_far. fold go_on_by so_far later) (apply_all-push old.register now.register gone k made ∙ refused)
       ∙ stays_refused cause later
 
-  -- the fault of the first change that isn't made
+  -- the error of the first change that failed
   refused_by : (fault : OfficeFault) → apply_all old.register gone ≡ Ok now.register → IsRefused {T = ⊤} (apply now.register k) (Err fault) new.stands
       → IsRefused {T = ⊤} (apply_all old.register changes) (Err fault) new.stands
   refused_by Store made h = tt
@@ -126,7 +126,7 @@ module _ (changes : List Change) (old now new : View) (gone rest later : List Ch
         ∙ refusal cause told;
   }
 
-  -- what a stop leaves within the next one
+  -- what a crash leaves within the next one
   left_within : (Holds : Register → Type 0) → apply_all old.register gone ≡ Ok now.register
       → Holds now.register ⊎ ((s : Register) × (apply now.register k ≡ Ok s) × Holds s) → IsAfterPrefix Holds old.register changes
   left_within Holds made left =
@@ -135,7 +135,7 @@ module _ (changes : List Change) (old now new : View) (gone rest later : List Ch
         | inr h ↦ left_at Holds old.register h.0 changes (gone ++ k ∷ []) later further (apply_all-push old.register now.register gone k made ∙ h.1) h.2
       ]
 
-  -- the next one isn't made
+  -- the next one fails
   pub ended : (fault : OfficeFault) → Commits {T = ⊤} k now new (Err fault) → CommitsAll {T = ⊤} changes old new (Err fault)
   ended fault does = record {
     clean = λ clean. going.clean (does.clean clean);

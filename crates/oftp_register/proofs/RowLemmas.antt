@@ -56,7 +56,7 @@ blocks_split size (r ∷ q ∷ full) last blocks =
 pub blocks_joined : (size : ℕ) (full : List (List ℕ)) (last : List ℕ) → 0 < length last → length last ≤ size → All (λ (r : List ℕ). length r ≡ size) full → AreBlocks size (full ++ last ∷ [])
 blocks_joined size full last some within all = blocks-append size full (last ∷ []) (omega arith) all (some, within)
 
--- so many of the rows from one on
+-- some rows, from one on
 blocks-take : (size n : ℕ) (rows : List (List ℕ)) → 0 < size → AreBlocks size rows → AreBlocks size (take n rows)
 blocks-take size zero rows positive blocks = tt
 blocks-take size (suc n) [] positive blocks = tt

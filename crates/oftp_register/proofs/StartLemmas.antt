@@ -1,4 +1,4 @@
--- Where the incoming file of an identity stands, and what its start makes of the register.
+-- Where the incoming file with an identity is, and what its start does to the register.
 use Rattle.std.proofs.Common.{◌≡◌, ◌⊎◌, ℕ, suc, ◌+◌, ◌/◌, ◌==◌, ◌<◌, ◌≤◌, ◌&&◌, Bool, true, false, cond, not, min, nat_le, nat_lt, List, [], ◌∷◌, ◌++◌, length, set, take, find, slice_get, Option, None, Some, is_none, Ok, Err, refl, ap, sym, ◌∙◌, subst, inl, inr, arith}
 use Rattle.std.specs.List.{position_or_len}
 use Rattle.std.specs.Str.{bytes_eq}
@@ -40,8 +40,8 @@ use Rattle.oftp_register.proofs.EntryLemmas.{all_at, all_from, open_silent, rows
 abbrev pub is_of : Identity → IncomingEntry → Bool
 is_of identity e = same_identity e.identity identity
 
--- The file of an identity stands in a list, whose first number is n, at a place: it is the first of this identity, a look-up finds it,
--- and a start is one of this file.
+-- The file with an identity is in a list, whose first number is n, at a place. It is the first with this identity, a look-up finds it, and
+-- a start changes this file.
 pub record StandsAt (r : Register) (identity : Identity) (n : ℕ) (xs : List Incoming) : Type 0 where
   pub place : ℕ
   pub file : Incoming
@@ -55,7 +55,7 @@ pub record StandsAt (r : Register) (identity : Identity) (n : ℕ) (xs : List In
   pub look_now : (y : Incoming) → same_identity y.identity identity ≡ true
       → find (is_of identity) (numbered incoming_entry n (set xs place y)) ≡ Some (incoming_entry (n + place) y)
 
--- No file has an identity: a look-up finds none, and a start begins one behind the others.
+-- No file has an identity: a look-up finds none, and a start adds one after the others.
 pub record IsNew (r : Register) (identity : Identity) (n : ℕ) (xs : List Incoming) : Type 0 where
   pub position : position_or_len (λ (f : Incoming). same_identity f.identity identity) xs ≡ length xs
   pub look : find (is_of identity) (numbered incoming_entry n xs) ≡ None
@@ -65,7 +65,7 @@ pub record IsNew (r : Register) (identity : Identity) (n : ℕ) (xs : List Incom
   pub look_now : (y : Incoming) → same_identity y.identity identity ≡ true
       → find (is_of identity) (numbered incoming_entry n (xs ++ y ∷ [])) ≡ Some (incoming_entry (n + length xs) y)
 
--- an entry of this identity is found first, and another is passed over
+-- an entry with this identity is found first, and another is skipped
 finds_first : (identity : Identity) (n : ℕ) (f : Incoming) (fs : List Incoming) → same_identity f.identity identity ≡ true
     → find (is_of identity) (numbered incoming_entry n (f ∷ fs)) ≡ Some (incoming_entry (n + 0) f)
 finds_first identity n f fs h =
@@ -79,7 +79,7 @@ passes_over identity n place f y fs h later =
     let e : n + 1 + place ≡ n + suc place = omega arith in
     cond-false (same_identity f.identity identity) (Some (incoming_entry n f)) _ h ∙ later ∙ ap (λ k. Some (incoming_entry k y)) e
 
--- a file stands somewhere, or it is new
+-- a file exists, or it is new
 pub where_is : (r : Register) (identity : Identity) (n : ℕ) (xs : List Incoming) → StandsAt r identity n xs ⊎ IsNew r identity n xs
 where_is r identity n [] = inr (record {
   position = refl;
@@ -139,7 +139,7 @@ module _ (r s : Register) (header : Incoming) (count : ℕ) (silent : header.res
   abbrev number : ℕ
   number = number_of r identity
 
-  -- a file that was there
+  -- a file that existed
   again_leaves : IsSound r → StandsAt r identity 1 r.incoming → IsStarted r s header count
   again_leaves sound k =
       let part = mapped_ok (λ files. record r { incoming = files }) (started_in r header count r.incoming) s made in
@@ -197,12 +197,12 @@ starts_are_found r s identity format longest description count sound made =
 
 -- Which starts are fit.
 
--- what is asked of a file if it is open
+-- a premise on a file if it is open
 if_open_from : (state : IncomingState) (P : Type 0) → (state ≡ Open → P) → IfOpen state P
 if_open_from Open P h = h refl
 if_open_from Whole P h = tt
 
--- a file that begins at its first row may start
+-- a file that starts at its first row may start
 from_first : (format : Format) (longest : ℕ) (rows : List (List ℕ)) (count : ℕ) → count ≡ 0 → AreFullRows format longest (take count rows)
 from_first format longest rows count h = subst (λ n. AreFullRows format longest (take n rows)) (sym h) (full-nil format longest)
 
@@ -276,7 +276,7 @@ formats_same Unstructured Unstructured h = refl
 formats_same Text Text h = refl
 formats_same _ _ h = absurd (cc)
 
--- from where a file goes on that is there
+-- the row from which an existing file goes on
 pub goes_from : (sfid : Sfid) (n : ℕ) (file : Incoming) (restart : Bool) (count : ℕ) → restart_position sfid (Some (incoming_entry n file)) restart ≡ count
     → (count ≤ length file.rows) × ((count ≡ 0) ⊎ ((file.format ≡ format_of sfid.layout) × (file.longest ≡ longest_of sfid.layout)))
 goes_from sfid n file restart count h = by (restart && same) refl h

@@ -1,5 +1,5 @@
--- A register as two maps from identities to files, and what a change makes of them. In a sound register no two files of a side have
--- one identity, so each file is the one that its identity finds.
+-- A register as two maps from identities to files, and what a change does to them. In a sound register each file is the one that its
+-- identity finds.
 use Rattle.std.specs.Prelude.{◌≡◌, ◌≢◌, ◌≤◌, ◌+◌, ℕ, false, List, length, take, find, slice_get, Option, None, Some, Result, Ok}
 use Rattle.std.specs.List.{position_or_len}
 use Rattle.std.specs.Option.{option_map}
@@ -19,27 +19,27 @@ use Rattle.oftp_register.specs.LookUps.{entry_at, file_rows, files_full, incomin
 use Rattle.oftp_register.specs.Soundness.{IsFit, IsSound}
 use Rattle.oftp_register.specs.Verdicts.{format_of, longest_of, start_verdict}
 
--- the entry of an identity, if there is one, by what names an entry
+-- the entry with an identity, if there is one, where `name` gives the identity of an entry
 abbrev pub named : {A : Type 0} → (A → Identity) → Identity → List A → Option A
 named name identity xs = find (λ x. same_identity (name x) identity) xs
 
--- what names an incoming file
+-- the identity of an incoming file
 abbrev pub incoming_name : Incoming → Identity
 incoming_name f = f.identity
 
--- what names an outgoing file
+-- the identity of an outgoing file
 abbrev pub outgoing_name : Outgoing → Identity
 outgoing_name f = f.identity
 
--- the incoming file of an identity, if there is one
+-- the incoming file with an identity, if there is one
 abbrev pub in_at : Register → Identity → Option Incoming
 in_at r identity = named incoming_name identity r.incoming
 
--- the outgoing file of an identity, if there is one
+-- the outgoing file with an identity, if there is one
 abbrev pub out_at : Register → Identity → Option Outgoing
 out_at r identity = named outgoing_name identity r.outgoing
 
--- the number of the incoming file of an identity, or the one that it gets
+-- the number of the incoming file with an identity, or the one that a new file gets
 abbrev pub number_of : Register → Identity → ℕ
 number_of r identity = 1 + position_or_len (λ (f : Incoming). same_identity f.identity identity) r.incoming
 
@@ -52,13 +52,13 @@ pub record OneChanged {A : Type 0} (name : A → Identity) (change : A → Resul
   pub done : change old ≡ Ok new
   pub others : (i : Identity) → same_identity (name old) i ≡ false → named name i ys ≡ named name i xs
 
--- What a file that starts was before: new, and then it begins at its first row; or open, with so many rows, which it keeps.
+-- The file before a start: there was none, and it starts at its first row; or it was open and had at least `count` rows, which it keeps.
 abbrev pub WasStarted : Incoming → ℕ → Option Incoming → Incoming → Type 0
 WasStarted header count None new = (new ≡ header) × (count ≡ 0)
 WasStarted header count (Some old) new =
     (old.state ≡ Open) × (count ≤ length old.rows) × (new ≡ record header { rows = take count old.rows; response = old.response })
 
--- A file was started, and no other was changed.
+-- a file was started, and no other was changed
 pub record OneStarted (header : Incoming) (count : ℕ) (xs ys : List Incoming) : Type 0 where
   pub new : Incoming
   pub was : WasStarted header count (named incoming_name header.identity xs) new
@@ -66,12 +66,12 @@ pub record OneStarted (header : Incoming) (count : ℕ) (xs ys : List Incoming) 
   pub now : named incoming_name header.identity ys ≡ Some new
   pub others : (i : Identity) → same_identity header.identity i ≡ false → named incoming_name i ys ≡ named incoming_name i xs
 
--- the file that a start leaves: its new header, and so many of the rows that were there
+-- the file after a start: its new header, and the first `count` of its rows
 abbrev pub started_file : Register → Incoming → ℕ → Incoming
 started_file r header count = record header { rows = take count (file_rows r side.Incoming (number_of r header.identity)) }
 
--- What an accepted start leaves: under its number stands the file with its new header and the rows that are kept, open and with no
--- response, and its identity finds it.
+-- What an accepted start leaves. Under its number is the file with its new header and the rows that are kept, open and without a response,
+-- and its identity finds it.
 pub record IsStarted (r s : Register) (header : Incoming) (count : ℕ) : Type 0 where
   pub kept : count ≤ length (file_rows r side.Incoming (number_of r header.identity))
   pub entry : entry_at (number_of r header.identity) s.incoming ≡ Some (started_file r header count)
@@ -82,19 +82,19 @@ abbrev pub StartsAreFound : Type 0
 StartsAreFound = (r s : Register) (identity : Identity) (format : Format) (longest : ℕ) (description : List ℕ) (count : ℕ) → IsSound r
     → apply r (change.Start identity format longest description count) ≡ Ok s → IsStarted r s (new_incoming identity format longest description) count
 
--- What the answer to SFID accepts, the register starts: the change is fit, and it isn't refused.
+-- If the answer to SFID accepts a file, the register starts it: the change is fit, and it isn't refused.
 abbrev pub AcceptedStarts : Type 0
 AcceptedStarts = (r : Register) (sfid : Sfid) (identity : Identity) (terms : Terms) (count : ℕ) → IsSound r
     → start_verdict sfid (look_in r identity) (files_full r side.Incoming) terms ≡ start.Accept count
     → let change = change.Start identity (format_of sfid.layout) (longest_of sfid.layout) sfid.description count in
     IsFit r change × ((s : Register) × (apply r change ≡ Ok s))
 
--- one thing or else another
+-- the first value, if there is one, and else the second
 abbrev pub or_else : {A : Type 0} → Option A → Option A → Option A
 or_else (Some x) y = Some x
 or_else None y = y
 
--- the identity of the file that a change is of, if there is one
+-- the identity of the file that a change concerns, if there is one
 abbrev pub subject : Register → Change → Option Identity
 subject r (change.Submit identity format longest description rows) = Some identity
 subject r (change.Start identity format longest description count) = Some identity
@@ -110,7 +110,7 @@ subject r (change.Refuse n reason) = option_map outgoing_name (entry_at n r.outg
 subject r (change.Reopen n) = option_map outgoing_name (entry_at n r.outgoing)
 subject r (change.Send n) = option_map incoming_name (entry_at n r.incoming)
 
--- A change is of one identity: all other files stay.
+-- a change concerns one identity: all other files are unchanged
 pub record StaysElsewhere (r s : Register) (k : Change) : Type 0 where
   pub incoming : (i : Identity) → subject r k ≢ Some i → in_at s i ≡ in_at r i
   pub outgoing : (i : Identity) → subject r k ≢ Some i → out_at s i ≡ out_at r i

@@ -1,4 +1,4 @@
--- What each change makes of a register, or why it is refused. What isn't named stays.
+-- What each change does to a register, or why it is refused. Parts that aren't named are unchanged.
 use Rattle.std.specs.Prelude.{ℕ, zero, suc, ◌&&◌, ◌||◌, Bool, true, false, nat_le, nat_lt, if◌then◌else◌, List, [], ◌∷◌, ◌++◌, fold, length, take, map, Option, None, Some, Result, Ok, Err}
 use Rattle.std.specs.List.{list_any}
 use Rattle.oftp_vfile.specs.declared.format.Format.{Format}
@@ -22,7 +22,7 @@ abbrev pub mapped : {A B : Type 0} → (A → B) → Result A Cause → Result B
 mapped f (Ok x) = Ok (f x)
 mapped f (Err cause) = Err cause
 
--- the list with the entry of a number changed; a number without an entry is unknown
+-- the list with the entry of a number changed; a number without an entry is `Unknown`
 abbrev pub at_number : {A : Type 0} → (A → Result A Cause) → ℕ → List A → Result (List A) Cause
 at_number f zero entries = Err Unknown
 at_number f (suc n) [] = Err Unknown
@@ -37,77 +37,77 @@ on_incoming f n r = mapped (λ files. record r { incoming = files }) (at_number 
 abbrev pub on_outgoing : (Outgoing → Result Outgoing Cause) → ℕ → Register → Result Register Cause
 on_outgoing f n r = mapped (λ files. record r { outgoing = files }) (at_number f n r.outgoing)
 
--- a file to be sent
+-- outgoing files
 
--- a file of this identity is to be sent, or was
+-- there is an outgoing file with this identity
 abbrev pub is_outgoing : Register → Identity → Bool
 is_outgoing r identity = list_any (λ (f : Outgoing). same_identity f.identity identity) r.outgoing
 
--- a file to be sent: it waits, and no row is covered by credit
+-- a file to be sent: it waits, with mark 0
 abbrev pub new_outgoing : Identity → Format → ℕ → List ℕ → List (List ℕ) → Outgoing
 new_outgoing identity format longest description rows =
     record { identity = identity; format = format; longest = longest; description = description; rows = rows; mark = 0; state = Waiting }
 
--- a new file is to be sent
+-- a new file is added, to be sent
 abbrev pub submitted : Register → Outgoing → Result Register Cause
 submitted r file = if is_outgoing r file.identity then Err Duplicate
     else (if nat_le r.limits.files (length r.outgoing) then Err Full
     else Ok (record r { outgoing = r.outgoing ++ file ∷ [] }))
 
--- a file that comes
+-- incoming files
 
--- a file of which nothing is here yet
+-- a file without rows
 abbrev pub new_incoming : Identity → Format → ℕ → List ℕ → Incoming
 new_incoming identity format longest description =
     record { identity = identity; format = format; longest = longest; description = description; state = Open; rows = []; response = None }
 
--- a new file begins at its first row
+-- a new file starts at its first row
 abbrev pub begun : Register → Incoming → ℕ → Result Incoming Cause
 begun r header count = if nat_lt 0 count then Err State
     else (if nat_le r.limits.files (length r.incoming) then Err Full else Ok header)
 
--- an open file goes on with a new header, after so many of its rows
+-- an open file goes on with a new header, after its first `count` rows
 abbrev pub gone_on : Incoming → ℕ → Incoming → IncomingState → Result Incoming Cause
 gone_on header count file Whole = Err State
 gone_on header count file Open = if nat_lt (length file.rows) count then Err State
     else Ok (record header { rows = take count file.rows; response = file.response })
 
--- the file of this identity goes on, or it is new and begins
+-- the file with this identity goes on, or a new one starts
 abbrev pub started_in : Register → Incoming → ℕ → List Incoming → Result (List Incoming) Cause
 started_in r header count [] = mapped (λ f. f ∷ []) (begun r header count)
 started_in r header count (file ∷ files) = if same_identity file.identity header.identity
     then mapped (λ f. f ∷ files) (gone_on header count file file.state)
     else mapped (λ fs. file ∷ fs) (started_in r header count files)
 
--- so does the register
+-- the same for the register
 abbrev pub started : Register → Incoming → ℕ → Result Register Cause
 started r header count = mapped (λ files. record r { incoming = files }) (started_in r header count r.incoming)
 
--- an open file has these rows and this state from now on
+-- an open file gets these rows and this state
 abbrev pub if_open : Incoming → List (List ℕ) → IncomingState → IncomingState → Result Incoming Cause
 if_open file rows state Whole = Err State
 if_open file rows state Open = Ok (record file { rows = rows; state = state })
 
--- more rows are here
+-- more rows are appended
 abbrev pub kept : List (List ℕ) → Incoming → Result Incoming Cause
 kept rows file = if_open file (file.rows ++ rows) Open file.state
 
--- the last rows are here (RFC 5024, section 5.3.8)
+-- the last rows are appended (RFC 5024, section 5.3.8)
 abbrev pub closed : List (List ℕ) → Incoming → Result Incoming Cause
 closed rows file = if_open file (file.rows ++ rows) Whole file.state
 
--- its rows are given up
+-- its rows are deleted
 abbrev pub given_up : Incoming → Result Incoming Cause
 given_up file = if_open file [] Open file.state
 
 -- responses
 
--- where a response leaves a file whose end was sent
+-- the state of a file after a response to it
 abbrev pub answered_as : ResponseKind → OutgoingState
 answered_as EndResponse = Delivered
 answered_as NegativeEndResponse = Returned
 
--- a file whose end was sent, or that was handed over, is answered; another stays as it is
+-- a file whose end was sent, or that was handed over, is answered; any other is unchanged
 abbrev pub answered : ResponseKind → OutgoingState → OutgoingState
 answered kind Waiting = Waiting
 answered kind Closing = answered_as kind
@@ -116,13 +116,13 @@ answered kind (Refused reason) = Refused reason
 answered kind Delivered = Delivered
 answered kind Returned = Returned
 
--- the file that the response answers
+-- the file after a response, if that answers it
 abbrev pub settled : ResponseKind → Identity → Outgoing → Outgoing
 settled kind identity file = if same_identity file.identity identity
     then record file { state = answered kind file.state }
     else file
 
--- a response is filed once, and settles the file that it answers
+-- a received response is added once, and sets the state of the file that it answers
 abbrev pub filed : Register → Received → Result Register Cause
 filed r response = if has_received r response.kind response.identity then Err Duplicate
     else Ok (record r { outgoing = map (settled response.kind response.identity) r.outgoing; received = r.received ++ response ∷ [] })
@@ -132,7 +132,7 @@ abbrev pub if_unanswered : Issued → Incoming → Option Issued → Result Inco
 if_unanswered response file None = Ok (record file { response = Some response })
 if_unanswered response file (Some other) = Err State
 
--- a file that isn't whole isn't answered
+-- a file that isn't whole can't be answered
 abbrev pub issued_on : Issued → Incoming → IncomingState → Result Incoming Cause
 issued_on response file Open = Err State
 issued_on response file Whole = if_unanswered response file file.response
@@ -155,27 +155,27 @@ sent_of file (Some response) = mapped (λ answer. record file { response = Some 
 abbrev pub sent : Incoming → Result Incoming Cause
 sent file = sent_of file file.response
 
--- a file that goes
+-- outgoing files
 
--- the file is to be sent
+-- the file waits to be sent
 abbrev pub is_waiting : OutgoingState → Bool
 is_waiting Waiting = true
 is_waiting state = false
 
--- its end was sent, and the answer is awaited
+-- its end was sent, and the answer is missing
 abbrev pub is_closing : OutgoingState → Bool
 is_closing Closing = true
 is_closing state = false
 
--- a change that the state allows or not
+-- a change that the state allows or doesn't
 abbrev pub if_allowed : Bool → Outgoing → Result Outgoing Cause
 if_allowed allowed file = if allowed then Ok file else Err State
 
--- so many rows are covered by credit (RFC 5024, section 5.3.7)
+-- this many rows were acknowledged by CDT (RFC 5024, section 5.3.7)
 abbrev pub marked : ℕ → Outgoing → Result Outgoing Cause
 marked rows file = if_allowed (is_waiting file.state && nat_le rows (length file.rows)) (record file { mark = rows })
 
--- the end is about to be sent (RFC 5024, section 5.3.8)
+-- the end is sent next (RFC 5024, section 5.3.8)
 abbrev pub closing : Outgoing → Result Outgoing Cause
 closing file = if_allowed (is_waiting file.state) (record file { state = Closing })
 
@@ -183,11 +183,11 @@ closing file = if_allowed (is_waiting file.state) (record file { state = Closing
 abbrev pub handed : Outgoing → Result Outgoing Cause
 handed file = if_allowed (is_closing file.state) (record file { state = Handed })
 
--- the partner doesn't take it (RFC 5024, section 5.3.5)
+-- the partner refuses it (RFC 5024, section 5.3.5)
 abbrev pub refused : ℕ → Outgoing → Result Outgoing Cause
 refused reason file = if_allowed (is_waiting file.state || is_closing file.state) (record file { state = Refused reason })
 
--- it is to be sent again from its first row on (RFC 5024, section 5.3.10)
+-- it is sent again from its first row on (RFC 5024, section 5.3.10)
 abbrev pub reopened : Outgoing → Result Outgoing Cause
 reopened file = if_allowed (is_closing file.state) (record file { state = Waiting; mark = 0 })
 
@@ -208,11 +208,11 @@ apply r (change.Refuse n reason) = on_outgoing (refused reason) n r
 apply r (change.Reopen n) = on_outgoing reopened n r
 apply r (change.Send n) = on_incoming sent n r
 
--- one change more, unless one was refused before
+-- one more change, unless one was refused before
 abbrev pub go_on_by : Result Register Cause → Change → Result Register Cause
 go_on_by (Ok r) change = apply r change
 go_on_by (Err cause) change = Err cause
 
--- the register after changes in turn; the first refusal ends them
+-- the register after changes in order; the first refusal ends them
 abbrev pub apply_all : Register → List Change → Result Register Cause
 apply_all r changes = fold go_on_by (Ok r) changes

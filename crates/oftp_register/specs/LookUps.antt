@@ -22,11 +22,11 @@ use Rattle.oftp_register.specs.declared.entries.Item.TheVariants as item
 use Rattle.oftp_register.specs.Register.{Register, Incoming, Outgoing, Issued, Received, same_identity}
 use Rattle.oftp_vfile.specs.declared.format.TheConstants.{MOST_ROWS}
 
--- a response as it is handed out
+-- a response as an office returns it
 abbrev pub issued_response : Issued → IssuedResponse
 issued_response r = record { kind = r.kind; reason = r.reason; text = r.text; dispatch = r.dispatch }
 
--- an incoming file as it is handed out
+-- an incoming file as an office returns it
 abbrev pub incoming_entry : ℕ → Incoming → IncomingEntry
 incoming_entry n f = record {
   no = n;
@@ -39,7 +39,7 @@ incoming_entry n f = record {
   response = option_map issued_response f.response;
 }
 
--- an outgoing file as it is handed out
+-- an outgoing file as an office returns it
 abbrev pub outgoing_entry : ℕ → Outgoing → OutgoingEntry
 outgoing_entry n f = record {
   no = n;
@@ -52,11 +52,11 @@ outgoing_entry n f = record {
   state = f.state;
 }
 
--- the response to an incoming file as it is handed out, if one was issued
+-- the response to an incoming file as an office returns it, if one was issued
 abbrev pub issued_entry : ℕ → Incoming → Option IssuedEntry
 issued_entry n f = option_map (λ r. record { no = n; identity = f.identity; response = issued_response r }) f.response
 
--- a response that came as it is handed out
+-- a received response as an office returns it
 abbrev pub received_entry : ℕ → Received → ReceivedEntry
 received_entry n r = record { no = n; response = record { kind = r.kind; identity = r.identity; reason = r.reason; creator = r.creator; text = r.text } }
 
@@ -77,15 +77,15 @@ list_out r = numbered outgoing_entry 1 r.outgoing
 abbrev pub list_issued : Register → List IssuedEntry
 list_issued r = filter_map (λ entry. entry) (numbered issued_entry 1 r.incoming)
 
--- all responses that came
+-- all received responses
 abbrev pub list_received : Register → List ReceivedEntry
 list_received r = numbered received_entry 1 r.received
 
--- the incoming file of an identity, if there is one
+-- the incoming file with an identity, if there is one
 abbrev pub look_in : Register → Identity → Option IncomingEntry
 look_in r identity = find (λ (e : IncomingEntry). same_identity e.identity identity) (list_in r)
 
--- the outgoing file of an identity, if there is one
+-- the outgoing file with an identity, if there is one
 abbrev pub look_out : Register → Identity → Option OutgoingEntry
 look_out r identity = find (λ (e : OutgoingEntry). same_identity e.identity identity) (list_out r)
 
@@ -97,23 +97,23 @@ in_by_no r n = find (λ (e : IncomingEntry). e.no == n) (list_in r)
 abbrev pub out_by_no : Register → ℕ → Option OutgoingEntry
 out_by_no r n = find (λ (e : OutgoingEntry). e.no == n) (list_out r)
 
--- a table has as many files as it may, or more
+-- a table has as many files as the limits allow, or more
 abbrev pub files_full : Register → Side → Bool
 files_full r side.Incoming = nat_le r.limits.files (length r.incoming)
 files_full r side.Outgoing = nat_le r.limits.files (length r.outgoing)
 
--- a response is to be sent
+-- a response is due
 abbrev pub is_due : Dispatch → Bool
 is_due Due = true
 is_due Sent = false
 
--- a file is to be sent, or its end was sent and the answer is awaited
+-- a file waits to be sent, or its end was sent and the answer is missing
 abbrev pub is_on_its_way : OutgoingState → Bool
 is_on_its_way Waiting = true
 is_on_its_way Closing = true
 is_on_its_way state = false
 
--- a response is due to a partner and wasn't tried: it goes to the file's originator
+-- a response is due to a partner and wasn't tried; it goes to the file's originator
 abbrev pub is_next_response : List ℕ → ℕ → IssuedEntry → Bool
 is_next_response partner tried e = nat_lt tried e.no && (is_due e.response.dispatch && bytes_eq e.identity.originator partner)
 
@@ -121,7 +121,7 @@ is_next_response partner tried e = nat_lt tried e.no && (is_due e.response.dispa
 abbrev pub next_response : Register → List ℕ → ℕ → Option IssuedEntry
 next_response r partner tried = find (is_next_response partner tried) (list_issued r)
 
--- a file to a partner is on its way and wasn't tried
+-- a file for a partner is on its way and wasn't tried
 abbrev pub is_next_file : List ℕ → ℕ → OutgoingEntry → Bool
 is_next_file partner tried e = nat_lt tried e.no && (is_on_its_way e.state && bytes_eq e.identity.destination partner)
 
@@ -149,11 +149,11 @@ abbrev pub file_rows : Register → Side → ℕ → List (List ℕ)
 file_rows r side.Incoming n = unwrap_or (entry_at n (map (λ (f : Incoming). f.rows) r.incoming)) []
 file_rows r side.Outgoing n = unwrap_or (entry_at n (map (λ (f : Outgoing). f.rows) r.outgoing)) []
 
--- so many rows of a file at most, from one on
+-- at most `most` rows of a file, from row `from` on
 abbrev pub rows_of : Register → Side → ℕ → ℕ → ℕ → List (List ℕ)
 rows_of r which n from most = take most (drop from (file_rows r which n))
 
--- how many octets the rows of a file have, 0 for an unknown number
+-- the number of octets of a file, 0 for an unknown number
 abbrev pub units_of : Register → Side → ℕ → ℕ
 units_of r which n = units_in (file_rows r which n)
 
@@ -173,7 +173,7 @@ abbrev pub IsItemWithin : Item → Type 0
 IsItemWithin (item.Response response) = Unit {0}
 IsItemWithin (item.File file) = IsOutgoingWithin file
 
--- rows that were asked for, from one on
+-- the number of rows that were returned, from row `from` on
 pub record AreRowsWithin (from most : ℕ) (rows : List (List ℕ)) : Type 0 where
   pub asked : length rows ≤ most
   pub few : 0 < length rows → from + length rows ≤ MOST_ROWS

@@ -7,15 +7,15 @@ use Rattle.oftp_register.specs.declared.office.OfficeFault.{OfficeFault}
 use Rattle.oftp_register.specs.declared.office.OfficeFault.TheVariants.{Memory}
 use Rattle.oftp_register.specs.declared.plain.PlainOffice.{PlainOffice}
 
--- the register that an office in memory keeps
+-- the register of an office in memory
 abbrev pub register_of : PlainOffice → Register
 register_of o = register_in o.lists
 
--- how many faults it told, modulo 2^64
+-- how many errors it returned, modulo 2^64
 abbrev pub faults_of : PlainOffice → ℕ
 faults_of o = o.faults
 
--- what it shows: it is always open and stands, and a stop leaves it its own register
+-- its view: it is always open, and a crash leaves its register
 abbrev pub view_of : PlainOffice → View
 view_of o = record {
   register = register_of o;
@@ -29,7 +29,7 @@ view_of o = record {
   holds = λ c r. c ≡ r;
 }
 
--- what a look-up does: it tells of the register, which stays, and only memory may run out, which is counted
+-- what a look-up does: it returns a value of the register, which is unchanged; the only error is out of memory, which is counted
 pub record LooksInMemory {T : Type 0} (Tells : Register → T → Type 0) (old new : PlainOffice) (result : Result T OfficeFault) : Type 0 where
   pub answer : IfOk result (Tells (register_of old))
   pub register : register_of new ≡ register_of old

@@ -1,4 +1,4 @@
--- The register as plain data. Entries stand in the order of their numbers, which count from 1.
+-- The register as plain data. Entries are in the order of their numbers, which begin with 1.
 use Rattle.std.specs.Prelude.{ℕ, Bool, true, false, ◌&&◌, List, [], Option}
 use Rattle.std.specs.List.{list_any}
 use Rattle.std.specs.Str.{bytes_eq}
@@ -11,14 +11,14 @@ use Rattle.oftp_register.specs.declared.entry.IncomingState.{IncomingState}
 use Rattle.oftp_register.specs.declared.entry.OutgoingState.{OutgoingState}
 use Rattle.oftp_register.specs.declared.entry.Dispatch.{Dispatch}
 
--- a response to an incoming file, issued here
+-- a response that this station issued to an incoming file
 pub record Issued : Type 0 where
   pub kind : ResponseKind
   pub reason : ℕ
   pub text : List ℕ
   pub dispatch : Dispatch
 
--- a file that comes from a partner, with the rows that are here, and its response if one was issued
+-- a file from a partner, with the rows that were received, and its response if one was issued
 pub record Incoming : Type 0 where
   pub identity : Identity
   pub format : Format
@@ -28,7 +28,7 @@ pub record Incoming : Type 0 where
   pub rows : List (List ℕ)
   pub response : Option Issued
 
--- a file that goes to a partner. Its mark is the number of rows that a credit has covered
+-- A file for a partner. Its mark is the number of rows that were acknowledged by CDT.
 pub record Outgoing : Type 0 where
   pub identity : Identity
   pub format : Format
@@ -38,7 +38,7 @@ pub record Outgoing : Type 0 where
   pub mark : ℕ
   pub state : OutgoingState
 
--- a response that came from a partner. Creator and text are empty in an end response
+-- A response that a partner sent. Creator and text are empty in an End-to-End Response.
 pub record Received : Type 0 where
   pub kind : ResponseKind
   pub identity : Identity
@@ -46,7 +46,7 @@ pub record Received : Type 0 where
   pub creator : List ℕ
   pub text : List ℕ
 
--- all that a station knows, and how much it may hold
+-- all data of a station, and its limits
 pub record Register : Type 0 where
   pub limits : Limits
   pub incoming : List Incoming
@@ -57,7 +57,7 @@ pub record Register : Type 0 where
 abbrev pub empty : Limits → Register
 empty limits = record { limits = limits; incoming = []; outgoing = []; received = [] }
 
--- both name one file
+-- both identify the same file
 abbrev pub same_identity : Identity → Identity → Bool
 same_identity a b = bytes_eq a.dataset b.dataset && (bytes_eq a.date b.date && (bytes_eq a.time b.time && (bytes_eq a.originator b.originator && bytes_eq a.destination b.destination)))
 
@@ -68,10 +68,10 @@ same_kind EndResponse NegativeEndResponse = false
 same_kind NegativeEndResponse EndResponse = false
 same_kind NegativeEndResponse NegativeEndResponse = true
 
--- a response of this kind to the file of this identity
+-- a response of this kind to the file with this identity
 abbrev pub is_response_to : ResponseKind → Identity → Received → Bool
 is_response_to kind identity response = same_kind response.kind kind && same_identity response.identity identity
 
--- such a response came
+-- such a response was received
 abbrev pub has_received : Register → ResponseKind → Identity → Bool
 has_received r kind identity = list_any (is_response_to kind identity) r.received

@@ -1,4 +1,4 @@
--- That a register is sound has one proof at most, so a value may keep it.
+-- That a register is sound has at most one proof, so a value may hold it.
 use Rattle.std.specs.Prelude.{◌≡◌, ℕ, false, List, [], ◌∷◌, length, map, Option, None, Some, All}
 use Rattle.std.specs.List.{list_any}
 use Rattle.std.specs.Coded.{×_prop, Unit-prop, le_prop}
@@ -15,7 +15,7 @@ use Rattle.oftp_register.specs.Register.{Register, Incoming, Issued, Outgoing, R
 use Rattle.oftp_register.specs.Soundness.{AreFiledOnce, AreFullRows, AreNamedOnce, FitsState, IsAnsweredWhole, IsResponse, IsSound, IsSoundAnswer, IsSoundIncoming, IsSoundOutgoing, IsSoundReceived}
 use Rattle.oftp_vfile.specs.declared.format.TheConstants.{BLOCK}
 
--- each part has one proof at most, and so the whole has
+-- each part has at most one proof, and so has the whole
 longest-prop : (format : Format) (longest : ℕ) → IsProp (IsLongest format longest)
 longest-prop Fixed longest = Prim.hlevel props
 longest-prop Variable longest = Prim.hlevel props

@@ -1,4 +1,4 @@
--- Whether a listener takes what is offered.
+-- Whether a listener accepts a file.
 use Rattle.std.specs.Prelude.{ℕ, ◌/◌, ◌==◌, ◌&&◌, not, Bool, true, false, nat_le, nat_lt, min, if◌then◌else◌, List, [], ◌∷◌, Option, None, Some, is_none}
 use Rattle.std.specs.Str.{bytes_eq}
 use Rattle.oftp_vfile.specs.declared.format.Format.{Format}
@@ -20,7 +20,7 @@ use Rattle.oftp_register.specs.declared.verdicts.EndVerdict.{EndVerdict}
 use Rattle.oftp_register.specs.declared.verdicts.EndVerdict.TheVariants as «end»
 use Rattle.oftp_vfile.specs.declared.format.TheConstants.{LONGEST_RECORD}
 
--- the format of a file that is offered
+-- the format of an offered file
 abbrev pub format_of : Layout → Format
 format_of (layout.Fixed longest) = Fixed
 format_of (layout.Variable longest) = Variable
@@ -53,14 +53,14 @@ has_length layout.Text = true
 abbrev pub is_plain : Sfid → Bool
 is_plain sfid = sfid.security == 0 && (sfid.cipher == 0 && (sfid.compression == 0 && (sfid.enveloping == 0 && not sfid.signed_response)))
 
--- From where a file goes on: at most from where it is offered, and from its first row where it is new, restart isn't agreed, or
--- it is kept in another format or with another longest record.
+-- The row from which a file goes on: at most the one from which it is offered. It is the first row if the file is new, if restart isn't
+-- agreed, or if it is kept in another format or with another longest record.
 abbrev pub restart_position : Sfid → Option IncomingEntry → Bool → ℕ
 restart_position sfid None restart = 0
 restart_position sfid (Some entry) restart =
     if restart && (same_format entry.format (format_of sfid.layout) && entry.longest == longest_of sfid.layout) then min sfid.restart entry.rows else 0
 
--- all its rows are here
+-- it has all its rows
 abbrev pub is_whole : IncomingState → Bool
 is_whole Open = false
 is_whole Whole = true
@@ -75,7 +75,7 @@ abbrev pub is_empty : List ℕ → Bool
 is_empty [] = true
 is_empty (x ∷ xs) = false
 
--- The answer to SFID (RFC 5024, sections 5.3.3 to 5.3.5). The first test that holds decides.
+-- The answer to SFID (RFC 5024, sections 5.3.3 to 5.3.5). The first test that applies decides.
 abbrev pub start_verdict : Sfid → Option IncomingEntry → Bool → Terms → StartVerdict
 start_verdict sfid found is_full terms =
     if not terms.receives then start.Refuse FileDirectionRefused false

@@ -5,25 +5,25 @@ use crate::name::Name;
 use oftp_vfile::{Format, Rows};
 use oftp_wire::{Count, Text};
 
-/// Why a register refuses a change. Where two causes fit, the one that stands first here is told.
+/// Why a register refuses a change. Where several causes apply, it is the first in this list.
 #[derive(Clone, Copy, Debug, Drop, PartialEq, Eq)]
 pub enum Cause {
-    /// The identity is there already.
+    /// There is an entry with this identity.
     Duplicate,
     /// No file has this number.
     Unknown,
-    /// The entry's state doesn't allow it.
+    /// The state of the entry doesn't allow the change.
     State,
-    /// The table is full.
+    /// The table has as many files as the limits allow.
     Full,
 }
 
-/// A change of a register, made whole or not at all.
+/// A change of a register. It is made whole or not at all.
 ///
-/// Numbers of files count from 1 on each side. The longest record is in octets, and 0 in U and T.
+/// Files are numbered from 1 on, separately for incoming and for outgoing files. The longest record is in octets, and 0 in formats U and T.
 #[derive(Drop)]
 pub enum Change<'a> {
-    /// A file is to be sent: it waits, and no row is covered by credit.
+    /// Submit a file: it waits to be sent, with mark 0.
     Submit {
         /// The file's identity.
         identity: Identity,
@@ -31,12 +31,12 @@ pub enum Change<'a> {
         format: Format,
         /// Its longest record.
         longest: u32,
-        /// What it is, in words.
+        /// The description.
         description: Text<'a>,
         /// All its rows.
         rows: Rows,
     },
-    /// A file begins to come, or goes on after so many of the rows that are here (RFC 5024, section 5.3.4).
+    /// Start an incoming file, or go on with it after its first `count` rows (RFC 5024, section 5.3.4).
     Start {
         /// The file's identity.
         identity: Identity,
@@ -44,84 +44,84 @@ pub enum Change<'a> {
         format: Format,
         /// Its longest record.
         longest: u32,
-        /// What it is, in words.
+        /// The description.
         description: Text<'a>,
-        /// How many rows stay, 0 for a new file.
+        /// How many of its rows are kept, 0 for a new file.
         count: u64,
     },
-    /// Rows of an incoming file are here.
+    /// Append rows to an incoming file.
     Keep {
         /// The file's number.
         no: u64,
-        /// The rows behind those that are here.
+        /// The rows after those that it has.
         rows: Rows,
     },
-    /// The last rows of an incoming file are here, and it is whole (RFC 5024, section 5.3.8).
+    /// Append the last rows to an incoming file, which is whole then (RFC 5024, section 5.3.8).
     Close {
         /// The file's number.
         no: u64,
-        /// The rows behind those that are here.
+        /// The rows after those that it has.
         rows: Rows,
     },
-    /// The rows of an incoming file are given up.
+    /// Delete the rows of an incoming file.
     GiveUp {
         /// The file's number.
         no: u64,
     },
-    /// A response came from the partner (RFC 5024, sections 5.3.13 and 5.3.14).
+    /// Add a response that the partner sent (RFC 5024, sections 5.3.13 and 5.3.14).
     File {
-        /// Which response.
+        /// The kind of response.
         kind: ResponseKind,
-        /// The identity of the file that it answers: the response's destination is the file's originator.
+        /// The identity of the file that it answers. The response's destination is the file's originator.
         identity: Identity,
-        /// Why the file wasn't delivered, 0 in an end response.
+        /// Why the file wasn't delivered, 0 in an End-to-End Response.
         reason: Count<2>,
-        /// Who gave the reason, empty in an end response.
+        /// The station that gave the reason, empty in an End-to-End Response.
         creator: Name<25>,
-        /// The reason in words, empty in an end response.
+        /// The reason text, empty in an End-to-End Response.
         text: Text<'a>,
     },
-    /// A response to an incoming file is to be sent (RFC 5024, sections 5.3.13 and 5.3.14).
+    /// Issue a response to an incoming file, which is to be sent (RFC 5024, sections 5.3.13 and 5.3.14).
     Issue {
         /// The file's number.
         no: u64,
-        /// Which response.
+        /// The kind of response.
         kind: ResponseKind,
-        /// Why the file wasn't delivered, 0 in an end response.
+        /// Why the file wasn't delivered, 0 in an End-to-End Response.
         reason: Count<2>,
-        /// The reason in words, empty in an end response.
+        /// The reason text, empty in an End-to-End Response.
         text: Text<'a>,
     },
-    /// So many rows of an outgoing file are covered by credit (RFC 5024, section 5.3.7).
+    /// Set the mark of an outgoing file: `rows` rows were acknowledged by CDT (RFC 5024, section 5.3.7).
     Mark {
         /// The file's number.
         no: u64,
-        /// How many of its rows, from the first on.
+        /// How many of its rows, counted from the first.
         rows: u64,
     },
-    /// The end of an outgoing file is about to be sent (RFC 5024, section 5.3.8).
+    /// Record that the end of an outgoing file is sent next (RFC 5024, section 5.3.8).
     BeginClosing {
         /// The file's number.
         no: u64,
     },
-    /// The partner has an outgoing file (RFC 5024, section 5.3.9).
+    /// Record that the partner has the whole outgoing file (RFC 5024, section 5.3.9).
     HandOver {
         /// The file's number.
         no: u64,
     },
-    /// The partner doesn't take an outgoing file (RFC 5024, sections 5.3.5 and 5.3.10).
+    /// Record that the partner refuses an outgoing file (RFC 5024, sections 5.3.5 and 5.3.10).
     Refuse {
         /// The file's number.
         no: u64,
-        /// Why it doesn't.
+        /// The reason of the refusal.
         reason: Count<2>,
     },
-    /// An outgoing file is to be sent again from its first row on (RFC 5024, section 5.3.10).
+    /// Send an outgoing file again from its first row on (RFC 5024, section 5.3.10).
     Reopen {
         /// The file's number.
         no: u64,
     },
-    /// The response to an incoming file was sent.
+    /// Record that the response to an incoming file was sent.
     Send {
         /// The file's number.
         no: u64,

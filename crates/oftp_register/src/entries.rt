@@ -1,4 +1,4 @@
-//! What the look-ups of an office hand out.
+//! The entries that the look-ups of an office return.
 
 ghost use Rattle.std.specs.Prelude.{◌≡◌, IfOk};
 
@@ -9,7 +9,7 @@ use oftp_vfile::Format;
 use oftp_wire::{Count, Text};
 use std::alloc::{AllocError, Global};
 
-/// Which of the two tables of files.
+/// The table of incoming or of outgoing files.
 #[derive(Clone, Copy, Debug, Drop, PartialEq, Eq)]
 pub enum Side {
     /// The files that come from partners.
@@ -18,14 +18,14 @@ pub enum Side {
     Outgoing,
 }
 
-/// A response to an incoming file, which was issued here.
+/// A response that this station issued to an incoming file.
 #[derive(Drop)]
 pub struct IssuedResponse {
     /// Its kind.
     pub kind: ResponseKind,
-    /// The reason of a refusal, 0 in an end response.
+    /// The reason of a refusal, 0 in an End-to-End Response.
     pub reason: Count<2>,
-    /// The refusal in words, empty in an end response.
+    /// The text of a refusal, empty in an End-to-End Response.
     pub text: Note,
     /// Whether it was sent.
     pub dispatch: Dispatch,
@@ -36,17 +36,17 @@ pub struct IssuedResponse {
 pub struct IncomingEntry {
     /// Its number, from 1 on.
     pub no: u64,
-    /// What names it.
+    /// Its identity.
     pub identity: Identity,
     /// Its format.
     pub format: Format,
     /// The length of its longest record in octets, 0 in U and T.
     pub longest: u32,
-    /// What it is, in words.
+    /// Its description.
     pub description: Note,
-    /// How far it has come.
+    /// Its state.
     pub state: IncomingState,
-    /// How many of its rows are here.
+    /// How many rows were received.
     pub rows: u64,
     /// The response to it, if one was issued.
     pub response: Option<IssuedResponse>,
@@ -57,19 +57,19 @@ pub struct IncomingEntry {
 pub struct OutgoingEntry {
     /// Its number, from 1 on.
     pub no: u64,
-    /// What names it.
+    /// Its identity.
     pub identity: Identity,
     /// Its format.
     pub format: Format,
     /// The length of its longest record in octets, 0 in U and T.
     pub longest: u32,
-    /// What it is, in words.
+    /// Its description.
     pub description: Note,
     /// How many rows it has.
     pub rows: u64,
-    /// How many rows a credit has covered.
+    /// Its mark: how many rows were acknowledged by CDT.
     pub mark: u64,
-    /// How far it has come.
+    /// Its state.
     pub state: OutgoingState,
 }
 
@@ -78,28 +78,28 @@ pub struct OutgoingEntry {
 pub struct IssuedEntry {
     /// The number of the incoming file.
     pub no: u64,
-    /// What names the file. The response goes to its originator and comes from its destination.
+    /// The identity of the file. The response goes to its originator and comes from its destination.
     pub identity: Identity,
     /// The response.
     pub response: IssuedResponse,
 }
 
-/// A response that came from a partner.
+/// A response that a partner sent.
 #[derive(Drop)]
 pub struct ReceivedResponse {
     /// Its kind.
     pub kind: ResponseKind,
-    /// What names the file that it answers.
+    /// The identity of the file that it answers.
     pub identity: Identity,
-    /// The reason of a refusal, 0 in an end response.
+    /// The reason of a refusal, 0 in an End-to-End Response.
     pub reason: Count<2>,
-    /// The code of the station that refuses, empty in an end response.
+    /// The code of the station that refuses the file, empty in an End-to-End Response.
     pub creator: Name<25>,
-    /// The refusal in words, empty in an end response.
+    /// The text of a refusal, empty in an End-to-End Response.
     pub text: Note,
 }
 
-/// A response that came, with its number.
+/// A received response with its number.
 #[derive(Drop)]
 pub struct ReceivedEntry {
     /// Its number, from 1 on.
@@ -108,12 +108,12 @@ pub struct ReceivedEntry {
     pub response: ReceivedResponse,
 }
 
-/// How far a session has come: the greatest numbers that it tried, 0 before the first.
+/// How far a session is: the greatest numbers that it tried, 0 before the first.
 #[derive(Clone, Copy, Debug, Drop, PartialEq, Eq)]
 pub struct Cursor {
-    /// Of the incoming files whose responses were tried.
+    /// The greatest number of an incoming file whose response was tried.
     pub response: u64,
-    /// Of the outgoing files that were tried.
+    /// The greatest number of an outgoing file that was tried.
     pub file: u64,
 }
 
@@ -127,7 +127,7 @@ pub enum Item {
 }
 
 impl IssuedResponse {
-    // A response that is to be sent.
+    // A new response, which is due.
     pub(crate) fn new(
         alloc: Global,
         kind: ResponseKind,
@@ -144,7 +144,7 @@ impl IssuedResponse {
         })
     }
 
-    // The same response again.
+    // A copy of the response.
     pub(crate) fn again(&self, alloc: Global) -> Result<IssuedResponse, AllocError>
         ensures { IfOk result (λ response. response ≡ self.now) }
     {
@@ -158,7 +158,7 @@ impl IssuedResponse {
 }
 
 impl ReceivedResponse {
-    // A response that came.
+    // A new received response.
     pub(crate) fn new(
         alloc: Global,
         kind: ResponseKind,
@@ -178,7 +178,7 @@ impl ReceivedResponse {
         })
     }
 
-    // The same response again.
+    // A copy of the response.
     pub(crate) fn again(&self, alloc: Global) -> Result<ReceivedResponse, AllocError>
         ensures { IfOk result (λ response. response ≡ self.now) }
     {

@@ -1,4 +1,4 @@
-//! The plain parts of a register's entries.
+//! The parts of a register's entries.
 
 ghost use Rattle.std.specs.Prelude.{◌≡◌};
 ghost use Rattle.oftp_register.specs.Register.{same_identity};
@@ -6,7 +6,7 @@ ghost use Rattle.oftp_register.specs.Register.{same_identity};
 use crate::name::{DigitString, Name};
 use oftp_wire::Count;
 
-/// What names a file (RFC 5024, section 5.3.3): its dataset name with date and time, who sends it and whom it is for.
+/// The identity of a file (RFC 5024, section 5.3.3): its dataset name with date and time, originator and destination.
 #[derive(Drop)]
 pub struct Identity {
     /// The virtual file's dataset name.
@@ -22,7 +22,7 @@ pub struct Identity {
 }
 
 impl Identity {
-    /// The same identity again.
+    /// A copy of the identity.
     pub fn again(&self) -> Identity
         ensures { result ≡ self.now }
     {
@@ -35,7 +35,7 @@ impl Identity {
         }
     }
 
-    /// Whether both name one file.
+    /// Whether both identify the same file.
     pub fn is(&self, other: &Identity) -> bool
         ensures { result ≡ same_identity self.now other.now }
     {
@@ -47,38 +47,38 @@ impl Identity {
     }
 }
 
-/// The kinds of end response.
+/// The kinds of response.
 #[derive(Clone, Copy, Debug, Drop, PartialEq, Eq)]
 pub enum ResponseKind {
-    /// The file was delivered (EERP, RFC 5024, section 5.3.13).
+    /// An End-to-End Response: the file was delivered (EERP, RFC 5024, section 5.3.13).
     EndResponse,
-    /// The file was refused after its transfer (NERP, RFC 5024, section 5.3.14).
+    /// A Negative End Response: the file was refused after its transfer (NERP, RFC 5024, section 5.3.14).
     NegativeEndResponse,
 }
 
-/// How far an incoming file has come.
+/// The state of an incoming file.
 #[derive(Clone, Copy, Debug, Drop, PartialEq, Eq)]
 pub enum IncomingState {
-    /// Some of its rows may be here.
+    /// It is incomplete, and may have no rows yet.
     Open,
-    /// All of it is here.
+    /// It is complete.
     Whole,
 }
 
-/// How far an outgoing file has come.
+/// The state of an outgoing file.
 #[derive(Clone, Copy, Debug, Drop, PartialEq, Eq)]
 pub enum OutgoingState {
-    /// It is to be sent.
+    /// It waits to be sent.
     Waiting,
-    /// Its end was sent, and the answer is awaited.
+    /// Its end was sent, and the answer is missing.
     Closing,
-    /// The partner has all of it.
+    /// The partner has the whole file.
     Handed,
-    /// The partner doesn't take it, for this reason of a start negative answer.
+    /// The partner refused it, with this reason of SFNA.
     Refused(Count<2>),
-    /// An end response came.
+    /// An End-to-End Response was received.
     Delivered,
-    /// A negative end response came.
+    /// A Negative End Response was received.
     Returned,
 }
 
@@ -87,6 +87,6 @@ pub enum OutgoingState {
 pub enum Dispatch {
     /// It is to be sent.
     Due,
-    /// The partner is ready to receive after it.
+    /// It was sent, and the partner answered RTR.
     Sent,
 }

@@ -1,4 +1,4 @@
-//! The tests of what an office and a file may be.
+//! Checks of an office's limits and of a file's fields.
 
 ghost use Rattle.std.specs.Prelude.{◌≡◌, ◌↔◌, ◌<◌, ◌≤◌, IsTrue, All, length};
 ghost use Rattle.oftp_vfile.specs.VirtualFile.{AreBlocks, AreRows};
@@ -10,24 +10,24 @@ use crate::entry::ResponseKind;
 use oftp_vfile::{BLOCK, Format, Limits, MOST_ROWS, Row};
 use oftp_wire::{Count, Text};
 
-/// How many files an office may hold on each side at most.
+/// The most files that an office may hold in one table.
 pub const MOST_FILES: u64 = 1_000_000;
 
-/// How many octets of a file an office may hold at most.
+/// The most octets that an office may hold of one file.
 pub const MOST_OCTETS: u64 = 1_024_000_000;
 
-/// How many octets the rows of a file have at most: 1,000,000 records of 16,384.
+/// The most octets that the rows of a file can have: 1,000,000 records of 16,384.
 pub const MOST_UNITS: u64 = 16_384_000_000;
 
-/// Whether an office may be made with these limits: 1,000,000 files and 1,024,000,000 octets of a file at most.
+/// Whether an office may have these limits: at most 1,000,000 files and 1,024,000,000 octets of a file.
 pub fn are_limits(limits: Limits) -> bool
     ensures { IsTrue result ↔ (limits.files ≤ MOST_FILES) × (limits.octets ≤ MOST_OCTETS) }
 {
     limits.files <= MOST_FILES && limits.octets <= MOST_OCTETS
 }
 
-/// Whether these rows fit a file to which more rows may come: records of the right length in F and V, and full blocks of 1024
-/// octets in U and T (RFC 5024, section 1.5.4).
+/// Whether these rows fit a file that isn't complete: records of the right length in F and V, and full blocks of 1,024 octets in U and T
+/// (RFC 5024, section 1.5.4).
 pub fn are_full_rows(format: Format, longest: u32, rows: &[Row]) -> bool
     ensures { IsTrue result ↔ AreFullRows format longest rows.now }
 {
@@ -55,7 +55,7 @@ fn are_blocks(rows: &[Row]) -> bool
     }
 }
 
-/// Whether these are the rows of a whole file: as full rows, but that in U and T the last may be shorter and isn't empty.
+/// Whether these are the rows of a complete file. They are full rows, except that in U and T the last one may be shorter, but not empty.
 pub fn are_rows(format: Format, longest: u32, rows: &[Row]) -> bool
     ensures { IsTrue result ↔ AreRows format longest rows.now }
 {
@@ -65,15 +65,15 @@ pub fn are_rows(format: Format, longest: u32, rows: &[Row]) -> bool
     }
 }
 
-/// Whether these make a file that a register may have: its longest record, at most 1,000,000 rows, and the rows themselves.
+/// Whether a register may have a file with this longest record and these rows, which are at most 1,000,000.
 pub fn is_file(format: Format, longest: u32, rows: &[Row]) -> bool
     ensures { IsTrue result ↔ IsFile format longest rows.now }
 {
     format.allows_longest(longest) && rows.len() <= MOST_ROWS && are_rows(format, longest, rows)
 }
 
-/// Whether a response may give this reason, this creator and this text: an end response gives none of them (RFC 5024, sections
-/// 5.3.13 and 5.3.14).
+/// Whether a response may have this reason, this creator and this text. An End-to-End Response has none of them (RFC 5024, sections 5.3.13
+/// and 5.3.14).
 pub fn is_response(kind: ResponseKind, reason: Count<2>, creator: &[u8], text: &Text<'_>) -> bool
     ensures { IsTrue result ↔ IsResponse kind reason creator.now text.now }
 {

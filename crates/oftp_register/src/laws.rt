@@ -1,4 +1,4 @@
-//! The laws of the changes.
+//! Theorems about the changes.
 
 ghost use Rattle.std.specs.Prelude.{◌≡◌, Ok};
 ghost use Rattle.oftp_register.specs.Register.{Register};
@@ -8,32 +8,32 @@ ghost use Rattle.oftp_register.specs.ByIdentity.{AcceptedStarts, StartsAreFound,
 ghost use Rattle.oftp_register.specs.Units.{UnitsAreTold};
 ghost use Rattle.oftp_register.specs.declared.change.Change.{Change};
 
-/// A change that is fit keeps a register sound: its identities apart, its rows in their formats, its marks within the rows, and
-/// only whole files answered. It does nothing; its contract is the law.
+/// A change that is fit keeps a register sound: identities differ, rows fit their formats, marks are within the rows, and only whole files
+/// have a response. The function does nothing; its contract is the theorem.
 pub fn changes_keep()
     ensures { (r : Register) (k : Change) (s : Register) → IsSound r → IsFit r k → apply r k ≡ Ok s → IsSound s }
 {}
 
-/// A change is of one identity: the files of all others, incoming and outgoing, stay as they were. It does nothing; its contract is
-/// the law.
+/// A change concerns one identity: the files of all others, incoming and outgoing, are unchanged. The function does nothing; its contract
+/// is the theorem.
 pub fn changes_stay()
     ensures { (r : Register) (k : Change) (s : Register) → apply r k ≡ Ok s → StaysElsewhere r s k }
 {}
 
-/// A start that a register accepts leaves the file under its number, with its new header and the rows that are kept, and a look-up by
-/// its identity finds it. It does nothing; its contract is the law.
+/// An accepted start leaves the file under its number, with its new header and the rows that are kept, and a look-up by its identity finds
+/// it. The function does nothing; its contract is the theorem.
 pub fn starts_are_found()
     ensures { StartsAreFound }
 {}
 
-/// What the answer to SFID accepts, the register starts: the change is fit, and it isn't refused. It does nothing; its contract is
-/// the law.
+/// If the answer to SFID accepts a file, the register starts it: the change is fit, and it isn't refused. The function does nothing; its
+/// contract is the theorem.
 pub fn accepted_starts()
     ensures { AcceptedStarts }
 {}
 
-/// The octets of rows that fit a format are told from it, from the longest record, the number of rows and the last one, but in V. It
-/// does nothing; its contract is the law.
+/// The octets of rows that fit a format follow from the format, the longest record, the number of rows and the last row, except in V. The
+/// function does nothing; its contract is the theorem.
 pub fn units_are_told()
     ensures { UnitsAreTold }
 {}

@@ -1,5 +1,5 @@
-//! The register of a station: the files that came and that go, and the responses to both; what each change makes of it, and the
-//! office that keeps it.
+//! The register of a station: incoming and outgoing files and the responses to both, the changes of a register, and the offices that keep
+//! one.
 #![tactic(auto)]
 
 mod change;

@@ -1,4 +1,4 @@
-//! Names and digits that a register keeps. They take no memory of their own.
+//! The names and digits in a register. They allocate nothing.
 
 ghost use Rattle.std.specs.Prelude.{◌≡◌, ◌≤◌, length};
 ghost use Rattle.std.specs.Str.{bytes_eq};
@@ -8,7 +8,7 @@ use arrayvec::ArrayVec;
 use oftp_wire::{Digits, X};
 use std::marker::Model;
 
-/// A name of 0 to N allowed characters, which a register keeps: an [`X`] field after its frame is gone.
+/// A name of 0 to N allowed characters that owns its octets. An [`X`] field borrows them from a frame.
 #[derive(Drop)]
 pub struct Name<const N: usize> {
     octets: ArrayVec<u8, N>,
@@ -25,7 +25,7 @@ impl<const N: usize> Model for Name<N> {
     ghost invariant = { λ x. IsName N x.octets.items };
 }
 
-/// Exactly N digits, which a register keeps: a [`Digits`] field after its frame is gone.
+/// Exactly N digits that own their octets. A [`Digits`] field borrows them from a frame.
 #[derive(Drop)]
 pub struct DigitString<const N: usize> {
     octets: ArrayVec<u8, N>,
@@ -42,7 +42,7 @@ impl<const N: usize> Model for DigitString<N> {
     ghost invariant = { λ x. IsDigits N x.octets.items };
 }
 
-// The octets, which the array has room for.
+// An array with these octets, which fit into it.
 fn kept<const N: usize>(octets: &[u8]) -> ArrayVec<u8, N>
     requires { length octets.now ≤ N }
     ensures { result.items ≡ octets.now }
@@ -53,7 +53,7 @@ fn kept<const N: usize>(octets: &[u8]) -> ArrayVec<u8, N>
 }
 
 impl<const N: usize> Name<N> {
-    /// The name that a field has.
+    /// The name in a field.
     pub fn of(field: &X<'_, N>) -> Name<N>
         ensures { result ≡ field.now }
     {
@@ -70,7 +70,7 @@ impl<const N: usize> Name<N> {
         self.octets.as_slice()
     }
 
-    /// The same name again.
+    /// A copy of the name.
     pub fn again(&self) -> Name<N>
         ensures { result ≡ self.now }
     {
@@ -88,7 +88,7 @@ impl<const N: usize> Name<N> {
 }
 
 impl<const N: usize> DigitString<N> {
-    /// The digits that a field has.
+    /// The digits in a field.
     pub fn of(field: &Digits<'_, N>) -> DigitString<N>
         ensures { result ≡ field.now }
     {
@@ -105,7 +105,7 @@ impl<const N: usize> DigitString<N> {
         self.octets.as_slice()
     }
 
-    /// The same digits again.
+    /// A copy of the digits.
     pub fn again(&self) -> DigitString<N>
         ensures { result ≡ self.now }
     {

@@ -1,4 +1,4 @@
-//! Texts that a register keeps.
+//! The texts in a register.
 
 ghost use Rattle.std.specs.Prelude.{◌≡◌, ◌≤◌, ℕ, List, length, IfOk, string_bytes};
 
@@ -6,7 +6,7 @@ use oftp_wire::Text;
 use std::alloc::{AllocError, Global};
 use std::marker::Model;
 
-/// A text of 0 to 999 octets of UTF-8, which a register keeps: the description of a file or the reason of a refusal in words.
+/// A text of 0 to 999 octets of UTF-8: the description of a file, or the text of a refusal.
 #[derive(Drop)]
 pub struct Note {
     text: String,
@@ -23,11 +23,11 @@ impl Model for Note {
 }
 
 impl Note {
-    /// The text that a field has.
+    /// The text in a field.
     ///
     /// # Errors
     ///
-    /// Memory ran out.
+    /// Out of memory.
     pub fn of(alloc: Global, field: &Text<'_>) -> Result<Note, AllocError>
         ensures { IfOk result (λ n. n ≡ field.now) }
     {
@@ -36,11 +36,11 @@ impl Note {
         })
     }
 
-    /// The same text again.
+    /// A copy of the text.
     ///
     /// # Errors
     ///
-    /// Memory ran out.
+    /// Out of memory.
     pub fn again(&self, alloc: Global) -> Result<Note, AllocError>
         ensures { IfOk result (λ n. n ≡ self.now) }
     {

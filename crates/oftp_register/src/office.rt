@@ -1,4 +1,4 @@
-//! What keeps a register.
+//! The interface of an office, which keeps a register.
 
 ghost use Rattle.std.specs.Prelude.{◌≡◌, ◌≤◌, IfSome, IfOk};
 ghost use Rattle.oftp_register.specs.Register.{has_received};
@@ -19,9 +19,9 @@ use std::alloc::{AllocError, AllocFailed};
 /// Why a call of an office failed.
 #[derive(Clone, Copy, Debug, Drop, PartialEq, Eq)]
 pub enum OfficeFault {
-    /// The store failed in this call.
+    /// The store failed.
     Store,
-    /// A growth was refused.
+    /// Out of memory.
     Memory,
     /// The register doesn't allow the change, and nothing was changed.
     Refused(Cause),
@@ -47,61 +47,61 @@ impl<T: Drop> From<AllocFailed<T>> for OfficeFault {
     }
 }
 
-/// What keeps a register, and may be stopped within any of its calls.
+/// An office keeps a register. A crash may end any of its calls.
 ///
-/// The answers are promised where the office stood before the call and what it read is what was written; both are facts that
-/// contracts alone see. What a stop may leave is promised in the same way, also after a fault.
+/// The results hold where the office was open before the call and reads what was written. Both are facts of the contracts that no call can
+/// check. What a crash may leave holds under the same premise, also after an error.
 pub trait Office {
-    // what the office shows to contracts
+    // what contracts see of the office
     ghost view: { Self → View };
 
-    /// How much the office may hold. It takes no memory.
+    /// The limits of the office. It allocates nothing.
     fn limits(&self) -> Limits
         ensures answer { result ≡ (view self.now).register.limits }
-        // It holds of any store.
+        // This needs no clean store.
         ensures within { (result.files ≤ MOST_FILES) × (result.octets ≤ MOST_OCTETS) };
 
-    /// The incoming file of an identity. The register stays as it was.
+    /// The incoming file of an identity. The register is unchanged.
     ///
     /// # Errors
     ///
     /// [`OfficeFault::Store`] and [`OfficeFault::Memory`].
     fn look_in(&mut self, identity: &Identity) -> Result<Option<IncomingEntry>, OfficeFault>
         ensures looks { LooksUp (λ r found. found ≡ look_in r identity.now) (view self.old) (view self.new) result }
-        // It holds of any store.
+        // This needs no clean store.
         ensures within { IfOk result (λ found. IfSome found IsIncomingWithin) };
 
-    /// The outgoing file of an identity. The register stays as it was.
+    /// The outgoing file of an identity. The register is unchanged.
     ///
     /// # Errors
     ///
     /// [`OfficeFault::Store`] and [`OfficeFault::Memory`].
     fn look_out(&mut self, identity: &Identity) -> Result<Option<OutgoingEntry>, OfficeFault>
         ensures looks { LooksUp (λ r found. found ≡ look_out r identity.now) (view self.old) (view self.new) result }
-        // It holds of any store.
+        // This needs no clean store.
         ensures within { IfOk result (λ found. IfSome found IsOutgoingWithin) };
 
-    /// The incoming file with a number. The register stays as it was.
+    /// The incoming file with a number. The register is unchanged.
     ///
     /// # Errors
     ///
     /// [`OfficeFault::Store`] and [`OfficeFault::Memory`].
     fn in_by_no(&mut self, no: u64) -> Result<Option<IncomingEntry>, OfficeFault>
         ensures looks { LooksUp (λ r found. found ≡ in_by_no r no) (view self.old) (view self.new) result }
-        // It holds of any store.
+        // This needs no clean store.
         ensures within { IfOk result (λ found. IfSome found IsIncomingWithin) };
 
-    /// The outgoing file with a number. The register stays as it was.
+    /// The outgoing file with a number. The register is unchanged.
     ///
     /// # Errors
     ///
     /// [`OfficeFault::Store`] and [`OfficeFault::Memory`].
     fn out_by_no(&mut self, no: u64) -> Result<Option<OutgoingEntry>, OfficeFault>
         ensures looks { LooksUp (λ r found. found ≡ out_by_no r no) (view self.old) (view self.new) result }
-        // It holds of any store.
+        // This needs no clean store.
         ensures within { IfOk result (λ found. IfSome found IsOutgoingWithin) };
 
-    /// Whether a table has as many files as the limits allow, or more. The register stays as it was.
+    /// Whether a table has as many files as the limits allow, or more. The register is unchanged.
     ///
     /// # Errors
     ///
@@ -109,7 +109,7 @@ pub trait Office {
     fn files_full(&mut self, side: Side) -> Result<bool, OfficeFault>
         ensures looks { LooksUp (λ r full. full ≡ files_full r side) (view self.old) (view self.new) result };
 
-    /// Whether a response of this kind came for the file of this identity. The register stays as it was.
+    /// Whether a response of this kind was received for the file with this identity. The register is unchanged.
     ///
     /// # Errors
     ///
@@ -117,8 +117,8 @@ pub trait Office {
     fn has_received(&mut self, kind: ResponseKind, identity: &Identity) -> Result<bool, OfficeFault>
         ensures looks { LooksUp (λ r there. there ≡ has_received r kind identity.now) (view self.old) (view self.new) result };
 
-    /// What a session sends next to a partner: the first response that is due and wasn't tried, or where there is none and `files`
-    /// is true, the first file that is waiting or closing and wasn't tried. The register stays as it was.
+    /// What a session sends next to a partner. It is the first response that is due and wasn't tried. If there is none and `files` is true,
+    /// it is the first file that is waiting or closing and wasn't tried. The register is unchanged.
     ///
     /// # Errors
     ///
@@ -130,13 +130,13 @@ pub trait Office {
         files: bool,
     ) -> Result<Option<Item>, OfficeFault>
         ensures looks { LooksUp (λ r item. item ≡ next_item r partner.now cursor files) (view self.old) (view self.new) result }
-        // It holds of any store.
+        // This needs no clean store.
         ensures within { IfOk result (λ found. IfSome found IsItemWithin) };
 
-    /// The rows of a file from one on, `most` at most. There is none for a number that no file has. The register stays as it was.
+    /// At most `most` rows of a file, from row `from` on. A number without a file has no rows. The register is unchanged.
     ///
-    /// Of any store only their count is promised: it isn't asked the file's format. Who needs rows of a format tests them by
-    /// [`are_rows`], which finds nothing wrong where the rows are those of the register.
+    /// Where the store may read something else than was written, only the number of rows is promised, because the call doesn't look at the
+    /// file's format. A caller who needs rows of a format checks them by [`are_rows`]; that check doesn't fail on rows of the register.
     ///
     /// [`are_rows`]: crate::are_rows
     ///
@@ -145,20 +145,20 @@ pub trait Office {
     /// [`OfficeFault::Store`] and [`OfficeFault::Memory`].
     fn rows_of(&mut self, side: Side, no: u64, from: u64, most: u64) -> Result<Rows, OfficeFault>
         ensures looks { LooksUp (λ r rows. rows ≡ rows_of r side no from most) (view self.old) (view self.new) result }
-        // It holds of any store.
+        // This needs no clean store.
         ensures within { IfOk result (AreRowsWithin from most) };
 
-    /// How many octets the rows of a file have, 0 for a number that no file has. The register stays as it was.
+    /// The number of octets of a file, or 0 for a number without a file. The register is unchanged.
     ///
     /// # Errors
     ///
     /// [`OfficeFault::Store`] and [`OfficeFault::Memory`].
     fn units_of(&mut self, side: Side, no: u64) -> Result<u64, OfficeFault>
         ensures looks { LooksUp (λ r units. units ≡ units_of r side no) (view self.old) (view self.new) result }
-        // It holds of any store.
+        // This needs no clean store.
         ensures within { IfOk result (λ units. units ≤ MOST_UNITS) };
 
-    /// All incoming files, in order of number. The register stays as it was.
+    /// All incoming files, in order of their numbers. The register is unchanged.
     ///
     /// # Errors
     ///
@@ -166,7 +166,7 @@ pub trait Office {
     fn list_in(&mut self) -> Result<Vec<IncomingEntry>, OfficeFault>
         ensures looks { LooksUp (λ r entries. entries.items ≡ list_in r) (view self.old) (view self.new) result };
 
-    /// All outgoing files, in order of number. The register stays as it was.
+    /// All outgoing files, in order of their numbers. The register is unchanged.
     ///
     /// # Errors
     ///
@@ -174,7 +174,7 @@ pub trait Office {
     fn list_out(&mut self) -> Result<Vec<OutgoingEntry>, OfficeFault>
         ensures looks { LooksUp (λ r entries. entries.items ≡ list_out r) (view self.old) (view self.new) result };
 
-    /// All issued responses, in order of their files' numbers. The register stays as it was.
+    /// All issued responses, in order of their files' numbers. The register is unchanged.
     ///
     /// # Errors
     ///
@@ -182,7 +182,7 @@ pub trait Office {
     fn list_issued(&mut self) -> Result<Vec<IssuedEntry>, OfficeFault>
         ensures looks { LooksUp (λ r entries. entries.items ≡ list_issued r) (view self.old) (view self.new) result };
 
-    /// All responses that came, in order of number. The register stays as it was.
+    /// All received responses, in order of their numbers. The register is unchanged.
     ///
     /// # Errors
     ///
@@ -190,11 +190,12 @@ pub trait Office {
     fn list_received(&mut self) -> Result<Vec<ReceivedEntry>, OfficeFault>
         ensures looks { LooksUp (λ r entries. entries.items ≡ list_received r) (view self.old) (view self.new) result };
 
-    /// CarriesOut a change. When it returns `Ok`, a stop leaves the change made.
+    /// Commits a change. Once it has returned `Ok`, a crash doesn't undo the change.
     ///
-    /// The change has to be fit: the file that it leaves has at most 1,000,000 rows, which fit its format and longest record, and
-    /// an end response gives no reason, no creator and no text. [`is_file`], [`Format::allows_longest`], [`are_full_rows`],
-    /// [`are_rows`] and [`is_response`] are the tests that a caller can make before. A change that isn't fit may do anything.
+    /// The change has to be fit: the file that it leaves has at most 1,000,000 rows, which fit its format and longest record, and an
+    /// End-to-End Response has no reason, no creator and no text. A caller can check this beforehand by [`is_file`],
+    /// [`Format::allows_longest`], [`are_full_rows`], [`are_rows`] and [`is_response`]. For a change that isn't fit, nothing is promised of
+    /// the register.
     ///
     /// [`is_file`]: crate::is_file
     /// [`Format::allows_longest`]: oftp_vfile::Format::allows_longest
@@ -204,18 +205,18 @@ pub trait Office {
     ///
     /// # Errors
     ///
-    /// [`OfficeFault::Refused`] where the register refuses the change, for its cause, and then nothing is changed. After
-    /// [`OfficeFault::Store`] and [`OfficeFault::Memory`] the office, where it is still open, keeps its register, and a stop
-    /// leaves the change made or not made.
+    /// - [`OfficeFault::Refused`] where the register refuses the change, with its cause. Nothing is changed.
+    /// - [`OfficeFault::Store`] and [`OfficeFault::Memory`]: if the office is still open, its register is unchanged. A crash leaves the
+    ///   change made or not made.
     fn commit(&mut self, change: Change<'_>) -> Result<(), OfficeFault>
         ensures commits { Commits change.entry (view self.old) (view self.new) result };
 
-    // The register keeps its facts.
+    // The register is sound.
     ghost sound: { (o : Self) → (view o).clean → (view o).stands → IsSound (view o).register };
 
-    // What a stop leaves now is the register's alone.
+    // A crash now leaves the register and nothing else.
     ghost alone: { (o : Self) → (view o).clean → (view o).stands → Only (view o).register (view o) };
 
-    // A stop leaves something.
+    // A crash leaves some content.
     ghost leaves: { (o : Self) → (view o).clean → Leaves (view o) };
 }

@@ -1,4 +1,4 @@
-//! A register in memory.
+//! An office in memory.
 
 ghost use Rattle.std.specs.Prelude.{◌≡◌, ◌↔◌, ◌≤◌, ⊤, ℕ, Ok, Err, IfSome, IfOk, IsTrue, MatchResult, map, refl};
 ghost use Rattle.oftp_register.specs.Register.{Register, empty, has_received};
@@ -26,8 +26,8 @@ use lists::Lists;
 use oftp_vfile::{Limits, Rows};
 use std::alloc::{AllocError, Global};
 
-/// An office that keeps its register in lists in memory. A stop leaves it its own register, and nothing reopens it. It never
-/// tells a fault of a store.
+/// An office that keeps its register in lists in memory. In its contract a crash leaves its register, but nothing can open it again. It
+/// never returns [`OfficeFault::Store`].
 #[derive(Drop)]
 pub struct PlainOffice {
     lists: Lists,
@@ -39,7 +39,7 @@ impl PlainOffice {
     ghost use Rattle.oftp_register.specs.Plain.{faults_of, register_of};
 
     /// An office with an empty register. Its limits are at most 1,000,000 files and 1,024,000,000 octets of a file, which
-    /// [`are_limits`](crate::are_limits) tests. It takes no memory.
+    /// [`are_limits`](crate::are_limits) checks. It allocates nothing.
     pub fn new(alloc: Global, limits: Limits) -> PlainOffice
         requires files { limits.files ≤ MOST_FILES }
         requires octets { limits.octets ≤ MOST_OCTETS }
@@ -51,7 +51,7 @@ impl PlainOffice {
         }
     }
 
-    // Counts a growth that was refused.
+    // Counts an error if an allocation failed.
     fn counted<T>(&mut self, found: Result<T, AllocError>) -> Result<T, OfficeFault>
         ensures told { MatchResult found (λ x. result ≡ Ok x) (λ _. result ≡ Err OfficeFault.Memory) }
         ensures register { register_of self.new ≡ register_of self.old }
@@ -66,14 +66,14 @@ impl PlainOffice {
         }
     }
 
-    /// The responses that came, in order of number.
+    /// The received responses, in order of their numbers.
     pub fn received(&self) -> &[ReceivedResponse]
         ensures { map received_of result.now ≡ (register_of self.now).received }
     {
         &self.lists.received
     }
 
-    /// Whether a change is fit for the register: what [`Office::commit`] asks of it. It takes no memory.
+    /// Whether a change is fit for the register, as [`Office::commit`] demands. It allocates nothing.
     pub fn is_fit(&self, change: &Change<'_>) -> bool
         ensures { IsTrue result ↔ IsFit (register_of self.now) change.now }
     {
@@ -193,8 +193,7 @@ impl Office for PlainOffice {
         self.counted(found)
     }
 
-    // It never tells a fault of a store. A change that isn't fit would leave a register that isn't sound: it is told as a growth
-    // that was refused.
+    // It never returns `Store`. A change that isn't fit would make the register unsound, so it is refused as `Memory`.
     fn commit(&mut self, change: Change<'_>) -> Result<(), OfficeFault>
         ensures made { CarriesOut register_of (apply (register_of self.old) change.entry) self.old self.new result }
         ensures counts { Counts (faults_of self.old) (faults_of self.new) result }

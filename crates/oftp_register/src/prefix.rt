@@ -1,17 +1,17 @@
-//! Many changes in turn, over any office.
+//! Several changes in order, over any office.
 
 ghost use Rattle.oftp_register.specs.Offices.{CommitsAll};
 
 use crate::change::Change;
 use crate::office::{Office, OfficeFault};
 
-/// CarriesOut changes in turn, up to the first that isn't made. Wherever it ends, a stop leaves the register after the first so many
-/// of them, each one made. Each has to be fit when its turn comes.
+/// Commits changes in order, up to the first that fails. Wherever it ends, a crash leaves the register after a prefix of them, each one
+/// made. Each change has to be fit when it is committed.
 ///
 /// # Errors
 ///
-/// The fault of the change that wasn't made: [`OfficeFault::Refused`] where it is the first that the register refuses, with its
-/// cause. An office that is still open then keeps the register after the changes before.
+/// The error of the change that failed: [`OfficeFault::Refused`] with its cause, if it is the first that the register refuses. If the
+/// office is still open, it has the register after the changes before.
 pub fn commit_all<O: Office>(office: &mut O, changes: Vec<Change<'_>>) -> Result<(), OfficeFault>
     ensures { CommitsAll changes.entry.items (O.view office.old) (O.view office.new) result }
 {

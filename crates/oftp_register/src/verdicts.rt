@@ -1,4 +1,4 @@
-//! Whether a listener takes what is offered.
+//! Whether a listener accepts a file.
 
 ghost use Rattle.std.specs.Prelude.{◌≡◌, ◌<◌, ◌^◌, false};
 ghost use Rattle.std.specs.Option.{option_copied};
@@ -10,30 +10,30 @@ use crate::name::Name;
 use oftp_vfile::{Format, LONGEST_RECORD, Limits};
 use oftp_wire::{Count, Efid, EndReason, Layout, Sfid, StartReason};
 
-/// The unit of the file size that SFID tells, in octets (RFC 5024, section 5.3.3).
+/// The unit of SFIDOSIZ in octets (RFC 5024, section 5.3.3).
 pub const SIZE_UNIT: u64 = 1024;
 
-/// What a session agreed, as far as it decides whether a file is taken.
+/// The conditions of a session that decide whether a file is accepted.
 #[derive(Drop)]
 pub struct Terms {
-    /// The station's code.
+    /// This station's Identification Code.
     pub station: Name<25>,
-    /// The partner's code.
+    /// The partner's Identification Code.
     pub partner: Name<25>,
     /// Whether the agreed direction lets the station receive files.
     pub receives: bool,
-    /// Whether restart is agreed.
+    /// Whether restart was agreed.
     pub restart: bool,
-    /// How much the office may hold.
+    /// The limits of the office.
     pub limits: Limits,
 }
 
-/// Whether an offered file is taken.
+/// Whether an offered file is accepted.
 #[derive(Clone, Copy, Debug, Drop, PartialEq, Eq)]
 pub enum StartVerdict {
-    /// It is taken from this row on: the restart position of SFPA.
+    /// It is accepted, with this Restart position for SFPA.
     Accept(Count<17>),
-    /// It isn't taken.
+    /// It is refused.
     Refuse {
         /// The reason of SFNA.
         reason: StartReason,
@@ -42,16 +42,16 @@ pub enum StartVerdict {
     },
 }
 
-/// Whether the end of a file is as it was announced.
+/// Whether the EFID of a file has its counts.
 #[derive(Clone, Copy, Debug, Drop, PartialEq, Eq)]
 pub enum EndVerdict {
-    /// It is, and the file is whole.
+    /// It has, and the file is complete.
     Accept,
-    /// It isn't, for this reason of EFNA.
+    /// It hasn't. The reason is that of EFNA.
     Refuse(EndReason),
 }
 
-/// The format of a file that is offered.
+/// The format of an offered file.
 pub fn format_of(layout: Layout) -> Format
     ensures { result ≡ format_of layout }
 {
@@ -63,7 +63,7 @@ pub fn format_of(layout: Layout) -> Format
     }
 }
 
-/// The longest record of a file that is offered, in octets: 0 in U and T.
+/// The longest record of an offered file in octets, 0 in U and T.
 pub fn longest_of(layout: Layout) -> u32
     ensures value { result ≡ longest_of layout }
     ensures within { result < 10 ^ 5 }
@@ -74,7 +74,7 @@ pub fn longest_of(layout: Layout) -> u32
     }
 }
 
-// Whether the records aren't too long, nor all empty.
+// Whether the longest record is 1 to 16,384 octets in F and V.
 fn has_length(layout: Layout) -> bool
     ensures { result ≡ has_length layout }
 {
@@ -87,7 +87,7 @@ fn has_length(layout: Layout) -> bool
     }
 }
 
-// Whether the file is sent as it is, and its response is to be as well.
+// Whether the file isn't encrypted, compressed or enveloped, and no signed response is requested.
 fn is_plain(sfid: &Sfid<'_>) -> bool
     ensures { result ≡ is_plain sfid.now }
 {
@@ -98,7 +98,7 @@ fn is_plain(sfid: &Sfid<'_>) -> bool
         && !sfid.signed_response
 }
 
-// From where a file goes on.
+// The row from which a file goes on.
 fn restart_position(sfid: &Sfid<'_>, found: Option<&IncomingEntry>, restart: bool) -> Count<17>
     ensures { result ≡ restart_position sfid.now (option_copied found.entry) restart }
 {
@@ -132,8 +132,8 @@ fn refused(reason: StartReason) -> StartVerdict
     }
 }
 
-/// Whether an offered file is taken, and from which row on (RFC 5024, sections 5.3.3 to 5.3.5). `found` is the incoming file of
-/// its identity, and `is_full` tells whether the table of incoming files is full. It takes no memory.
+/// Whether an offered file is accepted, and from which row on (RFC 5024, sections 5.3.3 to 5.3.5). `found` is the incoming file with its
+/// identity, and `is_full` says whether the table of incoming files is full. It allocates nothing.
 pub fn start_verdict(
     sfid: &Sfid<'_>,
     found: Option<&IncomingEntry>,
@@ -175,8 +175,8 @@ pub fn start_verdict(
     StartVerdict::Accept(restart_position(sfid, found, terms.restart))
 }
 
-/// Whether the end of a file has its counts (RFC 5024, sections 5.3.8 to 5.3.10): those of the whole file, rows of earlier
-/// sessions included. In U and T the count of records is 0. It takes no memory.
+/// Whether EFID has the counts of the whole file, with the rows of earlier sessions (RFC 5024, sections 5.3.8 to 5.3.10). In U and T the
+/// count of records is 0. It allocates nothing.
 pub fn end_verdict(efid: &Efid, records: u64, units: u64) -> EndVerdict
     ensures { result ≡ end_verdict efid.now records units }
 {

@@ -1,4 +1,4 @@
--- Single steps that go on: without a change, and by one that the register takes.
+-- Single steps that can be made: without a change, and with one that the register accepts.
 use Rattle.std.proofs.Common.{◌≡◌, true, Option, None, Some, Result, Ok, Err, refl, is_ok}
 use Rattle.std.proofs.lemmas.Bool.{false≢true}
 use Rattle.std.specs.Result.{result_unwrap_or}
@@ -15,7 +15,7 @@ use Rattle.oftp_session.specs.Steps.{Holds}
 use Rattle.oftp_session.specs.Calls.{Proceeds}
 use Rattle.oftp_session.specs.Inside.{IsAccepted}
 
--- a step that changes nothing goes on to a phase that holds
+-- a step without a change goes on to a phase whose facts hold
 pub same_proceeds : (r : Register) (phase : Phase) (output : Option Command) → IsSound r → Holds phase r → Proceeds r (record { phase = phase; change = None; output = output })
 same_proceeds r phase output sound holds = record { allowed = refl; suits = record { sound = sound; holds = holds } }
 
@@ -35,7 +35,7 @@ accepted_proceeds r phase change output sound fit accepted holds =
     let made = is_made (apply r change) r accepted in
     record { allowed = made; suits = record { sound = apply_keeps r change _ sound fit made; holds = holds } }
 
--- a change, if it is due, that is accepted where it is
+-- a change, if it is due, that the register accepts
 pub changes_proceeds : (r : Register) (phase : Phase) (change : Option Change) (output : Option Command) → IsSound r
     → ((k : Change) → change ≡ Some k → IsFit r k × IsAccepted r k) → Holds phase (register_after r change) → Proceeds r (record { phase = phase; change = change; output = output })
 changes_proceeds r phase None output sound goes holds = same_proceeds r phase output sound holds

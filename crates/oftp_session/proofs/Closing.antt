@@ -70,7 +70,7 @@ by_verdict contact r f s efid verdict old new frame result holds at shut v h =
     let closed_off = sym (open_of contact f s at) ∙ shut in
     subst (λ (x : Step). Takes x old new frame result) (sym (end_by contact r f efid verdict closed_off (verdict_is contact r f s efid verdict holds at v))) h
 
--- the file is closed, after the look-up of what is next
+-- the file is closed, after the look-up of the next item
 
 asked : (contact : Contact) (f : Receipt) (s : Reception) (rows : List (List ℕ)) (old mid : View) → IsSound mid.register → IsReceived old.register f → Tracks contact f s
     → is_open (carried_by f).stage ≡ false → rows ≡ closed s.taker.rows s.taker.tail → IsMade None None old mid []
@@ -98,7 +98,7 @@ close_ok contact f s rows speaks old mid new frame sound holds at shut is was as
     let its = subst (λ (x : Change). IsMade (Some x) None old new []) (close_is contact f s rows at is) made in
     (answered _ (efpa_of (asks_to_speak contact old.register)) old new frame (said ∙ ap (λ (b : Bool). frame_of (efpa_of b)) asks) its, refl)
 
--- its rows are given up
+-- its rows are deleted
 
 pub give_up_err : (contact : Contact) (f : Receipt) (s : Reception) (reason : EndReason) (old new : View) (told : SessionFault) → IsReceived old.register f → Tracks contact f s
     → (IsFit old.register (GiveUp s.number) → IsAccepted old.register (GiveUp s.number) → DoesNot (Some (GiveUp s.number)) old new told)
@@ -114,7 +114,7 @@ give_up_ok contact f s reason old new frame holds at said does =
     let made = does (give_up_fit old.register s.number) (give_up_goes old.register contact f s holds at) in
     (answered _ (efna_of reason) old new frame said (subst (λ (x : Change). IsMade (Some x) None old new []) (give_up_is contact f s at) made), refl)
 
--- the verdict on the counts that the taker told
+-- the verdict on the taker's counts
 pub told_verdict : (efid : Efid) (t : Taking) (counts : ℕ × ℕ) (verdict : EndVerdict) → counts ≡ counts_of t → end_verdict efid counts.0 counts.1 ≡ verdict
     → end_verdict efid (counts_of t).0 (counts_of t).1 ≡ verdict
 told_verdict efid t counts verdict is v = ap (λ (p : ℕ × ℕ). end_verdict efid p.0 p.1) (sym is) ∙ v

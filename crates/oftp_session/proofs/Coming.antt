@@ -1,4 +1,4 @@
--- What comes, and the own turn, by where the session stands.
+-- Commands that arrive, and turns, by the state of the session.
 use Rattle.std.proofs.Common.{◌≡◌, ℕ, List, Result, Ok, sym, ap, subst}
 use Rattle.oftp_wire.specs.declared.command.Command.{Command}
 use Rattle.oftp_register.specs.Offices.{View}
@@ -20,13 +20,13 @@ use Rattle.oftp_session.specs.Inside.{Goes, Takes}
 use Rattle.oftp_session.proofs.Saying.{same_takes}
 use Rattle.oftp_session.proofs.Standings.{phase_at, phase_awaits, phase_offered, phase_received, phase_sent}
 
--- a session takes the step of the phase that it is in
+-- a session makes the step of its phase
 in_phase : (step : Phase → Step) (p q : Phase) (old new : View) (frame : List ℕ) (result : Result State SessionFault) → q ≡ p → Holds p old.register
     → (Holds q old.register → Takes (step q) old new frame result) → Takes (step p) old new frame result
 in_phase step p q old new frame result same holds takes =
     subst (λ (x : Phase). Takes (step x) old new frame result) same (takes (subst (λ (x : Phase). Holds x old.register) (sym same) holds))
 
--- a session that isn't receiving takes the step of its phase
+-- a session that isn't receiving makes the step of its phase
 pub came_at : (setting : Setting) (p q : Phase) (s : State) (c : Command) (old new : View) (frame : List ℕ) (result : Result State SessionFault) → standing_of s ≡ At q
     → StandsIn p (standing_of s) → Takes (came setting q old.register c) old new frame result → Takes (came setting p old.register c) old new frame result
 came_at setting p q s c old new frame result is at takes =
@@ -38,7 +38,7 @@ pub came_same : (setting : Setting) (p q : Phase) (s : State) (c : Command) (now
 came_same setting p q s c now to frame is at stands goes =
     came_at setting p q s c now now frame (Ok to) is at (same_takes (came setting q now.register c) now to frame stands goes)
 
--- one that receives takes that of its file
+-- one that receives makes that of its file
 pub came_received : (setting : Setting) (p : Phase) (s : State) (contact : Contact) (reception : Reception) (c : Command) (old new : View) (frame : List ℕ) (result : Result State SessionFault)
     → s ≡ state.Receiving contact reception → StandsIn p (standing_of s) → Holds p old.register
     → ((f : Receipt) → IsReceived old.register f → Tracks contact f reception → Takes (came_receiving contact old.register f c) old new frame result)
@@ -88,7 +88,7 @@ came_ended setting p s contact n c old new frame result is at holds takes =
     let i = phase_awaits p contact n (subst (StandsIn p) (ap standing_of is) at) in
     in_phase (λ (x : Phase). came setting x old.register c) p _ old new frame result i.1 holds (λ its. takes i.0 its i.2)
 
--- the own turn
+-- the turn
 pub turned_at : (setting : Setting) (p q : Phase) (s : State) (old new : View) (frame : List ℕ) (result : Result State SessionFault) → standing_of s ≡ At q
     → StandsIn p (standing_of s) → Takes (turned setting q old.register) old new frame result → Takes (turned setting p old.register) old new frame result
 turned_at setting p q s old new frame result is at takes =

@@ -1,4 +1,4 @@
--- Each step of a station that speaks goes on from a register that suits its phase.
+-- Each step of a speaker can be made from a register that suits its phase.
 use Rattle.std.proofs.Common.{◌≡◌, ℕ, nat_le, nat_lt, Bool, true, false, cond, List, Option, None, Some, refl, sym, subst, slice_get}
 use Rattle.std.proofs.lemmas.Bool.{leb-true}
 use Rattle.oftp_wire.specs.declared.command.Command.{Command}

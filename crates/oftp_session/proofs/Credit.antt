@@ -1,12 +1,12 @@
--- A window of credit: its places count modulo the window.
+-- A window of credit: payloads are counted modulo the window.
 use Rattle.std.proofs.Common.{◌≡◌, ℕ, suc, ◌-◌, ◌%◌, ◌<◌, ◌≤◌, max, ap, ◌∙◌, arith}
 use Rattle.std.proofs.Math.Nat.{suc-mod, mod-lt, mod-eq_of_lt, mod_self}
 
--- a place that leaves credit
+-- a payload that leaves credit
 pub place_open : (n w c : ℕ) → 0 < w → 1 < c → max 1 c ≡ w - n % w → suc n % w ≡ suc (n % w)
 place_open n w c some more is = suc-mod n w ∙ mod-eq_of_lt (let h : suc (n % w) < w = omega arith in h)
 
--- the last place of a window
+-- the last payload of a window
 pub place_full : (n w c : ℕ) → 0 < w → c ≤ 1 → max 1 c ≡ w - n % w → suc n % w ≡ 0
 place_full n w c some last is =
     let below = mod-lt n some in

@@ -33,7 +33,7 @@ use Rattle.oftp_session.proofs.Shipping.{turned_next}
 
 -- CDT
 
--- where no credit is left, as many payloads were sent as it covered, and there was room for them
+-- if no credit is left, as many payloads were sent as it covered, and there was room for them
 used_up : (contact : Contact) (t : Transfer) (s : Shipment) → Ships contact t s → s.credit ≡ 0 → t.sent ≡ (t.credits + 1) * window contact
 used_up contact t s at none = let c = at.credit in let all : ℕ = (t.credits + 1) * window contact in all_of all t.sent (omega (arith, c, none)) at.covered
   where
@@ -95,7 +95,7 @@ credited_ships contact t s new mark at none is = subst (Ships contact (credited_
     more : t.sent ≤ (t.credits + 1 + 1) * w
     more = within ((t.credits + 1) * w) ((t.credits + 1 + 1) * w) w t.sent next at.covered
 
--- the change of the step, where the mark is another one
+-- the change of the step, if the mark differs
 mark_is : (t : Transfer) (s : Shipment) (mark number : ℕ) → number ≡ t.number → s.mark ≡ t.file.mark → (mark ≡ s.mark → ⊥) → marking t mark ≡ Some (Mark number mark)
 mark_is t s mark number n m other = by (mark == t.file.mark) refl
   where
@@ -103,7 +103,7 @@ mark_is t s mark number n m other = by (mark == t.file.mark) refl
     by true e = absurd (other (eqb-true mark t.file.mark e ∙ sym m))
     by false e = ap (λ k. let o : Option Change = Some (Mark k mark) in o) (sym n)
 
--- what the office makes of the mark is the change of the step
+-- what the office does with the mark is the change of the step
 
 covers : {T : Type 0} (t : Transfer) (s : Shipment) (mark : ℕ) (old new : View) (result : Result T SessionFault) → mark ≡ s.filler.mark → IsSent old.register t → t.number ≡ s.number
     → t.file.mark ≡ s.mark → s.filler.mark ≤ length t.file.rows → (mark ≡ s.mark → ⊥)
@@ -131,7 +131,7 @@ covers_ok t s mark old new is holds number was within other does = covers {T = �
 mark_there : (r : Register) (contact : Contact) (t : Transfer) (mark : ℕ) → IsSound r → IsSent r t → mark ≡ new_mark contact t → mark ≤ length t.file.rows
 mark_there r contact t mark sound holds is = subst (λ n. n ≤ length t.file.rows) (sym is) (mark_within r contact t sound holds)
 
--- what the office was asked to make
+-- the change that the office was given
 abbrev pub Covered : Transfer → Shipment → View → Type 0
 Covered t s old = IsSent old.register t × (t.number ≡ s.number) × (t.file.mark ≡ s.mark) × (s.filler.mark ≤ length t.file.rows)
 
@@ -160,11 +160,11 @@ credit_ok contact t s covered credit old new frame sound holds at none is full s
 
 -- the end of a file
 
--- the end of a file of so many rows, which have so many octets
+-- the end of a file with this number of rows and of octets
 abbrev pub efid_with : Format → ℕ → ℕ → Command
 efid_with format rows units = command.Efid (record { records = cond (is_stream format) 0 rows; units = units })
 
--- it is sent of the counts that the shipment has
+-- it has the counts of the shipment
 efid_is : (contact : Contact) (t : Transfer) (s : Shipment) → Ships contact t s → efid_with s.filler.format s.rows s.units ≡ efid_of t.file
 efid_is contact t s at =
     ap (λ (f : Format). efid_with f s.rows s.units) at.format ∙ ap (λ n. efid_with t.file.format n s.units) at.rows ∙ ap (λ n. efid_with t.file.format (length t.file.rows) n) at.units

@@ -1,4 +1,4 @@
--- EFID: a file is closed, or its rows are given up.
+-- EFID: a file is closed, or its rows are deleted.
 use Rattle.std.proofs.Common.{◌≡◌, ◌≢◌, ℕ, ◌+◌, ◌*◌, ◌≤◌, false, true, is_ok, List, [], ◌∷◌, length, take, drop, All, refl, sym, ap, ◌∙◌, subst, arith}
 use Rattle.std.specs.List.{flat_map}
 use Rattle.std.proofs.lemmas.List.{append-nil, drop-append-le, length-append, length-drop, length-take-le}
@@ -42,7 +42,7 @@ pub end_by : (contact : Contact) (r : Register) (f : Receipt) (efid : Efid) (ver
 unfolding end_step
 end_by contact r f efid verdict h v = rw h (ap (on_end_verdict contact r f (carried_by f)) v)
 
--- what the session's taker says, the phase's does
+-- the facts of the session's taker are those of the phase's
 pub open_of : (contact : Contact) (f : Receipt) (s : Reception) → Tracks contact f s → is_open s.taker.stage ≡ is_open (carried_by f).stage
 open_of contact f s at = ap (λ (t : Taking). is_open t.stage) at.taker
 
@@ -58,7 +58,7 @@ block_octets rows all =
     let n = blocks_length (octets_in rows) rows [] (record { joined = sym (append-nil (octets_in rows)); full = all; rest = omega arith }) in
     omega (arith, n)
 
--- the last rows less some of them
+-- the last rows without some of them
 pub closed_drop : (n : ℕ) (rows : List (List ℕ)) (tail : List ℕ) → n ≤ length rows → closed (drop n rows) tail ≡ drop n (closed rows tail)
 closed_drop n rows [] within = refl
 closed_drop n rows (x ∷ xs) within = sym (drop-append-le n rows ((x ∷ xs) ∷ []) within)
@@ -142,7 +142,7 @@ close_fits r f sound holds shut =
     let ends : Ends rows f.file = record { few = omega (arith, few, more, within, ap length cut, length-drop k all, holds.kept); fits = fits } in
     close_fit r f.number f.file holds.entry holds.opened rows ends
 
--- the changes are ones that the register takes
+-- the register accepts the changes
 pub close_accepted : (r : Register) (f : Receipt) (rows : List (List ℕ)) → IsReceived r f → IsAccepted r (Close f.number rows)
 close_accepted r f rows holds = ap is_ok (close_changes r f.number f.file holds.entry holds.opened rows).made
 

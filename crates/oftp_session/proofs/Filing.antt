@@ -1,4 +1,4 @@
--- A response that isn't there is filed.
+-- A response that is new is added.
 use Rattle.std.proofs.Common.{◌≡◌, ℕ, List, Bool, true, false, cond, Ok, Err, refl, is_ok}
 use Rattle.oftp_register.specs.declared.change.Cause.{Cause}
 use Rattle.oftp_register.specs.declared.change.Change.TheVariants.{File}

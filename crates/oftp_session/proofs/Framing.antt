@@ -1,4 +1,4 @@
--- A header and then a command are a frame, also of a DATA.
+-- A header and then a command are a frame, also of DATA.
 use Rattle.std.proofs.Common.{◌≡◌, ℕ, ◌+◌, ◌<◌, List, ◌++◌, length, take, drop, [], ◌∷◌, ◌≤◌, false, refl, sym, ap, ◌∙◌, append_assoc, length-append, arith}
 use Rattle.std.proofs.lemmas.List.{length-take-le, take-append-drop, take_at}
 use Rattle.oftp_wire.specs.Header.{header_of, frame}
@@ -19,7 +19,7 @@ pub frame_spelled : (c : Command) (body old head : List ℕ) (count : ℕ) → c
 unfolding frame_of
 frame_spelled c body old head count e b h = ap (λ (x : List ℕ). take (count + 4) (head ++ x)) b ∙ framed_octets (Canon c) (drop count old) head count e h
 
--- a payload behind a header and the letter of DATA
+-- a payload after a header and the letter of DATA
 pub data_framed : (head out rest : List ℕ) (count : ℕ) → head ≡ header_of (count + 5) ++ 68 ∷ [] → count ≤ length out
     → take (count + 5) (head ++ (out ++ rest)) ≡ frame_of (command.Data (take count out))
 unfolding frame_of
@@ -34,6 +34,6 @@ data_framed head out rest count h within =
     ∙ framed_octets (68 ∷ payload) more (header_of (count + 1 + 4)) (count + 1) (omega (arith, length-take-le count out within)) refl
     ∙ ap frame (sym (canon-data payload))
 
--- there is room for each command that isn't DATA
+-- there is room for each command other than DATA
 pub canon_fits : (c : Command) (n : ℕ) → n ≡ 1196 → n < length (Canon c) → IsFit c → is_data c ≡ false → ⊥
 canon_fits c n e l fit command = let h = canon_short c fit command in omega (arith, h)

@@ -156,7 +156,7 @@ item_goes r contact partner tried files e sound h =
       record { entry = entry; goes = k.goes; within = offer_within contact.link.restart k.file (all_at IsSoundOutgoing e.no r.outgoing k.file sound.outgoing entry) },
     )
 
--- the octets of an outgoing file with a number, and its rows that are lent
+-- the octets of an outgoing file with a number, and its rows that are borrowed
 pub units_are : (r : Register) (n : ℕ) (file : Outgoing) → entry_at n r.outgoing ≡ Some file → units_of r side.Outgoing n ≡ units_in file.rows
 units_are r n file h = ap units_in (rows_of_outgoing r n file h)
 

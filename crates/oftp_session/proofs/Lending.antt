@@ -1,4 +1,4 @@
--- Rows of a register are lent to a filler, which makes the next payload of them.
+-- A filler borrows rows of a register, and makes the next payload from them.
 use Rattle.std.proofs.Common.{◌≡◌, ℕ, suc, zero, ◌+◌, ◌-◌, ◌≤◌, Bool, min, List, [], ◌∷◌, ◌++◌, length, take, drop, slice_get, None, Some, refl, sym, ap, ◌∙◌, subst, arith, inl, inr}
 use Rattle.std.proofs.Math.Seq.{take-add}
 use Rattle.std.proofs.lemmas.Bool.{cases_lt, eqb-true, eqb-false}
@@ -26,7 +26,7 @@ use Rattle.oftp_session.specs.Payloads.{IsAllSent, IsDataSaid, IsNextData, MayLe
 use Rattle.oftp_session.proofs.Framing.{data_framed}
 use Rattle.oftp_session.proofs.Items.{rows_lent_are}
 
--- what a filler wrote behind a header is the next DATA
+-- what a filler wrote after a header is the next DATA
 pub next_data : (size room count : ℕ) (old new : Filling) (rows : List (List ℕ)) (last : Bool) (head out rest : List ℕ) → room ≡ size → length out ≡ room → count ≤ room
     → head ≡ header_of (count + 5) ++ 68 ∷ [] → Moves old new rows last
     → ((from : ℕ) (file payloads : List (List ℕ)) → Sent old room from file payloads → AreLent old from file rows last → Sent new room from file (payloads ++ take count out ∷ []))
@@ -41,7 +41,7 @@ next_data size room count old new rows last head out rest e l within h moves sen
   },
 )
 
--- the file that is sent is as a register may have it
+-- the file that is sent is one that a register may have
 pub sound_file : (r : Register) (t : Transfer) → IsSound r → IsSent r t → IsSoundOutgoing t.file
 sound_file r t sound holds = all_at IsSoundOutgoing t.number r.outgoing t.file sound.outgoing holds.entry
 
@@ -65,7 +65,7 @@ within r contact t s holds at =
     let count : length (at_hand s.page) ≡ min (length (at_hand s.page)) (length rest) = ap length at.page.first ∙ length-take (length (at_hand s.page)) rest in
     record { row = omega (arith, w, f, length-drop t.from t.file.rows); left = left; hand = omega (arith, count, left) }
 
--- the rows at hand are lent as the filler asks
+-- the filler may borrow the rows at hand
 pub are_lent : (r : Register) (contact : Contact) (t : Transfer) (s : Shipment) → IsSound r → IsSent r t → Ships contact t s
     → AreLent s.filler t.from (rows_from t) (at_hand s.page) (is_last s)
 are_lent r contact t s sound holds at =
@@ -94,7 +94,7 @@ are_lent r contact t s sound holds at =
           ]),
     )
 
--- rows at hand of a sound register pass the tests
+-- the rows at hand of a sound register pass the checks
 pub may_lend : (r : Register) (contact : Contact) (t : Transfer) (s : Shipment) → IsSound r → IsSent r t → Ships contact t s → MayLend s (at_hand s.page)
 may_lend r contact t s sound holds at =
     let file = sound_file r t sound holds in
@@ -118,12 +118,12 @@ may_lend r contact t s sound holds at =
 take_whole : (n : ℕ) (xs rows : List (List ℕ)) → xs ≡ take n rows → xs ≡ take (length xs) rows
 take_whole n xs rows e = e ∙ sym (take_min n rows) ∙ ap (λ k. take k rows) (sym (ap length e ∙ length-take n rows))
 
--- the filler's place is in the first row, whatever stands behind it
+-- the filler's place is in the first row, whatever follows it
 place_in : (f : Filling) (rows more : List (List ℕ)) → IsInRows f rows → IsInRows f (rows ++ more)
 place_in f [] more h = λ some. absurd (let no = h some in omega (arith, no))
 place_in f (r ∷ rs) more h = h
 
--- rows that are looked up behind those at hand are at hand then
+-- rows that are looked up are added to those at hand
 pub looked_up : (r : Register) (contact : Contact) (t : Transfer) (s : Shipment) (most : ℕ) (rows more : List (List ℕ)) → IsSent r t → Ships contact t s
     → more ≡ rows_of r side.Outgoing s.number (next_row s) most → rows ≡ at_hand s.page ++ more → Ships contact t (record s { page = Some rows })
 looked_up r contact t s most rows more holds at e is =
@@ -149,7 +149,7 @@ looked_up r contact t s most rows more holds at e is =
       page = record { first = take_whole (n + most) rows rest all; place = subst (λ (x : List (List ℕ)). IsInRows s.filler x) (sym is) (place_in s.filler hand more at.page.place) };
     }
 
--- rows that are wholly sent are no longer at hand
+-- rows that are wholly sent are dropped
 left_at_hand : (t : Transfer) (s new : Shipment) (last : Bool) → AreAtHand t.file.rows s → Moves s.filler new.filler (at_hand s.page) last
     → at_hand new.page ≡ drop (new.filler.row - s.filler.row) (at_hand s.page) → AreAtHand t.file.rows new
 left_at_hand t s new last are moves e =
@@ -168,7 +168,7 @@ left_at_hand t s new last are moves e =
       place = subst (λ (x : List (List ℕ)). IsInRows new.filler x) (sym e) moves.place;
     }
 
--- the payload behind the first ones
+-- the payload after the first ones
 behind : (k : ℕ) (all rest : List (List ℕ)) (p : List ℕ) → k ≤ length all → (take k all ++ p ∷ []) ++ rest ≡ all → (slice_get all k ≡ Some p) × (take (suc k) all ≡ take k all ++ p ∷ [])
 behind zero [] rest p h e = absurd (let no : ⊥ = cc in no)
 behind zero (x ∷ xs) rest p h e = let q : p ≡ x = cc in (ap (λ (y : List ℕ). Some y) (sym q), ap (λ (y : List ℕ). y ∷ []) (sym q))
@@ -184,7 +184,7 @@ none_behind zero (x ∷ xs) e = absurd (let no : ⊥ = cc in no)
 none_behind (suc k) [] e = refl
 none_behind (suc k) (x ∷ xs) e = none_behind k xs (let q : take k xs ≡ xs = cc in q)
 
--- a DATA that was said has the next payload of the file
+-- a DATA that was made has the next payload of the file
 pub data_said : (contact : Contact) (t : Transfer) (s new : Shipment) (size : ℕ) (last : Bool) (frame : List ℕ) → Ships contact t s
     → size ≡ payload_size contact → AreLent s.filler t.from (rows_from t) (at_hand s.page) last → at_hand new.page ≡ drop (new.filler.row - s.filler.row) (at_hand s.page)
     → IsNextData size s.filler new.filler (at_hand s.page) last frame → IsDataSaid contact t new frame
@@ -205,7 +205,7 @@ data_said contact t s new size last frame at is lent page n =
       page = left_at_hand t s new last at.page n.moves page;
     }
 
--- where nothing is left, all payloads were sent
+-- if nothing is left, all payloads were sent
 pub nothing_left : (contact : Contact) (t : Transfer) (s : Shipment) (new : Filling) (size : ℕ) (rows : List (List ℕ)) (last : Bool) → Ships contact t s
     → size ≡ payload_size contact → AreLent s.filler t.from (rows_from t) rows last → IsAllSent size s.filler new rows last
     → slice_get (payloads_in contact t) t.sent ≡ None

@@ -41,7 +41,7 @@ use Rattle.oftp_session.proofs.Views.{after_fails, made_then, then_fails, then_m
 units_at : (r : Register) (number : ℕ) (file : Incoming) → entry_at number r.incoming ≡ Some file → units_of r side.Incoming number ≡ units_in file.rows
 units_at r number file e = ap units_in (rows_of_incoming r number file e)
 
--- the verdict on an offer is made of what is looked up
+-- the verdict on an offer follows from what is looked up
 pub verdict_finds : (setting : Setting) (contact : Contact) (sfid : Sfid) (identity : Identity) (old mid new : View) (found : Option IncomingEntry) (full : Bool) (limits : Limits)
     → LooksUp (λ r found. found ≡ look_in r identity) old mid (Ok found) → LooksUp (λ r full. full ≡ files_full r side.Incoming) mid new (Ok full)
     → limits ≡ new.register.limits → identity ≡ offered_identity sfid → new.clean → old.stands
@@ -57,7 +57,7 @@ verdict_finds setting contact sfid identity old mid new found full limits first 
     let limit : limits ≡ old.register.limits = bound ∙ ap (λ (r : Register). r.limits) (again ∙ same) in
     (rw (known, all, limit) refl, record { said = refl; register = again ∙ same; stands = stays; faults = second.counts ∙ first.counts })
 
--- what receives the file is made of what is looked up
+-- the reception of the file follows from what is looked up
 pub begun_finds : (link : LinkData) (identity : Identity) (number : ℕ) (file : Incoming) (old mid new : View) (entry : IncomingEntry) (units : ℕ) (limits : Limits)
     → LooksUp (λ r found. found ≡ look_in r identity) old mid (Ok (Some entry)) → LooksUp (λ r n. n ≡ units_of r side.Incoming entry.no) mid new (Ok units)
     → limits ≡ new.register.limits → new.clean → old.stands → IsFound old.register identity number file
@@ -83,7 +83,7 @@ begun_finds link identity number file old mid new entry units limits first secon
       record { said = refl; register = again ∙ same; stands = stays; faults = second.counts ∙ first.counts },
     )
 
--- the change that begins a file, made of its parts
+-- the change that starts a file, from its parts
 pub change_is : (sfid : Sfid) (count : ℕ) (identity : Identity) (format : Format) (longest : ℕ) (description : List ℕ) → identity ≡ offered_identity sfid → format ≡ format_of sfid.layout
     → longest ≡ longest_of sfid.layout → description ≡ sfid.description → Start identity format longest description count ≡ start_of sfid count
 change_is sfid count identity format longest description a b c d =
@@ -135,7 +135,7 @@ begin_starts link sfid count identity old mid new (Err told) is may made finds e
     let lost = subst (DoesNot None mid new) err (finds f.number f.file found.1) in
     subst (DoesNot (Some (start_of sfid count)) old new) (sym err) (after_fails (Some (start_of sfid count)) old mid new tt made lost)
 
--- a reception of which no payload came
+-- a reception of which no payload was received
 begun_tracks : (contact : Contact) (r after : Register) (sfid : Sfid) (count : ℕ) (s : Reception) → IsReceived after (receipt_of r sfid count)
     → (let f : Receipt = receipt_of r sfid count in s ≡ reception_of contact.link f.number f.file f.limit) → Tracks contact (receipt_of r sfid count) s
 begun_tracks contact r after sfid count s holds is =

@@ -1,4 +1,4 @@
--- The changes of the sending phases: each is fit, the register takes it, and the next phase says what it says of the register.
+-- The changes of the sending phases: each is fit, the register accepts it, and the facts of the next phase hold.
 use Rattle.std.proofs.Common.{◌≡◌, ℕ, ◌≤◌, ◌==◌, ◌&&◌, ◌||◌, Bool, true, false, cond, nat_le, length, Option, None, Some, Result, Ok, is_ok, refl, ap, sym, ◌∙◌, subst, arith}
 use Rattle.std.proofs.lemmas.Bool.{and_parts, eqb-true, le-leb}
 use Rattle.std.proofs.lemmas.List.{length-drop}
@@ -50,13 +50,13 @@ send_accepted r n holds =
     ap (sent_of holds.file) holds.issued ∙ ap (λ (d : Dispatch). mapped (λ answer. record holds.file { response = Some answer }) (sent_as holds.response d)) holds.due in
     ap is_ok (changes_incoming sent n r holds.file file holds.entry made).made
 
--- CDT: rows are covered by credit
+-- CDT: rows are marked
 
 pub mark_fits : (r : Register) (n mark : ℕ) → IsFit r (Mark n mark)
 unfolding IsFit
 mark_fits r n mark = tt
 
--- no row is covered that the file doesn't have
+-- no row is marked that the file doesn't have
 pub mark_within : (r : Register) (contact : Contact) (t : Transfer) → IsSound r → IsSent r t → new_mark contact t ≤ length t.file.rows
 mark_within r contact t sound holds =
     let file = all_at IsSoundOutgoing t.number r.outgoing t.file sound.outgoing holds.entry in
@@ -88,7 +88,7 @@ mark_after r t mark holds within = by (mark == t.file.mark) refl
         let s = mark_made r t mark holds within in
         after_made (λ (z : Register). IsSent z (credited_transfer t mark)) r (Mark t.number mark) s.0 s.1 s.2
 
--- the change, if the mark is another one
+-- the change, if the mark differs
 pub marking_goes : (r : Register) (t : Transfer) (mark : ℕ) (change : Change) → IsSent r t → mark ≤ length t.file.rows → marking t mark ≡ Some change
     → IsFit r change × IsAccepted r change
 marking_goes r t mark change holds within h = by (mark == t.file.mark) h
@@ -140,12 +140,12 @@ handed_accepted r t holds = hand_over r t.number t.file holds.entry (ap is_closi
 pub offered_handed : (r : Register) (offer : Offer) → IsOffered r offer → is_closing offer.file.state ≡ true → IsAccepted r (HandOver offer.number)
 offered_handed r offer holds closes = hand_over r offer.number offer.file holds.entry closes
 
--- whether the partner asks to speak or not, the next phase says nothing of the register
+-- whether or not the partner asks to speak, the next phase has no facts of the register
 pub handed_after : (contact : Contact) (speaks : Bool) (r : Register) → Holds (after_file contact speaks) r
 handed_after contact true r = tt
 handed_after contact false r = tt
 
--- SFNA: the file is given up
+-- SFNA: the file is refused
 
 pub refused_fits : (r : Register) (n reason : ℕ) → IsFit r (Refuse n reason)
 unfolding IsFit
@@ -166,7 +166,7 @@ refused_accepted r offer reason holds =
     let may = allowed (is_waiting offer.file.state || is_closing offer.file.state) now (goes_on offer.file.state holds.goes) in
     ap is_ok (changes_outgoing (refused reason) offer.number r offer.file now holds.entry may).made
 
--- each change of an answer that doesn't take the file
+-- each change of an answer that refuses the file
 pub refusal_goes : (r : Register) (offer : Offer) (sfna : Sfna) (change : Change) → IsOffered r offer → refusal offer sfna ≡ Some change → IsFit r change × IsAccepted r change
 refusal_goes r offer sfna change holds h = by (sfna.reason == start_number DuplicateFile && is_closing offer.file.state) refl h
   where
@@ -187,7 +187,7 @@ refusal_goes r offer sfna change holds h = by (sfna.reason == start_number Dupli
         subst Goes is (handed_fits r offer.number, offered_handed r offer holds closes)
     by false d e = by_retry sfna.retry e
 
--- EFNA, and SFPA for a file whose end was sent: it is to be sent again
+-- EFNA, and SFPA for a file whose end was sent: it is sent again
 
 pub reopened_fits : (r : Register) (n : ℕ) → IsFit r (Reopen n)
 unfolding IsFit
@@ -206,7 +206,7 @@ reopened_accepted r t holds = ap is_ok (reopened_made r t.number t.file holds.en
 pub offered_reopened : (r : Register) (offer : Offer) → IsOffered r offer → is_closing offer.file.state ≡ true → IsAccepted r (Reopen offer.number)
 offered_reopened r offer holds closes = ap is_ok (reopened_made r offer.number offer.file holds.entry closes).made
 
--- the change of an answer that takes the file
+-- the change of an answer that accepts the file
 pub reopening_goes : (r : Register) (offer : Offer) (change : Change) → IsOffered r offer → reopening offer ≡ Some change → IsFit r change × IsAccepted r change
 reopening_goes r offer change holds h = by (is_closing offer.file.state) refl h
   where

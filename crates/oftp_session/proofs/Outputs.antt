@@ -1,4 +1,4 @@
--- What a step may say: no ESID that resources aren't available, and an SFPA only behind the change that starts its file with that count.
+-- What a step may send: no ESID 08, and SFPA only after the change that starts its file with that Restart position.
 use Rattle.std.proofs.Common.{◌≡◌, ◌≢◌, ℕ, ◌+◌, nat_le, nat_lt, ◌==◌, ◌||◌, ◌&&◌, not, Bool, true, false, cond, List, length, slice_get, Option, None, Some, unwrap_or, Result, Ok, Err, refl}
 use Rattle.std.specs.Str.{bytes_eq}
 use Rattle.oftp_wire.specs.declared.command.Command.{Command}
@@ -44,11 +44,11 @@ use Rattle.oftp_session.specs.Sending.{came_awaiting_end, came_awaiting_start, c
 use Rattle.oftp_session.specs.Steps.{came, turned}
 use Rattle.oftp_session.proofs.Turns.{each_turn}
 
--- another reason than that resources aren't available
+-- a reason other than that of ESID 08
 abbrev pub IsOther : SessionReason → Type 0
 IsOther reason = reason ≢ ResourcesNotAvailable
 
--- a change that starts a file with so many of its rows
+-- a change that starts a file with this number of its rows
 pub record StartsWith (count : ℕ) (change : Change) : Type 0 where
   pub identity : Identity
   pub format : Format
@@ -56,7 +56,7 @@ pub record StartsWith (count : ℕ) (change : Change) : Type 0 where
   pub description : List ℕ
   pub is : change ≡ Start identity format longest description count
 
--- an ESID is for such a reason, and an SFPA is said by a step whose change starts a file with the count that it answers
+-- an ESID is for such a reason, and an SFPA is sent by a step whose change starts a file with the Restart position that it answers
 abbrev pub MayBeSaid : Option Command → Option Change → Type 0
 MayBeSaid None change = Unit {0}
 MayBeSaid (Some (command.Esid esid)) change = (reason : SessionReason) × IsOther reason × (command.Esid esid ≡ esid_of reason)
@@ -84,7 +84,7 @@ unfolding unexpected
 unexpected_may (command.Esid esid) = tt
 unexpected_may _ = fails_may ProtocolViolation violates
 
--- how a session opens
+-- a session that opens
 
 abbrev RefusesElse : Result Agreement SessionReason → Type 0
 RefusesElse (Ok a) = Unit {0}
@@ -129,7 +129,7 @@ unfolding came_awaiting_ssid
 await_may setting (command.Ssid ssid) = opened_may setting ssid.mode (ssid_verdict setting ssid) (verdict_else setting ssid)
 await_may setting other = unexpected_may other
 
--- what comes to a listener
+-- commands that arrive at a listener
 
 start_may : (contact : Contact) (r : Register) (sfid : Sfid) (verdict : StartVerdict) → MaySay (on_start_verdict contact r sfid verdict)
 start_may contact r sfid (start.Accept count) = (
@@ -155,7 +155,7 @@ listener_may setting contact r (command.Nerp nerp) = response_may setting contac
 listener_may setting contact r command.Cd = tt
 listener_may setting contact r other = unexpected_may other
 
--- a file that comes
+-- a file that is received
 
 fault_else : (fault : TakeFault) → IsOther (unwrap_or (reason_of fault) ProtocolViolation)
 fault_else Cut = misses
@@ -190,7 +190,7 @@ receiving_may contact r f (command.Data payload) = data_may contact f payload
 receiving_may contact r f (command.Efid efid) = end_may contact r f efid
 receiving_may contact r f other = unexpected_may other
 
--- what comes to a speaker
+-- commands that arrive at a speaker
 
 rtr_may : (contact : Contact) (number : ℕ) (c : Command) → MaySay (came_awaiting_rtr contact number c)
 unfolding came_awaiting_rtr
@@ -214,7 +214,7 @@ ended_may contact t (command.Efpa efpa) = tt
 ended_may contact t (command.Efna efna) = tt
 ended_may contact t other = unexpected_may other
 
--- what comes, in each phase
+-- commands that arrive, in each phase
 module _ (setting : Setting) (r : Register) (c : Command) where
   pub came_may : (p : Phase) → MaySay (came setting p r c)
   unfolding came
@@ -232,7 +232,7 @@ module _ (setting : Setting) (r : Register) (c : Command) where
   came_may (EndedHere reason) = tt
   came_may (EndedThere reason) = tt
 
--- an own turn
+-- a turn
 
 nothing_may : (contact : Contact) (done : WhenDone) → MaySay (nothing_next contact done)
 nothing_may contact ChangeDirection = tt

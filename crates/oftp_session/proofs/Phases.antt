@@ -18,7 +18,7 @@ use Rattle.oftp_session.specs.Sending.{credit_left, payloads_in, sends_next, tur
 use Rattle.oftp_session.specs.Standings.{Standing, StandsIn, is_closed}
 use Rattle.oftp_session.specs.Steps.{has_turn, opening, turned, turns_due, Suits}
 
--- nothing is due behind what is next
+-- no turn is due after the next item
 nothing_due : (contact : Contact) (done : WhenDone) → turns_due (nothing_next contact done).phase ≡ 0
 nothing_due contact ChangeDirection = refl
 nothing_due contact EndSession = refl
@@ -36,7 +36,7 @@ speaks_due : (setting : Setting) (contact : Contact) (done : WhenDone) (r : Regi
 unfolding speaks
 speaks_due setting contact done r = item_due setting contact done r (next_item r contact.code contact.tried contact.link.sends)
 
--- each payload takes credit
+-- each payload uses credit
 one_less : (all sent : ℕ) → 0 < all - sent → all - (sent + 1) < all - sent
 one_less all sent h = omega (arith, h)
 
@@ -53,7 +53,7 @@ sending_falls contact t h = by (nat_lt 0 (credit_left contact t)) refl
     by true e = next_falls contact t (slice_get (payloads_in contact t) t.sent) (ltb-true 0 (credit_left contact t) h)
     by false e = absurd (false≢true (sym e ∙ h))
 
--- fewer own turns are due after one
+-- fewer turns are due after one
 pub turn_falls : (setting : Setting) (p : Phase) (r : Register) → has_turn p ≡ true → turns_due (turned setting p r).phase < turns_due p
 unfolding turned
 turn_falls setting ResponderOpening r h = omega arith

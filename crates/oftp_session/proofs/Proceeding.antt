@@ -1,4 +1,4 @@
--- Each step from a register that suits its phase goes on, by cases of phase.
+-- Each step from a register that suits its phase can be made, by cases of phase.
 use Rattle.std.proofs.Common.{◌≡◌, ℕ, ◌+◌, nat_lt, Bool, true, false, cond, List, [], ◌∷◌, length, Option, None, Some, Result, Ok, Err, refl, sym, ap, subst, is_ok}
 use Rattle.std.specs.Result.{result_unwrap_or}
 use Rattle.oftp_wire.specs.declared.command.Command.{Command}
@@ -42,7 +42,7 @@ use Rattle.oftp_session.proofs.Continuing.{end_answer_proceeds, rtr_proceeds, se
 use Rattle.oftp_session.proofs.Starts.{accepted_begins}
 use Rattle.oftp_session.proofs.Turns.{each_turn}
 
--- a response is filed where it is new
+-- a response is added if it is new
 new_proceeds : (contact : Contact) (r : Register) (response : Received) → IsSound r → IsSoundReceived response
     → has_received r response.kind response.identity ≡ false → Proceeds r (answers (ListenerIdle contact) (Some (file_of response)) command.Rtr)
 new_proceeds contact r response sound fit new =
@@ -80,7 +80,7 @@ sfid_proceeds setting contact r sfid sound = by (verdict_on setting contact r sf
     by (start.Accept count) h = start_proceeds contact r sfid count sound (accepted_begins setting contact r sfid count sound h)
     by (start.Refuse reason retry) h = same_proceeds r _ _ sound tt
 
--- rows are kept, if there are any
+-- rows are stored, if there are any
 keep_proceeds : (contact : Contact) (r : Register) (g : Receipt) → IsSound r → IsReceived r g
     → let rows = rows_to_keep g (carried_by g) in Proceeds r (answers (Receiving contact (with_rows g rows)) (keeping g.number rows) command.Cdt)
 keep_proceeds contact r g sound holds = by (rows_to_keep g (carried_by g)) refl
@@ -169,7 +169,7 @@ unfolding came_awaiting_ssid
 await_proceeds setting r (command.Ssid ssid) sound = opened_proceeds setting ssid.mode (ssid_verdict setting ssid) r sound
 await_proceeds setting r other sound = unexpected_proceeds r other sound
 
--- what comes
+-- a command that arrives
 pub came_proceeds : (setting : Setting) (p : Phase) (r : Register) (c : Command) → Suits p r → Proceeds r (came setting p r c)
 unfolding came
 came_proceeds setting ResponderOpening r c suits = unexpected_proceeds r c suits.sound
@@ -186,7 +186,7 @@ came_proceeds setting (AwaitingEnd contact t) r c suits = end_answer_proceeds co
 came_proceeds setting (EndedHere reason) r c suits = same_proceeds r _ _ suits.sound tt
 came_proceeds setting (EndedThere reason) r c suits = same_proceeds r _ _ suits.sound tt
 
--- an own turn
+-- a turn
 pub turned_proceeds : (setting : Setting) (p : Phase) (r : Register) → Suits p r → Proceeds r (turned setting p r)
 turned_proceeds setting p r = each_turn (λ q step. Suits q r → Proceeds r step) setting r (record {
   greeting = λ suits. same_proceeds r _ _ suits.sound tt;

@@ -1,4 +1,4 @@
--- What a session remembers while the partner speaks stays so: no change of a listener makes a response due, nor sends one.
+-- What a session remembers while the partner speaks stays true: no change of a listener makes a response due, or sends one.
 use Rattle.std.proofs.Common.{◌≡◌, ℕ, ◌+◌, nat_lt, Bool, true, false, cond, List, [], ◌∷◌, ◌++◌, length, map, find, Option, None, Some, is_some, Result, Ok, Err, refl, sym, ap, ◌∙◌}
 use Rattle.std.specs.List.{filter_map}
 use Rattle.std.specs.Option.{option_map}
@@ -139,12 +139,12 @@ start_issued r s identity format longest description count h =
     let part = mapped_ok (λ files. record r { incoming = files }) (started_in r header count r.incoming) s h in
     ap list_issued (sym part.2) ∙ started_issued r header count 1 r.incoming part.0 refl part.1
 
--- a response that came
+-- a received response
 filed_issued : (r s : Register) (response : Received) → apply r (file_of response) ≡ Ok s → list_issued s ≡ list_issued r
 unfolding apply
 filed_issued r s response h = ap list_issued (sym (filed_ok r s response h).1)
 
--- a step goes on to listen to the same partner, and leaves the responses as they are; or it doesn't go on to listen
+-- a step goes on to listen to the same partner, and doesn't change the responses; or it doesn't go on to listen
 abbrev Stays : Contact → Register → Step → Type 0
 Stays contact r step = (to : Contact) → heard_in step.phase ≡ Some to → (contact ≡ to) × ((s : Register) → Makes step.change r s → list_issued s ≡ list_issued r)
 
@@ -166,7 +166,7 @@ unexpected_stops contact r _ = refl
 unexpected_stays : (contact : Contact) (r : Register) (c : Command) → Stays contact r (unexpected c)
 unexpected_stays contact r c = stops contact r (unexpected c) (unexpected_stops contact r c)
 
--- where no file comes
+-- while no file is received
 response_stays : (setting : Setting) (contact : Contact) (r : Register) (response : Received) → Stays contact r (response_step setting contact r response)
 unfolding response_step
 response_stays setting contact r response = by (is_between setting contact response.identity)
@@ -195,7 +195,7 @@ listener_stays setting contact r (command.Nerp nerp) = response_stays setting co
 listener_stays setting contact r command.Cd = stops contact r (came_listener_idle setting contact r command.Cd) refl
 listener_stays setting contact r other = unexpected_stays contact r other
 
--- where a file comes
+-- while a file is received
 window_stays : (contact : Contact) (r : Register) (f : Receipt) (rows : List (List ℕ)) → Stays contact r (window_step contact f rows)
 window_stays contact r f rows = by (is_window_full contact f) rows
   where
@@ -238,7 +238,7 @@ receiving_stays contact r f (command.Data payload) = data_stays contact r f payl
 receiving_stays contact r f (command.Efid efid) = end_stays contact r f efid
 receiving_stays contact r f other = unexpected_stays contact r other
 
--- so what is remembered stays so
+-- so what is remembered stays true
 asks_same : (contact : Contact) (r s : Register) → list_issued s ≡ list_issued r → asks_to_speak contact r ≡ asks_to_speak contact s
 asks_same contact r s issued =
     ap (λ (es : List IssuedEntry). is_some (item_of (find (is_next_response contact.code contact.tried.response) es) None)) (sym issued)
@@ -278,19 +278,19 @@ pub receiving_recalls : (contact : Contact) (f : Receipt) (c : Command) (asks : 
 receiving_recalls contact f c asks old new frame result so takes =
     so_after _ contact asks old new frame result (receiving_stays contact old.register f c) so takes
 
--- what a listener remembers is kept where it listens
+-- what a listener remembers stays true while it listens
 pub so_heard : (asks kept : Option Bool) (s : Standing) (contact : Contact) (r : Register) → listens_to s ≡ Some contact → kept ≡ cond (is_some (listens_to s)) asks None → IsSoAt asks s r
     → IsSoOf kept contact r
 unfolding IsSoAt
 so_heard asks kept s contact r heard is so = λ given e.
     so contact heard given (sym (is ∙ ap (λ (o : Option Contact). let x : Option Bool = cond (is_some o) asks None in x) heard) ∙ e)
 
--- what is forgotten is no memory at fault
+-- what is forgotten can't be wrong
 pub nothing_recalled : (asks : Option Bool) (s : Standing) (r : Register) → asks ≡ None → IsSoAt asks s r
 unfolding IsSoAt
 nothing_recalled asks s r none = λ to e given is. absurd (let no : ⊥ = cc in no)
 
--- and where a session didn't listen it is forgotten
+-- and if a session didn't listen, it is forgotten
 module _ (asks kept : Option Bool) (s : Standing) (r : Register) (none : listens_to s ≡ None) (is : kept ≡ cond (is_some (listens_to s)) asks None) where
   forgotten : kept ≡ None
   forgotten = is ∙ ap (λ (o : Option Contact). let x : Option Bool = cond (is_some o) asks None in x) none
@@ -302,7 +302,7 @@ module _ (asks kept : Option Bool) (s : Standing) (r : Register) (none : listens
   unheard_result (Ok next) = unheard_next (standing_of next)
   unheard_result (Err fault) = tt
 
--- a session that doesn't listen remembers nothing that bears on it
+-- a session that doesn't listen remembers nothing
 unheard_recalls : (asks : Option Bool) (s : Standing) (r : Register) → listens_to s ≡ None → IsSoAt asks s r
 unfolding IsSoAt
 unheard_recalls asks s r none = λ to e given is. absurd (let no : ⊥ = cc in no)

@@ -1,4 +1,4 @@
--- What a receiving phase says of the register stays so as payloads come and rows are kept.
+-- The facts of a receiving phase stay true as payloads arrive and rows are stored.
 use Rattle.std.proofs.Common.{◌≡◌, ℕ, zero, suc, ◌+◌, ◌-◌, ◌≤◌, List, [], ◌∷◌, ◌++◌, length, drop, Some, Result, Ok, Err, is_ok, refl, ap, sym, ◌∙◌, subst, arith}
 use Rattle.std.proofs.lemmas.List.{append-nil, length-append, length-drop, take-append-le}
 use Rattle.std.proofs.lemmas.List.Elements.{All-drop}
@@ -25,7 +25,7 @@ use Rattle.oftp_session.specs.Receiving.{taker_of, carried_by, kept_of, keeping,
 use Rattle.oftp_session.specs.Steps.{IsReceived}
 use Rattle.oftp_session.specs.Inside.{IsAccepted}
 
--- one payload more
+-- one more payload
 pub carried_next : (f : Receipt) (payload : List ℕ) (t : Taking) → taken (carried_by f) payload ≡ Ok t → carried_by (with_payload f payload) ≡ t
 carried_next f payload t h = taken_all_push (taker_of f) f.payloads payload ∙ ap (λ (r : Result Taking TakeFault). result_unwrap_or r (carried_by f)) h
 
@@ -43,7 +43,7 @@ payload_holds r f t payload holds h =
       took = subst (λ (x : Taking). Took x [] (f.payloads ++ payload ∷ [])) (sym is) (took_next (carried_by f) t [] f.payloads payload holds.took h);
     }
 
--- a change of the incoming files leaves the limits
+-- a change of the incoming files doesn't change the limits
 pub files_limits : (r s : Register) (files : Result (List Incoming) Cause) → mapped (λ fs. record r { incoming = fs }) files ≡ Ok s → r.limits ≡ s.limits
 files_limits r s files made =
     let part = mapped_ok (λ fs. record r { incoming = fs }) files s made in
@@ -53,7 +53,7 @@ keep_limits : (r s : Register) (n : ℕ) (rows : List (List ℕ)) → apply r (K
 unfolding apply
 keep_limits r s n rows made = files_limits r s (at_number (kept rows) n r.incoming) made
 
--- the rows are kept, and the phase goes on to say what it said
+-- the rows are stored, and the facts of the phase stay true
 pub keep_holds : (r : Register) (f : Receipt) → IsReceived r f
     → let rows = rows_to_keep f (carried_by f) in (s : Register) × (apply r (Keep f.number rows) ≡ Ok s) × IsReceived s (with_rows f rows)
 keep_holds r f holds =
@@ -74,7 +74,7 @@ keep_holds r f holds =
       },
     )
 
--- so it does where there was no row to keep
+-- so they do if there was no row to store
 pub keep_after : (r : Register) (g : Receipt) → IsReceived r g
     → let rows = rows_to_keep g (carried_by g) in IsReceived (register_after r (keeping g.number rows)) (with_rows g rows)
 keep_after r g holds = by (rows_to_keep g (carried_by g)) refl
@@ -88,7 +88,7 @@ keep_after r g holds = by (rows_to_keep g (carried_by g)) refl
         let kept : Kept (x ∷ xs) = subst Kept e (keep_holds r g holds) in
         subst (λ (z : Register). IsReceived z (with_rows g (x ∷ xs))) (sym (ap (λ q. result_unwrap_or q r) kept.1)) kept.2
 
--- what each subrecord leaves, payloads leave
+-- what each subrecord preserves, payloads preserve
 stays : (P : Taking → Type 0) → ((t : Taking) (s : Subrecord) → P t → P (added t s)) → (n : ℕ) (t : Taking) (payload : List ℕ) (after : Taking)
     → P t → take_subrecords n t payload ≡ Ok after → P after
 unfolding take_subrecords
@@ -107,7 +107,7 @@ stays_all P one t (payload ∷ payloads) p = stays_all P one (result_unwrap_or (
     by (Ok after) is = stays P one (length payload) t payload after p is
     by (Err fault) is = p
 
--- what came is of the file, behind the row from which it comes
+-- what was received is of the file, after the row from which it is received
 pub carried_same : (f : Receipt) → let t = carried_by f in (t.format ≡ f.file.format) × (t.longest ≡ f.file.longest) × (t.kept_rows ≡ f.from) × (t.kept_units ≡ f.units)
 carried_same f =
     let P : Taking → Type 0 = λ t. (t.format ≡ f.file.format) × (t.longest ≡ f.file.longest) × (t.kept_rows ≡ f.from) × (t.kept_units ≡ f.units) in
@@ -127,7 +127,7 @@ full_drop Variable longest k rows h = All-drop (λ (r : List ℕ). length r ≤ 
 full_drop Unstructured longest k rows h = All-drop (λ (r : List ℕ). length r ≡ 1024) k rows h
 full_drop Text longest k rows h = All-drop (λ (r : List ℕ). length r ≡ 1024) k rows h
 
--- rows that came may be kept
+-- rows that were received may be stored
 pub keep_fits : (r : Register) (f : Receipt) → IsReceived r f → IsFit r (Keep f.number (rows_to_keep f (carried_by f)))
 keep_fits r f holds =
     let t = carried_by f in
@@ -140,11 +140,11 @@ keep_fits r f holds =
     let on : GoesOn rows f.file = record { few = omega (arith, held.few, same.2, holds.kept, holds.most, length-drop (kept_of f) t.rows); fits = fits } in
     keep_fit r f.number f.file holds.entry holds.opened rows on
 
--- rows that came are ones that the register takes
+-- the register accepts rows that were received
 pub keep_accepted : (r : Register) (f : Receipt) → IsReceived r f → IsAccepted r (Keep f.number (rows_to_keep f (carried_by f)))
 keep_accepted r f holds = ap is_ok (keep_holds r f holds).1
 
--- the rows that came are at least those that are kept
+-- the rows that were received are at least those that are stored
 pub kept_within : (r : Register) (f : Receipt) → IsReceived r f → kept_of f ≤ length (carried_by f).rows
 kept_within r f holds = omega (arith, holds.most, holds.kept)
 

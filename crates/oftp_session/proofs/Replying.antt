@@ -1,4 +1,4 @@
--- What the session does at an answer of the partner's, as a step.
+-- What the session does at an answer of the partner, as a step.
 use Rattle.std.proofs.Common.{◌≡◌, ℕ, ◌==◌, ◌&&◌, ◌≤◌, Bool, true, false, cond, List, [], Option, None, Some, Result, Ok, refl, sym, ap, ◌∙◌, subst}
 use Rattle.std.proofs.lemmas.Bool.{le-leb}
 use Rattle.oftp_wire.specs.declared.command.Command.TheVariants as command
@@ -29,7 +29,7 @@ use Rattle.oftp_session.specs.Calls.{DoesNot, IsMade}
 use Rattle.oftp_session.specs.Inside.{Files, IsAccepted, Takes}
 use Rattle.oftp_session.proofs.Outgoing.{handed_accepted, handed_fits, offered_handed, offered_reopened, refused_accepted, refused_fits, reopened_accepted, reopened_fits, send_accepted, send_fits}
 
--- a change is made, and nothing is said
+-- a change is made, and nothing is sent
 changed : (change : Option Change) (phase : Phase) (old new : View) (frame : List ℕ) (to : State) → frame ≡ [] → IsMade change None old new [] → StandsIn phase (standing_of to)
     → Takes (changes phase change) old new frame (Ok to)
 changed change phase old new frame to none made stands = (record { said = none; register = made.register; stands = made.stands; faults = made.faults }, stands)
@@ -96,7 +96,7 @@ efna_err contact n t efna old new told holds is does =
     let may = reopened n old t holds is in
     subst (λ m. DoesNot (Some (Reopen m)) old new told) (sym is) (does may.0 may.1)
 
--- SFPA of a file whose end was sent: it is to be sent again
+-- SFPA of a file whose end was sent: it is sent again
 
 files_same : {T : Type 0} (change other : Option Change) (old new : View) (result : Result T SessionFault) → change ≡ other → Files change old new result → Files other old new result
 files_same change other old new result e h = subst (λ (x : Option Change). Files x old new result) e h

@@ -1,4 +1,4 @@
--- No frame that may be said is that of ESID 08, and no payload is refused for want of memory.
+-- No frame that may be sent is that of ESID 08, and no payload is refused for lack of memory.
 use Rattle.std.proofs.Common.{◌≡◌, ◌≢◌, ℕ, zero, suc, ◌+◌, nat_le, nat_lt, ◌&&◌, Bool, true, false, cond, List, [], ◌∷◌, drop, length, Option, None, Some, Err, refl, sym, ap, ◌∙◌, arith}
 use Rattle.std.specs.Option.{option_or}
 use Rattle.oftp_wire.specs.Octets.{decimal}
@@ -16,7 +16,7 @@ use Rattle.oftp_register.specs.declared.change.Change.{Change}
 use Rattle.oftp_session.specs.Phases.{esid_of, frame_of, framed}
 use Rattle.oftp_session.proofs.Outputs.{IsOther, MayBeSaid}
 
--- the frame of what a step may say isn't that of ESID 08: its command has another letter, or its reason another last digit
+-- the frame of what a step may send isn't that of ESID 08: its command has another letter, or its reason another last digit
 
 -- the octet of a frame that names its command
 letter_in : List ℕ → ℕ

@@ -39,18 +39,18 @@ pub some_rows : (s : Shipment) (lent : List (List ℕ)) → MayLend s (at_hand s
 some_rows s lent may e h =
     subst (λ (x : List (List ℕ)). All (λ (r : List ℕ). 0 < length r) x) (sym e) (stream_some s.filler.format s.longest (at_hand s.page) may.fits h)
 
--- while rows are looked up, nothing is changed but the page, whose rows are those of the file
+-- while rows are looked up, nothing changes but the page, whose rows are those of the file
 pub record IsAsking (old new : View) (before now : Shipment) : Type 0 where
   pub clean : new.clean → old.clean
   pub same : now ≡ record before { page = now.page }
   pub kept : new.clean → old.stands → IsMade None None old new []
   pub ships : new.clean → old.stands → (contact : Contact) (t : Transfer) → IsSent old.register t → Ships contact t before → Ships contact t now
 
--- an office that keeps its register has the file still
+-- an office that keeps its register still has the file
 still_sent : (old mid : View) (t : Transfer) → IsMade None None old mid [] → IsSent old.register t → IsSent mid.register t
 still_sent old mid t m holds = subst (λ (r : Register). IsSent r t) (sym m.register) holds
 
--- a filler that stays where it is leaves the rows at hand
+-- a filler that doesn't move leaves the rows at hand
 without_none : (page : Option (List (List ℕ))) → without 0 page ≡ page
 without_none None = refl
 without_none (Some rows) = refl
@@ -65,7 +65,7 @@ filled_same s new same e =
 pub more_same : (size : ℕ) (s filled : Shipment) (frame : List ℕ) → IsFilledFrom size s filled frame More → filled ≡ s
 more_same size s filled frame f = filled_same s filled f.same f.fills.0.same
 
--- more rows are asked for where the payload has room for them and they are to come
+-- more rows are asked for if the payload has room for them and rows follow
 record HasRoom (size : ℕ) (s : Shipment) : Type 0 where
   some : next_row s < s.rows
   few : length (at_hand s.page) < size
@@ -118,7 +118,7 @@ at_hand_without : (n : ℕ) (page : Option (List (List ℕ))) → at_hand (witho
 at_hand_without n None = sym (drop_all n [] (omega arith))
 at_hand_without n (Some rows) = refl
 
--- the next payload is said
+-- the next payload is sent
 pub says_data : (contact : Contact) (t : Transfer) (before s new : Shipment) (size count : ℕ) (frame : List ℕ) (old mid : View) → IsAsking old mid before s → IsSound mid.register
     → mid.clean → old.stands → IsSent old.register t → Ships contact t before → size ≡ payload_size contact → IsFilledFrom size s new frame (Buffer count)
     → SaysNext contact t new old mid frame (Ok true)
@@ -140,7 +140,7 @@ says_none contact t before s new size frame old mid i sound clean stands holds a
     let none = f.fills.0 in
     ((subst (Ships contact t) (sym (filled_same s new f.same none.same)) at', nothing_left contact t s new.filler size (at_hand s.page) (is_last s) at' room lent none), was)
 
--- memory is refused: rows of a sound register aren't at fault
+-- out of memory: rows of a sound register aren't faulty
 fails_not : (contact : Contact) (t : Transfer) (s new : Shipment) (size : ℕ) (frame : List ℕ) (told : SessionFault) (old now : View) → IsMade None None old now []
     → MayLend s (at_hand s.page) → FillsFrom size s new frame (Err told) → DoesNot None old now told
 fails_not contact t s new size frame fault.Ended old now m may f = absurd f
@@ -156,7 +156,7 @@ says_fault contact t before s new size frame told (Err y) old mid is i sound cle
     let may = may_lend mid.register contact t s sound (still_sent old mid t was holds) (i.ships clean stands contact t holds at) in
     subst (DoesNot None old mid) (sym is) (fails_not contact t s new size frame told old mid was may f)
 
--- where credit is left, the next payload or the end goes out
+-- while credit is left, the next DATA or EFID is sent
 pub turned_next : (contact : Contact) (t : Transfer) (s : Shipment) (next : Option (List ℕ)) → Ships contact t s → 0 < s.credit → slice_get (payloads_in contact t) t.sent ≡ next
     → turned_sending contact t ≡ sends_next contact t next
 unfolding turned_sending
@@ -165,7 +165,7 @@ turned_next contact t s next at some e =
     let due : nat_lt 0 (credit_left contact t) ≡ true = grind (arith, left, some) in
     ap (λ (b : Bool). cond b (sends_next contact t (slice_get (payloads_in contact t) t.sent)) (quiet (Sending contact t))) due ∙ ap (sends_next contact t) e
 
--- one more payload went out
+-- one more payload was sent
 counted : (c w sent credit : ℕ) → credit ≡ (c + 1) * w - sent → 0 < credit → (credit - 1 ≡ (c + 1) * w - (sent + 1)) × (sent + 1 ≤ (c + 1) * w)
 counted c w sent credit e h = let all : ℕ = (c + 1) * w in (omega arith, omega arith)
 
@@ -199,7 +199,7 @@ sent_takes contact t s new old now frame at some room same d m =
     subst (λ (x : Step). Takes x old now frame (Ok (state.Sending contact (record new { credit = new.credit - 1 })))) (sym (turned_next contact t s (Some d.payload) at some d.left))
     (made, (record new { credit = new.credit - 1 }, refl, ships))
 
--- where nothing is left, the end goes out
+-- if nothing is left, EFID is sent
 pub end_takes : (contact : Contact) (t : Transfer) (new : Shipment) (old mid now : View) (frame : List ℕ) (result : Result State SessionFault) → IsSent old.register t
     → Ships contact t new → slice_get (payloads_in contact t) t.sent ≡ None → IsMade None None old mid []
     → ((u : Transfer) → IsSent mid.register u → Ships contact u new → slice_get (payloads_in contact u) u.sent ≡ None → Takes (turned_sending contact u) mid now frame result)

@@ -1,4 +1,4 @@
--- What the session does at its own turn where it speaks, as a step.
+-- What the session does at its turn as a speaker, as a step.
 use Rattle.std.proofs.Common.{◌≡◌, ℕ, zero, suc, ◌≤◌, nat_lt, false, cond, List, [], slice_get, None, Some, Result, Ok, Err, refl, sym, ap, ◌∙◌, subst, arith}
 use Rattle.std.proofs.lemmas.Bool.{false≢true}
 use Rattle.oftp_wire.specs.declared.command.Command.{Command}
@@ -30,7 +30,7 @@ use Rattle.oftp_session.proofs.Saying.{step_same}
 use Rattle.oftp_session.proofs.Turns.{each_turn}
 use Rattle.oftp_session.proofs.Views.{then_fails, then_made}
 
--- what is held of a file with this entry
+-- the offering of a file with this entry
 abbrev held_of : OutgoingEntry → ℕ → ℕ → Offering
 held_of e units from =
     record { number = e.no; is_closing = is_closing e.state; format = e.format; longest = e.longest; rows = e.rows; units = units; mark = e.mark; from = from }
@@ -74,7 +74,7 @@ speak_file setting contact done e old mid new frame result sound next was does =
     ap (on_item setting contact done old.register) next ∙ ap (offers contact done e.no) there in
     subst (λ (x : Step). Takes x old new frame result) (sym step) (then_takes (offers contact done e.no (Some found.0)) old mid new frame result was (does done found.0 found.1 found.2.entry))
 
--- no command is due: nothing is said
+-- no command is due: nothing is sent
 
 idle_sending : (contact : Contact) (t : Transfer) (s : Standing) → StandsIn (Sending contact t) s → is_due s ≡ false → turned_sending contact t ≡ quiet (Sending contact t)
 unfolding turned_sending

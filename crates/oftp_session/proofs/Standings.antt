@@ -1,4 +1,4 @@
--- From where a session stands to its phase.
+-- From the state of a session to its phase.
 use Rattle.std.proofs.Common.{◌≡◌, ℕ, is_some, refl, sym, subst}
 use Rattle.oftp_session.specs.declared.receiving.Reception.{Reception}
 use Rattle.oftp_session.specs.declared.sending.Offering.{Offering}
@@ -9,7 +9,7 @@ use Rattle.oftp_session.specs.declared.state.State.TheVariants as state
 use Rattle.oftp_session.specs.Phases.{Phase, Receipt, Offer, Transfer, ResponderOpening, InitiatorOpening, AwaitingSsid, ListenerIdle, Receiving, SpeakerIdle, GivingWay, AwaitingRtr, AwaitingStart, Sending, AwaitingEnd, EndedHere, EndedThere}
 use Rattle.oftp_session.specs.Standings.{At, Awaits, Broken, Offers, Receives, Sends, Standing, Ships, StandsIn, Tracks, ended_as, is_closed, offering_of, standing_of}
 
--- what is known of the phase of a session that stands so
+-- what is known of the phase of a session in this state
 abbrev IsPhaseOf : Standing → Phase → Type 0
 IsPhaseOf (At q) p = q ≡ p
 IsPhaseOf (Receives contact s) p = (f : Receipt) × (Receiving contact f ≡ p) × Tracks contact f s
@@ -56,7 +56,7 @@ phase_sent p contact s h = phase_of p (Sends contact s) h
 pub phase_awaits : (p : Phase) (contact : Contact) (n : ℕ) → StandsIn p (Awaits contact n) → (t : Transfer) × (AwaitingEnd contact t ≡ p) × (t.number ≡ n)
 phase_awaits p contact n h = phase_of p (Awaits contact n) h
 
--- a session that holds a state is closed where it ended
+-- a session with a state is closed if it ended
 pub closed_ended : (s : State) → is_some (ended_as (standing_of s)) ≡ is_closed (standing_of s)
 closed_ended state.ResponderOpening = refl
 closed_ended state.InitiatorOpening = refl

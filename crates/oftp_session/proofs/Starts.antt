@@ -1,4 +1,4 @@
--- SFID: a file that is accepted begins, or goes on.
+-- SFID: an accepted file starts, or goes on.
 use Rattle.std.proofs.Common.{◌≡◌, ℕ, zero, suc, List, [], ◌∷◌, take, Ok, refl, ap, sym, arith}
 use Rattle.std.proofs.lemmas.List.{length-take-le}
 use Rattle.oftp_wire.specs.declared.command.Sfid.{Sfid}
@@ -21,7 +21,7 @@ use Rattle.oftp_session.specs.Steps.{IsReceived}
 use Rattle.oftp_session.specs.Starting.{MayBegin}
 use Rattle.oftp_session.proofs.Receipts.{files_limits}
 
--- a start leaves the limits
+-- a start doesn't change the limits
 start_limits : (r s : Register) (sfid : Sfid) (count : ℕ) → apply r (start_of sfid count) ≡ Ok s → r.limits ≡ s.limits
 unfolding apply
 start_limits r s sfid count made = files_limits r s (started_in r (offered_file sfid) count r.incoming) made
@@ -31,7 +31,7 @@ take_again zero xs = refl
 take_again (suc n) [] = refl
 take_again (suc n) (x ∷ xs) = ap (λ ys. x ∷ ys) (take_again n xs)
 
--- the file that is started is received, and no payload of it came
+-- the file that is started is received, and no payload of it was received
 started_received : (r s : Register) (sfid : Sfid) (count : ℕ) → IsSound r → r.limits ≡ s.limits → IsStarted r s (offered_file sfid) count → IsReceived s (receipt_of r sfid count)
 started_received r s sfid count sound same started =
     let f = receipt_of r sfid count in
@@ -48,7 +48,7 @@ started_received r s sfid count sound same started =
       took = took_new (format_of sfid.layout) (longest_of sfid.layout) count f.units r.limits.octets (omega (arith, within, few));
     }
 
--- each file that is accepted may begin
+-- each accepted file may start
 pub accepted_begins : (setting : Setting) (contact : Contact) (r : Register) (sfid : Sfid) (count : ℕ) → IsSound r
     → verdict_on setting contact r sfid ≡ start.Accept count → MayBegin r sfid count
 accepted_begins setting contact r sfid count sound h =

@@ -1,4 +1,4 @@
--- An own turn by cases: four phases say something, and in all others nothing is due.
+-- A turn by cases: four phases send something, and in all others no turn is due.
 use Rattle.oftp_wire.specs.declared.command.Command.TheVariants as command
 use Rattle.oftp_register.specs.Register.{Register}
 use Rattle.oftp_session.specs.declared.link.WhenDone.{WhenDone}

@@ -76,7 +76,7 @@ next_tracks contact f s new t payload at e is =
       taker = is ∙ ap (shed (kept_of f)) (sym (carried_next f payload t e));
     }
 
--- the places of a window
+-- the payloads of a window
 some_window : (contact : Contact) → 0 < window contact
 some_window contact = omega arith
 
@@ -97,7 +97,7 @@ credit_full contact g s at last =
     let place : length g.payloads % w ≡ 0 = ap (λ (m : ℕ). m % w) (sym all) ∙ place_full n w s.credit (some_window contact) last at.credit in
     (ap (λ (m : ℕ). m == 0) place, place)
 
--- within a window nothing is said
+-- within a window nothing is sent
 pub open_takes : (contact : Contact) (g : Receipt) (s : Reception) (now : View) (frame : List ℕ) → HasTaken contact g s → 1 < s.credit → now.stands → frame ≡ []
     → Takes (window_step contact g (rows_to_keep g (carried_by g))) now now frame (Ok (state.Receiving contact (record s { credit = s.credit - 1 })))
 open_takes contact g s now frame at more stands hushed =
@@ -107,7 +107,7 @@ open_takes contact g s now frame at more stands hushed =
     subst (λ (x : Step). Takes x now now frame to) (sym (window_open contact g (rows_to_keep g (carried_by g)) c.0))
     (record { said = hushed; register = refl; stands = stands; faults = refl }, (record s { credit = s.credit - 1 }, refl, tracks))
 
--- the rows were taken away
+-- the rows were removed
 keep_tracks : (r : Register) (contact : Contact) (g : Receipt) (s : Reception) → IsReceived r g → HasTaken contact g s → length g.payloads % window contact ≡ 0
     → let rows = rows_to_keep g (carried_by g) in let new = record s.taker { rows = []; away = s.taker.away + length s.taker.rows } in
     Tracks contact (with_rows g rows) (record s { credit = contact.link.credit; taker = new })
@@ -122,7 +122,7 @@ keep_tracks r contact g s holds at none =
       taker = ap (λ (x : Taking). let y : Taking = record x { rows = []; away = x.away + length x.rows } in y) at.taker ∙ shed_all k t (kept_within r g holds) ∙ ap (λ m. shed m t) n;
     }
 
--- what is asked of the rows and their change
+-- the premise on the rows and their change
 pub fit_of : (r : Register) (contact : Contact) (g : Receipt) (s : Reception) → IsReceived r g → HasTaken contact g s → IsFit r (Keep s.number s.taker.rows)
 fit_of r contact g s holds at =
     subst (λ (n : ℕ). IsFit r (Keep n s.taker.rows)) (sym at.number)
@@ -136,7 +136,7 @@ accepted_of r contact g s holds at =
 change_of : (contact : Contact) (g : Receipt) (s : Reception) → HasTaken contact g s → keeping s.number s.taker.rows ≡ keeping g.number (rows_to_keep g (carried_by g))
 change_of contact g s at = ap (λ (n : ℕ). keeping n s.taker.rows) at.number ∙ ap (λ (t : Taking). keeping g.number t.rows) at.taker
 
--- a full window fails where its rows can't be kept
+-- a full window fails if its rows can't be stored
 pub full_fails : (contact : Contact) (g : Receipt) (s : Reception) (old new : View) (told : SessionFault) → HasTaken contact g s → s.credit ≤ 1
     → DoesNot (keeping s.number s.taker.rows) old new told → DoesNot (window_step contact g (rows_to_keep g (carried_by g))).change old new told
 full_fails contact g s old new told at last d =
@@ -144,7 +144,7 @@ full_fails contact g s old new told at last d =
     let full = (credit_full contact g s at last).0 in
     subst (λ (x : Option Change). DoesNot x old new told) (change_of contact g s at ∙ ap (λ (x : Step). x.change) (sym (window_full contact g rows full))) d
 
--- else the partner gets credit
+-- otherwise the partner gets credit
 pub full_takes : (contact : Contact) (g : Receipt) (s next : Reception) (old new : View) (frame : List ℕ) → IsReceived old.register g → HasTaken contact g s → s.credit ≤ 1
     → next ≡ (record s { credit = contact.link.credit; taker = record s.taker { rows = []; away = s.taker.away + length s.taker.rows } })
     → IsMade (keeping s.number s.taker.rows) (Some command.Cdt) old new frame
@@ -156,7 +156,7 @@ full_takes contact g s next old new frame holds at last is m =
     let tracks = subst (Tracks contact (with_rows g rows)) (sym is) (keep_tracks old.register contact g s holds at c.1) in
     subst (λ (x : Step). Takes x old new frame (Ok (state.Receiving contact next))) (sym (window_full contact g rows c.0)) (made, (next, refl, tracks))
 
--- the rows that are kept are those that the taker gave
+-- the rows that are stored are those that the taker returned
 pub window_err : (contact : Contact) (g : Receipt) (s : Reception) (rows : List (List ℕ)) (old new : View) (told : SessionFault) → IsReceived old.register g
     → HasTaken contact g s → s.credit ≤ 1 → rows ≡ s.taker.rows
     → (IsFit old.register (Keep s.number rows) → IsAccepted old.register (Keep s.number rows) → DoesNot (keeping s.number rows) old new told)

@@ -1,10 +1,10 @@
--- What the code agrees, as plain data. Private functions alone cite it.
+-- The agreement of the code, as plain data. Only private functions cite it.
 use Rattle.std.specs.Prelude.{Result, Ok, Err}
 use Rattle.oftp_wire.specs.declared.reason.SessionReason.{SessionReason}
 use Rattle.oftp_session.specs.declared.opening.Agreement.{Agreement as Lent}
 use Rattle.oftp_session.specs.Opening.{Agreement}
 
--- an agreement, without where its partner lies in memory
+-- an agreement, without the address of its partner
 abbrev pub agreement_of : Lent → Agreement
 agreement_of a = record { partner = a.partner.now; link = a.link }
 

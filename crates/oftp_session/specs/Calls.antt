@@ -16,8 +16,8 @@ use Rattle.oftp_session.specs.Phases.{Phase, Step, framed, register_after}
 use Rattle.oftp_session.specs.Steps.{Suits}
 use Rattle.oftp_session.specs.Standings.{Standing, StandsIn}
 
--- what a caller sees of a session: its book and whom it calls, where it stands, whether it asks to speak, once that was looked up, and
--- the frame that it said last, [] for none
+-- What a caller sees of a session: its book and the partner that it calls, its state, whether it asks to speak, once that was looked up,
+-- and its last frame, [] for none.
 pub record Seen : Type 0 where
   pub setting : Setting
   pub standing : Standing
@@ -33,7 +33,7 @@ abbrev pub said : Out → List ℕ
 said Nothing = []
 said (Send frame) = frame.now
 
--- what is sent has octets
+-- a frame that is sent isn't empty
 abbrev pub IsFull : Out → Type 0
 IsFull Nothing = ⊤
 IsFull (Send frame) = 0 < length frame.now
@@ -43,29 +43,29 @@ abbrev pub Makes : Option Change → Register → Register → Type 0
 Makes None old new = new ≡ old
 Makes (Some change) old new = apply old change ≡ Ok new
 
--- the change of a step, if it makes one, is one that the register takes
+-- the change of a step, if it makes one, is accepted by the register
 abbrev pub Allows : Register → Option Change → Type 0
 Allows r change = Makes change r (register_after r change)
 
--- a step from a register goes on: its change is one that the register takes, and then the register suits the next phase
+-- a step from a register can be made: its change is accepted, and then the register suits the next phase
 pub record Proceeds (r : Register) (step : Step) : Type 0 where
   pub allowed : Allows r step.change
   pub suits : Suits step.phase (register_after r step.change)
 
--- the step is made, and the frame of its command is said
+-- the step is made, and the frame of its command is returned
 pub record IsMade (change : Option Change) (output : Option Command) (old new : View) (heard_now : List ℕ) : Type 0 where
   pub said : heard_now ≡ framed output
   pub register : Makes change old.register new.register
   pub stands : new.stands
   pub faults : new.told ≡ old.told
 
--- the change begins a file, whose number is looked up once it is made
+-- the change starts a file, whose number is looked up afterwards
 abbrev pub Begins : Option Change → Type 0
 Begins (Some (change.Start identity format longest description count)) = ⊤
 Begins _ = ⊥
 
--- the office told a fault: before the change was made, or in a look-up after it, where the change begins a file. Its register is known
--- wherever it is open
+-- The office returned an error: before the change was made, or in a look-up after it, if the change starts a file. Its register is known
+-- wherever it is open.
 pub record IsBefore (change : Option Change) (old new : View) : Type 0 where
   pub register : new.is_open → new.register ≡ old.register
   pub left : WithOrWithout change old.register new
@@ -81,7 +81,7 @@ pub record IsBroken (change : Option Change) (old new : View) : Type 0 where
   pub cases : IsBefore change old new ⊎ IsAfter change old new
   pub faults : new.told ≡ next_count old.told
 
--- memory ran out: nothing is changed
+-- out of memory: nothing is changed
 pub record IsUndone (old new : View) : Type 0 where
   pub register : new.register ≡ old.register
   pub stands : new.stands
@@ -92,23 +92,23 @@ DoesNot change old new fault.Ended = ⊥
 DoesNot change old new fault.Office = IsBroken change old new
 DoesNot change old new fault.Memory = IsUndone old new
 
--- a call that answers this did the step
+-- a call with this result made the step
 abbrev pub Does : Step → View → View → Result (List ℕ) SessionFault → Type 0
 Does step old new (Ok frame) = IsMade step.change step.output old new frame
 Does step old new (Err fault) = DoesNot step.change old new fault
 
--- what a call answered, without where it lies in memory
+-- the result of a call, without the address of its frame
 abbrev pub heard : Result Out SessionFault → Result (List ℕ) SessionFault
 heard (Ok out) = Ok (said out)
 heard (Err fault) = Err fault
 
--- a fault that an open session may tell
+-- an error that an open session may return
 abbrev pub IsFailure : SessionFault → Type 0
 IsFailure fault.Ended = ⊥
 IsFailure fault.Office = ⊤
 IsFailure fault.Memory = ⊤
 
--- a command for which memory may be taken: a part of a file that comes, and its end
+-- a command for which memory may be allocated: DATA and EFID
 abbrev pub takes_memory : Command → Bool
 takes_memory (command.Data payload) = true
 takes_memory (command.Efid efid) = true

@@ -1,4 +1,4 @@
--- What comes where the station listens and no file comes (RFC 5024, sections 5.3.3 and 5.3.12 to 5.3.14).
+-- The station as a listener, while no file is received (RFC 5024, sections 5.3.3 and 5.3.12 to 5.3.14).
 use Rattle.std.specs.Prelude.{Bool, ◌&&◌, if◌then◌else◌, [], Option, None, Some}
 use Rattle.std.specs.Str.{bytes_eq}
 use Rattle.oftp_wire.specs.declared.command.Eerp.{Eerp}
@@ -17,7 +17,7 @@ use Rattle.oftp_session.specs.Settings.{Setting}
 use Rattle.oftp_session.specs.Receiving.{offer_step}
 use Rattle.oftp_session.specs.Phases.{ListenerIdle, SpeakerIdle, Step, quiet, answers, fails, unexpected}
 
--- an end response as it is filed. It answers a file that went from the response's destination to its originator
+-- The End-to-End Response of an EERP. It answers a file that went from the response's destination to its originator.
 abbrev pub end_response : Eerp → Received
 end_response eerp = record {
   kind = EndResponse;
@@ -27,7 +27,7 @@ end_response eerp = record {
   text = [];
 }
 
--- a negative end response, with its reason, who gave it and its words
+-- the Negative End Response of a NERP, with its reason, creator and text
 abbrev pub negative_end_response : Nerp → Received
 negative_end_response nerp = record {
   kind = NegativeEndResponse;
@@ -37,7 +37,7 @@ negative_end_response nerp = record {
   text = nerp.text;
 }
 
--- the change that files a response
+-- the change that adds a received response
 abbrev pub file_of : Received → Change
 file_of r = File r.kind r.identity r.reason r.creator r.text
 
@@ -45,11 +45,11 @@ file_of r = File r.kind r.identity r.reason r.creator r.text
 abbrev pub is_between : Setting → Contact → Identity → Bool
 is_between setting contact file = bytes_eq file.originator setting.book.station.code && bytes_eq file.destination contact.code
 
--- a response is filed where it is new
+-- a received response is added if it is new
 abbrev pub filing : Register → Received → Option Change
 filing r response = if has_received r response.kind response.identity then None else Some (file_of response)
 
--- a response is filed, if it is new, and answered
+-- a received response is added, if it is new, and answered
 unfoldable pub response_step : Setting → Contact → Register → Received → Step
 response_step setting contact r response = if is_between setting contact response.identity
     then answers (ListenerIdle contact) (filing r response) command.Rtr

@@ -16,7 +16,7 @@ use Rattle.oftp_session.specs.declared.state.Contact.{Contact}
 use Rattle.oftp_session.specs.Settings.{Setting}
 use Rattle.oftp_session.specs.Phases.{AwaitingSsid, ListenerIdle, SpeakerIdle, Step, quiet, says, fails, unexpected}
 
--- whether a station in this mode sends files, and whether it receives any
+-- whether a station in this mode sends files, and whether it receives files
 abbrev pub may_send : Mode → Bool
 may_send Send = true
 may_send Receive = false
@@ -35,7 +35,7 @@ flows from to = may_send from && may_receive to
 abbrev pub is_opposed : Mode → Mode → Bool
 is_opposed own letter = not (flows own letter) && not (flows letter own)
 
--- what two stations agree: the smaller buffer and credit, restart where both want it, and who sends files
+-- what two stations agree: the smaller buffer and credit, restart if both want it, and who sends files
 abbrev pub agreed : BookData → Partner → Ssid → LinkData
 agreed book partner ssid = record {
   buffer = min book.station.buffer ssid.buffer;
@@ -45,7 +45,7 @@ agreed book partner ssid = record {
   receives = flows ssid.mode partner.mode;
 }
 
--- the partner of a code: for an initiator the one that was called, for a responder any of the book
+-- the partner with a code: for an initiator only the one that it called, for a responder any partner of the book
 abbrev pub called_as : List ℕ → List Partner → Option Partner → Option Partner
 called_as code partners None = partner_at code partners
 called_as code partners (Some partner) = if bytes_eq code partner.code then Some partner else None
@@ -71,20 +71,20 @@ agreement setting ssid (Some partner) =
     if ssid.authentication then Err AuthenticationIncompatible else
     Ok (record { partner = partner; link = agreed setting.book partner ssid }))))
 
--- what is agreed with a partner who sends this SSID, or why the session ends: the first test that fails
+-- what is agreed with a partner that sends this SSID, or the reason to end the session, which is that of the first test that fails
 unfoldable pub ssid_verdict : Setting → Ssid → Result Agreement SessionReason
 ssid_verdict setting ssid =
     if not (ssid.level == 5) then Err ModeIncompatible else (
     if nat_lt ssid.buffer 128 || ssid.credit == 0 then Err InvalidData else
     agreement setting ssid (partner_for setting ssid.code))
 
--- the mode letter that answers the partner's: where one sends, the other receives
+-- the mode that answers the partner's: if one sends, the other receives
 abbrev pub answered_mode : Mode → Mode → Mode
 answered_mode own Send = Receive
 answered_mode own Receive = Send
 answered_mode own Both = own
 
--- an SSID of the station's: what it never asks for is N
+-- an SSID of the station; options that it doesn't support are N
 abbrev pub ssid_with : BookData → Partner → ℕ → ℕ → Bool → Mode → Ssid
 ssid_with book partner buffer credit restart mode = record {
   level = 5;
@@ -110,7 +110,7 @@ abbrev pub calling_ssid : BookData → Partner → Ssid
 calling_ssid book partner =
     ssid_with book partner book.station.buffer book.station.credit book.station.restart partner.mode
 
--- an open session, in which nothing was tried yet
+-- an open session that has tried nothing yet
 abbrev pub contact_of : Agreement → Contact
 contact_of a = record { code = a.partner.code; link = a.link; tried = record { response = 0; file = 0 } }
 
@@ -123,17 +123,17 @@ abbrev pub opened_step : Setting → Mode → Result Agreement SessionReason →
 opened_step setting letter (Ok a) = open_step setting letter a setting.called
 opened_step setting letter (Err reason) = fails reason
 
--- an initiator offers the session to the partner that it calls; one without a partner is never met, since it begins as a responder
+-- an initiator sends its SSID to the partner that it calls; one without a partner doesn't occur, since it begins as a responder
 abbrev pub calling_step : Setting → Option Partner → Step
 calling_step setting (Some partner) = says AwaitingSsid (command.Ssid (calling_ssid setting.book partner))
 calling_step setting None = fails ProtocolViolation
 
--- what comes where the called partner's ready message is awaited
+-- a command that arrives while an initiator waits for SSRM
 unfoldable pub came_initiator_opening : Setting → Command → Step
 came_initiator_opening setting command.Ssrm = calling_step setting setting.called
 came_initiator_opening setting other = unexpected other
 
--- what comes where the partner's SSID is awaited
+-- a command that arrives while the partner's SSID is missing
 unfoldable pub came_awaiting_ssid : Setting → Command → Step
 came_awaiting_ssid setting (command.Ssid ssid) = opened_step setting ssid.mode (ssid_verdict setting ssid)
 came_awaiting_ssid setting other = unexpected other

@@ -1,4 +1,4 @@
--- Where a session stands, and what one step of it does.
+-- The phases of a session, and what a step is.
 use Rattle.std.specs.Prelude.{ℕ, List, [], Bool, Option, None, Some, is_some}
 use Rattle.std.specs.Result.{result_unwrap_or}
 use Rattle.oftp_wire.specs.Header.{frame}
@@ -16,8 +16,8 @@ use Rattle.oftp_session.specs.declared.state.Contact.{Contact}
 use Rattle.oftp_session.specs.declared.session.Ending.{Ending}
 use Rattle.oftp_session.specs.declared.session.Ending.TheVariants as ended
 
--- a file that comes: its number, its entry with the rows that are kept, the row from which on it comes, the octets before that row,
--- how many octets it may have, and all payloads since SFPA (RFC 5024, sections 5.3.4 and 5.3.6)
+-- A file that is received: its number, its entry with the stored rows, the row from which on it is received, the octets before that row,
+-- its limit in octets, and all payloads since SFPA (RFC 5024, sections 5.3.4 and 5.3.6).
 pub record Receipt : Type 0 where
   pub number : ℕ
   pub file : Incoming
@@ -26,14 +26,14 @@ pub record Receipt : Type 0 where
   pub limit : ℕ
   pub payloads : List (List ℕ)
 
--- a file that is offered: its number, its entry, and the row from which on it would be sent (RFC 5024, section 5.3.3)
+-- a file that is offered: its number, its entry, and the row from which it would be sent (RFC 5024, section 5.3.3)
 pub record Offer : Type 0 where
   pub number : ℕ
   pub file : Outgoing
   pub from : ℕ
 
--- a file that is sent: its number, its entry, the row from which on it is sent, how many of its payloads were sent, and how many CDT
--- came (RFC 5024, sections 5.3.4, 5.3.6 and 5.3.7)
+-- A file that is sent: its number, its entry, the row from which it is sent, how many of its payloads were sent, and how many CDT were
+-- received (RFC 5024, sections 5.3.4, 5.3.6 and 5.3.7).
 pub record Transfer : Type 0 where
   pub number : ℕ
   pub file : Outgoing
@@ -41,7 +41,7 @@ pub record Transfer : Type 0 where
   pub sent : ℕ
   pub credits : ℕ
 
--- where a session stands (RFC 5024, section 9)
+-- the phase of a session (RFC 5024, section 9)
 pub data Phase : Type 0 where
   ResponderOpening : Phase
   InitiatorOpening : Phase
@@ -82,12 +82,12 @@ pub record Step : Type 0 where
   pub change : Option Change
   pub output : Option Command
 
--- the register after a step's change; a change that is refused leaves it as it was
+-- the register after a step's change; a change that is refused leaves it unchanged
 abbrev pub register_after : Register → Option Change → Register
 register_after r None = r
 register_after r (Some change) = result_unwrap_or (apply r change) r
 
--- a command on the stream, in its canonical spelling (RFC 5024, section 8)
+-- the frame of a command, in its canonical encoding (RFC 5024, section 8)
 unfoldable pub frame_of : Command → List ℕ
 frame_of command = frame (Canon command)
 
@@ -116,15 +116,15 @@ says phase command = answers phase None command
 abbrev pub esid_of : SessionReason → Command
 esid_of reason = command.Esid (record { reason = session_number reason; text = [] })
 
--- the session ends itself, for this reason
+-- the station ends the session, for this reason
 abbrev pub fails : SessionReason → Step
 fails reason = says (EndedHere reason) (esid_of reason)
 
--- the partner ends it
+-- the partner ends the session
 abbrev pub leaves : ℕ → Step
 leaves reason = quiet (EndedThere reason)
 
--- what a command does that has no place in a phase: the partner may end the session in each, and all else violates the protocol
+-- a command that isn't allowed in a phase: ESID ends the session in each, and all others violate the protocol
 unfoldable pub unexpected : Command → Step
 unexpected (command.Esid esid) = leaves esid.reason
 unexpected _ = fails ProtocolViolation

@@ -1,4 +1,4 @@
--- How a listener takes a file: SFID to EFPA (RFC 5024, sections 5.3.3 to 5.3.10).
+-- How a listener receives a file: SFID to EFPA (RFC 5024, sections 5.3.3 to 5.3.10).
 use Rattle.std.specs.Prelude.{ℕ, ◌+◌, ◌-◌, ◌%◌, ◌==◌, Bool, false, nat_lt, max, if◌then◌else◌, List, [], ◌∷◌, ◌++◌, length, drop, Option, None, Some, is_some, unwrap_or, Result, Ok, Err}
 use Rattle.oftp_wire.specs.declared.command.Command.{Command}
 use Rattle.oftp_wire.specs.declared.command.Command.TheVariants as command
@@ -36,15 +36,15 @@ use Rattle.oftp_session.specs.Phases.{Receipt, ListenerIdle, Receiving, Step, qu
 
 -- SFID (RFC 5024, sections 5.3.3 to 5.3.5)
 
--- what names the file that is offered
+-- the identity of an offered file
 abbrev pub offered_identity : Sfid → Identity
 offered_identity sfid = record { dataset = sfid.dataset; date = sfid.date; time = sfid.time; originator = sfid.originator; destination = sfid.destination }
 
--- its entry, before a row of it is here
+-- its entry, without rows
 abbrev pub offered_file : Sfid → Incoming
 offered_file sfid = new_incoming (offered_identity sfid) (format_of sfid.layout) (longest_of sfid.layout) sfid.description
 
--- on what terms a file is taken by an office that may hold so much
+-- the conditions on which a file is accepted by an office with these limits
 abbrev pub terms_within : Setting → Contact → Limits → Terms
 terms_within setting contact limits = record {
   station = setting.book.station.code;
@@ -54,12 +54,12 @@ terms_within setting contact limits = record {
   limits = limits;
 }
 
--- whether the file is taken, and from which row on
+-- whether the file is accepted, and from which row on
 abbrev pub verdict_on : Setting → Contact → Register → Sfid → StartVerdict
 verdict_on setting contact r sfid =
     start_verdict sfid (look_in r (offered_identity sfid)) (files_full r side.Incoming) (terms_within setting contact r.limits)
 
--- the file begins, or goes on after so many of its rows
+-- the file is started, or goes on after its first `count` rows
 abbrev pub start_of : Sfid → ℕ → Change
 start_of sfid count = Start (offered_identity sfid) (format_of sfid.layout) (longest_of sfid.layout) sfid.description count
 
@@ -93,7 +93,7 @@ offer_step setting contact r sfid = on_start_verdict contact r sfid (verdict_on 
 
 -- DATA and CDT (RFC 5024, sections 5.3.6, 5.3.7 and 7)
 
--- the taker of a file that comes from a row on
+-- the taker of a file that is received from a row on
 abbrev pub taker_of : Receipt → Taking
 taker_of f = new_taking f.file.format f.file.longest f.from f.units f.limit
 
@@ -101,20 +101,20 @@ taker_of f = new_taking f.file.format f.file.longest f.from f.units f.limit
 abbrev pub carried_by : Receipt → Taking
 carried_by f = taken_all (taker_of f) f.payloads
 
--- how many of the rows that came are kept
+-- how many of the received rows are stored
 abbrev pub kept_of : Receipt → ℕ
 kept_of f = length f.file.rows - f.from
 
--- the rows that these payloads carry, less those that are kept
+-- the rows that these payloads carry, without those that are stored
 abbrev pub rows_to_keep : Receipt → Taking → List (List ℕ)
 rows_to_keep f t = drop (kept_of f) t.rows
 
--- the rows are kept, if there are any
+-- the rows are stored, if there are any
 abbrev pub keeping : ℕ → List (List ℕ) → Option Change
 keeping number [] = None
 keeping number (row ∷ rows) = Some (Keep number (row ∷ rows))
 
--- the reason of the ESID that answers a payload at fault (RFC 5024, section 5.3.11); a want of memory is none of the payload
+-- the reason of the ESID that answers a faulty payload (RFC 5024, section 5.3.11); out of memory has none
 abbrev pub reason_of : TakeFault → Option SessionReason
 reason_of Cut = Some InvalidData
 reason_of Compressed = Some ProtocolViolation
@@ -123,27 +123,27 @@ reason_of AfterEnd = Some ProtocolViolation
 reason_of TooBig = Some InvalidData
 reason_of Memory = None
 
--- A payload at fault ends the session. A fault that has no reason is never met: `taken` refuses no payload for memory.
+-- A faulty payload ends the session. A fault without a reason doesn't occur: `taken` refuses no payload for memory.
 abbrev pub ends_at : TakeFault → Step
 ends_at fault = fails (unwrap_or (reason_of fault) ProtocolViolation)
 
--- one more payload came
+-- one more payload was received
 abbrev pub with_payload : Receipt → List ℕ → Receipt
 with_payload f payload = record f { payloads = f.payloads ++ payload ∷ [] }
 
--- rows of the file are kept
+-- rows of the file are stored
 abbrev pub with_rows : Receipt → List (List ℕ) → Receipt
 with_rows f rows = record f { file = record f.file { rows = f.file.rows ++ rows } }
 
--- how many DATA the partner may send before it awaits credit: the agreed number, which is at least 1
+-- how many DATA the partner may send before CDT: the agreed number, which is at least 1
 abbrev pub window : Contact → ℕ
 window contact = max 1 contact.link.credit
 
--- the place of the last payload is a multiple of this number: the partner awaits credit
+-- the number of payloads is a multiple of the window: the partner waits for CDT
 abbrev pub is_window_full : Contact → Receipt → Bool
 is_window_full contact f = length f.payloads % window contact == 0
 
--- what a payload leaves, with CDT where the credit is used up
+-- the step after a payload, with CDT if the credit is used up
 abbrev pub window_step : Contact → Receipt → List (List ℕ) → Step
 window_step contact f rows = if is_window_full contact f
     then answers (Receiving contact (with_rows f rows)) (keeping f.number rows) command.Cdt
@@ -161,7 +161,7 @@ data_step contact f payload = if nat_lt contact.link.buffer (length payload + 1)
 
 -- EFID (RFC 5024, sections 5.3.8 to 5.3.10)
 
--- a response to this partner is next, which wasn't tried: the station asks to speak
+-- there is a response to this partner that wasn't tried: the station asks to speak
 abbrev pub asks_to_speak : Contact → Register → Bool
 asks_to_speak contact r = is_some (next_item r contact.code contact.tried false)
 
@@ -185,7 +185,7 @@ on_end contact r f efid t = if is_open t.stage
 unfoldable pub end_step : Contact → Register → Receipt → Efid → Step
 end_step contact r f efid = on_end contact r f efid (carried_by f)
 
--- what comes where a file comes
+-- a command that arrives while a file is received
 unfoldable pub came_receiving : Contact → Register → Receipt → Command → Step
 came_receiving contact r f (command.Data payload) = data_step contact f payload
 came_receiving contact r f (command.Efid efid) = end_step contact r f efid

@@ -1,4 +1,4 @@
--- The code's responses, as plain data. Private functions alone cite it.
+-- The responses of the code, as plain data. Only private functions cite them.
 use Rattle.oftp_register.specs.Register.{Received}
 use Rattle.oftp_session.specs.declared.responses.Response.{Response}
 

@@ -20,7 +20,7 @@ use Rattle.oftp_session.specs.Phases.{Phase, Offer, Transfer, SpeakerIdle, Givin
 
 -- the answer to SFID (RFC 5024, sections 5.3.4 and 5.3.5)
 
--- a file whose end was sent, and that the partner takes again, is to be sent again
+-- a file whose end was sent, and that the partner accepts again, is reopened
 abbrev pub reopening : Offer → Option Change
 reopening offer = if is_closing offer.file.state then Some (Reopen offer.number) else None
 
@@ -31,7 +31,7 @@ reopened_file file = if is_closing file.state then record file { state = Waiting
 abbrev pub transfer_of : Offer → ℕ → Transfer
 transfer_of offer from = record { number = offer.number; file = reopened_file offer.file; from = from; sent = 0; credits = 0 }
 
--- The file isn't taken. A duplicate whose end was sent is the partner's; another is given up where it may not be offered again.
+-- The file isn't accepted. A duplicate whose end was sent is handed over. Another file is refused, unless it may be offered again.
 abbrev pub refusal : Offer → Sfna → Option Change
 refusal offer sfna = if sfna.reason == start_number DuplicateFile && is_closing offer.file.state
     then Some (HandOver offer.number)
@@ -54,7 +54,7 @@ came_awaiting_start contact offer other = unexpected other
 abbrev pub rows_from : Transfer → List (List ℕ)
 rows_from t = drop t.from t.file.rows
 
--- the most octets of a payload: a DATA is its command octet and a payload
+-- the greatest payload in octets: a DATA is its command octet and a payload
 abbrev pub payload_size : Contact → ℕ
 payload_size contact = contact.link.buffer - 1
 
@@ -62,7 +62,7 @@ payload_size contact = contact.link.buffer - 1
 abbrev pub payloads_in : Contact → Transfer → List (List ℕ)
 payloads_in contact t = payloads_of t.file.format (payload_size contact) (rows_from t)
 
--- how many commands may go out before the next CDT
+-- how many commands may be sent before the next CDT
 abbrev pub credit_left : Contact → Transfer → ℕ
 credit_left contact t = (t.credits + 1) * window contact - t.sent
 
@@ -73,7 +73,7 @@ new_mark contact t = t.from + wholly_sent t.file.format (payload_size contact) (
 abbrev pub marking : Transfer → ℕ → Option Change
 marking t mark = if mark == t.file.mark then None else Some (Mark t.number mark)
 
--- the credit is full again, and covers the rows that were wholly sent
+-- the credit is full again, and the rows that were wholly sent are marked
 abbrev pub credited_transfer : Transfer → ℕ → Transfer
 credited_transfer t mark = record t { file = record t.file { mark = mark }; credits = t.credits + 1 }
 
@@ -98,12 +98,12 @@ with_sent t = record t { sent = t.sent + 1 }
 abbrev pub closing_transfer : Transfer → Transfer
 closing_transfer t = record t { file = record t.file { state = Closing } }
 
--- the next payload, or the end of the file
+-- the next DATA or EFID
 abbrev pub sends_next : Contact → Transfer → Option (List ℕ) → Step
 sends_next contact t (Some payload) = says (Sending contact (with_sent t)) (command.Data payload)
 sends_next contact t None = answers (AwaitingEnd contact (closing_transfer t)) (Some (BeginClosing t.number)) (efid_of t.file)
 
--- DATA and EFID go out only where credit is left
+-- DATA and EFID are sent only while credit is left
 unfoldable pub turned_sending : Contact → Transfer → Step
 turned_sending contact t = if nat_lt 0 (credit_left contact t)
     then sends_next contact t (slice_get (payloads_in contact t) t.sent)

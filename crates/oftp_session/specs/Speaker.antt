@@ -1,4 +1,4 @@
--- What the station says where it speaks and waits for nothing (RFC 5024, sections 5.3.3 and 5.3.11 to 5.3.15).
+-- The station as a speaker, between files (RFC 5024, sections 5.3.3 and 5.3.11 to 5.3.15).
 use Rattle.std.specs.Prelude.{ℕ, ◌+◌, ◌/◌, false, if◌then◌else◌, List, [], Option, None, Some}
 use Rattle.oftp_wire.specs.declared.command.Command.{Command}
 use Rattle.oftp_wire.specs.declared.command.Command.TheVariants as command
@@ -24,7 +24,7 @@ use Rattle.oftp_session.specs.declared.state.Contact.{Contact}
 use Rattle.oftp_session.specs.Settings.{Setting}
 use Rattle.oftp_session.specs.Phases.{ListenerIdle, SpeakerIdle, AwaitingRtr, AwaitingStart, Offer, Step, changes, says, fails, unexpected}
 
--- nothing is next: the partner may speak, or the session ends
+-- nothing is left to send: the partner speaks, or the session ends
 abbrev pub nothing_next : Contact → WhenDone → Step
 nothing_next contact ChangeDirection = says (ListenerIdle contact) command.Cd
 nothing_next contact EndSession = fails Normal
@@ -69,7 +69,7 @@ abbrev pub responds : Setting → Contact → IssuedEntry → Step
 responds setting contact e =
     says (AwaitingRtr (having_tried_response contact e.no) e.no) (response_of setting.book.station.code e e.response.kind)
 
--- the partner is ready after a response: it was sent
+-- RTR after a response: the response was sent
 unfoldable pub came_awaiting_rtr : Contact → ℕ → Command → Step
 came_awaiting_rtr contact number command.Rtr = changes (SpeakerIdle contact ChangeDirection) (Some (Send number))
 came_awaiting_rtr contact number other = unexpected other
@@ -82,11 +82,11 @@ layout_of Variable longest = layout.Variable longest
 layout_of Unstructured longest = layout.Unstructured
 layout_of Text longest = layout.Text
 
--- so many octets in blocks of 1024, rounded up
+-- a number of octets in blocks of 1024, rounded up
 abbrev pub blocks : ℕ → ℕ
 blocks octets = (octets + 1023) / BLOCK
 
--- the file as it is offered: what the station never asks for is 0 or N
+-- SFID of a file; options that the station doesn't support are 0 or N
 abbrev pub sfid_of : Outgoing → ℕ → Command
 sfid_of file from = command.Sfid (record {
   dataset = file.identity.dataset;
@@ -107,14 +107,14 @@ sfid_of file from = command.Sfid (record {
   description = file.description;
 })
 
--- from where a file is offered: behind its mark, where restart is agreed
+-- the row from which a file is offered: its mark, if restart is agreed, and else 0
 abbrev pub offered_from : Contact → Outgoing → ℕ
 offered_from contact file = if contact.link.restart then file.mark else 0
 
 abbrev pub offer_of : Contact → ℕ → Outgoing → Offer
 offer_of contact number file = record { number = number; file = file; from = offered_from contact file }
 
--- the file of a number is offered; none of this number is never met, since the next item is one of the register's
+-- the file with a number is offered; one without an entry doesn't occur, since the next item is one of the register's
 abbrev pub offers : Contact → WhenDone → ℕ → Option Outgoing → Step
 offers contact done number (Some file) =
     says (AwaitingStart (having_tried_file contact number) (offer_of contact number file)) (sfid_of file (offered_from contact file))
@@ -126,6 +126,6 @@ on_item setting contact done r (Some (item.Response e)) = responds setting conta
 on_item setting contact done r (Some (item.File e)) = offers contact done e.no (entry_at e.no r.outgoing)
 on_item setting contact done r None = nothing_next contact done
 
--- a response that is due goes first, then a file where the station sends files, each tried once in a session
+-- a response that is due goes first, then a file if the station sends files; each is tried once in a session
 unfoldable pub speaks : Setting → Contact → WhenDone → Register → Step
 speaks setting contact done r = on_item setting contact done r (next_item r contact.code contact.tried contact.link.sends)

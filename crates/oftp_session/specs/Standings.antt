@@ -1,4 +1,4 @@
--- Where a session stands, as contracts see it.
+-- The state of a session, as contracts see it.
 use Rattle.std.specs.Prelude.{◌≡◌, ℕ, ◌+◌, ◌-◌, ◌*◌, ◌%◌, ◌<◌, ◌≤◌, nat_lt, max, List, [], length, take, drop, Bool, true, false, Option, None, Some}
 use Rattle.oftp_session.specs.declared.session.Ending.{Ending}
 use Rattle.oftp_vfile.specs.Reading.{shed}
@@ -17,7 +17,7 @@ use Rattle.oftp_session.specs.Sending.{credit_left, payload_size, payloads_in, r
 use Rattle.oftp_session.specs.Receiving.{carried_by, kept_of, window}
 use Rattle.oftp_session.specs.Steps.{turns_due}
 
--- a session is in a phase, receives, offers or sends a file, or a fault of the office or of memory broke it off
+-- a session is in a phase, receives, offers or sends a file, or was broken by an error of the office or out of memory
 pub data Standing : Type 0 where
   At : (phase : Phase) → Standing
   Receives : (contact : Contact) (reception : Reception) → Standing
@@ -26,14 +26,14 @@ pub data Standing : Type 0 where
   Awaits : (contact : Contact) (number : ℕ) → Standing
   Broken : Standing
 
--- a reception stands where the phase says: so much credit is left of the window, the taker took all payloads, and the rows that are
--- kept were taken away from it
+-- A reception is in the state of the phase: its credit is what is left of the window, its taker took all payloads, and the stored rows were
+-- removed from the taker.
 pub record Tracks (contact : Contact) (f : Receipt) (s : Reception) : Type 0 where
   pub number : s.number ≡ f.number
   pub credit : max 1 s.credit ≡ window contact - length f.payloads % window contact
   pub taker : s.taker ≡ shed (kept_of f) (carried_by f)
 
--- what the code holds of a file that is offered
+-- the offering of the code for a file that is offered
 abbrev pub offering_of : Offer → Offering
 offering_of offer = record {
   number = offer.number;
@@ -51,13 +51,13 @@ abbrev pub at_hand : Option (List (List ℕ)) → List (List ℕ)
 at_hand None = []
 at_hand (Some rows) = rows
 
--- they are the first of those of the file that are left, and the filler's place is in them
+-- they are the first of the file's rows that are left, and the filler is among them
 pub record AreAtHand (file : List (List ℕ)) (s : Shipment) : Type 0 where
   pub first : at_hand s.page ≡ take (length (at_hand s.page)) (drop s.filler.row file)
   pub place : IsInRows s.filler (at_hand s.page)
 
--- a shipment stands where the phase says: so much credit is left, no payload went out without, nor without room for a subrecord,
--- its filler made the payloads that were sent, and the rows at hand are those of the file
+-- A shipment is in the state of the phase: its credit is what is left, no payload was sent without credit or without room for a subrecord,
+-- its filler made the payloads that were sent, and the rows at hand are those of the file.
 pub record Ships (contact : Contact) (t : Transfer) (s : Shipment) : Type 0 where
   pub number : s.number ≡ t.number
   pub format : s.filler.format ≡ t.file.format
@@ -72,7 +72,7 @@ pub record Ships (contact : Contact) (t : Transfer) (s : Shipment) : Type 0 wher
   pub sent : Sent s.filler (payload_size contact) t.from (rows_from t) (take t.sent (payloads_in contact t))
   pub page : AreAtHand t.file.rows s
 
--- a session that stands so is in this phase
+-- a session with this state is in this phase
 abbrev pub StandsIn : Phase → Standing → Type 0
 StandsIn (Receiving contact f) s = (reception : Reception) × (s ≡ Receives contact reception) × Tracks contact f reception
 StandsIn ResponderOpening s = s ≡ At ResponderOpening
@@ -88,7 +88,7 @@ StandsIn (AwaitingEnd contact t) s = s ≡ Awaits contact t.number
 StandsIn (EndedHere reason) s = s ≡ At (EndedHere reason)
 StandsIn (EndedThere reason) s = s ≡ At (EndedThere reason)
 
--- what the code holds, as where the session stands
+-- the state of the code, as contracts see it
 abbrev pub standing_of : State → Standing
 standing_of state.ResponderOpening = At ResponderOpening
 standing_of state.InitiatorOpening = At InitiatorOpening
@@ -104,7 +104,7 @@ standing_of (state.AwaitingEnd contact number) = Awaits contact number
 standing_of (state.EndedHere reason) = At (EndedHere reason)
 standing_of (state.EndedThere reason) = At (EndedThere reason)
 
--- a session that holds no state is broken
+-- a session without a state is broken
 abbrev pub standing_held : Option State → Standing
 standing_held (Some s) = standing_of s
 standing_held None = Broken
@@ -118,7 +118,7 @@ ended_as (Sends contact shipment) = None
 ended_as (Awaits contact number) = None
 ended_as Broken = None
 
--- a session that ended or broke answers no more
+-- a session that is over or broken does nothing more
 abbrev pub is_closed : Standing → Bool
 is_closed (At p) = is_over p
 is_closed (Receives contact reception) = false
@@ -145,7 +145,7 @@ is_sending (Sends contact shipment) = true
 is_sending (Awaits contact number) = false
 is_sending Broken = false
 
--- to whom a session listens in a phase, and how it stands so
+-- the partner to which a session listens, in a phase and in a state
 abbrev pub heard_in : Phase → Option Contact
 heard_in (ListenerIdle contact) = Some contact
 heard_in (Receiving contact f) = Some contact

@@ -1,4 +1,4 @@
--- How a file that is accepted begins. Private functions alone cite it.
+-- How an accepted file is started. Only private functions cite this.
 use Rattle.std.specs.Prelude.{◌≡◌, ℕ, [], length, None, Some, Result, Ok, Err}
 use Rattle.oftp_wire.specs.declared.command.Sfid.{Sfid}
 use Rattle.oftp_vfile.specs.VirtualFile.{units_in}
@@ -21,7 +21,7 @@ pub record IsFound (r : Register) (identity : Identity) (number : ℕ) (file : I
   pub look : look_in r identity ≡ Some (incoming_entry number file)
   pub entry : entry_at number r.incoming ≡ Some file
 
--- a file may begin, or go on after so many of its rows: the change is fit and made, and then the file is found
+-- A file may start, or go on after its first `count` rows: the change is fit and made, and then the file is found.
 pub record MayBegin (r : Register) (sfid : Sfid) (count : ℕ) : Type 0 where
   pub fit : IsFit r (start_of sfid count)
   pub after : Register
@@ -29,7 +29,7 @@ pub record MayBegin (r : Register) (sfid : Sfid) (count : ℕ) : Type 0 where
   pub received : IsReceived after (receipt_of r sfid count)
   pub found : look_in after (offered_identity sfid) ≡ Some (incoming_entry (receipt_of r sfid count).number (receipt_of r sfid count).file)
 
--- what receives a file of which no payload came
+-- the reception of a file of which no payload was received
 abbrev pub reception_of : LinkData → ℕ → Incoming → ℕ → Reception
 reception_of link number file limit = record {
   number = number;
@@ -37,7 +37,7 @@ reception_of link number file limit = record {
   taker = new_taking file.format file.longest (length file.rows) (units_in file.rows) limit;
 }
 
--- the change is made, and what receives the file is made for it
+-- the change is made, and the reception of the file is made for it
 abbrev pub Starts : LinkData → Sfid → ℕ → View → View → Result Reception SessionFault → Type 0
 Starts link sfid count old new (Ok reception) =
     let f = receipt_of old.register sfid count in

@@ -20,12 +20,12 @@ use Rattle.oftp_session.specs.Receiving.{came_receiving, carried_by}
 use Rattle.oftp_session.specs.Speaker.{came_awaiting_rtr, speaks}
 use Rattle.oftp_session.specs.Sending.{came_awaiting_start, came_sending, came_awaiting_end, turned_sending, credit_left}
 
--- where a session begins: a responder greets, and an initiator waits for that
+-- the first phase of a session: a responder sends SSRM, and an initiator waits for it
 abbrev pub opening : Option Partner → Phase
 opening None = ResponderOpening
 opening (Some partner) = InitiatorOpening
 
--- how many own commands may follow one another, and whether one is due
+-- how many commands of the station may follow one another, and whether one is due
 abbrev pub turns_due : Phase → ℕ
 turns_due ResponderOpening = 1
 turns_due InitiatorOpening = 0
@@ -44,7 +44,7 @@ turns_due (EndedThere reason) = 0
 abbrev pub has_turn : Phase → Bool
 has_turn p = nat_lt 0 (turns_due p)
 
--- the own command that is due, or nothing
+-- the command of the station that is due, or none
 unfoldable pub turned : Setting → Phase → Register → Step
 turned setting ResponderOpening r = says AwaitingSsid Ssrm
 turned setting InitiatorOpening r = quiet InitiatorOpening
@@ -60,7 +60,7 @@ turned setting (AwaitingEnd contact t) r = quiet (AwaitingEnd contact t)
 turned setting (EndedHere reason) r = quiet (EndedHere reason)
 turned setting (EndedThere reason) r = quiet (EndedThere reason)
 
--- what a command that comes makes of each phase
+-- the step of a command that arrives, in each phase
 unfoldable pub came : Setting → Phase → Register → Command → Step
 came setting ResponderOpening r command = unexpected command
 came setting InitiatorOpening r command = came_initiator_opening setting command
@@ -76,8 +76,8 @@ came setting (AwaitingEnd contact t) r command = came_awaiting_end contact t com
 came setting (EndedHere reason) r command = quiet (EndedHere reason)
 came setting (EndedThere reason) r command = quiet (EndedThere reason)
 
--- the entry of a file that comes is as the session left it, with rows up to where it goes on at least, and at most those that came
--- since; and its taker took all payloads
+-- The entry of a file that is received is as the session left it. It has at least the rows before the one where the file goes on, and at
+-- most those received since. Its taker took all payloads.
 pub record IsReceived (r : Register) (f : Receipt) : Type 0 where
   pub limit : f.limit ≡ r.limits.octets
   pub entry : entry_at f.number r.incoming ≡ Some f.file
@@ -87,7 +87,7 @@ pub record IsReceived (r : Register) (f : Receipt) : Type 0 where
   pub units : f.units ≡ units_in (take f.from f.file.rows)
   pub took : Took (carried_by f) [] f.payloads
 
--- the response that was sent is due still
+-- the response that was sent is still due
 pub record IsResponding (r : Register) (number : ℕ) : Type 0 where
   pub file : Incoming
   pub entry : entry_at number r.incoming ≡ Some file
@@ -95,7 +95,7 @@ pub record IsResponding (r : Register) (number : ℕ) : Type 0 where
   pub issued : file.response ≡ Some response
   pub due : response.dispatch ≡ Due
 
--- the entry of a file that is offered or sent is as the session left it, and its rows go as far as where it is sent from
+-- the entry of a file that is offered or sent is as the session left it, and its rows reach to where it is sent from
 pub record IsOffered (r : Register) (offer : Offer) : Type 0 where
   pub entry : entry_at offer.number r.outgoing ≡ Some offer.file
   pub goes : is_on_its_way offer.file.state ≡ true
@@ -111,7 +111,7 @@ pub record IsEnded (r : Register) (t : Transfer) : Type 0 where
   pub entry : entry_at t.number r.outgoing ≡ Some t.file
   pub closing : t.file.state ≡ Closing
 
--- what a phase says of the register
+-- what holds of the register in a phase
 abbrev pub Holds : Phase → Register → Type 0
 Holds ResponderOpening r = ⊤
 Holds InitiatorOpening r = ⊤
@@ -127,7 +127,7 @@ Holds (AwaitingEnd contact t) r = IsEnded r t
 Holds (EndedHere reason) r = ⊤
 Holds (EndedThere reason) r = ⊤
 
--- a register in which a session may stand in a phase
+-- a register that suits a phase
 pub record Suits (p : Phase) (r : Register) : Type 0 where
   pub sound : IsSound r
   pub holds : Holds p r

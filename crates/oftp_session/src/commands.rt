@@ -1,4 +1,4 @@
-//! The commands that a station says.
+//! The commands that a station sends.
 
 ghost use Rattle.std.specs.Prelude.{◌≡◌, ◌≤◌, take, [], false, if◌then◌else◌};
 ghost use Rattle.oftp_vfile.specs.VirtualFile.{IsLongest, is_stream, units_in};
@@ -25,7 +25,7 @@ use oftp_wire::{
     SessionReason, Sfid, Sfna, Sfpa, Ssid, StartReason, Text, X, encode, header,
 };
 
-/// A field that is left empty.
+/// An empty field.
 pub(crate) fn no_field<const N: usize>() -> X<'static, N>
     ensures { result ≡ [] }
 {
@@ -35,7 +35,7 @@ pub(crate) fn no_field<const N: usize>() -> X<'static, N>
     }
 }
 
-/// A text that is left empty.
+/// An empty text.
 pub(crate) fn no_text() -> Text<'static>
     ensures { result ≡ [] }
 {
@@ -45,7 +45,7 @@ pub(crate) fn no_text() -> Text<'static>
     }
 }
 
-/// The end of the session, with no text.
+/// ESID, without text (RFC 5024, section 5.3.11).
 pub(crate) fn esid(reason: SessionReason) -> Command<'static>
     ensures { result ≡ esid_of reason }
 {
@@ -55,14 +55,14 @@ pub(crate) fn esid(reason: SessionReason) -> Command<'static>
     })
 }
 
-/// A file is taken from this row on.
+/// SFPA, with the Restart position that the station answers.
 pub(crate) fn sfpa(restart: Count<17>) -> Command<'static>
     ensures { result ≡ sfpa_of restart }
 {
     Command::Sfpa(Sfpa { restart })
 }
 
-/// A file isn't taken, with no text.
+/// SFNA, without text.
 pub(crate) fn sfna(reason: StartReason, retry: bool) -> Command<'static>
     ensures { result ≡ sfna_of reason retry }
 {
@@ -73,14 +73,14 @@ pub(crate) fn sfna(reason: StartReason, retry: bool) -> Command<'static>
     })
 }
 
-/// The station has a file, and asks to speak or not.
+/// EFPA, which asks to speak or doesn't.
 pub(crate) fn efpa(change_direction: bool) -> Command<'static>
     ensures { result ≡ efpa_of change_direction }
 {
     Command::Efpa(Efpa { change_direction })
 }
 
-/// The station doesn't have a file, with no text.
+/// EFNA, without text.
 pub(crate) fn efna(reason: EndReason) -> Command<'static>
     ensures { result ≡ efna_of reason }
 {
@@ -90,7 +90,7 @@ pub(crate) fn efna(reason: EndReason) -> Command<'static>
     })
 }
 
-/// An SSID of the station's: what it never asks for is N.
+/// An SSID of the station. Options that it doesn't support are N.
 fn ssid_with<'b>(
     book: &'b Book,
     partner: &'b Partner,
@@ -116,7 +116,7 @@ fn ssid_with<'b>(
     }
 }
 
-/// The responder's SSID: what is agreed with a partner of this mode letter.
+/// The responder's SSID, with what is agreed with a partner that sent this mode.
 pub(crate) fn answering_ssid<'b>(
     book: &'b Book,
     letter: Mode,
@@ -134,7 +134,7 @@ pub(crate) fn answering_ssid<'b>(
     ))
 }
 
-/// The initiator's SSID: its own offers.
+/// The initiator's SSID, with its own offers.
 pub(crate) fn calling_ssid<'b>(book: &'b Book, partner: &'b Partner) -> Command<'b>
     ensures { result ≡ an_ssid (calling_ssid book.entry.now partner.entry.now) }
 {
@@ -149,7 +149,7 @@ pub(crate) fn calling_ssid<'b>(book: &'b Book, partner: &'b Partner) -> Command<
     ))
 }
 
-/// A name as a command has it.
+/// A name as a field of a command.
 fn name<const N: usize>(name: &Name<N>) -> X<'_, N>
     ensures { result ≡ name.now }
 {
@@ -159,7 +159,7 @@ fn name<const N: usize>(name: &Name<N>) -> X<'_, N>
     }
 }
 
-/// Digits as a command has them.
+/// Digits as a field of a command.
 fn digits<const N: usize>(digits: &DigitString<N>) -> Digits<'_, N>
     ensures { result ≡ digits.now }
 {
@@ -169,7 +169,7 @@ fn digits<const N: usize>(digits: &DigitString<N>) -> Digits<'_, N>
     }
 }
 
-/// A text as a command has it.
+/// A text as a field of a command.
 fn text(note: &Note) -> Text<'_>
     ensures { result ≡ note.now }
 {
@@ -179,7 +179,7 @@ fn text(note: &Note) -> Text<'_>
     }
 }
 
-/// An end response to this file.
+/// EERP, the End-to-End Response to this file.
 fn eerp(file: &Identity) -> Command<'_>
     ensures { result ≡ eerp_of file.now }
 {
@@ -193,7 +193,7 @@ fn eerp(file: &Identity) -> Command<'_>
     })
 }
 
-/// A negative end response of the station's own.
+/// NERP, a Negative End Response of which the station itself is the creator.
 fn nerp<'a>(book: &'a Book, entry: &'a IssuedEntry) -> Command<'a>
     ensures { let e = entry.entry.now in
         result ≡ nerp_of book.entry.now.station.code e.identity e.response.reason e.response.text }
@@ -211,7 +211,7 @@ fn nerp<'a>(book: &'a Book, entry: &'a IssuedEntry) -> Command<'a>
     })
 }
 
-/// The response that was issued to a file.
+/// The command of the response that was issued to a file.
 pub(crate) fn response<'a>(book: &'a Book, entry: &'a IssuedEntry) -> Command<'a>
     ensures { result ≡ response_of book.entry.now.station.code entry.entry.now entry.entry.now.response.kind }
 {
@@ -221,7 +221,7 @@ pub(crate) fn response<'a>(book: &'a Book, entry: &'a IssuedEntry) -> Command<'a
     }
 }
 
-/// How a file is divided, as SFID tells it.
+/// Format and longest record of a file, as SFID has them.
 fn layout(format: Format, longest: u32) -> Layout
     requires { IsLongest format longest }
     ensures { result ≡ layout_of format longest }
@@ -234,7 +234,7 @@ fn layout(format: Format, longest: u32) -> Layout
     }
 }
 
-/// So many octets as a size, rounded up.
+/// A number of octets as SFIDOSIZ has it: in blocks of 1,024 octets, rounded up.
 fn size(units: u64) -> Count<13>
     requires { units ≤ MOST_UNITS }
     ensures { result ≡ blocks units }
@@ -242,7 +242,7 @@ fn size(units: u64) -> Count<13>
     Count::new((units + SIZE_UNIT - 1) / SIZE_UNIT)
 }
 
-/// A file with this entry, whose rows have so many octets, is offered from a row on.
+/// SFID of a file with this entry and this number of octets, which is offered from row `from` on.
 pub(crate) fn sfid<'a>(entry: &'a OutgoingEntry, units: u64, from: u64) -> Command<'a>
     requires longest { IsLongest entry.now.format entry.now.longest }
     requires units { units ≤ MOST_UNITS }
@@ -272,7 +272,7 @@ pub(crate) fn sfid<'a>(entry: &'a OutgoingEntry, units: u64, from: u64) -> Comma
     })
 }
 
-/// The end of a file of so many rows, which have so many octets. Rows of a stream aren't counted (RFC 5024, section 5.3.8).
+/// EFID of a file. Blocks of a stream aren't counted as records (RFC 5024, section 5.3.8).
 pub(crate) fn efid(format: Format, rows: Count<17>, units: Count<17>) -> Command<'static>
     ensures { result ≡ an_efid (record { records = if is_stream format then 0 else rows; units = units }) }
 {
@@ -284,7 +284,7 @@ pub(crate) fn efid(format: Format, rows: Count<17>, units: Count<17>) -> Command
     Command::Efid(Efid { records, units })
 }
 
-/// Spells the frame of a command that isn't DATA into the octets, and answers its length.
+/// Encodes the frame of a command other than DATA into the buffer, and returns its length in octets.
 pub(crate) fn spell(frame: &mut [u8; 1200], command: &Command<'_>) -> usize
     requires { is_data command.now ≡ false }
     ensures frame { take result frame.new ≡ frame_of command.now }

@@ -1,4 +1,4 @@
-//! The frame that a session says.
+//! The frame that a session sends.
 
 ghost use Rattle.std.specs.Prelude.{◌≡◌, ◌∷◌, ◌++◌, ◌+◌, ◌<◌, ◌≤◌, [], ℕ, List, length, All, true, false};
 ghost use Rattle.oftp_wire.specs.Header.{header_of};
@@ -17,19 +17,19 @@ use oftp_wire::{Command, header};
 use std::alloc::Global;
 use std::marker::Model;
 
-/// How many octets stand before the payload of a DATA: the stream header, and the command's letter.
+/// The number of octets before the payload of a DATA: the stream header, and the command's letter.
 const DATA_HEAD: usize = 5;
 
-/// Where a frame stands, and how many octets it has.
+/// Where the frame is, and its length in octets.
 #[derive(Clone, Copy, Drop)]
 pub(crate) enum Said {
-    /// In the array of the commands.
+    /// In the array for commands.
     Command(usize),
-    /// In the buffer of the DATA.
+    /// In the buffer for DATA.
     Data(usize),
 }
 
-/// One whole frame, or nothing. Memory is taken for the buffer of the DATA alone, once in a session.
+/// One whole frame, or none. It allocates only the buffer for DATA, once in a session.
 #[derive(Drop)]
 pub(crate) struct Frame {
     octets: [u8; 1200],
@@ -49,7 +49,7 @@ impl Model for Frame {
 }
 
 impl Frame {
-    /// Nothing. It takes no memory.
+    /// No frame. It allocates nothing.
     pub(crate) fn empty(alloc: Global) -> Frame
         ensures { result ≡ [] }
     {
@@ -60,8 +60,8 @@ impl Frame {
         }
     }
 
-    /// Says nothing, and reserves the buffer of the DATA, whose payloads have so many octets at most. Where that is refused,
-    /// there is no buffer.
+    /// Clears the frame and allocates the buffer for DATA, whose payloads have at most `size` octets. If the allocation fails, there is no
+    /// buffer.
     pub(crate) fn reserve(&mut self, alloc: Global, size: usize)
         requires { size ≤ 99998 }
         ensures { self.new ≡ [] }
@@ -72,7 +72,7 @@ impl Frame {
         }
     }
 
-    /// Says a command that isn't DATA, in place of what was said before.
+    /// Replaces the frame by that of a command other than DATA.
     pub(crate) fn say(&mut self, command: &Command<'_>)
         requires { is_data command.now ≡ false }
         ensures { self.new ≡ frame_of command.now }
@@ -80,12 +80,12 @@ impl Frame {
         self.said = Said::Command(spell(&mut self.octets, command));
     }
 
-    /// Says the next payload of a file whose rows are lent from where its filler is, as [`Filler::next_buffer`] makes it. Where
-    /// nothing is left, or more rows are to be lent, nothing is said.
+    /// Replaces the frame by DATA with the next payload of a file, as [`Filler::next_buffer`] makes it. `rows` are borrowed from the row at
+    /// which the filler is. If no payload is left, or the filler needs more rows, there is no frame.
     ///
     /// # Errors
     ///
-    /// [`SessionFault::Memory`] where there is no buffer for payloads of this size. The filler is as it was, and nothing is said.
+    /// [`SessionFault::Memory`] where there is no buffer for payloads of this size. The filler is unchanged, and there is no frame.
     pub(crate) fn fill(
         &mut self,
         filler: &mut Filler,
@@ -112,14 +112,14 @@ impl Frame {
         Ok(filled)
     }
 
-    /// Says nothing.
+    /// Clears the frame.
     pub(crate) fn hush(&mut self)
         ensures { self.new ≡ [] }
     {
         self.said = Said::Command(0);
     }
 
-    /// What is said.
+    /// The frame to send, if there is one.
     pub(crate) fn out(&self) -> Out<'_>
         ensures said { said result ≡ self.now }
         ensures full { IsFull result }
@@ -136,7 +136,7 @@ impl Frame {
     }
 }
 
-/// What stands before a payload of so many octets.
+/// The octets before a payload of this length.
 fn data_head(count: usize) -> [u8; 5]
     requires { count ≤ 99998 }
     ensures { result ≡ header_of (count + 5) ++ 68 ∷ [] }
@@ -147,7 +147,7 @@ fn data_head(count: usize) -> [u8; 5]
     }
 }
 
-/// Writes the frame of a DATA whose payload has at most so many octets.
+/// Writes the frame of a DATA whose payload has at most `size` octets.
 fn fill_data(
     filler: &mut Filler,
     rows: &[Row],

@@ -1,4 +1,4 @@
-//! The law of an admission.
+//! A theorem about the start of a session.
 
 ghost use Rattle.std.specs.Prelude.{◌≡◌};
 ghost use Rattle.oftp_wire.specs.declared.command.Command.{Command};
@@ -7,8 +7,8 @@ ghost use Rattle.oftp_session.specs.Phases.{AwaitingSsid, ResponderOpening};
 ghost use Rattle.oftp_session.specs.Settings.{Setting};
 ghost use Rattle.oftp_session.specs.Steps.{came, turned};
 
-/// No step before a caller is let in looks at the register: the greeting, and what answers the caller's SSID or sends it away, are the
-/// same over any two. So who isn't let in can be answered over an empty one. It does nothing; its contract is the law.
+/// Until a caller is admitted, no step depends on the register: the greeting, and the answer to the caller's SSID, are the same over any
+/// two. So a caller that isn't admitted can be answered over an empty register. The function does nothing; its contract is the theorem.
 pub fn admissions_ask_no_register()
     ensures greets { (setting : Setting) (r s : Register) → turned setting ResponderOpening r ≡ turned setting ResponderOpening s }
     ensures answers { (setting : Setting) (r s : Register) (command : Command)

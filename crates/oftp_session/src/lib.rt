@@ -1,7 +1,7 @@
-//! One session with a partner, as a state machine without input or output of its own: each call takes one command that came, or
-//! makes one own command that is due, and lends the frame to be sent.
+//! One session with a partner, as a state machine without I/O: each call executes one command that arrived, or makes one command of its own
+//! that is due, and returns the frame to send as a borrowed slice.
 //!
-//! A change of the register is committed before the frame that answers it is lent.
+//! A change of the register is committed before the frame that answers it is returned.
 #![tactic(auto)]
 
 mod change;

@@ -1,4 +1,4 @@
-//! What the station does where it listens and no file comes (RFC 5024, sections 5.3.3 and 5.3.12 to 5.3.15).
+//! The station as a listener, while no file is received (RFC 5024, sections 5.3.3 and 5.3.12 to 5.3.15).
 
 ghost use Rattle.std.specs.Prelude.{◌≡◌, ◌+◌, ◌<◌, ◌≤◌, ◌^◌, ℕ, IfErr};
 ghost use Rattle.oftp_register.specs.declared.change.Change.TheVariants.{Keep};
@@ -31,9 +31,9 @@ use oftp_vfile::{Limits, Row, Rows, Taker};
 use oftp_wire::{Command, SessionReason, Sfid};
 use std::alloc::Global;
 
-/// What a listener asks of an office. Of all the office's faults the session tells one.
+/// What a listener needs of an office. Every error of the office is [`SessionFault::Office`].
 pub(crate) trait ListenerPart: Office {
-    /// Files a response, unless one of its kind to this file is there.
+    /// Adds a received response, unless there is one of its kind for this file.
     fn file_new(&mut self, response: Response<'_>) -> Result<(), SessionFault>
         requires { IsSoundReceived (as_received response) }
         ensures clean { (Self.view self.new).clean → (Self.view self.old).clean }
@@ -41,7 +41,7 @@ pub(crate) trait ListenerPart: Office {
             → Files (filing (Self.view self.old).register (as_received response.entry)) (Self.view self.old) (Self.view self.new) result }
         ensures err { IfErr result (λ fault. fault ≡ SessionFault.Office) };
 
-    /// Whether a file that is offered is taken, and from which row on.
+    /// Whether an offered file is accepted, and from which row on.
     fn verdict_on(
         &mut self,
         setting: &Setting<'_>,
@@ -53,7 +53,7 @@ pub(crate) trait ListenerPart: Office {
             → Finds (λ r. verdict_on (setting_of setting.now) contact.now r sfid.now) (Self.view self.old) (Self.view self.new) result }
         ensures err { IfErr result (λ fault. fault ≡ SessionFault.Office) };
 
-    /// Begins a file, or goes on with it after so many of its rows.
+    /// Starts a file, or goes on with it after its first `count` rows.
     fn begin(
         &mut self,
         alloc: Global,
@@ -67,7 +67,7 @@ pub(crate) trait ListenerPart: Office {
             → Starts link.now sfid.now count (Self.view self.old) (Self.view self.new) result }
         ensures err { IfErr result (λ fault. fault ≡ SessionFault.Office) };
 
-    /// Keeps rows of a file that comes, if there are any.
+    /// Appends rows to an incoming file, if there are any.
     fn keep(&mut self, no: u64, rows: Vec<Row>) -> Result<(), SessionFault>
         ensures clean { (Self.view self.new).clean → (Self.view self.old).clean }
         ensures does { (Self.view self.new).clean → (Self.view self.old).stands
@@ -75,8 +75,8 @@ pub(crate) trait ListenerPart: Office {
             → Files (keeping no rows.items) (Self.view self.old) (Self.view self.new) result }
         ensures err { IfErr result (λ fault. fault ≡ SessionFault.Office) };
 
-    /// Whether a response is next that wasn't tried. It is looked up once while the partner speaks, since no change of a listener makes
-    /// a response due.
+    /// Whether there is a response to send that wasn't tried. It is looked up once while the partner speaks, because no change of a
+    /// listener makes a response due.
     fn asks_to_speak(
         &mut self,
         contact: &Contact,
@@ -175,7 +175,7 @@ impl<O: Office> ListenerPart for O {
     }
 }
 
-/// What names the file that is offered.
+/// The identity of an offered file.
 fn identity_of(sfid: &Sfid<'_>) -> Identity
     ensures { result ≡ offered_identity sfid.now }
 {
@@ -188,7 +188,7 @@ fn identity_of(sfid: &Sfid<'_>) -> Identity
     }
 }
 
-/// On what terms a file is taken by an office that may hold so much.
+/// The conditions on which a file is accepted by an office with these limits.
 fn terms_of(setting: &Setting<'_>, contact: &Contact, limits: Limits) -> Terms
     ensures { result ≡ terms_within (setting_of setting.now) contact.now limits }
 {
@@ -201,7 +201,7 @@ fn terms_of(setting: &Setting<'_>, contact: &Contact, limits: Limits) -> Terms
     }
 }
 
-/// What receives a file that was begun: its number and its octets are looked up.
+/// The reception of a started file. Its number and its octets are looked up.
 fn begun<O: Office>(
     office: &mut O,
     alloc: Global,
@@ -223,7 +223,7 @@ fn begun<O: Office>(
     Ok(reception(alloc, link, &entry, units, office.limits()))
 }
 
-/// What receives a file with this entry, whose rows have so many octets.
+/// The reception of a file with this entry and this number of octets.
 fn reception(
     alloc: Global,
     link: &Link,
@@ -262,7 +262,7 @@ fn is_between(setting: &Setting<'_>, contact: &Contact, file: &Identity) -> bool
         && file.destination.octets() == contact.code.octets()
 }
 
-/// Files a response, if it is new, and answers it.
+/// Adds a received response, if it is new, and answers it.
 #[tactic(auto, unfolding(crate::specs::Listener::response_step))]
 fn take_response<O: Office>(
     setting: Setting<'_>,
@@ -281,13 +281,13 @@ fn take_response<O: Office>(
     if !is_between(&setting, &contact, &response.identity) {
         return Ok(State::ended_here(SessionReason::InvalidData, frame));
     }
-    // The answer stands spelled before the commit, so that only the writer can fail between the two.
+    // The answer is encoded before the commit, so that only the writer can fail between the two.
     frame.say(&Command::Rtr);
     office.file_new(response)?;
     Ok(State::ListenerIdle(contact))
 }
 
-/// Takes a file that is offered, or refuses it.
+/// Accepts an offered file, or refuses it.
 #[tactic(auto, unfolding(crate::specs::Receiving::offer_step))]
 fn take_offer<O: Office>(
     setting: Setting<'_>,
@@ -315,7 +315,7 @@ fn take_offer<O: Office>(
     }
 }
 
-/// Takes a command that comes while the partner speaks and no file comes.
+/// Executes a command that arrives while the partner speaks and no file is received.
 #[tactic(auto, unfolding(crate::specs::Listener::came_listener_idle))]
 pub(crate) fn in_listener_idle<O: Office>(
     setting: Setting<'_>,

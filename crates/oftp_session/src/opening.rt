@@ -16,7 +16,7 @@ use oftp_register::{Cursor, Name};
 use oftp_wire::{Command, Count, Mode, SessionReason, Ssid, X};
 use std::alloc::Global;
 
-/// What doesn't change in a session: where it takes memory, the book, and the partner that an initiator calls.
+/// What is constant in a session: the allocator, the book, and the partner that an initiator calls.
 #[derive(Clone, Copy, Drop)]
 pub(crate) struct Setting<'b> {
     pub(crate) alloc: Global,
@@ -32,7 +32,7 @@ pub(crate) struct Agreement<'b> {
 }
 
 impl<'b> Agreement<'b> {
-    /// An open session, in which nothing was tried yet.
+    /// An open session that has tried nothing yet.
     fn contact(&self) -> Contact
         ensures { result ≡ contact_of (agreement_of self.now) }
     {
@@ -67,21 +67,21 @@ fn may_receive(mode: Mode) -> bool
     }
 }
 
-/// Whether a station in one mode sends what the other receives.
+/// Whether a station in mode `from` sends what one in mode `to` receives.
 fn flows(from: Mode, to: Mode) -> bool
     ensures { result ≡ flows from to }
 {
     may_send(from) && may_receive(to)
 }
 
-/// Whether both stations only send, or both only receive: no file can go either way.
+/// Whether both stations only send, or both only receive, so that no file can go either way.
 fn is_opposed(own: Mode, letter: Mode) -> bool
     ensures { result ≡ is_opposed own letter }
 {
     !flows(own, letter) && !flows(letter, own)
 }
 
-/// The mode letter that answers the partner's.
+/// The mode that answers the partner's.
 pub(crate) fn answered_mode(own: Mode, letter: Mode) -> Mode
     ensures { result ≡ answered_mode own letter }
 {
@@ -92,7 +92,7 @@ pub(crate) fn answered_mode(own: Mode, letter: Mode) -> Mode
     }
 }
 
-/// What is agreed with a partner who sends this SSID.
+/// What is agreed with a partner that sends this SSID.
 fn agreed(book: &Book, partner: &Partner, ssid: &Ssid<'_>) -> Link
     requires buffer { 128 ≤ ssid.now.buffer }
     requires credit { 1 ≤ ssid.now.credit }
@@ -108,7 +108,7 @@ fn agreed(book: &Book, partner: &Partner, ssid: &Ssid<'_>) -> Link
     }
 }
 
-/// The partner of a code: for an initiator the one that was called, for a responder any of the book.
+/// The partner with a code: for an initiator only the one that it called, for a responder any partner of the book.
 fn partner_for<'b>(
     book: &'b Book,
     called: Option<&'b Partner>,
@@ -129,7 +129,7 @@ fn partner_for<'b>(
     }
 }
 
-/// What is agreed with a partner who sends this SSID, or why the session ends.
+/// What is agreed with a partner that sends this SSID, or the reason to end the session.
 #[tactic(auto, unfolding(crate::specs::Opening::ssid_verdict))]
 fn ssid_verdict<'b>(setting: Setting<'b>, ssid: &Ssid<'_>) -> Result<Agreement<'b>, SessionReason>
     ensures { shown result ≡ ssid_verdict (setting_of setting.entry) ssid.now }
@@ -161,7 +161,7 @@ fn ssid_verdict<'b>(setting: Setting<'b>, ssid: &Ssid<'_>) -> Result<Agreement<'
     })
 }
 
-/// Goes on with a partner with whom this is agreed: a responder answers, an initiator speaks.
+/// Goes on after an agreement: a responder sends its SSID, an initiator becomes the speaker.
 fn agree(setting: Setting<'_>, letter: Mode, agreement: &Agreement<'_>, frame: &mut Frame) -> State
     ensures { let known = setting_of setting.entry in
         Goes (open_step known letter (agreement_of agreement.now) known.called) result frame.new }
@@ -177,7 +177,7 @@ fn agree(setting: Setting<'_>, letter: Mode, agreement: &Agreement<'_>, frame: &
     State::ListenerIdle(agreement.contact())
 }
 
-/// Opens the session with a partner who sends this SSID, or ends it.
+/// Opens the session with a partner that sends this SSID, or ends it.
 fn open(setting: Setting<'_>, ssid: &Ssid<'_>, frame: &mut Frame) -> State
     ensures { let known = setting_of setting.entry in
         Goes (opened_step known ssid.now.mode (ssid_verdict known ssid.now)) result frame.new }
@@ -188,7 +188,7 @@ fn open(setting: Setting<'_>, ssid: &Ssid<'_>, frame: &mut Frame) -> State
     }
 }
 
-/// Offers the session to the partner that is called.
+/// Sends SSID to the partner that was called.
 fn offer(setting: Setting<'_>, frame: &mut Frame) -> State
     ensures { let known = setting_of setting.entry in Goes (calling_step known known.called) result frame.new }
 {
@@ -201,7 +201,7 @@ fn offer(setting: Setting<'_>, frame: &mut Frame) -> State
     }
 }
 
-/// Takes a command that comes while the ready message of the partner that is called is awaited.
+/// Executes a command that arrives while an initiator waits for SSRM.
 #[tactic(auto, unfolding(crate::specs::Opening::came_initiator_opening))]
 pub(crate) fn in_initiator_opening(
     setting: Setting<'_>,
@@ -216,7 +216,7 @@ pub(crate) fn in_initiator_opening(
     }
 }
 
-/// Takes a command that comes while the partner's SSID is awaited.
+/// Executes a command that arrives while the partner's SSID is missing.
 #[tactic(auto, unfolding(crate::specs::Opening::came_awaiting_ssid))]
 pub(crate) fn in_awaiting_ssid(
     setting: Setting<'_>,

@@ -1,4 +1,4 @@
-//! A file that comes: DATA and EFID (RFC 5024, sections 5.3.6 to 5.3.10).
+//! Receiving a file: DATA and EFID (RFC 5024, sections 5.3.6 to 5.3.10).
 
 ghost use Rattle.std.specs.Prelude.{◌≡◌, ◌≢◌, ◌+◌, false, nat_lt, length, IfErr};
 ghost use Rattle.oftp_vfile.specs.Carries.{is_open};
@@ -21,8 +21,7 @@ use oftp_register::{Change, EndVerdict, Office, end_verdict};
 use oftp_vfile::{TakeFault, Taker};
 use oftp_wire::{Command, Efid, SessionReason};
 
-/// A file that is being received: its number, how many DATA the partner may still send before it awaits credit, and what takes
-/// its payloads.
+/// A file that is being received: its number, how many DATA the partner may still send before CDT, and the taker of its payloads.
 #[derive(Drop)]
 pub(crate) struct Reception {
     pub(crate) number: u64,
@@ -30,14 +29,14 @@ pub(crate) struct Reception {
     pub(crate) taker: Taker,
 }
 
-/// Whether a payload and its command octet pass the agreed buffer.
+/// Whether a payload and its command octet exceed the agreed buffer.
 fn is_too_long(link: &Link, payload: &[u8]) -> bool
     ensures { result ≡ nat_lt link.now.buffer (length payload.now + 1) }
 {
     link.buffer.get() < payload.len() as u64 + 1
 }
 
-/// The reason of the ESID that answers a payload at fault. A want of memory has none, since it is no fault of the payload.
+/// The reason of the ESID that answers a faulty payload. Out of memory has none, because the payload isn't faulty.
 fn reason_of(fault: TakeFault) -> Option<SessionReason>
     ensures { result ≡ reason_of fault }
 {
@@ -50,7 +49,7 @@ fn reason_of(fault: TakeFault) -> Option<SessionReason>
     }
 }
 
-/// Ends the session where a payload is at fault. Only a want of memory is a fault of the session.
+/// Ends the session because of a faulty payload. Out of memory is an error of the session instead.
 fn refuse(fault: TakeFault, frame: &mut Frame) -> Result<State, SessionFault>
     ensures { Refuses fault result frame.new }
 {
@@ -60,8 +59,8 @@ fn refuse(fault: TakeFault, frame: &mut Frame) -> Result<State, SessionFault>
     }
 }
 
-/// What a payload that was taken leaves: where the partner's credit is used up, the finished rows are kept, and CDT gives it credit
-/// (RFC 5024, section 5.3.7).
+/// The step after a payload. If it used up the partner's credit, the finished rows are stored, and CDT renews the credit (RFC 5024, section
+/// 5.3.7).
 fn pass_window<O: Office>(
     contact: Contact,
     mut reception: Reception,
@@ -85,7 +84,7 @@ fn pass_window<O: Office>(
     Ok(State::Receiving(contact, reception))
 }
 
-/// Takes a payload (RFC 5024, section 5.3.6).
+/// Executes a DATA (RFC 5024, section 5.3.6).
 fn take_data<O: Office>(
     contact: Contact,
     mut reception: Reception,
@@ -107,7 +106,7 @@ fn take_data<O: Office>(
     }
 }
 
-/// Closes a file whose end has its counts (RFC 5024, section 5.3.9).
+/// Closes a file whose EFID has its counts (RFC 5024, section 5.3.9).
 fn close<O: Office>(
     contact: Contact,
     reception: Reception,
@@ -129,13 +128,13 @@ fn close<O: Office>(
         return Err(SessionFault::Memory);
     };
     let speaks = office.asks_to_speak(&contact, asks)?;
-    // The answer stands spelled before the commit, so that only the writer can fail between the two.
+    // The answer is encoded before the commit, so that only the writer can fail between the two.
     frame.say(&efpa(speaks));
     make(office, Change::Close { no: number, rows })?;
     Ok(State::ListenerIdle(contact))
 }
 
-/// Ends the file, where its counts are those of the rows that are here (RFC 5024, sections 5.3.8 to 5.3.10).
+/// Ends a file: closes it if EFID has the counts of the received rows, and else gives it up (RFC 5024, sections 5.3.8 to 5.3.10).
 fn take_end<O: Office>(
     contact: Contact,
     reception: Reception,
@@ -167,7 +166,7 @@ fn take_end<O: Office>(
     }
 }
 
-/// Takes a command that comes while a file is received.
+/// Executes a command that arrives while a file is received.
 #[tactic(auto, unfolding(crate::specs::Receiving::came_receiving))]
 pub(crate) fn in_receiving<O: Office>(
     contact: Contact,

@@ -1,4 +1,4 @@
-//! What the partner answers to a file: to SFID and to EFID (RFC 5024, sections 5.3.4, 5.3.5, 5.3.9 and 5.3.10).
+//! The partner's answers to SFID and EFID (RFC 5024, sections 5.3.4, 5.3.5, 5.3.9 and 5.3.10).
 
 ghost use Rattle.std.specs.Prelude.{◌≡◌, IfErr};
 ghost use Rattle.oftp_session.specs.Phases.{Offer};
@@ -17,7 +17,7 @@ use oftp_register::{Change, Office};
 use oftp_vfile::Filler;
 use oftp_wire::{Command, SessionReason, Sfna, StartReason};
 
-/// What sends a file that the partner takes from this row on.
+/// The shipment of a file that the partner accepts from row `from` on.
 fn shipment(link: &Link, offering: &Offering, from: u64) -> Shipment
     ensures { (contact : Contact) (offer : Offer) → contact.link ≡ link.now → offering.now ≡ offering_of offer
         → Ships contact (transfer_of offer from) result }
@@ -38,7 +38,7 @@ fn shipment(link: &Link, offering: &Offering, from: u64) -> Shipment
     }
 }
 
-/// Makes a file whose end was sent one that is to be sent again; another is one already.
+/// Reopens a file whose end was sent, so that it is sent again. Another file stays as it is.
 fn reopen<O: Office>(offering: &Offering, office: &mut O) -> Result<(), SessionFault>
     ensures clean { (O.view office.new).clean → (O.view office.old).clean }
     ensures does { (O.view office.new).clean → (O.view office.old).stands
@@ -54,7 +54,7 @@ fn reopen<O: Office>(offering: &Offering, office: &mut O) -> Result<(), SessionF
     }
 }
 
-/// Sends a file that the partner takes from this row on, where that isn't above the offered one.
+/// Sends a file that the partner accepts from row `from` on, if that isn't above the offered row.
 fn start<O: Office>(
     contact: Contact,
     offering: Offering,
@@ -76,7 +76,7 @@ fn start<O: Office>(
     Ok(State::Sending(contact, shipment))
 }
 
-/// Files what a partner that doesn't take a file makes of it.
+/// Commits what the SFNA of a partner means for the file.
 fn settle<O: Office>(
     offering: &Offering,
     office: &mut O,
@@ -99,7 +99,7 @@ fn settle<O: Office>(
     make(office, Change::Refuse { no, reason })
 }
 
-/// Takes a command that comes while the answer to SFID is awaited.
+/// Executes a command that arrives while the answer to SFID is missing.
 #[tactic(auto, unfolding(crate::specs::Sending::came_awaiting_start))]
 pub(crate) fn in_awaiting_start<O: Office>(
     contact: Contact,
@@ -124,7 +124,7 @@ pub(crate) fn in_awaiting_start<O: Office>(
     }
 }
 
-/// Goes on after a file: the partner asked to speak, or not.
+/// The state after a file: the partner asked to speak, or it didn't.
 fn after_file(contact: Contact, asks_to_speak: bool) -> State
     ensures { standing_of result ≡ At (after_file contact asks_to_speak) }
 {
@@ -135,7 +135,7 @@ fn after_file(contact: Contact, asks_to_speak: bool) -> State
     }
 }
 
-/// Takes a command that comes while the answer to EFID is awaited.
+/// Executes a command that arrives while the answer to EFID is missing.
 #[tactic(auto, unfolding(crate::specs::Sending::came_awaiting_end))]
 pub(crate) fn in_awaiting_end<O: Office>(
     contact: Contact,

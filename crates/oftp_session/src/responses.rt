@@ -1,4 +1,4 @@
-//! The responses that come from a partner.
+//! The responses that a partner sends.
 
 ghost use Rattle.std.specs.Prelude.{◌≡◌};
 ghost use Rattle.oftp_session.specs.Listener.{end_response, negative_end_response};
@@ -8,7 +8,7 @@ use crate::commands::{no_field, no_text};
 use oftp_register::{DigitString, Identity, Name, ResponseKind};
 use oftp_wire::{Count, Eerp, Nerp, Text};
 
-/// A response, as it is filed.
+/// A received response, with the fields that are stored.
 #[derive(Drop)]
 pub(crate) struct Response<'a> {
     pub(crate) kind: ResponseKind,
@@ -18,7 +18,7 @@ pub(crate) struct Response<'a> {
     pub(crate) text: Text<'a>,
 }
 
-/// An end response. It has neither reason nor creator nor text.
+/// The End-to-End Response of an EERP. It has no reason, creator or text.
 pub(crate) fn end_response(eerp: &Eerp<'_>) -> Response<'static>
     ensures { as_received result ≡ end_response eerp.now }
 {
@@ -37,7 +37,7 @@ pub(crate) fn end_response(eerp: &Eerp<'_>) -> Response<'static>
     }
 }
 
-/// A negative end response, with its reason, who gave it and its words.
+/// The Negative End Response of a NERP, with its reason, creator and text.
 pub(crate) fn negative_end_response<'a>(nerp: &Nerp<'a>) -> Response<'a>
     ensures { as_received result ≡ negative_end_response nerp.now }
 {

@@ -1,4 +1,4 @@
-//! A file that goes out: the answer to SFID, DATA, EFID and its answer (RFC 5024, sections 5.3.4 to 5.3.10).
+//! Sending a file: the answer to SFID, DATA, EFID and its answer (RFC 5024, sections 5.3.4 to 5.3.10).
 
 ghost use Rattle.std.specs.Prelude.{◌≡◌, ◌↔◌, ◌-◌, ◌*◌, ◌<◌, ◌≤◌, ◌++◌, [], None, IfErr, IfOk, OnErr, OnOk, IsTrue, length, max, min, slice_get};
 ghost use Rattle.oftp_vfile.specs.declared.format.TheConstants.{MOST_ROWS};
@@ -22,8 +22,8 @@ use oftp_register::{Change, Office, Side, are_rows};
 use oftp_vfile::{Filled, Filler, Format, MOST_ROWS, Row, Rows};
 use oftp_wire::{Command, Count, SessionReason};
 
-/// A file that was offered: its number, whether its end was sent in an earlier session, its layout, how many rows it has and how
-/// many octets these have, how many of them the partner is known to have, and the row from which on it was offered.
+/// An offered file: its number, whether its end was sent in an earlier session, its layout, its numbers of rows and of octets, how many
+/// rows the partner is known to have, and the row from which it was offered.
 #[derive(Drop)]
 pub(crate) struct Offering {
     pub(crate) number: u64,
@@ -36,9 +36,8 @@ pub(crate) struct Offering {
     pub(crate) from: u64,
 }
 
-/// A file that is being sent: its number, how many commands may go out before credit is awaited, its longest record, how many rows
-/// it has and how many octets these have, the mark that the register holds, what makes its payloads, and the rows that were looked
-/// up and aren't wholly sent.
+/// A file that is being sent: its number, how many commands may be sent before CDT, its longest record, its numbers of rows and of octets,
+/// its mark in the register, the filler of its payloads, and the rows that were looked up and aren't wholly sent.
 #[derive(Drop)]
 pub(crate) struct Shipment {
     pub(crate) number: u64,
@@ -51,10 +50,10 @@ pub(crate) struct Shipment {
     pub(crate) page: Option<Rows>,
 }
 
-/// How many rows are looked up at first.
+/// The number of rows that are looked up at first.
 const FIRST_ROWS: usize = 64;
 
-/// The most octets of a payload: a DATA is its command octet and a payload (RFC 5024, section 5.3.6).
+/// The greatest payload in octets: a DATA is its command octet and a payload (RFC 5024, section 5.3.6).
 pub(crate) fn payload_size(link: &Link) -> usize
     ensures value { result ≡ link.now.buffer - 1 }
     ensures least { 2 ≤ result }
@@ -73,7 +72,7 @@ fn at_hand(page: &Option<Rows>) -> &[Row]
     }
 }
 
-/// Gives up the first of these rows.
+/// The same rows without the first `count`.
 fn without(page: Option<Rows>, count: usize) -> Option<Rows>
     ensures { result ≡ without count page }
 {
@@ -82,11 +81,11 @@ fn without(page: Option<Rows>, count: usize) -> Option<Rows>
     Some(Rows::new(rows))
 }
 
-/// These rows, and others behind them.
+/// These rows, with others appended.
 ///
 /// # Errors
 ///
-/// [`SessionFault::Memory`] where memory is refused.
+/// [`SessionFault::Memory`]: out of memory.
 fn joined(page: Option<Rows>, more: Rows) -> Result<Rows, SessionFault>
     ensures value { IfOk result (λ rows. rows ≡ at_hand page ++ more) }
     ensures err { IfErr result (λ fault. fault ≡ SessionFault.Memory) }
@@ -102,7 +101,7 @@ fn joined(page: Option<Rows>, more: Rows) -> Result<Rows, SessionFault>
     }
 }
 
-/// Whether the rows at hand may be lent to the filler, as a file of its format has them from where it is.
+/// Whether the rows may be given to the filler: they fit the file's format and begin where the filler is.
 fn may_lend(shipment: &Shipment) -> bool
     ensures { IsTrue result ↔ MayLend shipment.now (at_hand shipment.now.page) }
 {
@@ -118,11 +117,11 @@ fn may_lend(shipment: &Shipment) -> bool
         && filler.is_in(rows)
 }
 
-/// Says the next payload of the rows at hand, and gives up those that are wholly sent.
+/// Makes the DATA of the next payload from the rows at hand, and drops those that are wholly sent.
 ///
 /// # Errors
 ///
-/// [`SessionFault::Office`] where the rows aren't as the file has them, and [`SessionFault::Memory`] where there is no buffer.
+/// [`SessionFault::Office`] where the rows don't fit the file, and [`SessionFault::Memory`] where there is no buffer.
 fn fill(shipment: &mut Shipment, size: usize, frame: &mut Frame) -> Result<Filled, SessionFault>
     requires room { 2 ≤ size }
     requires size { size ≤ 99998 }
@@ -140,7 +139,7 @@ fn fill(shipment: &mut Shipment, size: usize, frame: &mut Frame) -> Result<Fille
     Ok(filled)
 }
 
-/// Looks up so many rows behind those at hand, or all that are left.
+/// Looks up `most` rows after those at hand, or all that are left.
 fn look_up<O: Office>(
     shipment: &Shipment,
     most: usize,
@@ -154,7 +153,7 @@ fn look_up<O: Office>(
         (O.view office.old) (O.view office.new) result }
     ensures stays { (O.view office.new).clean → (O.view office.old).stands
         → OnOk result (IsMade None None (O.view office.old) (O.view office.new) []) }
-    // Also without the clean-disk premise.
+    // This needs no clean disk.
     ensures count { IfOk result (λ rows. length rows ≡ min most (shipment.now.rows - next_row shipment.now)) }
     ensures err { IfErr result (λ fault. fault ≡ SessionFault.Office) }
 {
@@ -169,7 +168,8 @@ fn look_up<O: Office>(
     Ok(rows)
 }
 
-/// How many rows are looked up where those at hand don't fill a payload: twice as many, and no more than a payload has octets.
+/// The number of rows to look up when those at hand don't fill a payload: twice as many, at least [`FIRST_ROWS`], and at most as many as a
+/// payload has octets.
 fn next_count(shipment: &Shipment, size: usize) -> usize
     requires { next_row shipment.now ≤ MOST_ROWS }
     ensures { result ≡ min size (max FIRST_ROWS (2 * length (at_hand shipment.now.page))) }
@@ -177,7 +177,7 @@ fn next_count(shipment: &Shipment, size: usize) -> usize
     size.min(FIRST_ROWS.max(2 * at_hand(&shipment.page).len()))
 }
 
-/// Says the next payload of a file, where one is left. Rows are looked up where those at hand don't fill it and aren't the last.
+/// Makes the DATA of the next payload, if one is left. It looks up rows when those at hand don't fill it and aren't the last.
 fn say_payload<O: Office>(
     shipment: &mut Shipment,
     size: usize,
@@ -191,7 +191,7 @@ fn say_payload<O: Office>(
         → (contact : Contact) (t : Transfer) → IsSent (O.view office.old).register t → Ships contact t shipment.old
         → size ≡ payload_size contact
         → SaysNext contact t shipment.new (O.view office.old) (O.view office.new) frame.new result }
-    // Also without the clean-disk premise.
+    // This needs no clean disk.
     ensures same { IsSameShipment shipment.old shipment.new }
     ensures kept { OnErr result (shipment.new ≡ record shipment.old { page = shipment.new.page }) }
     ensures err { IfErr result IsFailure }
@@ -208,7 +208,7 @@ fn say_payload<O: Office>(
     }
 }
 
-/// Sends the end of a file, with its counts (RFC 5024, section 5.3.8).
+/// Sends EFID with the counts of the file (RFC 5024, section 5.3.8).
 fn send_end<O: Office>(
     contact: Contact,
     shipment: Shipment,
@@ -222,17 +222,17 @@ fn send_end<O: Office>(
         → slice_get (payloads_in contact t) t.sent ≡ None
         → Takes (turned_sending contact t) (O.view office.old) (O.view office.new) frame.new result }
     ensures err { IfErr result (λ fault. fault ≡ SessionFault.Office) }
-    // Also without the clean-disk premise.
+    // This needs no clean disk.
     ensures fewer { IfOk result (λ state. turns_left (standing_of state) ≡ 0) }
 {
-    // The command stands spelled before the commit, so that only the writer can fail between the two.
+    // The command is encoded before the commit, so that only the writer can fail between the two.
     frame.say(&efid(shipment.filler.format(), shipment.rows, shipment.units));
     let no = shipment.number;
     make(office, Change::BeginClosing { no })?;
     Ok(State::AwaitingEnd(contact, no))
 }
 
-/// Sends the next payload, or the end of the file, where credit is left (RFC 5024, sections 5.3.6 and 5.3.8).
+/// Sends the next DATA or EFID while credit is left (RFC 5024, sections 5.3.6 and 5.3.8).
 pub(crate) fn send_next<O: Office>(
     contact: Contact,
     mut shipment: Shipment,
@@ -244,7 +244,7 @@ pub(crate) fn send_next<O: Office>(
     ensures takes { StepsFrom IsSent (λ t. Ships contact t shipment) (λ r t. turned_sending contact t)
         (O.view office.old) (O.view office.new) frame.new result }
     ensures err { IfErr result IsFailure }
-    // Also without the clean-disk premise.
+    // This needs no clean disk.
     ensures fewer { IfOk result (λ state. turns_left (standing_of state) < shipment.credit) }
 {
     let size = payload_size(&contact.link);
@@ -255,7 +255,7 @@ pub(crate) fn send_next<O: Office>(
     send_end(contact, shipment, office, frame)
 }
 
-/// Marks the rows that were wholly sent, where the register has another mark.
+/// Marks the rows that were wholly sent, if the register has another mark.
 fn cover<O: Office>(shipment: &mut Shipment, office: &mut O) -> Result<(), SessionFault>
     ensures clean { (O.view office.new).clean → (O.view office.old).clean }
     ensures does { (O.view office.new).clean → (O.view office.old).stands
@@ -275,7 +275,7 @@ fn cover<O: Office>(shipment: &mut Shipment, office: &mut O) -> Result<(), Sessi
     Ok(())
 }
 
-/// Takes credit: the rows that were wholly sent are covered by it (RFC 5024, section 5.3.7).
+/// Executes CDT: it marks the rows that were wholly sent and renews the credit (RFC 5024, section 5.3.7).
 fn take_credit<O: Office>(
     contact: Contact,
     mut shipment: Shipment,
@@ -294,7 +294,7 @@ fn take_credit<O: Office>(
     Ok(State::Sending(contact, shipment))
 }
 
-/// Takes a command that comes while a file is sent: CDT, where no credit is left (RFC 5024, section 5.3.7).
+/// Executes a command that arrives while a file is sent. This is CDT, when no credit is left (RFC 5024, section 5.3.7).
 #[tactic(auto, unfolding(crate::specs::Sending::came_sending))]
 pub(crate) fn in_sending<O: Office>(
     contact: Contact,

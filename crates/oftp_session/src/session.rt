@@ -23,23 +23,23 @@ use oftp_wire::{Command, Count, SessionReason};
 use std::alloc::Global;
 use std::marker::Model;
 
-/// Who ended a session, and the reason of its ESID.
+/// Who ended a session, and the reason in its ESID.
 #[derive(Clone, Copy, Debug, Drop, PartialEq, Eq)]
 pub enum Ending {
     /// The station.
     Own(SessionReason),
-    /// The partner, who may give a number that no listed reason has.
+    /// The partner. Its reason code may be one that RFC 5024 doesn't list.
     Partner(Count<2>),
 }
 
 /// Why a call of a session failed.
 #[derive(Clone, Copy, Debug, Drop, PartialEq, Eq)]
 pub enum SessionFault {
-    /// The session ended or broke before the call, which changed nothing.
+    /// The session was over or broken before the call, which changed nothing.
     Ended,
-    /// The office told a fault. Only [`Session::fail`] is left.
+    /// The office returned an error. Only [`Session::fail`] may follow.
     Office,
-    /// A growth of the session's own was refused. Only [`Session::fail`] is left.
+    /// Out of memory in the session itself. Only [`Session::fail`] may follow.
     Memory,
 }
 
@@ -52,13 +52,13 @@ pub enum Out<'a> {
     Send(&'a [u8]),
 }
 
-/// One session with a partner, by a book. All its calls are over one office: what it looked up may not be looked up again.
+/// One session with a partner, by a book. All its calls have to use the same office, because the session remembers what it looked up.
 #[derive(Drop)]
 pub struct Session<'b> {
     setting: Setting<'b>,
-    // After a fault nothing is held.
+    // `None` after an error.
     state: Option<State>,
-    // Whether the station asks to speak, once that was looked up since the partner speaks.
+    // Whether the station asks to speak, once this was looked up while the partner speaks.
     asks: Option<bool>,
     frame: Frame,
 }
@@ -78,7 +78,7 @@ impl<'b> Model for Session<'b> {
     } };
 }
 
-// Takes a command that comes, by where the session stands.
+// Executes a command that arrived, by the state of the session.
 #[tactic(auto, unfolding(crate::specs::Steps::came))]
 fn came<O: Office>(
     setting: Setting<'_>,
@@ -128,7 +128,7 @@ fn came<O: Office>(
     }
 }
 
-// Makes the own command that is due, or nothing, by where the session stands.
+// Makes the command that is due in this state, or none.
 #[tactic(auto, unfolding(crate::specs::Steps::turned))]
 fn turned<O: Office>(
     setting: Setting<'_>,
@@ -174,7 +174,7 @@ impl<'b> Session<'b> {
     ghost use Rattle.std.specs.Borrow.{sem};
     ghost use Rattle.oftp_session.specs.After.{After, AfterEnd, AfterStep, AfterTurn, InPhase};
 
-    /// A session with a partner who calls. It takes no memory.
+    /// A session with a partner that calls. It allocates nothing.
     pub fn responder(alloc: Global, book: &'b Book) -> Session<'b>
         ensures setting { result.setting ≡ record { book = book.entry.now; called = None } }
         ensures stands { Stands Phase.ResponderOpening result }
@@ -192,7 +192,7 @@ impl<'b> Session<'b> {
         }
     }
 
-    /// A session with a partner whom the station calls. It takes no memory.
+    /// A session with a partner that the station calls. It allocates nothing.
     pub fn initiator(alloc: Global, book: &'b Book, partner: &'b Partner) -> Session<'b>
         ensures setting { result.setting
             ≡ record { book = book.entry.now; called = Some partner.entry.now } }
@@ -211,7 +211,7 @@ impl<'b> Session<'b> {
         }
     }
 
-    /// Whether an own command is due. It takes no memory.
+    /// Whether a command of the station is due. It allocates nothing.
     pub fn has_turn(&self) -> bool
         ensures phase { (p : Phase) → Stands p self.now → result ≡ has_turn p }
         ensures due { result ≡ is_due self.now.standing }
@@ -222,7 +222,7 @@ impl<'b> Session<'b> {
         }
     }
 
-    /// How the session ended, if it did. It takes no memory.
+    /// How the session ended, if it did. It allocates nothing.
     pub fn ended(&self) -> Option<Ending>
         ensures phase { (p : Phase) → Stands p self.now → result ≡ ending_of p }
         ensures standing { result ≡ ended_as self.now.standing }
@@ -233,14 +233,16 @@ impl<'b> Session<'b> {
         }
     }
 
-    /// Takes a command that came, and answers what is to be sent for it (RFC 5024, section 9). A change of the register is
-    /// committed before its answer is lent.
+    /// Executes a command that arrived, and returns the frame that answers it as a borrowed slice (RFC 5024, section 9). A change of the
+    /// register is committed before its answer is returned.
     ///
     /// # Errors
     ///
-    /// [`SessionFault::Ended`] where the session had ended or was broken, and then nothing is changed; [`SessionFault::Office`]
-    /// where the office told a fault, and [`SessionFault::Memory`] where a growth was refused for a DATA or an EFID of the file
-    /// that is received. After these two only [`Session::fail`] is left.
+    /// - [`SessionFault::Ended`]: the session was over or broken, and nothing is changed.
+    /// - [`SessionFault::Office`]: the office returned an error.
+    /// - [`SessionFault::Memory`]: out of memory, at a DATA or an EFID of the file that is received.
+    ///
+    /// After the last two only [`Session::fail`] may follow.
     pub fn on_command<O: Office>(
         &mut self,
         office: &mut O,
@@ -251,7 +253,7 @@ impl<'b> Session<'b> {
             (λ p r. Does (came self.old.setting p r command.now) (O.view office.old) (O.view office.new) (heard result)) }
         ensures full { IfOk result IsFull }
         ensures err { is_closed self.old.standing ≡ false → IfErr result IsFailure }
-        // Memory is taken only while a file is received, for its parts and its end.
+        // Memory is allocated only while a file is received, at DATA and EFID.
         ensures spared { is_receiving self.old.standing ≡ false → IfErr result (λ fault. fault ≢ SessionFault.Memory) }
         ensures light { takes_memory command.now ≡ false → IfErr result (λ fault. fault ≢ SessionFault.Memory) }
         ensures closed { is_closed self.old.standing ≡ true
@@ -277,20 +279,23 @@ impl<'b> Session<'b> {
         Ok(self.frame.out())
     }
 
-    /// Makes the own command that is due, and answers it as what is to be sent. Where none is due in a session that goes on,
-    /// nothing is sent and nothing is changed. A change of the register is committed before its command is lent.
+    /// Makes the command of the station that is due, and returns its frame as a borrowed slice. If none is due in an open session, there is
+    /// no frame and nothing is changed. A change of the register is committed before its command is returned.
     ///
     /// # Errors
     ///
-    /// As [`Session::on_command`]; and [`SessionFault::Memory`], while a file is sent, where there is no buffer for its DATA or
-    /// the growth of one was refused.
+    /// - [`SessionFault::Ended`]: the session was over or broken, and nothing is changed.
+    /// - [`SessionFault::Office`]: the office returned an error.
+    /// - [`SessionFault::Memory`], only while a file is sent: there is no buffer for its DATA, or an allocation failed.
+    ///
+    /// After the last two only [`Session::fail`] may follow.
     pub fn turn<O: Office>(&mut self, office: &mut O) -> Result<Out<'_>, SessionFault>
         ensures clean { (O.view office.new).clean → (O.view office.old).clean }
         ensures does { InPhase (O.view office.old) (O.view office.new) self.old
             (λ p r. Does (turned self.old.setting p r) (O.view office.old) (O.view office.new) (heard result)) }
         ensures full { IfOk result IsFull }
         ensures err { is_closed self.old.standing ≡ false → IfErr result IsFailure }
-        // Memory is taken only while a file is sent.
+        // Memory is allocated only while a file is sent.
         ensures spared { is_sending self.old.standing ≡ false → IfErr result (λ fault. fault ≢ SessionFault.Memory) }
         ensures idle { is_due self.old.standing ≡ false → is_closed self.old.standing ≡ false
             → (heard result ≡ Ok []) × (office.new ≡ office.old) }
@@ -313,11 +318,11 @@ impl<'b> Session<'b> {
         Ok(self.frame.out())
     }
 
-    /// Ends the session by an ESID of this reason, also after a fault. It takes no memory.
+    /// Ends the session with an ESID of this reason, also after an error. It allocates nothing.
     ///
     /// # Errors
     ///
-    /// [`SessionFault::Ended`] where the session had ended, and then nothing is changed.
+    /// [`SessionFault::Ended`] where the session was over, and nothing is changed.
     pub fn fail(&mut self, reason: SessionReason) -> Result<Out<'_>, SessionFault>
         ensures open { ended_as self.old.standing ≡ None
             → heard result ≡ Ok (frame_of (esid_of reason)) }

@@ -1,4 +1,4 @@
-//! What the station says where it speaks (RFC 5024, sections 5.3.3 and 5.3.11 to 5.3.15).
+//! The station as a speaker, between files (RFC 5024, sections 5.3.3 and 5.3.11 to 5.3.15).
 
 ghost use Rattle.std.specs.Prelude.{◌≡◌, ◌≤◌, true, false, if◌then◌else◌, Some, IfErr, IfOk, IfSome};
 ghost use Rattle.oftp_register.specs.declared.fit.TheConstants.{MOST_UNITS};
@@ -22,24 +22,24 @@ use crate::state::{Contact, State};
 use oftp_register::{Change, IssuedEntry, Item, Office, OutgoingEntry, OutgoingState, Side};
 use oftp_wire::{Command, Count, SessionReason};
 
-/// What a speaker asks of an office. Of all the office's faults the session tells one.
+/// What a speaker needs of an office. Every error of the office is [`SessionFault::Office`].
 pub(crate) trait SpeakerPart: Office {
-    /// The response or the file that is next and wasn't tried. A file is next only where the station sends files.
+    /// The next response or file that wasn't tried. A file is next only where the station sends files.
     fn next(&mut self, contact: &Contact) -> Result<Option<Item>, SessionFault>
         ensures clean { (Self.view self.new).clean → (Self.view self.old).clean }
         ensures finds { (Self.view self.new).clean → (Self.view self.old).stands
             → Finds (λ r. next_item r contact.now.code contact.now.tried contact.now.link.sends)
             (Self.view self.old) (Self.view self.new) result }
-        // Also without the clean-disk premise.
+        // This needs no clean disk.
         ensures within { IfOk result (λ found. IfSome found IsItemWithin) }
         ensures err { IfErr result (λ fault. fault ≡ SessionFault.Office) };
 
-    /// How many octets a file has.
+    /// The number of octets of an outgoing file.
     fn units(&mut self, no: u64) -> Result<u64, SessionFault>
         ensures clean { (Self.view self.new).clean → (Self.view self.old).clean }
         ensures finds { (Self.view self.new).clean → (Self.view self.old).stands
             → Finds (λ r. units_of r Side.Outgoing no) (Self.view self.old) (Self.view self.new) result }
-        // Also without the clean-disk premise.
+        // This needs no clean disk.
         ensures within { IfOk result (λ units. units ≤ MOST_UNITS) }
         ensures err { IfErr result (λ fault. fault ≡ SessionFault.Office) };
 }
@@ -60,7 +60,7 @@ impl<O: Office> SpeakerPart for O {
     }
 }
 
-/// Says that nothing is next: the partner may speak, or the session ends.
+/// Sends CD or ends the session, because nothing is left to send.
 fn nothing_next(contact: Contact, done: WhenDone, frame: &mut Frame) -> State
     ensures { Goes (nothing_next contact done) result frame.new }
 {
@@ -70,7 +70,7 @@ fn nothing_next(contact: Contact, done: WhenDone, frame: &mut Frame) -> State
     }
 }
 
-/// Lets the partner speak (RFC 5024, section 5.3.12).
+/// Sends CD, so that the partner speaks (RFC 5024, section 5.3.12).
 pub(crate) fn give_way(contact: Contact, frame: &mut Frame) -> State
     ensures { Goes (nothing_next contact WhenDone.ChangeDirection) result frame.new }
 {
@@ -78,7 +78,7 @@ pub(crate) fn give_way(contact: Contact, frame: &mut Frame) -> State
     State::ListenerIdle(contact)
 }
 
-/// Sends a response that is next, and awaits that the partner is ready again.
+/// Sends a response, and waits for RTR.
 fn respond(
     setting: Setting<'_>,
     mut contact: Contact,
@@ -92,14 +92,14 @@ fn respond(
     State::AwaitingRtr(contact, entry.no)
 }
 
-/// From where a file is offered: behind its mark, where restart is agreed.
+/// The row from which a file is offered: its mark, if restart is agreed, and else 0.
 fn offered_from(link: &Link, mark: u64) -> u64
     ensures { result ≡ (if link.now.restart then mark else 0) }
 {
     if link.restart { mark } else { 0 }
 }
 
-/// Whether the end of a file was sent, and the answer is awaited.
+/// Whether the end of a file was sent and its answer is missing.
 fn is_closing(state: OutgoingState) -> bool
     ensures { result ≡ is_closing state }
 {
@@ -113,7 +113,7 @@ fn is_closing(state: OutgoingState) -> bool
     }
 }
 
-/// What is held of a file with this entry, whose rows have so many octets, where it is offered from a row on.
+/// The offering of a file with this entry and this number of octets, from row `from` on.
 fn offering(entry: &OutgoingEntry, units: u64, from: u64) -> Offering
     requires within { IsOutgoingWithin entry.now }
     requires units { units ≤ MOST_UNITS }
@@ -140,7 +140,7 @@ fn offering(entry: &OutgoingEntry, units: u64, from: u64) -> Offering
     }
 }
 
-/// Offers a file that is next, and awaits the answer.
+/// Offers a file with SFID, and waits for the answer.
 fn offer<O: Office>(
     mut contact: Contact,
     office: &mut O,
@@ -154,7 +154,7 @@ fn offer<O: Office>(
         → entry_at entry.now.no (O.view office.old).register.outgoing ≡ Some file
         → Takes (offers contact done entry.now.no (Some file)) (O.view office.old) (O.view office.new) frame.new result }
     ensures err { IfErr result (λ fault. fault ≡ SessionFault.Office) }
-    // Also without the clean-disk premise.
+    // This needs no clean disk.
     ensures still { IfOk result (λ state. turns_left (standing_of state) ≡ 0) }
 {
     let units = office.units(entry.no)?;
@@ -164,7 +164,7 @@ fn offer<O: Office>(
     Ok(State::AwaitingStart(contact, offering(entry, units, from)))
 }
 
-/// Says what is next: a response that is due, then a file, then that nothing is.
+/// Sends what is next: a response that is due, or else a file, or else CD or ESID.
 #[tactic(auto, unfolding(crate::specs::Speaker::speaks))]
 pub(crate) fn speak<O: Office>(
     setting: Setting<'_>,
@@ -178,7 +178,7 @@ pub(crate) fn speak<O: Office>(
         → Takes (speaks (setting_of setting.entry) contact done (O.view office.old).register)
         (O.view office.old) (O.view office.new) frame.new result }
     ensures err { IfErr result (λ fault. fault ≡ SessionFault.Office) }
-    // Also without the clean-disk premise.
+    // This needs no clean disk.
     ensures still { IfOk result (λ state. turns_left (standing_of state) ≡ 0) }
 {
     match office.next(&contact)? {
@@ -188,7 +188,7 @@ pub(crate) fn speak<O: Office>(
     }
 }
 
-/// Takes a command that comes while the partner's answer to a response is awaited.
+/// Executes a command that arrives while RTR is missing.
 #[tactic(auto, unfolding(crate::specs::Speaker::came_awaiting_rtr))]
 pub(crate) fn in_awaiting_rtr<O: Office>(
     contact: Contact,

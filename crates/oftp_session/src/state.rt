@@ -1,4 +1,4 @@
-//! Where a session stands, and what it holds there.
+//! The states of a session.
 
 ghost use Rattle.std.specs.Prelude.{◌≡◌, if◌then◌else◌, None, is_some};
 ghost use Rattle.oftp_session.specs.Phases.{fails, leaves, unexpected};
@@ -14,7 +14,7 @@ use crate::session::Ending;
 use oftp_register::{Cursor, Name};
 use oftp_wire::{Command, Count, SessionReason};
 
-/// The partner of an open session by its code, what is agreed with it, and up to which numbers responses and files were tried.
+/// The partner of an open session by its code, what is agreed with it, and the numbers up to which responses and files were tried.
 #[derive(Drop)]
 pub(crate) struct Contact {
     pub(crate) code: Name<25>,
@@ -22,39 +22,39 @@ pub(crate) struct Contact {
     pub(crate) tried: Cursor,
 }
 
-/// Where a session stands (RFC 5024, section 9).
+/// The state of a session (RFC 5024, section 9).
 #[derive(Drop)]
 pub(crate) enum State {
-    /// A responder, whose ready message is due.
+    /// A responder that has to send SSRM.
     ResponderOpening,
-    /// An initiator, who awaits the partner's ready message.
+    /// An initiator that waits for SSRM.
     InitiatorOpening,
-    /// The partner's SSID is awaited.
+    /// The partner's SSID is missing.
     AwaitingSsid,
     /// The partner speaks, and no file is being received.
     ListenerIdle(Contact),
     /// The partner speaks, and this file is being received.
     Receiving(Contact, Reception),
-    /// The station speaks, and waits for nothing.
+    /// The station speaks, and decides what it sends next.
     SpeakerIdle(Contact, WhenDone),
-    /// The station speaks, and lets the partner speak next.
+    /// The station has to send CD.
     GivingWay(Contact),
-    /// The response to the incoming file with this number was sent, and the partner's RTR is awaited.
+    /// The response to the incoming file with this number was sent, and RTR is missing.
     AwaitingRtr(Contact, u64),
-    /// This file was offered, and the answer is awaited.
+    /// This file was offered, and the answer to SFID is missing.
     AwaitingStart(Contact, Offering),
     /// This file is being sent.
     Sending(Contact, Shipment),
-    /// The end of the outgoing file with this number was sent, and the answer is awaited.
+    /// The end of the outgoing file with this number was sent, and the answer to EFID is missing.
     AwaitingEnd(Contact, u64),
     /// The station ended the session.
     EndedHere(SessionReason),
-    /// The partner ended the session, and may give a number that no listed reason has.
+    /// The partner ended the session. Its reason code may be one that RFC 5024 doesn't list.
     EndedThere(Count<2>),
 }
 
 impl State {
-    /// Ends the session by an ESID of this reason.
+    /// Ends the session with an ESID of this reason.
     pub(crate) fn ended_here(reason: SessionReason, frame: &mut Frame) -> State
         ensures { Goes (fails reason) result frame.new }
     {
@@ -70,7 +70,7 @@ impl State {
         State::EndedThere(reason)
     }
 
-    /// Takes a command that has no place in a phase.
+    /// Executes a command that isn't allowed in the current state.
     #[tactic(auto, unfolding(crate::specs::Phases::unexpected))]
     pub(crate) fn unexpected(command: &Command<'_>, frame: &mut Frame) -> State
         ensures { Goes (unexpected command.now) result frame.new }
@@ -102,7 +102,7 @@ impl State {
         }
     }
 
-    /// Whether it ended.
+    /// Whether the session ended.
     #[tactic(auto, using(crate::proofs::Standings::closed_ended))]
     pub(crate) fn is_closed(&self) -> bool
         ensures { result ≡ is_closed (standing_of self.now) }
@@ -110,7 +110,7 @@ impl State {
         self.ended().is_some()
     }
 
-    /// What was looked up while the partner speaks, and nothing where it doesn't.
+    /// What was looked up while the partner speaks; it is dropped when the partner no longer speaks.
     pub(crate) fn while_listening(&self, asks: Option<bool>) -> Option<bool>
         ensures { result ≡ (if is_some (listens_to (standing_of self.now)) then asks else None) }
     {
@@ -130,7 +130,7 @@ impl State {
         }
     }
 
-    /// Whether an own command is due.
+    /// Whether a command of the station is due.
     pub(crate) fn is_due(&self) -> bool
         ensures { result ≡ is_due (standing_of self.now) }
     {

@@ -1,4 +1,4 @@
--- Where the file of an identity is, or where it goes.
+-- Whether there is a file of an identity, and else the number of a new one.
 use Rattle.std.proofs.Common.{◌≡◌, ◌+◌, ℕ, Bool, true, false, cond, nat_le, is_some, Option, Some, None, refl, sym, ap, ◌∙◌}
 use Rattle.oftp_vfile.specs.declared.format.Limits.{Limits}
 use Rattle.oftp_register.specs.declared.entry.Identity.{Identity}
@@ -14,7 +14,7 @@ use Rattle.oftp_store.specs.declared.queries.allocation.Allocation.{Allocation}
 use Rattle.oftp_store.specs.declared.queries.allocation.Allocation.TheVariants as allocation
 use Rattle.oftp_store.proofs.FirstLemmas.{any_wanted, first_wanted}
 
--- ---- what the look-ups tell
+-- ---- what the look-ups return
 
 pub existing_told : (r : Register) (which : Side) (it : Identity) (n : ℕ) → Some n ≡ file_number r which it → IsAllocationOf r which it (allocation.Existing n)
 existing_told r which it n some = ap (allocation_of r.limits (entries_in r (table_of which))) some
@@ -25,7 +25,7 @@ pub new_told : (r : Register) (which : Side) (it : Identity) (limits : Limits) (
 new_told r which it limits last found same none counted is =
     is ∙ ap (λ l. allocation_after l last) (sym same) ∙ ap (allocation_after r.limits) counted ∙ ap (allocation_of r.limits (entries_in r (table_of which))) none
 
--- ---- what an allocation tells
+-- ---- what an allocation returns
 
 pub existing_is : (limits : Limits) (count n : ℕ) (o : Option ℕ) → allocation.Existing n ≡ allocation_of limits count o → o ≡ Some n
 existing_is limits count n (Some m) is = let same : n ≡ m = cc in ap Some (sym same)

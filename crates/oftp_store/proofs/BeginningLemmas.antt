@@ -1,4 +1,4 @@
--- What a start makes of a register.
+-- What a start does to a register.
 use Rattle.std.proofs.Common.{◌≡◌, ◌+◌, ◌<◌, ◌≤◌, ℕ, suc, true, false, nat_le, nat_lt, List, [], ◌∷◌, ◌++◌, length, take, set, Some, None, Result, Ok, Err, inl, inr, refl, sym, ap, ◌∙◌, arith, Bor}
 use Rattle.std.proofs.lemmas.Bool.{cond-true, cond-false}
 use Rattle.std.proofs.lemmas.Bool.Decides.{nat_tests}
@@ -106,7 +106,7 @@ made_by_begin r it format longest description count n free first =
 
 -- ---- a file that is here
 
--- the file that a start is of, where it has a number and a place
+-- the file that a start names, with its number and its place
 record Here (r : Register) (header : Incoming) (count n : ℕ) (before : List Incoming) (f : Incoming) (after : List Incoming) : Type 0 where
   same : f.identity ≡ header.identity
   starts : started r header count ≡ mapped (with_files r) (mapped (λ y. before ++ y ∷ after) (gone_on header count f f.state))
@@ -141,7 +141,7 @@ not_more rows count h = grind (arith, nat_tests, h)
 more : (rows count : ℕ) → nat_le count rows ≡ false → nat_lt rows count ≡ true
 more rows count h = grind (arith, nat_tests, h)
 
--- a file in a state, with so many rows here, goes on or doesn't
+-- a file in a state, with this many rows, goes on or doesn't
 
 stays_off : (header : Incoming) (count : ℕ) (f : Incoming) (state : IncomingState) → goes_on_in state (length f.rows) count ≡ false → gone_on header count f state ≡ Err Unfit
 stays_off header count f Open h = cond-true (nat_lt (length f.rows) count) _ _ (more (length f.rows) count h)

@@ -1,4 +1,4 @@
--- What files hold that hold no table: they are read as an empty database.
+-- Files that hold no table are read as an empty database.
 use Rattle.std.proofs.Common.{◌≡◌, ◌<◌, ◌-◌, ◌*◌, ℕ, List, [], length, take, slice_index, Option, Some, unwrap_or, inl, inr, sym, ap, subst, ◌∙◌, arith, get_or-take, length-take, zero-add, refl, true, false}
 use Rattle.std.proofs.Math.Logic.{∥∥₁_elim}
 use Rattle.sqlite.specs.Tree.{Trees}
@@ -24,7 +24,7 @@ use Rattle.oftp_tables.proofs.SchemaLemmas.{same_none}
 use Rattle.oftp_store.specs.Opens.{HoldsNoTable}
 use Rattle.oftp_store.proofs.OpenLemmas.{IsReadFrom}
 
--- ---- pages that are a database don't come of files that hold none
+-- ---- pages of a database don't come from files that hold none
 
 module _ (size : ℕ) (image : Image) (pages : Pages) (found : Adopts size image pages) (sound : IsSoundFile size pages) where
   -- where no frame of the log is taken, the database file begins as SQLite's do

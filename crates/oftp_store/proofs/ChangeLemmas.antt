@@ -1,4 +1,4 @@
--- What the changes of one file by its number make of a register.
+-- What the changes of one file by its number do to a register.
 use Rattle.std.proofs.Common.{◌≡◌, ◌≤◌, ◌+◌, ◌&&◌, ◌||◌, ℕ, zero, suc, nat_le, Bor, Bool, true, false, cond, List, [], ◌∷◌, ◌++◌, length, Option, Some, None, Result, Ok, Err, refl, sym, ap, subst, ◌∙◌, arith}
 use Rattle.std.specs.Option.{option_map}
 use Rattle.oftp_wire.specs.declared.field.Text.{Text as Words}
@@ -50,14 +50,14 @@ at_known g k xs before x after placed =
 
 -- ---- the changes of one file by its number
 
--- a change of one file is made of it by these edits where that is allowed, and is refused else
+-- a change of one file is made by these edits where the file allows it, and refused otherwise
 record IsMadeOf {X : Type 0} (with_entries : Register → List X → Register) (g : X → Result X Cause) (allowed : Bool) (edits : List Edit) (r : Register) (before : List X) (f : X)
     (after : List X) : Type 0 where
   now : X
   is : g f ≡ cond allowed (Ok now) (Err Unfit)
   edited : allowed ≡ true → AreEdited edits r (with_entries r (before ++ now ∷ after))
 
--- so it is the change of the register
+-- so this is the change of the register
 module _ {X A : Type 0} (entries : Register → List X) (with_entries : Register → List X → Register) (same : (r : Register) (xs : List X) → (with_entries r xs).limits ≡ r.limits)
     (tells : X → A) (g : X → Result X Cause) (fits : A → Bool) (edits : A → List Edit) (n : ℕ) (k : Change)
     (applies : (r : Register) → apply r k ≡ mapped (with_entries r) (at_number g n (entries r)))
@@ -97,7 +97,7 @@ is_of_incoming : {A : Type 0} (tells : Incoming → A) (g : Incoming → Result 
     → IsOfFile (λ r n found. IsToldOf tells r.incoming n found) fits edits n k
 is_of_incoming tells g fits edits n k applies makes = is_of_file (λ r. r.incoming) with_incoming (λ r files. refl) tells g fits edits n k applies makes
 
--- more of an open file is awaited
+-- an open file is still incomplete
 
 open_or_not : (f : Incoming) (rows : List (List ℕ)) (to state : IncomingState) → if_open f rows to state ≡ cond (is_open state) (Ok (record f { rows = rows; state = to })) (Err Unfit)
 open_or_not f rows to Open = refl
@@ -107,7 +107,7 @@ open_is : (state : IncomingState) → is_open state ≡ true → state ≡ Open
 open_is Open h = refl
 open_is Whole h = absurd (let no_such = h in cc)
 
--- rows of a file in its progress are others, and its state stays
+-- other rows in the progress of a file, in the same state
 rows_edited : (r : Register) (n : ℕ) (deed : Deed) (rows : List (List ℕ)) (before : List Incoming) (f : Incoming) (after : List Incoming) → f.state ≡ Open
     → IsDone n deed r (record r { incoming = before ++ (record f { rows = rows }) ∷ after })
     → (let edit : Edit = record { no = n; deed = deed } in AreEdited (edit ∷ []) r (record r { incoming = before ++ (record f { rows = rows; state = Open }) ∷ after }))
@@ -126,7 +126,7 @@ keep_is n rows =
           (record { before = before; file = f; after = after; here = placed.here; number = placed.number; was = refl; now = refl });
     })
 
--- the last rows of a file, which is whole then
+-- the last rows of a file, which is then whole
 abbrev pub last_of : ℕ → ℕ → Bor (List (List ℕ)) → List Edit
 last_of n from rows = more n from rows ∷ (record { no = n; deed = SetWhole }) ∷ []
 
@@ -149,7 +149,7 @@ close_is n rows =
       );
     })
 
--- all rows of a file are given up
+-- all rows of a file are deleted
 abbrev pub none_of : ℕ → Edit
 none_of n = record { no = n; deed = CutRows 0 }
 
@@ -165,12 +165,12 @@ give_up_is n =
 
 -- ---- the response to an incoming file
 
--- what is told of it in a sound register alone
+-- what is read of the response, in a sound register alone
 is_of_answered : (fits : ResponseProgress → Bool) (edits : ResponseProgress → List Edit) (n : ℕ) (k : Change)
     → IsOfFile (λ r n found. IsToldOf response_progress_of r.incoming n found) fits edits n k → IsOfFile response_told fits edits n k
 is_of_answered fits edits n k is = record { unknown = λ r sound none. is.unknown r sound (none sound); known = λ r file sound told. is.known r file sound (told sound) }
 
--- it is issued
+-- a response is issued
 abbrev pub issued_of : ℕ → ResponseKind → ℕ → Bor Words → Edit
 issued_of n kind reason text = record { no = n; deed = AddIssued kind reason text }
 
@@ -202,7 +202,7 @@ issue_is n kind reason text =
     unanswered Whole None h = refl
     unanswered Whole (Some other) h = absurd (let no_such = h in cc)
 
--- it was sent
+-- a response was sent
 abbrev pub sent_edit : ℕ → Edit
 sent_edit n = record { no = n; deed = SetSent }
 
@@ -252,7 +252,7 @@ send_is n =
 abbrev with_outgoing : Register → List Outgoing → Register
 with_outgoing r files = record r { outgoing = files }
 
--- a change of one that sets its mark and its state, where what is told of it fits
+-- a change that sets mark and state of an outgoing file, where what was read of the file fits
 is_of_outgoing : (g : Outgoing → Result Outgoing Cause) (fits : OutgoingProgress → Bool) (mark : OutgoingProgress → ℕ) (to : OutgoingProgress → OutgoingState) (n : ℕ) (k : Change)
     → ((r : Register) → apply r k ≡ on_outgoing g n r)
     → ((f : Outgoing) → (let file = outgoing_progress_of f in g f ≡ cond (fits file) (Ok (record f { mark = mark file; state = to file })) (Err Unfit)))

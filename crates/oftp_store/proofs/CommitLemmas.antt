@@ -1,4 +1,4 @@
--- How look-ups and a transaction make a commit.
+-- How look-ups and a transaction make up a commit.
 use Rattle.std.proofs.Common.{ℕ, List, All, ◌≡◌, ◌≤◌, ◌⊎◌, Bool, true, false, cond, Option, Some, None, Result, Ok, Err, IsTrue, OnOk, OnErr, IfErr, inl, inr, refl, sym, ap, subst, ◌∙◌, arith}
 use Rattle.std.specs.Result.{IsErrAnd}
 use Rattle.sqlite.specs.Tree.{Trees}
@@ -47,7 +47,7 @@ spared_same limits old new stands (inr undone) h = (undone.undone h).0 ∙ sym s
 abbrev pub register_at : Limits → Database → Register
 register_at limits d = register_in limits d.trees
 
--- one look-up and then another
+-- one look-up after another
 pub looks_both : {A B : Type 0} (a b c : State) (x : A) (result : Result B OfficeFault) → Looks a b (Ok x) → Looks b c result → Looks a c result
 looks_both {B = B} a b c x result one two = record {
   clean = omega (arith, one.clean, two.clean);
@@ -84,7 +84,7 @@ looks_both {B = B} a b c x result one two = record {
 
 -- ---- what a change makes
 
--- the register with the change, and that the tables stand for it
+-- the register after the change, and the tables that represent it
 pub record IsMade (r : Register) (k : Change) (new : Trees) : Type 0 where
   pub now : Register
   pub is : apply r k ≡ Ok now
@@ -99,7 +99,7 @@ pub record IsMadeBy (edits : List Edit) (r : Register) (k : Change) : Type 0 whe
   pub limits : now.limits ≡ r.limits
   pub edited : AreEdited edits r now
 
--- the change is made by these edits where the state of the file allows it, and refused else
+-- the change is made by these edits where the state of the file allows it, and refused otherwise
 pub record IsMadeIf (allowed : Bool) (edits : List Edit) (r : Register) (k : Change) : Type 0 where
   pub now : Register
   pub is : apply r k ≡ cond allowed (Ok now) (Err Unfit)
@@ -115,7 +115,7 @@ is_made edits r k old new sound fit kept by made = record {
   sound = apply_keeps r k by.now sound fit by.is;
 }
 
--- ---- a commit that ends at its look-ups
+-- ---- a commit that ends with its look-ups
 
 no_refusal : (T : Type 0) (wanted : Result Register Cause) (fault : OfficeFault) (P : Type 0) → IsFailure fault → IsRefused {T = T} wanted (Err fault) P
 no_refusal T wanted Store P h = tt
@@ -144,7 +144,7 @@ commits_refused limits change old new x cause looks refuses = record {
   left = λ k stands fit db h. inl (looks.left k stands.holds.schema db h);
 }
 
--- ---- a commit that ends at the look-ups of its file
+-- ---- a commit that ends with the look-ups of its file
 
 pub ends_failed : {A : Type 0} (limits : Limits) (Needs : Change → Type 0) (old new : State) (fault : OfficeFault) → Looks {T = A} old new (Err fault) → EndsCommit limits Needs old new fault
 ends_failed limits Needs old new fault looks change needs = commits_failed limits change old new fault looks
@@ -153,7 +153,7 @@ pub ends_unknown : {A B : Type 0} (limits : Limits) (told : Register → ℕ →
     → (HasCleanDisk new → Stands limits old → told (register_in limits old.now.trees) n None) → EndsCommit limits (NeedsFile told n) old new (Refused Unknown)
 ends_unknown limits told n old new x looks none change needs = commits_refused limits change old new x Unknown looks (λ k stands. needs.unknown _ stands.holds.sound (none k stands))
 
--- no file has a number from 2^63 on, and such a change is refused with no look at the database
+-- no file has a number of 2^63 or more, and such a change is refused without a query
 pub ends_beyond : {A : Type 0} (limits : Limits) (told : Register → ℕ → Option A → Type 0) (n : ℕ) (s : State)
     → ((r : Register) (db : Trees) → Tables r db → told r n None) → EndsCommit limits (NeedsFile told n) s s (Refused Unknown)
 ends_beyond limits told n s none change needs = record {
@@ -165,7 +165,7 @@ ends_beyond limits told n s none change needs = record {
   left = λ clean stands fit db there. inl there;
 }
 
--- the file is there, and what is told of it doesn't fit
+-- the file exists, and what was read of it doesn't fit
 pub ends_unfit : {A : Type 0} (limits : Limits) (told : Register → ℕ → Option A → Type 0) (fits : A → Bool) (n : ℕ) (old new : State) (file : A) (allowed : Bool) (fault : OfficeFault)
     → Finds told n old new file → allowed ≡ fits file → (allowed ≡ false) × (fault ≡ Refused Unfit) → EndsCommit limits (NeedsFit told fits n) old new fault
 ends_unfit limits told fits n old new file allowed fault finds tested unfit change needs =
@@ -175,7 +175,7 @@ pub ends_unfound : {A : Type 0} (limits : Limits) (told : Register → ℕ → O
     → EndsCommit limits (NeedsFile told n) old new fault → EndsCommit limits (NeedsFit told fits n) old new fault
 ends_unfound limits told fits n old new fault ends change needs = ends change (record { unknown = needs.unknown })
 
--- a fault that `?` passes on
+-- an error that `?` passes on
 
 pub err_passed : {T : Type 0} (P : OfficeFault → Type 0) (told : OfficeFault) (result : Result T OfficeFault) → IsErrAnd result (λ (x : OfficeFault). x ≡ told) → P told → IfErr result P
 err_passed P told (Ok x) is h = absurd is
@@ -186,7 +186,7 @@ pub passed_on : {T : Type 0} (limits : Limits) (change : Change) (old new : Stat
 passed_on limits change old new told (Ok x) is ends = absurd is
 passed_on {T = T} limits change old new told (Err x) is ends = subst (λ (fault : OfficeFault). CommitsOn {T = T} limits change old new (Err fault)) (sym is) ends
 
--- the database can't hold what is to be made
+-- the database can't store what is to be written
 commits_unstored : {A : Type 0} (limits : Limits) (change : Change) (old new : State) (x : A) → Looks old new (Ok x) → CommitsOn {T = Unit {0}} limits change old new (Err Store)
 commits_unstored limits change old new x looks = record {
   clean = looks.clean;
@@ -277,7 +277,7 @@ module _ {A : Type 0} (Made : Trees → Trees → Type 0) (limits : Limits) (cha
     left = left_by_it;
   }
 
--- a commit that ends with its edits, whatever they came to
+-- a commit that ends with its edits, whatever their outcome
 commits_with : {S A : Type 0} (g : Ghosts S) (edits : List Edit) (limits : Limits) (change : Change) (old mid new : Held S) (x : A) (result : Result (Unit {0}) OfficeFault)
     → Looks (state g old) (state g mid) (Ok x) → (HasCleanDisk (state g mid) → Stands limits (state g old) → IsMadeBy edits (register_in limits (state g old).now.trees) change)
     → AreCarriedOut edits g mid new result ⊎ ((¬ All IsStorable edits) × (result ≡ Err Store) × (new ≡ mid)) → CommitsOn limits change (state g old) (state g new) result
@@ -299,7 +299,7 @@ commits_by g edits limits change old mid new x result looks by makes = commits_w
 
 -- ---- the changes of a file by its number
 
--- a change of the file with a number is made by these edits of what is told of it, where that fits, and is refused else
+-- a change of the file with a number is made by these edits where what was read of the file fits, and is refused otherwise
 pub record IsOfFile {A : Type 0} (told : Register → ℕ → Option A → Type 0) (fits : A → Bool) (edits : A → List Edit) (n : ℕ) (change : Change) : Type 0 where
   pub unknown : (r : Register) → IsSound r → told r n None → apply r change ≡ Err Unknown
   pub known : (r : Register) (file : A) → IsSound r → told r n (Some file) → IsMadeIf (fits file) (edits file) r change
@@ -323,8 +323,8 @@ commits_fit g told fits edits n limits change old mid new file result is finds f
     let m = is.known _ file stands.holds.sound (finds.answer k limits stands) in
     record { now = m.now; is = m.is ∙ ap (λ b. cond b (Ok m.now) (Err Unfit)) fit; limits = m.limits; edited = m.edited fit }) makes
 
--- how such a change ends: with the fault of the look-up, or that there is no such file; with that of look-up and test in one; with the refusal of a file that
--- doesn't fit; with its edits
+-- How such a change ends: with an error of the look-up, or because there is no such file; the same for look-up and test together; with the
+-- refusal of a file that doesn't fit; or with its edits.
 
 pub passed_unfound : {A : Type 0} {limits : Limits} {told : Register → ℕ → Option A → Type 0} {fits : A → Bool} {edits : A → List Edit} {n : ℕ} {change : Change} {old new : State}
     {fault : OfficeFault} {result : Result (Unit {0}) OfficeFault} → IsOfFile told fits edits n change → EndsCommit limits (NeedsFile told n) old new fault

@@ -1,4 +1,4 @@
--- Numbers in a row as a query shows them, from the last down.
+-- Consecutive numbers as a query returns them, from the last down.
 use Rattle.std.proofs.Common.{◌≡◌, ◌+◌, ◌<◌, ◌≤◌, ◌++◌, ℕ, zero, suc, true, List, [], ◌∷◌, map, take, Less, refl, sym, ap, subst, ◌∙◌, arith}
 use Rattle.std.specs.List.{AllByRecursion}
 use Rattle.std.specs.List.Sorted.{IsPermutation}
@@ -14,7 +14,7 @@ use Rattle.oftp_store.proofs.FirstLemmas.{shown}
 abbrev pub falling : Key
 falling = record { collation = Binary; descending = true }
 
--- so many numbers from one on, and the same from the last down
+-- the numbers from one on, and the same in descending order
 
 abbrev pub up : ℕ → ℕ → List Output
 up n zero = []
@@ -34,7 +34,7 @@ turned_over n (suc m) =
     IsPermutation-trans _ (shown (n + m) ∷ up n m) _ (IsPermutation-cons (shown (n + m)) _ _ (turned_over n m))
     (subst (IsPermutation (shown (n + m) ∷ up n m)) (sym (up_last n m)) (IsPermutation-sym _ _ (IsPermutation-to_front (up n m) (shown (n + m)))))
 
--- so they stand in the order of a query that puts greater numbers first
+-- so they are in the order of a query that sorts descending
 pub descends : (query : Query) → ((j k : ℕ) → j < k → output_cmp query (shown k) (shown j) ≡ Less) → (n m : ℕ) → IsAscending (λ a b. output_cmp query a b ≡ Less) (down n m)
 descends query before n zero = tt
 descends query before n (suc m) = (lower m (omega arith), descends query before n m)
@@ -43,7 +43,7 @@ descends query before n (suc m) = (lower m (omega arith), descends query before 
     lower zero h = tt
     lower (suc k) h = (before (n + k) (n + m) (omega (arith, h)), lower k (omega (arith, h)))
 
--- the row that tells the last
+-- the row with the last number
 abbrev pub last_row : ℕ → ℕ → List Row
 last_row n zero = []
 last_row n (suc m) = (number_value (n + m) ∷ []) ∷ []

@@ -1,4 +1,4 @@
--- What the statements on one row of a number make of the tables of a register.
+-- What the statements on one row do to the tables of a register.
 use Rattle.std.proofs.Common.{◌≡◌, ◌+◌, ◌<◌, ◌^◌, ℕ, suc, pos, List, [], ◌∷◌, ◌++◌, length, map, Some, None, codes, append-nil, length-append, refl, sym, ap, subst, ◌∙◌, arith, Ok}
 use Rattle.std.specs.List.{AllByRecursion}
 use Rattle.std.specs.List.Sorted.{IsPermutation}
@@ -55,7 +55,7 @@ between {X} row numbered k before x after at =
       is = λ y. rows_pieces row 1 (before ++ y ∷ after) ∙ (found y).rows;
     }
 
--- the row of an entry behind the others
+-- the row of an entry after the others
 pub record Behind {X : Type 0} (row : ℕ → X → Row) (k : ℕ) (xs : List X) : Type 0 where
   pub lo : List Row
   pub split : IsSplit k lo []
@@ -73,12 +73,12 @@ behind {X} row numbered k xs at =
       is = λ y. rows_pieces row 1 (xs ++ y ∷ []) ∙ (among piece has k xs y [] at).rows;
     }
 
--- a fact of each entry, where one is another
+-- a fact of each entry, where one entry is replaced
 pub all_but : {X : Type 0} (P : X → Type 0) (before : List X) (x y : X) (after : List X) → P y → AllByRecursion P (before ++ x ∷ after) → AllByRecursion P (before ++ y ∷ after)
 all_but P [] x y after p h = (p, h.1)
 all_but P (b ∷ before) x y after p h = (h.0, all_but P before x y after p h.1)
 
--- what an entry has that isn't changed
+-- what an edit leaves of an entry
 pub same_but : {X Y : Type 0} (f : X → Y) (before : List X) (x y : X) (after : List X) → f y ≡ f x → map f (before ++ y ∷ after) ≡ map f (before ++ x ∷ after)
 same_but f [] x y after is = ap (λ z. z ∷ map f after) is
 same_but f (b ∷ before) x y after is = ap (λ zs. f b ∷ zs) (same_but f before x y after is)
@@ -133,7 +133,7 @@ issued_same : (f g : Incoming) → g.response ≡ f.response → (n : ℕ) (befo
 issued_same f g same n [] after = ap (λ o. issued_if_any n o ++ issued_from (n + 1) after) (sym same)
 issued_same f g same n (b ∷ before) after = ap (λ (rows : List Row). issued_if_any n b.response ++ rows) (issued_same f g same (n + 1) before after)
 
--- the header of one file is another
+-- the header of one file is replaced
 header_lands : (r : Register) (n : ℕ) (before : List Incoming) (f g : Incoming) (after : List Incoming) → r.incoming ≡ before ++ f ∷ after → g.rows ≡ f.rows
     → g.response ≡ f.response → (place : Between in_file_row n before f after)
     → (old new : Trees) → new in_file_tree ≡ place.lo ++ in_file_row n g ∷ place.hi → Others in_file_tree old new → Tables r old → Tables (record r { incoming = before ++ g ∷ after }) new
@@ -277,7 +277,7 @@ issued_pieces n (f ∷ files) = ap (λ rows. issued_piece n f ++ rows) (issued_p
 pub issued_number : (n : ℕ) (f : Incoming) → HaveNumber n (issued_piece n f)
 issued_number n f = elim f.response as (λ o. HaveNumber n (issued_if_any n o)) [ None ↦ tt | Some x ↦ (refl, tt) ]
 
--- the response of one file is another
+-- the response of one file is replaced
 response_lands : (r : Register) (n : ℕ) (before : List Incoming) (f : Incoming) (x : Issued) (after : List Incoming) → r.incoming ≡ before ++ f ∷ after → x.reason < 100 → n ≡ 1 + length before
     → (old new : Trees) → new issued_tree ≡ pieces_from issued_piece 1 before ++ issued_row n x ∷ pieces_from issued_piece (n + 1) after → Others issued_tree old new → Tables r old
     → Tables (record r { incoming = before ++ (record f { response = Some x }) ∷ after }) new

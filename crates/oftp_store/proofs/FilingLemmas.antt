@@ -1,4 +1,4 @@
--- What a response that comes makes of a register.
+-- What a received response does to a register.
 use Rattle.std.proofs.Common.{◌≡◌, ℕ, Bool, true, false, ◌||◌, List, [], ◌∷◌, ◌++◌, map, find, is_some, Some, None, Ok, Err, inl, inr, refl, sym, ap, subst, ◌∙◌, Bor}
 use Rattle.std.specs.List.{list_any}
 use Rattle.std.proofs.lemmas.Bool.{cases_Bool, cond-true, cond-false, or_parts}
@@ -32,7 +32,7 @@ use Rattle.oftp_store.proofs.FirstLemmas.{same_by_number}
 use Rattle.oftp_store.proofs.NumberLemmas.{entry_known}
 use Rattle.oftp_store.proofs.AllocationLemmas.{known_out}
 
--- ---- the file that a response settles
+-- ---- the file whose state a response sets
 
 abbrev name_of : Outgoing → Identity
 name_of f = f.identity
@@ -44,7 +44,7 @@ unsettled kind it (f ∷ files) h =
     let parts = or_parts (same_identity f.identity it) (list_any (λ (f : Outgoing). same_identity f.identity it) files) h in
     ap (λ g. g ∷ map (settled kind it) files) (cond-false (same_identity f.identity it) _ f parts.0) ∙ ap (λ gs. f ∷ gs) (unsettled kind it files parts.1)
 
--- another identity, from either side
+-- identities differ, in either order
 turned : (a b : Identity) → same_identity a b ≡ false → same_identity b a ≡ false
 turned a b h = elim (cases_Bool (same_identity b a)) [
   | inl same ↦ absurd (let is : b ≡ a = same_identity-true b a same in let self : same_identity a b ≡ true = ap (same_identity a) is ∙ same_self a in let no_such = sym h ∙ self in cc)
@@ -57,7 +57,7 @@ others it (f ∷ files) h =
     let parts = or_parts (same_identity it f.identity) (list_any (λ i. same_identity it i) (map name_of files)) h in
     ap (λ b. b || list_any (λ (f : Outgoing). same_identity f.identity it) files) (turned it f.identity parts.0) ∙ others it files parts.1
 
--- an identity isn't that of a file among others
+-- an identity differs from that of a file among others
 not_that : (it : Identity) (before : List Outgoing) (f : Outgoing) (after : List Outgoing)
     → list_any (λ i. same_identity it i) (map name_of (before ++ f ∷ after)) ≡ false → same_identity it f.identity ≡ false
 not_that it [] f after h = (or_parts (same_identity it f.identity) (list_any (λ i. same_identity it i) (map name_of after)) h).0
@@ -74,7 +74,7 @@ settled_there kind it (b ∷ before) f after once is =
     let other : same_identity b.identity it ≡ false = ap (same_identity b.identity) (sym is) ∙ not_that b.identity before f after once.0 in
     ap (λ g. g ∷ map (settled kind it) (before ++ f ∷ after)) (cond-false (same_identity b.identity it) _ b other) ∙ ap (λ gs. b ∷ gs) (settled_there kind it before f after once.1 is)
 
--- ---- what the look-up of that file tells
+-- ---- what the look-up of that file returns
 
 -- no file has the identity
 pub settles_none : (r : Register) (it : Identity) → file_number r side.Outgoing it ≡ None → Settles r it None
@@ -96,7 +96,7 @@ named_so r it n before f after some placed =
       | inr hasnt ↦ passes p es e (sym (cond-false (p x) (Some x) (find p es) hasnt) ∙ h)
     ]
 
--- a response leaves a file that isn't awaiting one
+-- a response doesn't change a file that isn't awaiting one
 
 left_alone : (kind : ResponseKind) (state : OutgoingState) → is_awaiting state ≡ false → answered kind state ≡ state
 left_alone kind Waiting h = refl
@@ -118,7 +118,7 @@ placed_once : (r : Register) (n : ℕ) (before : List Outgoing) (f : Outgoing) (
     → AreNamedOnce (map name_of (before ++ f ∷ after))
 placed_once r n before f after sound placed = subst (λ files. AreNamedOnce (map name_of files)) placed.here sound.outgoing_once
 
--- its file is one that a response leaves as it is
+-- its file is one that a response doesn't change
 pub settles_nothing : (r : Register) (it : Identity) (n : ℕ) (progress : OutgoingProgress) → IsSound r → file_number r side.Outgoing it ≡ Some n
     → IsToldOf outgoing_progress_of r.outgoing n (Some progress)
     → is_awaiting progress.state ≡ false → Settles r it None
@@ -128,7 +128,7 @@ settles_nothing r it n progress sound some (before, f, after, placed, is) off ki
     ∙ ap (λ st. before ++ (record f { state = st }) ∷ after) (left_alone kind f.state (sym (ap (λ (s : OutgoingProgress). is_awaiting s.state) is) ∙ off))
     ∙ sym placed.here
 
--- its file is one that a response settles
+-- its file is one whose state a response sets
 pub settles_it : (r : Register) (it : Identity) (n : ℕ) (progress : OutgoingProgress) → IsSound r → file_number r side.Outgoing it ≡ Some n
     → IsToldOf outgoing_progress_of r.outgoing n (Some progress) → is_awaiting progress.state ≡ true
     → (let found : SettledFile = record { no = n; mark = progress.mark } in Settles r it (Some found))

@@ -1,4 +1,4 @@
--- What a query answers that asks for the first number whose row passes.
+-- What a query for the first number whose row passes a test returns.
 use Rattle.std.proofs.Common.{◌≡◌, ◌==◌, ◌+◌, ◌<◌, ◌≤◌, ◌++◌, ℕ, pos, nat_lt, Bool, true, false, cond, if◌then◌else◌, List, [], ◌∷◌, map, take, find, slice_get, is_some, ◌||◌, Option, Some, None, Less, refl, sym, ap, subst, ◌∙◌, arith}
 use Rattle.std.specs.List.{AllByRecursion, list_all, list_any}
 use Rattle.std.specs.Option.{option_map}
@@ -37,7 +37,7 @@ abbrev pub passing : {X : Type 0} → (ℕ → X → Bool) → ℕ → List X �
 passing test n [] = []
 passing test n (x ∷ xs) = if test n x then n ∷ passing test (n + 1) xs else passing test (n + 1) xs
 
--- the row that tells the first of these numbers
+-- the row with the first of these numbers
 abbrev pub first_row : List ℕ → List Row
 first_row [] = []
 first_row (n ∷ ns) = (number_value n ∷ []) ∷ []
@@ -123,7 +123,7 @@ any_wanted wanted n (x ∷ xs) = go (wanted x) (any_wanted wanted (n + 1) xs)
     go true more = refl
     go false more = more
 
--- an answer with a row
+-- a result with a row
 pub any_told : (ns : List ℕ) (rows : List Row) → rows ≡ first_row ns → is_some (slice_get rows 0) ≡ is_some (slice_get ns 0)
 any_told [] rows is = ap (λ (rows : List Row). is_some (slice_get rows 0)) is
 any_told (n ∷ ns) rows is = ap (λ (rows : List Row). is_some (slice_get rows 0)) is

@@ -1,4 +1,4 @@
--- The format of a file is told by its header, and its octets are told from it and the last row.
+-- The header of a file has its format. The octets are counted from the format and the last row.
 use Rattle.std.proofs.Common.{◌≡◌, ◌+◌, ◌-◌, ◌*◌, ◌≤◌, ℕ, List, length, take, drop, Option, Some, None, sym, ap, ◌∙◌, arith, take_all}
 use Rattle.std.specs.Option.{option_map}
 use Rattle.std.proofs.lemmas.List.{length-drop}

@@ -30,7 +30,7 @@ use Rattle.oftp_store.proofs.EditLemmas.{issued_number, issued_piece, issued_pie
 use Rattle.oftp_store.proofs.NumberLemmas.{no_rows}
 use Rattle.oftp_store.proofs.ReadLemmas.{IsRead, by_its_number, finds_told}
 
--- what the tables of both sides have of a file is read back
+-- the columns that the tables of both sides share are read back
 file_back : (h : FileHeader) → record h { format = format_in (format_text h.format) } ≡ h
 file_back h = ap (λ format. record h { format = format }) (format_back h.format)
 

@@ -1,4 +1,4 @@
--- What the queries by identity answer.
+-- What the queries by identity return.
 use Rattle.std.proofs.Common.{◌≡◌, ℕ, List, [], ◌∷◌, codes, is_some, slice_get, Option, refl, ◌∙◌}
 use Rattle.std.specs.List.{list_all}
 use Rattle.sqlite_tied.specs.Compute.{everything}
@@ -71,7 +71,7 @@ finds_no which old new it rows told has h tells r kept =
     let read = read_so (file_number_text which) (identity_values it) old new _ rows (file_number_read which) has h in
     no_there which it rows told r old.now.trees tells kept (read.answer Null)
 
--- ---- responses that came
+-- ---- received responses
 
 abbrev pub by_response : ResponseKind → List Term
 by_response kind = equal (col 1 2) (lit (Text (kind_text kind))) ∷ equal (col 1 3) (col 0 0) ∷ equal (col 1 4) (col 0 1) ∷ equal (col 1 5) (col 0 2) ∷ equal (col 1 6) (col 0 3) ∷ equal

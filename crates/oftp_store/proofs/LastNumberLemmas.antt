@@ -1,4 +1,4 @@
--- What a query answers that asks for the last number of a table.
+-- What a query for the last number in a table returns.
 use Rattle.std.proofs.Common.{◌≡◌, ◌+◌, ℕ, zero, suc, pos, List, [], ◌∷◌, length, map, slice_get, unwrap_or, codes, Option, refl, sym, ap, subst, ◌∙◌, arith}
 use Rattle.std.specs.List.Sorted.{IsPermutation}
 use Rattle.sqlite_tied.specs.Compute.{everything}

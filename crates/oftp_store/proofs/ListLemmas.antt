@@ -1,4 +1,4 @@
--- Lists of entries grow by one entry at a time, and what is found by number.
+-- Lists of entries that grow by one, and what is found by number.
 use Rattle.std.proofs.Common.{◌≡◌, ◌==◌, ◌+◌, ◌<◌, ◌≤◌, ◌++◌, ◌^◌, nat_lt, ℕ, zero, suc, Bool, true, false, cond, if◌then◌else◌, List, [], ◌∷◌, length, take, find, slice_get, Option, Some, None, inl, inr, refl, sym, ap, subst, ◌∙◌, arith, take_all, append-nil}
 use Rattle.std.specs.List.{filter_map}
 use Rattle.std.specs.Option.{option_map}
@@ -63,7 +63,7 @@ module _ {X E : Type 0} (entry : ℕ → X → E) where
           let placed : IsPlaced xs (k + 1) before x after = record { here = here; number = at } in
           entry_known entry number_of same (k + 1) xs before x after placed ∙ ap (option_map (entry (k + 1))) (sym (entry_placed (k + 1) xs before x after placed))
 
--- ---- issued responses, which not every file has
+-- ---- issued responses; not every file has one
 
 abbrev pub issued_in_order : ℕ → List Incoming → List IssuedEntry
 issued_in_order n fs = filter_map (λ entry. entry) (numbered issued_entry n fs)
@@ -75,7 +75,7 @@ number e = e.no
 abbrev entry_so : ℕ → Incoming → Issued → IssuedEntry
 entry_so n f x = record { no = n; identity = f.identity; response = issued_response x }
 
--- an entry that isn't wanted is passed by
+-- an entry that isn't wanted is skipped
 passed_by : (wanted : IssuedEntry → Bool) (n : ℕ) (f : Incoming) (o : Option Issued) (rest : List (Option IssuedEntry)) → ((x : Issued) → wanted (entry_so n f x) ≡ false)
     → find wanted (filter_map (λ entry. entry) (option_map (entry_so n f) o ∷ rest)) ≡ find wanted (filter_map (λ entry. entry) rest)
 passed_by wanted n f None rest other = refl
@@ -206,7 +206,8 @@ no_file : (partner : List ℕ) (tried n : ℕ) (fs : List Outgoing) → n + leng
 no_file partner tried n [] h = refl
 no_file partner tried n (f ∷ fs) h = let low : nat_lt tried n ≡ false = grind (arith, nat_tests, h) in rw low (no_file partner tried (n + 1) fs (omega (arith, h)))
 
--- what is next behind a number is next behind the one that is given in its place: that number where the database can hold it, and else one that is as far
+-- the next above a number is the next above the one that is used in its place: the number itself where the database can store it, and else
+-- the greatest
 same_within : {E : Type 0} (next : ℕ → Option E) (entries tried given : ℕ) → entries < 2 ^ 63 → ((at : ℕ) → 1 + entries ≤ at + 1 → next at ≡ None)
     → (tried < 2 ^ 63 → given ≡ tried) → (2 ^ 63 ≤ tried → given + 1 ≡ 2 ^ 63) → next given ≡ next tried
 same_within next entries tried given few none same far =

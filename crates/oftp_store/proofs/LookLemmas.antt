@@ -1,4 +1,4 @@
--- What a look-up leaves that failed, what one leaves to the next, and what the next tells.
+-- A failed look-up, and two look-ups in a row.
 use Rattle.std.proofs.Common.{◌≡◌, Result, Ok, Err, IfOk, sym, ap, subst, ◌∙◌, arith}
 use Rattle.std.specs.Result.{IsErrAnd}
 use Rattle.std.proofs.lemmas.Result.{IfOk-weaker}
@@ -11,19 +11,19 @@ use Rattle.oftp_tables.specs.Statements.{Looks}
 use Rattle.oftp_tables.specs.Tables.{Tables}
 use Rattle.oftp_tables.proofs.LookupLemmas.{looks_as}
 
--- a look-up failed, and `?` passes its fault on
+-- a look-up failed, and `?` passes its error on
 pub looks_failed : {A B : Type 0} (old new : State) (fault : OfficeFault) (result : Result B OfficeFault) → Looks {T = A} old new (Err fault)
     → IsErrAnd result (λ (passed : OfficeFault). passed ≡ fault) → Looks old new result
 looks_failed old new fault (Ok x) looks is = absurd is
 looks_failed {A} old new fault (Err passed) looks is = looks_as old new passed (subst (λ f. Looks {T = A} old new (Err f)) (sym is) looks)
 
--- a clean disk with the tables of the office, which are those of a register
+-- a clean disk with the office's tables, which represent a register
 pub record IsLeft (r : Register) (s : State) : Type 0 where
   pub clean : HasCleanDisk s
   pub schema : s.now.schema ≡ office_schema
   pub tables : Tables r s.now.trees
 
--- so the first of two look-ups leaves the tables to the second
+-- so the first of two look-ups leaves the tables unchanged for the second
 pub left_by : {A B : Type 0} (r : Register) (old mid new : State) (x : A) (result : Result B OfficeFault) → Looks old mid (Ok x) → Looks mid new result
     → HasCleanDisk new → old.now.schema ≡ office_schema → Tables r old.now.trees → IsLeft r mid
 left_by r old mid new x result one two clean has kept =
@@ -35,7 +35,7 @@ left_by r old mid new x result one two clean has kept =
       tables = subst (λ (d : Database). Tables r d.trees) (sym same.0.now_is) kept;
     }
 
--- what the second of two look-ups answers is told of the tables that were there before both
+-- what the second look-up returns is true of the tables as they were before both
 pub answers_after : {A B : Type 0} (First : Register → Type 0) (Second Both : Register → B → Type 0) (old mid new : State) (x : A) (result : Result B OfficeFault)
     → Looks old mid (Ok x) → Looks mid new result
     → (HasCleanDisk mid → old.now.schema ≡ office_schema → (r : Register) → Tables r old.now.trees → First r)

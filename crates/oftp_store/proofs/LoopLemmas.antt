@@ -1,4 +1,4 @@
--- A list that look-ups in turn make, entry by entry.
+-- A list that a sequence of look-ups builds, entry by entry.
 use Rattle.std.proofs.Common.{◌≡◌, ℕ, Ok}
 use Rattle.sqlite.specs.State.{State, HasCleanDisk}
 use Rattle.oftp_tables.specs.Schema.{office_schema}
@@ -10,12 +10,12 @@ use Rattle.oftp_store.specs.Tells.{Tells}
 use Rattle.oftp_store.proofs.CommitLemmas.{looks_both}
 use Rattle.oftp_store.proofs.LookLemmas.{left_by}
 
--- so far this is known of the register, by look-ups alone
+-- what look-ups so far have shown of the register
 pub record IsKnown (Known : Register → Type 0) (old now : State) : Type 0 where
   pub looks : Looks {T = ℕ} old now (Ok 0)
   pub known : HasCleanDisk now → old.now.schema ≡ office_schema → (r : Register) → Tables r old.now.trees → IsSound r → Known r
 
--- what look-ups leave tells nothing of what they answered
+-- that look-ups leave the connection as it was doesn't depend on what they returned
 pub looks_other : {A B : Type 0} (old new : State) (x : A) (y : B) → Looks {T = A} old new (Ok x) → Looks {T = B} old new (Ok y)
 looks_other old new x y looks = record { clean = looks.clean; mode = looks.mode; same = looks.same; failed = λ k has. tt; left = looks.left; unrefused = tt }
 

@@ -1,4 +1,4 @@
--- What the queries for what is sent next answer.
+-- What the queries for the next item return.
 use Rattle.std.proofs.Common.{◌≡◌, ◌==◌, ◌&&◌, ◌+◌, ◌<◌, ◌++◌, ◌^◌, ℕ, ℤ, pos, w64, to_z, of_z, nat_lt, Bool, true, false, cond, List, [], ◌∷◌, length, map, flat_map, find, slice_get, codes, Option, Some, None, is_gt, inl, inr, refl, sym, ap, subst, ◌∙◌, arith}
 use Rattle.std.specs.List.{list_all, filter_map}
 use Rattle.std.specs.List.Sorted.{IsPermutation}
@@ -50,7 +50,7 @@ above = op2 (by.Compare compare.Gt Binary)
 abbrev pub next_params : ℕ → List ℕ → Row
 next_params tried partner = number_value tried ∷ Text partner ∷ []
 
--- a number and a partner are given to a query as they are
+-- the parameters of a query, a number and a partner, are passed unchanged
 pub next_given : {tried : ℕ} {value : ℤ} {given partner : List ℕ} (text : List ℕ) (old new : State) (rows : List Row) → tried < 2 ^ 63 → value ≡ pos tried → given ≡ partner
     → Shown text (Int (to_z w64 (of_z w64 value)) ∷ Text given ∷ []) old new rows → Shown text (next_params tried partner) old new rows
 next_given {tried} {value} text old new rows small value_is is h = rw (number_bound tried value value_is small, is) at h
@@ -65,7 +65,7 @@ gt_of_cmp m n =
       ]
     ]
 
--- `>` at two numbers
+-- `>` on two numbers
 greater_numbers : (m n : ℕ) → is_true (binary (by.Compare compare.Gt Binary) (Int (pos m)) (Int (pos n))) ≡ nat_lt n m
 unfolding binary
 greater_numbers m n = truth_of (is_gt (value_cmp (Int (pos m)) (Int (pos n)))) ∙ ap is_gt (number_cmp m n) ∙ gt_of_cmp m n
@@ -103,7 +103,7 @@ due_filter = equal (col 2 0) (col 1 0) ∷ above (col 1 0) (col 0 0) ∷ equal (
 abbrev due_query : Query
 due_query = record (first_query issued_tree due_filter) { from = inner issued_tree (inner in_file_tree end) }
 
--- a file's response is the next
+-- the response of a file is the next one
 abbrev is_due_in : List ℕ → ℕ → ℕ → Incoming → Option Issued → Bool
 is_due_in partner tried n f None = false
 is_due_in partner tried n f (Some x) = nat_lt tried n && (is_due x.dispatch && bytes_eq f.identity.originator partner)
@@ -119,7 +119,7 @@ pair_passes : (partner : List ℕ) (tried k m : ℕ) (x : Issued) (g : Incoming)
     → list_all (holds (next_params tried partner ∷ issued_row k x ∷ in_file_row m g ∷ [])) due_filter ≡ ((m == k) && is_due_in partner tried k g (Some x))
 pair_passes partner tried k m x g = simp (equal_numbers, greater_numbers, equal_texts, and_true, unsent)
 
--- a row of one table with its row of the other
+-- a row of one table joined with its row of the other
 abbrev pairs : Row → Row → List Row → List Env
 pairs params row = flat_map (λ s. cond (list_all (holds (params ∷ row ∷ s ∷ [])) due_filter) ((params ∷ row ∷ s ∷ []) ∷ []) [])
 
@@ -189,7 +189,7 @@ due_shown partner tried n files before (f ∷ more) is at =
         ap (λ fs. pairs params (issued_row n x) (rows_from in_file_row 1 fs)) is ∙ pairs_there partner tried n x 1 before f more at in
         ap (λ es. map (output due_query) (es ++ all_pairs params (issued_from (n + 1) more) all)) here ∙ pair (is_due_in partner tried n f (Some x)) x later
 
--- the answer of the query
+-- the result of the query
 due_rows : (db : Trees) (partner : List ℕ) (tried : ℕ) (rows : List Row) (files : List Incoming) → db issued_tree ≡ issued_from 1 files → db in_file_tree ≡ rows_from in_file_row 1 files
     → IsAnswer due_query (overlay db []) (next_params tried partner) rows → rows ≡ first_row (passing (is_answer_due partner tried) 1 files)
 due_rows db partner tried rows files issued headers a =

@@ -1,4 +1,4 @@
--- What a query by a number answers of a table in order of number.
+-- What a query by a number returns from a table that is sorted by number.
 use Rattle.std.proofs.Common.{◌≡◌, ◌==◌, ◌+◌, ◌<◌, ◌≤◌, ℕ, zero, suc, pos, true, false, List, [], ◌∷◌, ◌++◌, length, find, Some, None, append-nil, refl, sym, ap, subst, ◌∙◌, arith}
 use Rattle.std.specs.List.Sorted.{IsPermutation}
 use Rattle.std.proofs.lemmas.Bool.Decides.{nat_tests}
@@ -30,7 +30,7 @@ entry_placed k xs before x after placed =
     let number : k ≡ suc (length before) = omega (arith, placed.number) in
     ap (λ m. entry_at m xs) number ∙ ap (entry_at (suc (length before))) placed.here ∙ entry_there before x after
 
--- what a query by the number of an entry answers
+-- what a query by the number of an entry returns
 pub data OneRow {X : Type 0} (row : ℕ → X → Row) (xs : List X) (k : ℕ) (project : List Term) (rows : List Row) : Type 0 where
   nowhere : rows ≡ [] → entry_at k xs ≡ None → OneRow row xs k project rows
   somewhere : (before : List X) (x : X) (after : List X) → IsPlaced xs k before x after → rows ≡ eval_all project ((number_value k ∷ []) ∷ row k x ∷ []) ∷ [] → OneRow row xs k project rows
@@ -66,7 +66,7 @@ one_row {X} row numbers xs k project rows perm = go (spot k xs)
         (one_permutation _ rows (subst (λ all. IsPermutation all rows)
         (ap (chosen by_number project (number_value k ∷ [])) (ap (rows_from row 1) here ∙ place.is x) ∙ chosen_one project k [] (row k x) place.lo place.hi (numbers k x) place.split) perm))
 
--- ---- entries as they are handed out
+-- ---- entries as an office returns them
 
 module _ {X E : Type 0} (entry : ℕ → X → E) (no : E → ℕ) (same : (n : ℕ) (x : X) → no (entry n x) ≡ n) where
   none_low : (k n : ℕ) (xs : List X) → k < n → find (λ e. no e == k) (numbered entry n xs) ≡ None

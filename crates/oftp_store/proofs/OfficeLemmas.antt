@@ -32,7 +32,7 @@ use Rattle.oftp_store.proofs.CommitLemmas.{spared_same, stands_same}
 use Rattle.oftp_store.proofs.NumberLemmas.{entry_beyond}
 use Rattle.oftp_store.proofs.ProgressLemmas.{no_incoming, no_outgoing}
 
--- what a stop leaves of an office that stands
+-- what a crash leaves of an office that is open and has its register
 abbrev pub IsAlone : Limits → State → Type 0
 IsAlone limits s = Stands limits s → (db : Trees) → s.may_leave db → IsContentOf db (register_in limits s.now.trees)
 
@@ -60,7 +60,7 @@ looks_up says limits m n old new result alone looks tells counts = record {
   counts = counts;
 }
 
--- what else it tells of this register
+-- what else was read of this register
 pub looks_weaker : {T : Type 0} (says tells : Register → T → Type 0) (old new : View) (result : Result T OfficeFault) → LooksUp says old new result → ((x : T) → says old.register x
     → tells old.register x) → LooksUp tells old new result
 looks_weaker says tells old new result looked more = record {
@@ -73,7 +73,7 @@ looks_weaker says tells old new result looked more = record {
   counts = looked.counts;
 }
 
--- an answer without a look
+-- a result without a query
 pub looks_nowhere : {T : Type 0} (says : Register → T → Type 0) (limits : Limits) (m : ℕ) (s : State) (x : T) → IsAlone limits s → (Stands limits s → says (register_in limits s.now.trees) x)
     → LooksUp says (view_of limits m s) (view_of limits m s) (Ok x)
 looks_nowhere says limits m s x alone told = record {
@@ -98,7 +98,7 @@ commits limits change m n old new result alone made counts = record {
   counts = counts;
 }
 
--- ---- beyond the numbers that the database holds
+-- ---- beyond the numbers that the database can store
 
 pub far_incoming : (r : Register) (n : ℕ) → length r.incoming < 2 ^ 63 → 2 ^ 63 ≤ n → in_by_no r n ≡ None
 far_incoming r n few far = no_incoming r n (entry_beyond n r.incoming (omega (arith, few, far)))
@@ -121,7 +121,7 @@ far_answer r db which n from most kept far = sym (ap (λ rows. take most (drop f
     none most zero = take_none most
     none most (suc from) = take_none most
 
--- from beyond the rows that a file may have
+-- beyond the rows that a file may have
 past_answer : (r : Register) (which : Side) (n from most : ℕ) → IsSound r → MOST_ROWS < from → [] ≡ rows_of r which n from most
 past_answer r which n from most sound past =
     sym (ap (take most) (drop_all from (file_rows r which n) (omega (arith, few_rows r which n sound, past))) ∙ take_none most)

@@ -1,4 +1,4 @@
--- What the opening of an office makes of the store of a register, in memory or in files.
+-- What opening an office does to the store of a register, in memory or in files.
 use Rattle.std.proofs.Common.{◌≡◌, ◌≤◌, ◌↔◌, ◌∙◌, IsTrue, [], Result, Ok, Err, IfErr, inl, inr, refl, sym, ap, subst, arith}
 use Rattle.std.specs.Result.{IsErrAnd}
 use Rattle.std.proofs.lemmas.Result.{err_from_is_err_and}
@@ -36,7 +36,7 @@ has_after Takes Changes IsOf limits old new r opens clean is so = opens.found cl
 
 -- ---- files
 
--- an open connection has what files hold, and nothing that isn't committed
+-- an open connection shows what the files hold, and nothing uncommitted
 pub record IsReadFrom (Holds : Trees → Type 0) (s : State) : Type 0 where
   pub is_open : IsTrue s.is_open
   pub settled : s.now ≡ s.committed
@@ -51,7 +51,7 @@ is_read Holds s opened found = record {
   holds = λ db holds. ap (λ (d : Database). d.trees) opened.0.clean ∙ found db holds;
 }
 
--- ---- what the trees of a database tell of it
+-- ---- what the trees of a database say of it
 
 abbrev pub IsByTrees : (Database → Type 0) → Type 0
 IsByTrees P = (d e : Database) → d.trees ≡ e.trees → IsDatabase d → IsDatabase e → P d → P e
@@ -82,7 +82,7 @@ pub same_migratable : IsByTrees IsMigratable
 same_migratable d e trees ours theirs (inl first) = inl (has_first_by_trees d e trees ours theirs first)
 same_migratable d e trees ours theirs (inr office) = inr (has_office_by_trees d e trees ours theirs office)
 
--- files over which an office was opened hold a store that is taken
+-- files over which an office was opened hold a store that the opening accepts
 pub holds_taken : (Takes Changes : Database → Type 0) (IsOf : Register → State → Type 0) (limits : Limits) (Holds : Trees → Type 0) (old new : State)
     → IsByTrees Takes → Opens Takes Changes IsOf limits old new → HasCleanDisk new → (HasCleanDisk old → IsReadFrom Holds old) → HoldsTaken Takes Holds
 holds_taken Takes Changes IsOf limits Holds old new same opens clean so d sound holds =
@@ -91,12 +91,12 @@ holds_taken Takes Changes IsOf limits Holds old new same opens clean so d sound 
 
 -- ---- a refusal
 
--- what an opening asks is told by the trees
+-- the trees decide what an opening demands
 pub record AsksByTrees (demand : Demand) : Type 0 where
   pub takes : IsByTrees demand.Takes
   pub changes : IsByTrees demand.Changes
   pub foreign : IsByTrees demand.IsForeign
-  -- what it changes it takes
+  -- it accepts what it changes
   pub fewer : (d : Database) → demand.Changes d → demand.Takes d
 
 pub asks_to_open : AsksByTrees to_open
@@ -121,7 +121,7 @@ asks_to_migrate = record {
   fewer = λ d first. inl first;
 }
 
--- What a refusal leaves of files, from what it leaves of the connection that was open over them.
+-- What a refusal leaves of the files, from what it leaves of the connection over them.
 module _ (demand : Demand) (IsOf : Register → State → Type 0) (image : Image) (fault : StoreFault) (old new : State) (asks : AsksByTrees demand)
     (refuses : Refuses demand.Takes demand.Changes IsOf fault old new) (clean : HasCleanDisk new) (read : IsReadFrom (HoldsDatabase image) old) (leaves : LeavesCommitted old) where
   held_before : (db left : Trees) → HoldsDatabase image db → old.may_leave left → left ≡ db
@@ -150,7 +150,7 @@ module _ (demand : Demand) (IsOf : Register → State → Type 0) (image : Image
     spared = λ d sound holds other. spares d holds (λ changes. other (asks.changes old.now d (read.holds d.trees holds) read.sound sound changes));
   }
 
--- ---- the register that a connection stands for when it is opened over files
+-- ---- the register that a connection represents when it is opened over files
 
 module _ (Holds : Trees → Type 0) (s : State) (read : IsReadFrom Holds s) where
   pub is_at : (r : Register) → IsSoundRegister r × IsStoreOf r s.now.trees → IsAt r s
@@ -159,7 +159,7 @@ module _ (Holds : Trees → Type 0) (s : State) (read : IsReadFrom Holds s) wher
   pub is_at_first : (r : Register) → IsFirstOf r s.now.trees → IsAtFirst r s
   is_at_first r first = record { is_open = read.is_open; settled = read.settled; sound = read.sound; content = first }
 
-  -- over no table, the empty one
+  -- over no table, the empty register
   pub is_at_none : (limits : Limits) → limits.files ≤ MOST_FILES → limits.octets ≤ MOST_OCTETS → IsEmpty s.now → IsAt (empty limits) s
   is_at_none limits files octets none = is_at (empty limits) (sound_empty limits files octets, inr (subst (λ schema. IsSound schema s.now.trees) none read.sound, refl))
 
@@ -183,7 +183,7 @@ told_is_kept refused result told is = let no = told in let other = is in cc
 pub after_files : {X Y E IsKept : Type 0} (e : E) (x : X) (result : Result Y E) → (result ≡ Err e → ⊥) → (Ok x ≡ Err e) ↔ ¬ IsKept → (result ≡ Err e) ↔ ¬ IsKept
 after_files e x result other files = (λ is. absurd (other is), λ unkept. absurd (opened_is_kept x e (files.1 unkept)))
 
--- files that weren't opened aren't refused for what they hold
+-- an error of files that weren't opened says nothing of their content
 module _ {S : Type 0} (g : Ghosts S) (demand : Demand) (image : Image) where
   unopened_path : (e : PathRefused S) → IsUnopened e → RefusesPath g demand image e
   unopened_path (refusal.Path fault) h = h

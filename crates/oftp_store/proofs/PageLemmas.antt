@@ -1,4 +1,4 @@
--- Rows that are asked for, and rows that are counted by pages.
+-- Rows that are read, and rows that are counted in pages.
 use Rattle.std.proofs.Common.{◌≡◌, ◌+◌, ◌*◌, ◌≤◌, ℕ, List, length, take, drop, min, sym, ap, ◌∙◌, arith, take_all, length-append}
 use Rattle.std.proofs.Math.Seq.{take-add}
 use Rattle.std.proofs.lemmas.Grind.{flat_map-append}
@@ -11,7 +11,7 @@ use Rattle.oftp_register.specs.Soundness.{IsSound}
 use Rattle.oftp_register.specs.LookUps.{file_rows, rows_of}
 use Rattle.oftp_register.proofs.FileRowLemmas.{few_rows}
 
--- no more is asked for than a file may have
+-- no more rows are read than a file may have
 pub asked_rows : (r : Register) (which : Side) (n from most : ℕ) → IsSound r → take (min most MOST_ROWS) (drop from (file_rows r which n)) ≡ rows_of r which n from most
 asked_rows r which n from most sound =
     let rest = drop from (file_rows r which n) in

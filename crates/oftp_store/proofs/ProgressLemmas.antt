@@ -1,4 +1,4 @@
--- What changes ask of the file with a number, from its header, its rows and its response.
+-- What a change needs to know of a file, from its header, its rows and its response.
 use Rattle.std.proofs.Common.{◌≡◌, ◌==◌, ℕ, List, [], ◌∷◌, length, map, find, Option, Some, None, unwrap_or, refl, sym, ap, ◌∙◌, arith}
 use Rattle.std.specs.Option.{option_map}
 use Rattle.std.proofs.lemmas.List.{map-append, length-map}
@@ -24,14 +24,14 @@ mapped_placed f k xs before x after placed =
     entry_placed k (map f xs) (map f before) (f x) (map f after)
     (record { here = ap (map f) placed.here ∙ map-append f before (x ∷ after); number = omega (arith, placed.number, length-map before f) })
 
--- what is told of a file by its header and by how many rows it has
+-- what is read of a file from its header and its number of rows
 counted_told : {X H P : Type 0} (rows : X → List (List ℕ)) (tell : X → H) (make : H → ℕ → P) (k count : ℕ) (xs : List X) (h : H) → IsToldOf tell xs k (Some h)
     → count ≡ length (unwrap_or (entry_at k (map rows xs)) []) → IsToldOf (λ x. make (tell x) (length (rows x))) xs k (Some (make h count))
 counted_told rows tell make k count xs h (before, x, after, placed, is) counted =
     let same : count ≡ length (rows x) = counted ∙ ap (λ o. length (unwrap_or o [])) (mapped_placed rows k xs before x after placed) in
     (before, x, after, placed, ap (λ h. make h count) is ∙ ap (make (tell x)) same)
 
--- and by the response to it
+-- and from the response to it
 answered_told : {P : Type 0} (make : Incoming → Option IssuedResponse → P) (r : Register) (k : ℕ) (response : Option IssuedResponse) (p : P)
     → IsToldOf (λ f. make f response) r.incoming k (Some p) → IsResponseTo r k response → IsToldOf (λ f. make f (option_map issued_response f.response)) r.incoming k (Some p)
 answered_told make r k response p (before, f, after, placed, is) answered = (before, f, after, placed, is ∙ ap (make f) (answered before f after placed))
@@ -68,12 +68,12 @@ no_incoming r k none = entry_unknown incoming_entry (λ (e : IncomingEntry). e.n
 pub no_outgoing : (r : Register) (k : ℕ) → entry_at k r.outgoing ≡ None → out_by_no r k ≡ None
 no_outgoing r k none = entry_unknown outgoing_entry (λ (e : OutgoingEntry). e.no) (λ n x. refl) k r.outgoing none
 
--- the entry that is told is the one that is handed out
+-- the entry that was read is the one that the office returns
 found_entry : {X E : Type 0} (entry : ℕ → X → E) (number : E → ℕ) → ((n : ℕ) (x : X) → number (entry n x) ≡ n) → (k : ℕ) (xs : List X) (e : E) → IsToldOf (entry k) xs k (Some e)
     → Some e ≡ find (λ e. number e == k) (numbered entry 1 xs)
 found_entry entry number same k xs e (before, x, after, placed, is) = ap Some is ∙ sym (entry_known entry number same k xs before x after placed)
 
--- the entry of an incoming file of which these are told
+-- the entry of the incoming file of which this was read
 abbrev incoming_as : ℕ → IncomingHeader → ℕ → Option IssuedResponse → IncomingEntry
 incoming_as k h rows response = record {
   no = k;
@@ -93,7 +93,7 @@ incoming_told r k count h response told counted answered =
     (answered_told (λ f o. incoming_as k (incoming_header_of f) (length f.rows) o) r k response _
     (counted_told rows_in incoming_header_of (λ h n. incoming_as k h n response) k count r.incoming h told counted) answered)
 
--- the entry of an outgoing file of which these are told
+-- the entry of the outgoing file of which this was read
 abbrev outgoing_as : ℕ → OutgoingHeader → ℕ → OutgoingEntry
 outgoing_as k h rows = record {
   no = k;

@@ -1,4 +1,4 @@
--- How the texts of the look-ups are read, and what a query by a number tells.
+-- How the SQL of the look-ups is read, and what a query by a number returns.
 use Rattle.std.proofs.Common.{◌≡◌, ◌<◌, ◌^◌, ℕ, ℤ, pos, w64, to_z, of_z, false, List, [], ◌∷◌, slice_get, option_map, Option, refl, sym, ap, subst, ◌∙◌}
 use Rattle.std.specs.List.Sorted.{IsPermutation}
 use Rattle.sqlite.specs.declared.types.Value.{Value}
@@ -23,18 +23,18 @@ use Rattle.oftp_store.specs.Tells.{FindsByNumber}
 use Rattle.oftp_store.specs.Texts.{IsPlainText}
 use Rattle.oftp_store.proofs.NumberLemmas.{OneRow, nowhere, one_row, somewhere}
 
--- the text of a look-up is this command over the office's tables, and nothing more
+-- the SQL of a look-up is this command over the office's tables, and nothing else
 pub record IsRead (text : List ℕ) (command : Command) : Type 0 where
   pub is : command_of (understood office_schema text) ≡ command
   pub unlisted : reads_listing office_schema text ≡ false
   pub plain : IsPlainText text
 
--- so the rows that it shows are the answer of that command
+-- so the rows that it returns are the result of that command
 pub read_so : (text : List ℕ) (params : Row) (old new : State) (command : Command) (rows : List Row) → IsRead text command → old.now.schema ≡ office_schema → Shown text params old new rows
     → Reads command old.now params rows
 read_so text params old new command rows reading has shown = reads_as text params old new office_schema has command reading.is reading.plain reading.unlisted rows shown
 
--- the number of an entry is given to a query as it is
+-- the number of an entry is passed to a query unchanged
 pub number_given : {k : ℕ} {value : ℤ} {v : Value} (text : List ℕ) (old new : State) (rows : List Row) → k < 2 ^ 63 → value ≡ pos k → v ≡ Int (to_z w64 (of_z w64 value))
     → Shown text (bound_value v ∷ []) old new rows → Shown text (number_value k ∷ []) old new rows
 number_given {k} {value} text old new rows small value_is is h =
@@ -42,7 +42,7 @@ number_given {k} {value} text old new rows small value_is is h =
 
 -- ---- queries by the number of an entry
 
--- what the command of such a query answers is what its text answers
+-- the result of the command of such a query is that of its SQL
 pub by_its_number : {A : Type 0} {text : List ℕ} {command : Command} {read : Row → A} {IsFound : Register → ℕ → Option A → Type 0} → IsRead text command
     → ((db : Database) (k : ℕ) (rows : List Row) → Reads command db (number_value k ∷ []) rows → (r : Register) → Tables r db.trees → IsFound r k (first_told read rows))
     → FindsByNumber text read IsFound
@@ -52,7 +52,7 @@ by_its_number reading finds = record {
   finds = λ db k rows answer. finds db k rows (subst (λ command. Reads command db (number_value k ∷ []) rows) reading.is answer);
 }
 
--- what its first row tells is found
+-- the value in its first row is found
 pub found_by_number : {A : Type 0} (text : List ℕ) (read : Row → A) (IsFound : Register → ℕ → Option A → Type 0) (old new : State) (k : ℕ) (rows : List Row) (first : Option Row) (found : Option A)
     → FindsByNumber text read IsFound → old.now.schema ≡ office_schema → Shown text (number_value k ∷ []) old new rows → first ≡ slice_get rows 0 → found ≡ option_map read first
     → (r : Register) → Tables r old.now.trees → IsFound r k found
@@ -60,7 +60,7 @@ found_by_number text read IsFound old new k rows first found by has shown is tol
     let answer = reads_as text (number_value k ∷ []) old new office_schema has _ refl by.plain by.unlisted rows shown in
     subst (IsFound r k) (sym (told ∙ ap (option_map read) is)) (by.finds old.now k rows answer r kept)
 
--- what one tells of the entry, where a table has a row for each
+-- the value of an entry, where a table has a row for each entry
 pub finds_told : {X H : Type 0} (row : ℕ → X → Row) → ((n : ℕ) (x : X) → column (row n x) 0 ≡ Int (pos n)) → (tree : ℕ) (project : List Term)
     (read : Row → H) (tell : X → H) (db : Database) (xs : List X) (k : ℕ) (rows : List Row)
     → Reads (Select (record { lets = []; body = plain_query tree by_number project }) []) db (number_value k ∷ []) rows → db.trees tree ≡ rows_from row 1 xs

@@ -1,4 +1,4 @@
--- What the statements on a response that came make of the tables of a register.
+-- What the statements on a received response do to the tables of a register.
 use Rattle.std.proofs.Common.{◌≡◌, ◌+◌, ◌<◌, ℕ, List, [], ◌∷◌, ◌++◌, Ok, append-nil, refl, sym, ap, subst, ◌∙◌, arith}
 use Rattle.sqlite.specs.declared.types.Value.TheVariants.{Null, Text}
 use Rattle.sqlite.specs.Order.{Row}
@@ -34,13 +34,13 @@ our_note = record received_note { tree = note_tree }
 abbrev received_source : ℕ → ResponseKind → Identity → ℕ → Row
 received_source n kind identity reason = number_value n ∷ Null ∷ Text (kind_text kind) ∷ identity_values identity ++ Text (reason_text kind reason) ∷ []
 
--- what the tables but those of the responses that came hold
+-- the content of all tables but those of the received responses
 record HoldFiles (r : Register) (db : Trees) : Type 0 where
   about : db about_tree ≡ about_row ∷ []
   incoming : HoldIncoming r.incoming (db in_file_tree) (db in_row_tree) (db issued_tree)
   outgoing : HoldOutgoing r.outgoing (db out_file_tree) (db out_row_tree)
 
--- they hold it still, where another table is written
+-- they keep it when another table is written
 files_stay : (r : Register) (tree : ℕ) (old new : Trees) → issued_tree < tree → Others tree old new → old about_tree ≡ about_row ∷ []
     → HoldIncoming r.incoming (old in_file_tree) (old in_row_tree) (old issued_tree) → HoldOutgoing r.outgoing (old out_file_tree) (old out_row_tree) → HoldFiles r new
 files_stay r tree old new past others about incoming outgoing = record {
@@ -82,7 +82,7 @@ notes_pieces n (r ∷ rs) = ap (λ rows. note_piece n r ++ rows) (notes_pieces (
 pub note_number : (n : ℕ) (r : Received) → HaveNumber n (note_piece n r)
 note_number n r = elim r.kind as (λ kind. HaveNumber n (note_if_negative n r kind)) [ EndResponse ↦ tt | NegativeEndResponse ↦ (refl, tt) ]
 
--- an end response needs no note
+-- an End-to-End Response needs no note
 pub unnoted : (r : Register) (x : Received) (db : Trees) → x.kind ≡ EndResponse → HoldNoteless r x db → Tables (record r { received = r.received ++ x ∷ [] }) db
 unnoted r x db end held = record {
   about = held.about;
@@ -133,7 +133,7 @@ note_added old new n creator text count has h =
     (inserts_row old new add_note_text 7 our_note add_note_terms 4 (number_value n ∷ Text creator ∷ Text text ∷ [])
     (number_value n ∷ Null ∷ Text creator ∷ Text text ∷ []) n count has add_note_is add_note_plain refl refl h)
 
--- ---- a response with what belongs to it
+-- ---- a response with its note
 
 pub makes_negative : (n : ℕ) (kind : ResponseKind) (identity : Bor Identity) (reason : ℕ) (creator : Bor (Name 25)) (text : Bor Words) → kind ≡ NegativeEndResponse → (a b c : Trees)
     → MakesNoteless n kind identity.now reason a b → MakesNote n creator.now text.now b c → Makes n (AddReceived kind identity reason creator text) a c

@@ -1,4 +1,4 @@
--- Responses that came are read back.
+-- Received responses are read back.
 use Rattle.std.proofs.Common.{◌≡◌, ◌+◌, ◌<◌, ℕ, List, [], ◌∷◌, ◌++◌, codes, Some, None, All, refl, sym, ap, subst, ◌∙◌}
 use Rattle.std.specs.List.{AllByRecursion}
 use Rattle.std.specs.List.Sorted.{IsPermutation}
@@ -121,11 +121,11 @@ received_told r k h note (before, x, after, placed, header) texts =
     ap (λ h. Some (received_entry_of k h note)) header ∙ ap (λ note. Some (received_entry_of k (received_header_of x) note)) (texts before x after placed (sym kind))
     ∙ sym (entry_known received_entry (λ (e : ReceivedEntry). e.no) (λ n x. refl) k r.received before x after placed)
 
--- a negative one has those that are stored
+-- a Negative End Response has the stored ones
 pub stored_note : (r : Register) (k : ℕ) (note : ReceivedNote) → IsStoredNoteOf r k (Some note) → IsReceivedNoteOf r k NegativeEndResponse note
 stored_note r k note stored before x after placed negative = let is : Some note ≡ Some (received_note_of x) = stored before x after placed negative in cc
 
--- an end response has no texts
+-- an End-to-End Response has no texts
 pub textless_note : (r : Register) (k : ℕ) → IsSound r → (let none : ReceivedNote = record { creator = []; text = [] } in IsReceivedNoteOf r k EndResponse none)
 textless_note r k sound before x after placed end =
     let right = all_at_place IsSoundReceived before x after (subst (All IsSoundReceived) placed.here sound.received) in

@@ -1,4 +1,4 @@
--- What the statements on the rows of a file make of the tables of a register.
+-- What the statements on the rows of a file do to the tables of a register.
 use Rattle.std.proofs.Common.{◌≡◌, ◌+◌, ◌<◌, ◌&&◌, ℕ, ℤ, Bool, true, false, not, cond, nat_le, List, [], ◌∷◌, ◌++◌, length, map, drop, take, filter, get_or, Some, None, Result, Ok, Err, IsTrue, append-nil, append_assoc, length-append, slice_get, refl, sym, ap, subst, ◌∙◌, arith}
 use Rattle.std.specs.List.{AllByRecursion, list_all}
 use Rattle.std.specs.List.Sorted.{IsPermutation}
@@ -82,7 +82,7 @@ cast_same side.Outgoing n at body = simp (cast_null, cast_int)
 
 -- ---- one row more
 
--- the table has one row more, under whatever rowid
+-- the table has one row more, under some rowid
 record AddsRow (tree n at : ℕ) (body : List ℕ) (old new : Trees) : Type 0 where
   added : IsPermutation (body_row n at body ∷ less_rowids (old tree)) (less_rowids (new tree))
   apart : AreNumbered (old tree) → AreNumbered (new tree)
@@ -102,7 +102,7 @@ adds t n at body old new cast made =
       others = made.tables;
     }
 
--- the header and the response of a file stay where its rows change
+-- the header and the response of a file stay when its rows change
 
 in_files_same : (f : Incoming) (rows : List (List ℕ)) (k : ℕ) (before after : List Incoming)
     → rows_from in_file_row k (before ++ f ∷ after) ≡ rows_from in_file_row k (before ++ (record f { rows = rows }) ∷ after)
@@ -118,7 +118,7 @@ out_files_same : (f : Outgoing) (rows : List (List ℕ)) (k : ℕ) (before after
 out_files_same f rows k [] after = refl
 out_files_same f rows k (b ∷ before) after = ap (λ (more : List Row). out_file_row k b ∷ more) (out_files_same f rows (k + 1) before after)
 
--- the rows of one incoming file are others
+-- the rows of one incoming file are replaced
 in_rows_land : (r : Register) (before : List Incoming) (f : Incoming) (rows : List (List ℕ)) (after : List Incoming) → r.incoming ≡ before ++ f ∷ after
     → (old new : Trees) → Others in_row_tree old new → AreNumbered (new in_row_tree)
     → IsPermutation (bodies_from 1 (map rows_in before ++ rows ∷ map rows_in after)) (less_rowids (new in_row_tree)) → Tables r old
@@ -143,7 +143,7 @@ in_rows_land r before f rows after here old new others apart are kept =
     all_as h = all_but (λ (x : Incoming). HasReason x.response) before f (record f { rows = rows }) after
         (Rattle.oftp_tables.proofs.BackLemmas.at_place (λ (x : Incoming). HasReason x.response) before f after h) h
 
--- the rows of one outgoing file are others
+-- the rows of one outgoing file are replaced
 out_rows_land : (r : Register) (before : List Outgoing) (f : Outgoing) (rows : List (List ℕ)) (after : List Outgoing) → r.outgoing ≡ before ++ f ∷ after
     → (old new : Trees) → Others out_row_tree old new → AreNumbered (new out_row_tree)
     → IsPermutation (bodies_from 1 (map rows_out before ++ rows ∷ map rows_out after)) (less_rowids (new out_row_tree)) → Tables r old
@@ -167,7 +167,7 @@ out_rows_land r before f rows after here old new others apart are kept =
     all_as h = all_but (λ (x : Outgoing). HasRefusal x.state) before f (record f { rows = rows }) after
         (Rattle.oftp_tables.proofs.BackLemmas.at_place (λ (x : Outgoing). HasRefusal x.state) before f after h) h
 
--- one body more behind those of a file, among those of all
+-- one body is appended to those of a file, among those of all files
 one_more : (n at : ℕ) (before : List (List (List ℕ))) (rows : List (List ℕ)) (body : List ℕ) (after : List (List (List ℕ))) (old new : List Row) → n ≡ 1 + length before → length rows ≡ at
     → IsPermutation (bodies_from 1 (before ++ rows ∷ after)) (less_rowids old) → IsPermutation (body_row n at body ∷ less_rowids old) (less_rowids new)
     → IsPermutation (bodies_from 1 (before ++ (rows ++ body ∷ []) ∷ after)) (less_rowids new)
@@ -213,12 +213,12 @@ row_added which old new n at body count has h =
 
 -- ---- a loop
 
--- bodies behind rows, and one body more behind those
+-- bodies after rows, and one more body after those
 more_rows : (rows bodies : List (List ℕ)) (i : ℕ) (body : List ℕ) → i < length bodies → body ≡ get_or bodies i body → rows ++ take (i + 1) bodies ≡ (rows ++ take i bodies) ++ body ∷ []
 more_rows rows bodies i body within item =
     ap (λ more. rows ++ more) (take_more bodies i body within ∙ ap (λ b. take i bodies ++ b ∷ []) (sym item)) ∙ sym (append_assoc rows (take i bodies) (body ∷ []))
 
--- so many rows there are before it
+-- the number of rows before it
 rows_so_far : (rows bodies : List (List ℕ)) (from i at : ℕ) → length rows ≡ from → i < length bodies → at ≡ from + i → length (rows ++ take i bodies) ≡ at
 rows_so_far rows bodies from i at was within place = omega (arith, length-append rows (take i bodies), was, length-take i bodies, place, within)
 
@@ -254,7 +254,7 @@ rows_more which n from i at bodies body within item place a b c one two r s did 
     let parts = ends_with_row which n from i at bodies body r s within item place did in
     two parts.mid s parts.last (one r parts.mid parts.first kept)
 
--- the statement of one row behind those of the rows before it, whatever it came to
+-- the statement of one row, after those of the rows before it, whatever its outcome
 pub row_performed : {S : Type 0} (g : Ghosts S) (which : Side) (n from i at : ℕ) (bodies : List (List ℕ)) (body : List ℕ) (a b c : Held S) (count : Result ℕ Error) → i < length bodies
     → body ≡ get_or bodies i body → at ≡ from + i → Performs {T = Unit {0}} (MakesRows which n from (take i bodies)) g a b (Ok tt)
     → ((state g b).in_transaction ≡ false → (count ≡ Err (SqliteFailure TransactionState)) × (c ≡ b))
@@ -275,7 +275,7 @@ no_rows side.Outgoing n from db r s did kept =
     (sym (did.now ∙ ap (λ rows. let q : Register = record r { outgoing = did.before ++ (record did.file { rows = rows }) ∷ did.after } in q) (append-nil did.file.rows)
     ∙ ap (λ files. let q : Register = record r { outgoing = files } in q) (sym did.here))) kept
 
--- ---- the rows of an incoming file from a position on are taken away
+-- ---- the rows of an incoming file are deleted from a position on
 
 abbrev cut_program : Program
 cut_program = record { lets = []; body = plain_query in_row_tree from_filter (col 1 0 ∷ []) }

@@ -1,4 +1,4 @@
--- What the look-ups on the rows of a file answer.
+-- What the look-ups on the rows of a file return.
 use Rattle.std.proofs.Common.{◌≡◌, ◌==◌, ◌&&◌, ◌+◌, ◌<◌, ℕ, zero, suc, pos, Bool, true, nat_le, List, [], ◌∷◌, length, map, drop, take, filter, slice_get, unwrap_or, codes, Some, Less, refl, sym, ap, subst, subst₂, ◌∙◌, arith}
 use Rattle.std.specs.List.{AllByRecursion, list_all}
 use Rattle.std.specs.List.Sorted.{IsPermutation}

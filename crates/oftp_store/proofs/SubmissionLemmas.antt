@@ -1,4 +1,4 @@
--- What a submission makes of a register.
+-- What a submission does to a register.
 use Rattle.std.proofs.Common.{◌≡◌, ◌+◌, ℕ, List, [], ◌∷◌, ◌++◌, length, is_some, Err, refl, sym, ap, ◌∙◌, arith, Bor}
 use Rattle.std.proofs.lemmas.Bool.{cond-true, cond-false}
 use Rattle.oftp_vfile.specs.declared.format.Format.{Format}

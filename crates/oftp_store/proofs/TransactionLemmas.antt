@@ -1,4 +1,4 @@
--- Edits in turn, in one transaction.
+-- Edits in order, in one transaction.
 use Rattle.std.proofs.Common.{◌≡◌, ◌↔◌, ◌⊎◌, ◌+◌, ◌<◌, ℕ, List, [], ◌∷◌, ◌++◌, length, take, get_or, false, true, Result, Ok, Err, OnOk, IfErr, IsTrue, inl, inr, refl, sym, ap, subst, ◌∙◌, arith}
 use Rattle.std.proofs.lemmas.List.{take_more}
 use Rattle.sqlite_trees.specs.declared.store.Store.{Ghosts}
@@ -44,12 +44,12 @@ edits_more edits i edit within item a b c one two r s did kept =
 pub no_edits : (db : Trees) → MakesAll [] db db
 no_edits db r s same kept = subst (λ (q : Register). Tables q db) same kept
 
--- ---- one transaction of edits in turn
+-- ---- one transaction of several edits
 
--- it begins and is over
+-- it begins and ends
 module _ {S : Type 0} (edits : List Edit) (g : Ghosts S) (old begin last end new : Held S) (begun : begin ≡ record old { in_transaction = true }) (same : end ≡ new)
     (over : end.in_transaction ≡ false) where
-  -- for an error that is told as a fault
+  -- for an error that is returned as an error of the office
   given_up : (e : Error) (fault : OfficeFault) → Transacts {T = Unit {0}} IsOffice (Moves (MakesAll edits)) (state g old) (state g end) (Err e)
       → (HasCleanDisk (state g end) → IsTransactionError g end e) → IsFailure fault → (fault ≡ Memory) ↔ ((e ≡ SqliteFailure OutOfMemory) ⊎ (e ≡ SqliteFailure NoRowid))
       → MakesEdits edits g old new (Err fault)
@@ -61,12 +61,12 @@ module _ {S : Type 0} (edits : List Edit) (g : Ghosts S) (old begin last end new
     });
   })
 
-  -- it is committed, as a commit says
+  -- it is committed, as the clause of a commit says
   abbrev pub IsEnded : Type 0
   IsEnded = IsTrue (state g last).in_transaction × Shows (state g last) (state g end) (state g last).now (state g last).now false × KeepsCounts (state g last) (state g end)
       × ((state g end).marks ≡ [])
 
-  -- the edits were made, and its end was tried
+  -- the edits were made, and the commit was tried
   ends : (result : Result (Unit {0}) Error) → Performs {T = Unit {0}} (MakesAll edits) g begin last (Ok tt)
       → (HasCleanDisk (state g end) → OnOk result IsEnded)
       → (HasCleanDisk (state g end) → IfErr result (FailsToCommit (state g last) (state g end))) → Survives (state g last) (state g end) (λ db. db ≡ (state g last).now.trees)
@@ -93,7 +93,7 @@ module _ {S : Type 0} (edits : List Edit) (g : Ghosts S) (old begin last end new
       → (fault ≡ Memory) ↔ ((e ≡ SqliteFailure OutOfMemory) ⊎ (e ≡ SqliteFailure NoRowid)) → MakesEdits edits g old new (Err fault)
   edits_uncommitted e fault made err survives = given_up e fault (ends (Err e) made (λ clean. tt) err survives) (λ clean. (last, inr (err clean)))
 
-  -- an edit failed behind others, and it was rolled back
+  -- an edit failed after others, and the transaction was rolled back
   pub edits_rolled_back : (before : Trees → Trees → Type 0) (edit : Edit) (mid : Held S) (e : Error) (fault : OfficeFault) → Performs {T = Unit {0}} before g begin mid (Ok tt)
       → Performs {T = Unit {0}} (Makes edit.no edit.deed) g mid last (Err e) → (HasCleanDisk (state g end) → IsRolledBack (state g last) (state g end))
       → Survives (state g last) (state g end) (λ _. ⊥) → IsFailure fault → (fault ≡ Memory) ↔ ((e ≡ SqliteFailure OutOfMemory) ⊎ (e ≡ SqliteFailure NoRowid))

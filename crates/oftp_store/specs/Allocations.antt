@@ -1,4 +1,4 @@
--- Where the file of an identity is, or where it goes.
+-- Whether there is a file of an identity, and else the number of a new one.
 use Rattle.std.specs.Prelude.{◌≡◌, ◌+◌, ◌<◌, ◌^◌, ⊤, ℕ, Bool, nat_le, false, if◌then◌else◌, Option, Some, None}
 use Rattle.oftp_vfile.specs.declared.format.Limits.{Limits}
 use Rattle.oftp_register.specs.declared.entry.Identity.{Identity}
@@ -16,32 +16,32 @@ use Rattle.oftp_store.specs.declared.queries.allocation.Allocation.TheVariants a
 use Rattle.oftp_store.specs.declared.queries.allocation.IncomingAllocation.{IncomingAllocation}
 use Rattle.oftp_store.specs.declared.queries.allocation.IncomingAllocation.TheVariants as incoming_allocation
 
--- where a new file goes in a table with so many
+-- the allocation of a new file in a table with this many files
 abbrev pub allocation_after : Limits → ℕ → Allocation
 allocation_after limits count = if nat_le limits.files count then allocation.Full else allocation.New (count + 1)
 
--- where a file is that has a number, or where it goes in a table with so many
+-- the allocation of a file whose number, if it has one, was looked up, in a table with this many files
 abbrev pub allocation_of : Limits → ℕ → Option ℕ → Allocation
 allocation_of limits count (Some n) = allocation.Existing n
 allocation_of limits count None = allocation_after limits count
 
--- where the file of an identity is, or where it goes
+-- the allocation of the file of an identity
 abbrev pub IsAllocationOf : Register → Side → Identity → Allocation → Type 0
 IsAllocationOf r which identity allocation = allocation ≡ allocation_of r.limits (entries_in r (table_of which)) (file_number r which identity)
 
--- a number that is one of the database
+-- its number, if it has one, fits the database
 abbrev pub HasSmallNumber : Allocation → Type 0
 HasSmallNumber (allocation.Existing n) = n < 2 ^ 63
 HasSmallNumber (allocation.New n) = n < 2 ^ 63
 HasSmallNumber allocation.Full = ⊤
 
--- what is here of the file of an identity that comes
+-- what a start finds of the incoming file of an identity
 abbrev pub IsIncomingAllocationOf : Register → Identity → IncomingAllocation → Type 0
 IsIncomingAllocationOf r identity (incoming_allocation.Known n progress) = (file_number r side.Incoming identity ≡ Some n) × IsToldOf incoming_progress_of r.incoming n (Some progress)
 IsIncomingAllocationOf r identity (incoming_allocation.New n) = IsAllocationOf r side.Incoming identity (allocation.New n)
 IsIncomingAllocationOf r identity incoming_allocation.Full = IsAllocationOf r side.Incoming identity allocation.Full
 
--- a file that is open goes on after so many of its rows
+-- an open file with at least this many rows may go on after them
 
 abbrev pub goes_on_in : IncomingState → ℕ → ℕ → Bool
 goes_on_in Open rows count = nat_le count rows

@@ -21,8 +21,8 @@ use Rattle.oftp_tables.specs.Stands.{IsContentOf, Stands}
 use Rattle.oftp_store.specs.Edits.{IsStorable, MakesAll}
 use Rattle.oftp_store.specs.declared.changes.edit.Edit.{Edit}
 
--- Within these limits the change is made, or it is refused for its cause, or the store failed and the register stays where the
--- connection is open. A stop leaves it made or not made.
+-- Within these limits the change is made, or it is refused for its cause, or the store failed and the register is unchanged if the
+-- connection is open. After a crash the change is made or not made.
 pub record CommitsOn {T : Type 0} (limits : Limits) (change : Change) (old new : State) (result : Result T OfficeFault) : Type 0 where
   pub clean : doubt old.is_clean ≤ doubt new.is_clean
   pub mode : old.in_transaction ≡ false → new.in_transaction ≡ false
@@ -33,32 +33,32 @@ pub record CommitsOn {T : Type 0} (limits : Limits) (change : Change) (old new :
   pub left : HasCleanDisk new → Stands limits old → IsFit (register_in limits old.now.trees) change → (db : Trees) → new.may_leave db
       → old.may_leave db ⊎ ((r : Register) × (apply (register_in limits old.now.trees) change ≡ Ok r) × IsContentOf db r)
 
--- Edits are made in one transaction: all of them are, and are committed, or none is. A fault is SQLite's.
+-- Edits run in one transaction: all of them are committed, or none is. An error is one of SQLite.
 pub record AreCarriedOut {S : Type 0} (edits : List Edit) (g : Ghosts S) (old new : Held S) (result : Result (Unit {0}) OfficeFault) : Type 0 where
   pub transacts : Transacts IsOffice (Moves (MakesAll edits)) (state g old) (state g new) result
   pub told : HasCleanDisk (state g new) → IfErr result (IsFaultOf (IsTransactionError g new))
   pub failure : IfErr result IsFailure
 
--- Edits do this to a connection. Where the database can't hold one of them, that is a failure, and nothing is done.
+-- What edits do to a connection. If the database can't store one of them, the call fails and does nothing.
 pub record MakesEdits {S : Type 0} (edits : List Edit) (g : Ghosts S) (old new : Held S) (result : Result (Unit {0}) OfficeFault) : Type 0 where
   pub made : AreCarriedOut edits g old new result ⊎ ((¬ All IsStorable edits) × (result ≡ Err Store) × (new ≡ old))
 
--- ---- what is here of the file that a change names
+-- ---- the file that a change names
 
--- a look-up finds the file with a number, and tells this of it
+-- a look-up finds the file with a number, and returns this of it
 pub record Finds {A : Type 0} (told : Register → ℕ → Option A → Type 0) (n : ℕ) (old new : State) (file : A) : Type 0 where
   pub looks : Looks old new (Ok (Some file))
   pub answer : HasCleanDisk new → (limits : Limits) → Stands limits old → told (register_in limits old.now.trees) n (Some file)
 
--- a change of a file that isn't there is unknown, in a sound register
+-- a change of a file that doesn't exist is refused as unknown, in a sound register
 pub record NeedsFile {A : Type 0} (told : Register → ℕ → Option A → Type 0) (n : ℕ) (change : Change) : Type 0 where
   pub unknown : (r : Register) → IsSound r → told r n None → apply r change ≡ Err Unknown
 
--- and where what is told of it doesn't fit, it is refused for the file's state
+-- where what was read of the file doesn't fit, the change is refused for the file's state
 pub record NeedsFit {A : Type 0} (told : Register → ℕ → Option A → Type 0) (fits : A → Bool) (n : ℕ) (change : Change) : Type 0 where
   pub unknown : (r : Register) → IsSound r → told r n None → apply r change ≡ Err Unknown
   pub unfit : (r : Register) (file : A) → IsSound r → told r n (Some file) → fits file ≡ false → apply r change ≡ Err Unfit
 
--- look-ups end the commit of whichever change that needs this by this fault
+-- the look-ups end, with this error, the commit of every change that needs them
 abbrev pub EndsCommit : Limits → (Change → Type 0) → State → State → OfficeFault → Type 0
 EndsCommit limits Needs old new fault = (change : Change) → Needs change → CommitsOn {T = Unit {0}} limits change old new (Err fault)

@@ -1,4 +1,4 @@
--- What the edits of a transaction make of a register.
+-- What the edits of a transaction do to a register.
 use Rattle.std.specs.Prelude.{◌≡◌, ◌+◌, ◌^◌, ◌<◌, ℕ, List, [], ◌∷◌, ◌++◌, length, take, Some, None, ⊤}
 use Rattle.sqlite.specs.declared.types.Value.TheVariants.{Text}
 use Rattle.sqlite.specs.Order.{Row}
@@ -22,7 +22,7 @@ use Rattle.oftp_store.specs.declared.changes.edit.Edit.{Edit}
 use Rattle.oftp_store.specs.declared.changes.edit.Deed.{Deed}
 use Rattle.oftp_store.specs.declared.changes.edit.Deed.TheVariants.{AddFile, SetHeader, SetWhole, SetOutgoing, AddRows, CutRows, AddIssued, SetSent, AddReceived}
 
--- the entry with a number, of which a fact holds, is another
+-- the entry with a number, of which a fact holds, is replaced
 pub record ChangesEntry {X : Type 0} (entries : Register → List X) (with_entries : Register → List X → Register) (n : ℕ) (Was : X → Type 0) (change : X → X) (r s : Register) : Type 0 where
   pub before : List X
   pub file : X
@@ -38,7 +38,7 @@ ChangesIncoming = ChangesEntry (λ r. r.incoming) (λ r files. record r { incomi
 abbrev pub ChangesOutgoing : ℕ → (Outgoing → Type 0) → (Outgoing → Outgoing) → Register → Register → Type 0
 ChangesOutgoing = ChangesEntry (λ r. r.outgoing) (λ r files. record r { outgoing = files })
 
--- an entry takes the next number
+-- an entry gets the next number
 pub record IsNext {X : Type 0} (n : ℕ) (entries : List X) : Type 0 where
   pub number : n ≡ 1 + length entries
 
@@ -49,29 +49,29 @@ AddsFileTo side.Incoming n identity format longest description r s =
 AddsFileTo side.Outgoing n identity format longest description r s =
     IsNext n r.outgoing × (s ≡ record r { outgoing = r.outgoing ++ new_outgoing identity format longest description [] ∷ [] })
 
--- rows behind those that are here
+-- rows are appended to those that the file has
 abbrev pub AddsRowsTo : Side → ℕ → ℕ → List (List ℕ) → Register → Register → Type 0
 AddsRowsTo side.Incoming n from rows = ChangesIncoming n (λ f. length f.rows ≡ from) (λ f. record f { rows = f.rows ++ rows })
 AddsRowsTo side.Outgoing n from rows = ChangesOutgoing n (λ f. length f.rows ≡ from) (λ f. record f { rows = f.rows ++ rows })
 
--- the rows of a deed have positions that a column holds
+-- the positions of the new rows fit their column
 abbrev pub HasRoom : Deed → Type 0
 HasRoom (AddRows which from rows) = from + length rows.now < 2 ^ 32
 HasRoom deed = ⊤
 
--- more rows of an incoming file that has so many
+-- the edit that appends rows to an incoming file with this many rows
 abbrev pub more : ℕ → ℕ → Bor (List (List ℕ)) → Edit
 more n from rows = record { no = n; deed = AddRows side.Incoming from rows }
 
--- mark and state of an outgoing file
+-- the edit that sets mark and state of an outgoing file
 abbrev pub outgoing_edit : ℕ → ℕ → OutgoingState → Edit
 outgoing_edit n mark to = record { no = n; deed = SetOutgoing mark to }
 
--- the database can hold what an edit makes: its number, and the positions of its rows
+-- the database can store what an edit writes: its number, and the positions of its rows
 abbrev pub IsStorable : Edit → Type 0
 IsStorable edit = (edit.no < 2 ^ 63) × HasRoom edit.deed
 
--- what is made of the entry with a number
+-- what an edit does to the entry with a number
 abbrev pub IsDone : ℕ → Deed → Register → Register → Type 0
 IsDone n (AddFile which identity format longest description) r s = AddsFileTo which n identity.now format longest description.now r s
 IsDone n (SetHeader format longest description) r s = ChangesIncoming n (λ f. ⊤) (λ f. record f { format = format; longest = longest; description = description.now }) r s
@@ -88,12 +88,12 @@ IsDone n (AddReceived kind identity reason creator text) r s =
 abbrev pub IsEdited : Edit → Register → Register → Type 0
 IsEdited edit r s = IsDone edit.no edit.deed r s
 
--- edits in turn
+-- edits in order
 abbrev pub AreEdited : List Edit → Register → Register → Type 0
 AreEdited [] r s = r ≡ s
 AreEdited (edit ∷ edits) r s = (mid : Register) × IsEdited edit r mid × AreEdited edits mid s
 
--- the tables of a register become those of the register with a deed, and with edits in turn
+-- the tables of a register become those of the register after one edit, and after edits in order
 
 abbrev pub Makes : ℕ → Deed → Trees → Trees → Type 0
 Makes n deed old new = (r s : Register) → IsDone n deed r s → Tables r old → Tables s new
@@ -105,7 +105,7 @@ MakesAll edits old new = (r s : Register) → AreEdited edits r s → Tables r o
 abbrev pub MakesRows : Side → ℕ → ℕ → List (List ℕ) → Trees → Trees → Type 0
 MakesRows which n from rows old new = (r s : Register) → AddsRowsTo which n from rows r s → Tables r old → Tables s new
 
--- the tables of a register, where `received` has one more response and `received_note` hasn't
+-- the tables of a register, where `received` has one more response and `received_note` doesn't
 pub record HoldNoteless (r : Register) (x : Received) (db : Trees) : Type 0 where
   pub about : db about_tree ≡ about_row ∷ []
   pub incoming : HoldIncoming r.incoming (db in_file_tree) (db in_row_tree) (db issued_tree)
@@ -119,14 +119,14 @@ abbrev pub MakesNoteless : ℕ → ResponseKind → Identity → ℕ → Trees �
 MakesNoteless n kind identity reason old new =
     (r : Register) (creator text : List ℕ) → IsNext n r.received → Tables r old → HoldNoteless r (record { kind = kind; identity = identity; reason = reason; creator = creator; text = text }) new
 
--- the note of the last response is added, which is a negative one
+-- the note of the last response is added, which is a Negative End Response
 abbrev pub MakesNote : ℕ → List ℕ → List ℕ → Trees → Trees → Type 0
 MakesNote n creator text old new =
     (r : Register) (identity : Identity) (reason : ℕ) → IsNext n r.received
     → (let x : Received = record { kind = NegativeEndResponse; identity = identity; reason = reason; creator = creator; text = text } in HoldNoteless r x old
     → Tables (record r { received = r.received ++ x ∷ [] }) new)
 
--- what the statements that add a file are given: its number, its identity and its header
+-- the parameters of the statements that add a file: its number, its identity and its header
 abbrev pub header_params : ℕ → Identity → Format → ℕ → List ℕ → Row
 header_params n identity format longest description =
     number_value n ∷ Text identity.dataset ∷ Text identity.date ∷ Text identity.time ∷ Text identity.originator ∷ Text identity.destination ∷ Text (format_text format)

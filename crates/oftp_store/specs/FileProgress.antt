@@ -1,4 +1,4 @@
--- What changes ask of the file with a number.
+-- What a change needs to know of the file with a number.
 use Rattle.std.specs.Prelude.{ℕ, length, Bool, true, false, Option, Some, None}
 use Rattle.oftp_register.specs.declared.entry.Dispatch.TheVariants.{Due, Sent}
 use Rattle.oftp_register.specs.declared.entry.IncomingState.{IncomingState}
@@ -24,7 +24,7 @@ dispatch_of x = x.dispatch
 abbrev pub response_progress_of : Incoming → ResponseProgress
 response_progress_of f = record { state = f.state; response = option_map dispatch_of f.response }
 
--- this is told of the file with a number, if there is one
+-- what was read of the file with a number, if there is one
 
 abbrev pub incoming_told : Register → ℕ → Option IncomingProgress → Type 0
 incoming_told r n found = IsToldOf incoming_progress_of r.incoming n found
@@ -35,7 +35,7 @@ outgoing_told r n found = IsToldOf outgoing_progress_of r.outgoing n found
 abbrev pub response_told : Register → ℕ → Option ResponseProgress → Type 0
 response_told r n found = IsSound r → IsToldOf response_progress_of r.incoming n found
 
--- more of an incoming file is awaited
+-- an incoming file is still incomplete
 
 abbrev pub is_open : IncomingState → Bool
 is_open Open = true
@@ -44,7 +44,7 @@ is_open Whole = false
 abbrev pub is_open_file : IncomingProgress → Bool
 is_open_file file = is_open file.state
 
--- a file may be answered that is whole and wasn't
+-- a file that is whole and has no response may be answered
 
 abbrev pub is_unanswered : Option Dispatch → Bool
 is_unanswered None = true
@@ -57,7 +57,7 @@ is_answerable_in Whole response = is_unanswered response
 abbrev pub is_answerable : ResponseProgress → Bool
 is_answerable a = is_answerable_in a.state a.response
 
--- a response is sent that is due
+-- a response that is due may be sent
 
 abbrev pub is_due_response : Option Dispatch → Bool
 is_due_response None = false

@@ -1,4 +1,4 @@
--- The look-ups that answer a number.
+-- The queries that return a number.
 use Rattle.std.specs.Prelude.{◌≡◌, ℕ, List, length, codes, pos, Option, Some, None, ⊤}
 use Rattle.std.specs.Option.{option_map}
 use Rattle.sqlite.specs.declared.types.Value.TheVariants.{Int}
@@ -18,7 +18,7 @@ use Rattle.oftp_store.specs.declared.queries.last_number.Table.TheVariants as ta
 use Rattle.oftp_store.specs.declared.queries.next_number.Sendable.{Sendable}
 use Rattle.oftp_store.specs.declared.queries.next_number.Sendable.TheVariants as sendable
 
--- this is the number that a row tells, if there is one
+-- the number in a row, if there is a row
 abbrev pub TellsNo : Option ℕ → Option Row → Type 0
 TellsNo None None = ⊤
 TellsNo None (Some row) = ⊥
@@ -38,12 +38,12 @@ entries_in r table.IncomingFiles = length r.incoming
 entries_in r table.OutgoingFiles = length r.outgoing
 entries_in r table.ReceivedResponses = length r.received
 
--- the table of the files of a side
+-- the table of the incoming or of the outgoing files
 abbrev pub table_of : Side → Table
 table_of side.Incoming = table.IncomingFiles
 table_of side.Outgoing = table.OutgoingFiles
 
--- ---- the number of an identity
+-- ---- the number of the file of an identity
 
 abbrev pub file_number_text : Side → List ℕ
 file_number_text side.Incoming = codes "SELECT no FROM in_file WHERE dataset = ?1 AND date = ?2 AND time = ?3 AND originator = ?4 AND destination = ?5 ORDER BY no LIMIT 1"
@@ -67,7 +67,7 @@ next_text sendable.File = codes "SELECT no FROM out_file WHERE no > ?1 AND (stat
 next_text sendable.Response =
     codes "SELECT issued.no FROM issued JOIN in_file ON in_file.no = issued.no WHERE issued.no > ?1 AND sent = 0 AND originator = ?2 ORDER BY issued.no LIMIT 1"
 
--- the number of the first file that is on its way to a partner, or of that with the first response that is due to it, if it wasn't tried
+-- the number above `tried` of the first file that is on its way to a partner, or of the file with the first response that is due to it
 abbrev pub next_number : Register → Sendable → List ℕ → ℕ → Option ℕ
 next_number r sendable.File partner tried = option_map (λ (e : OutgoingEntry). e.no) (next_file r partner tried)
 next_number r sendable.Response partner tried = option_map (λ (e : IssuedEntry). e.no) (next_response r partner tried)

@@ -1,4 +1,4 @@
--- What the opening of an office makes of a connection, and of files.
+-- What opening an office does to a connection, and to files.
 use Rattle.std.specs.Prelude.{◌≡◌, ◌≢◌, ◌⊎◌, List, ℕ, [], codes, IsTrue}
 use Rattle.sqlite.specs.Tree.{Trees}
 use Rattle.sqlite.specs.Effect.{Database, IsDatabase}
@@ -23,27 +23,27 @@ use Rattle.oftp_store.specs.declared.file.PathRefused.TheVariants as refusal
 pub use Rattle.oftp_tables.specs.Stands.{Has}
 pub use Rattle.oftp_tables.specs.Opening.{IsMigratable, IsOpenable, Leaves, Opens, Refuses}
 
--- SQLite keeps a database under this path: one in a temporary file or in memory it doesn't
+-- SQLite keeps a database under this path. Under an empty path it uses a temporary file, and under `:memory:` it uses memory.
 abbrev pub IsKept : List ℕ → Type 0
 IsKept path = (path ≢ []) × (path ≢ codes ":memory:")
 
--- the database that is held, if there is one, is one that is taken
+-- every database that the files may hold is one that the opening accepts
 abbrev pub HoldsTaken : (Database → Type 0) → (Trees → Type 0) → Type 0
 HoldsTaken Takes Holds = (d : Database) → IsDatabase d → Holds d.trees → Takes d
 
--- files that hold no table: no database yet, as none, an empty file or what a stop left of a first page; or a database with no table,
--- no index and no view
+-- The files hold no table. Either there is no database yet: no file, an empty file, or what a crash left of a first page. Or there is a
+-- database with no table, no index and no view.
 abbrev pub HoldsNoTable : Image → Type 0
 HoldsNoTable image = IsNothing image ⊎ ((db : Trees) × HoldsDatabase image db × IsSoundStore no_schema db)
 
--- while the connection is open, a stop leaves its last commit
+-- while the connection is open, a crash leaves its last commit
 abbrev pub LeavesCommitted : State → Type 0
 LeavesCommitted s = IsTrue s.is_open → (db : Trees) → s.may_leave db → db ≡ s.committed.trees
 
--- ---- an opening that is refused
+-- ---- a refused opening
 
--- What an opening asks of the database that files hold: which it takes, which of these it changes, which it tells foreign whatever the
--- disk does, and which stand for a register; and as what it refuses files that hold no table.
+-- What an opening demands of the database in the files: which databases it accepts, which of these it changes, which it reports as foreign
+-- whatever the disk does, and which have the tables of a register. `AsEmpty` is the error for files that hold no table.
 pub record Demand : Type 1 where
   pub Takes : Database → Type 0
   pub Changes : Database → Type 0
@@ -51,7 +51,7 @@ pub record Demand : Type 1 where
   pub IsOf : Register → Trees → Type 0
   pub AsEmpty : StoreFault → Type 0
 
--- to open: the office's tables, or none, where they are made
+-- to open: the office's tables, or no table, in which case they are made
 abbrev pub to_open : Demand
 to_open = record {
   Takes = IsOpenable;
@@ -61,7 +61,7 @@ to_open = record {
   AsEmpty = λ fault. fault ≢ WrongSchema;
 }
 
--- to migrate: the tables of schema 1, which become those of schema 2, or these
+-- to migrate: the tables of schema 1, which become those of schema 2, or the tables of schema 2
 abbrev pub to_migrate : Demand
 to_migrate = record {
   Takes = IsMigratable;
@@ -71,14 +71,15 @@ to_migrate = record {
   AsEmpty = λ fault. fault ≡ WrongSchema;
 }
 
--- the connection shows this content, and a stop leaves it alone
+-- the connection shows this content, and a crash leaves nothing else
 pub record IsAsHeld (db : Trees) (s : State) : Type 0 where
   pub now : s.now.trees ≡ db
   pub committed : s.committed.trees ≡ db
   pub left : (left : Trees) → s.may_leave left → left ≡ db
 
--- The office of files isn't opened: for a wrong schema where their database isn't one that is taken, which is then as it was, and over
--- other tables for nothing else. Whatever the fault is, a stop leaves the database that they hold, or the tables of its register.
+-- The office of files wasn't opened. The error is a wrong schema where their database isn't accepted, and then it is unchanged. Over files
+-- without a table the error is the one of the demand. Whatever the error, a crash leaves the database that they held, or the tables of its
+-- register.
 pub record RefusesFiles (demand : Demand) (image : Image) (fault : StoreFault) (s : State) : Type 0 where
   pub foreign : (d : Database) → IsDatabase d → HoldsDatabase image d.trees → demand.IsForeign d → fault ≡ WrongSchema
   pub bare : HoldsNoTable image → demand.AsEmpty fault
@@ -86,17 +87,17 @@ pub record RefusesFiles (demand : Demand) (image : Image) (fault : StoreFault) (
   pub left : (r : Register) (db : Trees) → HoldsDatabase image db → demand.IsOf r db → (left : Trees) → s.may_leave left → (left ≡ db) ⊎ IsContentOf left r
   pub spared : (d : Database) → IsDatabase d → HoldsDatabase image d.trees → ¬ demand.Changes d → (left : Trees) → s.may_leave left → left ≡ d.trees
 
--- the fault that is told of it
+-- the fault in a refusal
 abbrev pub fault_told : {S : Type 0} → PathRefused S → PathFault
 fault_told (refusal.Path fault) = fault
 fault_told (refusal.Store refused) = path.Store refused.fault
 
--- the files weren't opened, and no schema is to blame
+-- the files weren't opened, and the error isn't a wrong schema
 abbrev pub IsUnopened : {S : Type 0} → PathRefused S → Type 0
 IsUnopened (refusal.Path fault) = fault ≢ path.Store WrongSchema
 IsUnopened (refusal.Store refused) = ⊥
 
--- they weren't, or they were and are refused
+-- the files weren't opened, or they were and their store was refused
 abbrev pub RefusesPath : {S : Type 0} → Ghosts S → Demand → Image → PathRefused S → Type 0
 RefusesPath g demand image (refusal.Path fault) = fault ≢ path.Store WrongSchema
 RefusesPath g demand image (refusal.Store refused) = HasCleanDisk (state g refused.conn) → RefusesFiles demand image refused.fault (state g refused.conn)

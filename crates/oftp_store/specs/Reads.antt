@@ -1,4 +1,4 @@
--- What is read back from the rows of an answer.
+-- What is read back from the rows that a query returned.
 use Rattle.std.specs.Prelude.{◌≡◌, ◌+◌, ◌++◌, ℕ, List, [], ◌∷◌, length, Option, Some, None, slice_get}
 use Rattle.std.specs.Option.{option_map}
 use Rattle.sqlite.specs.declared.types.Value.TheVariants.{Text}
@@ -20,7 +20,7 @@ use Rattle.oftp_store.specs.declared.queries.received.ReceivedNote.{ReceivedNote
 
 -- ---- headers
 
--- what the first columns tell, which both tables of files have
+-- the columns that the tables of incoming and of outgoing files share
 abbrev pub file_header_in : Row → FileHeader
 file_header_in row = record {
   identity = identity_in 0 row;
@@ -35,7 +35,7 @@ incoming_header_in row = record { file = file_header_in row; state = in_state_in
 abbrev pub outgoing_header_in : Row → OutgoingHeader
 outgoing_header_in row = record { file = file_header_in row; mark = number_in (column row 8); state = out_state_in (bytes (column row 9)) (bytes (column row 10)) }
 
--- the columns of a file in the order in which they are asked for: those of its row but for the number
+-- the columns of a file in the order of the query, which are those of its row except the number
 
 abbrev pub file_values : FileHeader → Row
 file_values h = identity_values h.identity ++ Text (format_text h.format) ∷ number_value h.longest ∷ Text h.description ∷ []
@@ -49,11 +49,11 @@ mark_and_state_values mark state = number_value mark ∷ Text (out_state_text st
 abbrev pub outgoing_values : OutgoingHeader → Row
 outgoing_values h = file_values h.file ++ mark_and_state_values h.mark h.state
 
--- the longest record is one that the format allows
+-- the format allows the longest record
 abbrev pub IsFileWithin : FileHeader → Type 0
 IsFileWithin h = IsLongest h.format h.longest
 
--- what the first row of an answer tells, if there is one
+-- what the first row of a result is read as, if there is one
 abbrev pub first_told : {A : Type 0} → (Row → A) → List Row → Option A
 first_told read rows = option_map read (slice_get rows 0)
 
@@ -68,7 +68,7 @@ pub record IsPlaced {X : Type 0} (entries : List X) (k : ℕ) (before : List X) 
   pub here : entries ≡ before ++ x ∷ after
   pub number : k ≡ 1 + length before
 
--- what is told of the entry with a number, if there is one
+-- what was read of the entry with a number, if there is one
 abbrev pub IsToldOf : {X H : Type 0} → (X → H) → List X → ℕ → Option H → Type 0
 IsToldOf {X} tell entries k None = entry_at k entries ≡ None
 IsToldOf {X} tell entries k (Some told) = (before : List X) × (x : X) × (after : List X) × IsPlaced entries k before x after × (told ≡ tell x)
@@ -78,7 +78,7 @@ IsToldOf {X} tell entries k (Some told) = (before : List X) × (x : X) × (after
 abbrev pub response_in : Row → IssuedResponse
 response_in row = record { kind = kind_in (bytes (column row 0)); reason = number (bytes (column row 1)); text = bytes (column row 2); dispatch = dispatch_in (number_in (column row 3)) }
 
--- its columns
+-- the columns of a response
 abbrev pub response_values : IssuedResponse → Row
 response_values x = Text (kind_text x.kind) ∷ Text (reason_text x.kind x.reason) ∷ Text x.text ∷ number_value (sent_number x.dispatch) ∷ []
 
@@ -86,12 +86,12 @@ response_values x = Text (kind_text x.kind) ∷ Text (reason_text x.kind x.reaso
 abbrev pub IsResponseTo : Register → ℕ → Option IssuedResponse → Type 0
 IsResponseTo r k found = (before : List Incoming) (f : Incoming) (after : List Incoming) → IsPlaced r.incoming k before f after → found ≡ option_map issued_response f.response
 
--- ---- responses that came
+-- ---- received responses
 
 abbrev pub received_header_in : Row → ReceivedHeader
 received_header_in row = record { kind = kind_in (bytes (column row 0)); identity = identity_in 1 row; reason = number (bytes (column row 6)) }
 
--- its columns
+-- the columns of a received response
 abbrev pub received_values : ReceivedHeader → Row
 received_values h = Text (kind_text h.kind) ∷ identity_values h.identity ++ Text (reason_text h.kind h.reason) ∷ []
 
@@ -101,26 +101,26 @@ received_header_of x = record { kind = x.kind; identity = x.identity; reason = x
 abbrev pub received_note_in : Row → ReceivedNote
 received_note_in row = record { creator = bytes (column row 0); text = bytes (column row 1) }
 
--- its columns
+-- the columns of its texts
 abbrev pub received_note_values : ReceivedNote → Row
 received_note_values m = Text m.creator ∷ Text m.text ∷ []
 
 abbrev pub received_note_of : Received → ReceivedNote
 received_note_of x = record { creator = x.creator; text = x.text }
 
--- the texts that are stored of the response with a number are its own, where it is a negative one
+-- the texts that were read are those of the response with a number, where it is a Negative End Response
 abbrev pub IsStoredNoteOf : Register → ℕ → Option ReceivedNote → Type 0
 IsStoredNoteOf r k found =
     (before : List Received) (x : Received) (after : List Received) → IsPlaced r.received k before x after → x.kind ≡ NegativeEndResponse → found ≡ Some (received_note_of x)
 
--- a response that came as it is handed out
+-- a received response as an office returns it
 abbrev pub received_entry_of : ℕ → ReceivedHeader → ReceivedNote → ReceivedEntry
 received_entry_of n header note =
     record { no = n; response = record { kind = header.kind; identity = header.identity; reason = header.reason; creator = note.creator; text = note.text } }
 
 -- ---- the number of rows
 
--- a row tells the last position of a file, which has so many rows, or there is none
+-- the row has the last position of a file with this many rows, or the file has none
 abbrev pub TellsCount : Option Row → ℕ → Type 0
 TellsCount None count = count ≡ 0
 TellsCount (Some row) count = (at : ℕ) × (column row 0 ≡ number_value at) × (count ≡ at + 1)

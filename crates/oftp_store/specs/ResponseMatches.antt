@@ -1,4 +1,4 @@
--- What a response that comes finds.
+-- What a received response refers to.
 use Rattle.std.specs.Prelude.{◌≡◌, ◌+◌, Bool, true, false, List, ◌∷◌, ◌++◌, length, map, Option, Some, None}
 use Rattle.oftp_register.specs.declared.entry.Identity.{Identity}
 use Rattle.oftp_register.specs.declared.entry.OutgoingState.{OutgoingState}
@@ -11,7 +11,7 @@ use Rattle.oftp_store.specs.declared.queries.response_match.ResponseMatch.{Respo
 use Rattle.oftp_store.specs.declared.queries.response_match.ResponseMatch.TheVariants as response_match
 use Rattle.oftp_store.specs.declared.queries.response_match.SettledFile.{SettledFile}
 
--- the end of a file was sent and no response came
+-- the end of a file was sent and no response was received
 abbrev pub is_awaiting : OutgoingState → Bool
 is_awaiting Waiting = false
 is_awaiting Closing = true
@@ -20,13 +20,13 @@ is_awaiting (Refused reason) = false
 is_awaiting Delivered = false
 is_awaiting Returned = false
 
--- a response to the file of an identity settles this file and no other, or none
+-- a response to the file of an identity sets the state of this file and of no other, or of none
 abbrev pub Settles : Register → Identity → Option SettledFile → Type 0
 Settles r identity None = (kind : ResponseKind) → map (settled kind identity) r.outgoing ≡ r.outgoing
 Settles r identity (Some found) = (before : List Outgoing) × (f : Outgoing) × (after : List Outgoing) × IsPlaced r.outgoing found.no before f after × (found.mark ≡ f.mark)
     × ((kind : ResponseKind) → map (settled kind identity) r.outgoing ≡ before ++ (record f { state = answered_as kind }) ∷ after)
 
--- how a response is filed
+-- how a received response is stored
 abbrev pub IsResponseMatchOf : Register → ResponseKind → Identity → ResponseMatch → Type 0
 IsResponseMatchOf r kind identity response_match.Duplicate = has_received r kind identity ≡ true
 IsResponseMatchOf r kind identity (response_match.Unmatched n) = (has_received r kind identity ≡ false) × (n ≡ 1 + length r.received) × Settles r identity None

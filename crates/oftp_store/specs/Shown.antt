@@ -1,4 +1,4 @@
--- An office over a database, as those who use it speak of it.
+-- An office over a database, in the words of its users.
 use Rattle.std.specs.Prelude.{ℕ}
 use Rattle.sqlite.specs.Held.{state}
 use Rattle.sqlite.specs.State.{State}
@@ -8,18 +8,18 @@ use Rattle.oftp_register.specs.Offices.{View}
 use Rattle.oftp_store.specs.declared.office.SqlOffice.{SqlOffice}
 use Rattle.oftp_store.specs.Views.{view_of}
 
--- the database that it keeps its register in
+-- the database in which it keeps its register
 abbrev pub database_of : {S : Type 0} (g : Ghosts S) → SqlOffice S g → State
 database_of g office = state g office.conn
 
--- how much it may hold
+-- its limits
 abbrev pub limits_of : {S : Type 0} {g : Ghosts S} → SqlOffice S g → Limits
 limits_of office = office.limits
 
--- how many faults it told, modulo 2^64
+-- the number of errors it returned, modulo 2^64
 abbrev pub faults_of : {S : Type 0} {g : Ghosts S} → SqlOffice S g → ℕ
 faults_of office = office.faults
 
--- what it shows
+-- its view
 abbrev pub shown : {S : Type 0} (g : Ghosts S) → SqlOffice S g → View
 shown g office = view_of office.limits office.faults (database_of g office)

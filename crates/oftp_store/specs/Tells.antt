@@ -1,4 +1,4 @@
--- What look-ups tell of the register that the tables stand for, and the responses by number.
+-- What look-ups return of the register that the tables represent, and the responses by number.
 use Rattle.std.specs.Prelude.{◌≡◌, ◌==◌, ℕ, false, List, [], ◌∷◌, Option, Some, None, Result, IfOk, find, slice_get}
 use Rattle.sqlite.specs.Order.{Row}
 use Rattle.sqlite.specs.Effect.{Database, Reads}
@@ -17,24 +17,25 @@ use Rattle.oftp_tables.specs.Tables.{Tables, number_value}
 use Rattle.oftp_store.specs.Reads.{first_told}
 use Rattle.oftp_store.specs.Texts.{IsPlainText}
 
--- an answer tells this of the register that the tables stand for
+-- after an `Ok`, this holds of the result and of the register that the tables represent
 abbrev pub TellsStored : {T : Type 0} → (Register → T → Type 0) → State → State → Result T OfficeFault → Type 0
 TellsStored told old new result = HasCleanDisk new → old.now.schema ≡ office_schema → IfOk result (λ x. (r : Register) → Tables r old.now.trees → told r x)
 
--- and this where that register has these limits
+-- the same, where that register has these limits
 abbrev pub TellsLimited : {T : Type 0} → Limits → (Register → T → Type 0) → State → State → Result T OfficeFault → Type 0
 TellsLimited limits told old new result =
     HasCleanDisk new → old.now.schema ≡ office_schema → IfOk result (λ x. (r : Register) → r.limits ≡ limits → Tables r old.now.trees → told r x)
 
--- and this where it is sound
+-- the same, where that register is sound
 abbrev pub Tells : {T : Type 0} → (Register → T → Type 0) → State → State → Result T OfficeFault → Type 0
 Tells told = TellsStored (λ r x. IsSound r → told r x)
 
--- a query shows rows, and an answer tells this of the first, if there is one
+-- a query returns rows, and the result says this of the first, if there is one
 abbrev pub TellsFirst : {T : Type 0} → List ℕ → Row → (T → Option Row → Type 0) → State → State → Result T OfficeFault → Type 0
 TellsFirst text params Told old new result = HasCleanDisk new → IfOk result (λ x. (rows : List Row) × Shown text params old new rows × Told x (slice_get rows 0))
 
--- The text of a query with a number is plain and lists no schema. The first row that it answers tells this of the entry with that number.
+-- The SQL of a query with a number is plain and doesn't list the schema. The first row of its result says this of the entry with that
+-- number.
 pub record FindsByNumber {A : Type 0} (text : List ℕ) (read : Row → A) (IsFound : Register → ℕ → Option A → Type 0) : Type 0 where
   pub plain : IsPlainText text
   pub unlisted : reads_listing office_schema text ≡ false
@@ -45,11 +46,11 @@ pub record FindsByNumber {A : Type 0} (text : List ℕ) (read : Row → A) (IsFo
 abbrev pub issued_by_no : Register → ℕ → Option IssuedEntry
 issued_by_no r n = find (λ (e : IssuedEntry). e.no == n) (list_issued r)
 
--- the response that came with a number, if there is one
+-- the received response with a number, if there is one
 abbrev pub received_by_no : Register → ℕ → Option ReceivedEntry
 received_by_no r n = find (λ (e : ReceivedEntry). e.no == n) (list_received r)
 
--- an entry, if there is one, as a list
+-- the list of an entry, if there is one
 abbrev pub listed : {E : Type 0} → Option E → List E
 listed None = []
 listed (Some e) = e ∷ []

@@ -1,4 +1,4 @@
--- The texts of the statements.
+-- The SQL of the statements.
 use Rattle.std.specs.Prelude.{ℕ, List, codes}
 use Rattle.sqlite.specs.Given.{IsPlain}
 use Rattle.sqlite.specs.Listing.{understood}
@@ -6,7 +6,7 @@ use Rattle.oftp_register.specs.declared.entries.Side.{Side}
 use Rattle.oftp_register.specs.declared.entries.Side.TheVariants as side
 use Rattle.oftp_tables.specs.Schema.{office_schema}
 
--- ---- what changes make of files, of their rows and of responses
+-- ---- statements of changes, on files, on their rows and on responses
 
 abbrev pub add_file_text : Side → List ℕ
 add_file_text side.Incoming =
@@ -42,9 +42,9 @@ add_received_text = codes "INSERT INTO received (no, kind, dataset, date, time, 
 abbrev pub add_note_text : List ℕ
 add_note_text = codes "INSERT INTO received_note (no, creator, note) VALUES (?1, ?2, ?3)"
 
--- ---- what look-ups ask
+-- ---- queries
 
--- a text that the office's tables understand, which has no RETURNING and doesn't read the time
+-- SQL that is valid over the office's tables, has no RETURNING and doesn't read the time
 abbrev pub IsPlainText : List ℕ → Type 0
 IsPlainText text = IsPlain (understood office_schema text)
 

@@ -1,4 +1,4 @@
--- What an office over a database shows, and what a stop leaves of it.
+-- What an office over a database shows, and what a crash leaves of it.
 use Rattle.std.specs.Prelude.{◌≡◌, ℕ, IsTrue}
 use Rattle.std.proofs.Common.{◌∙◌, sym, ap, subst}
 use Rattle.sqlite.specs.Tree.{Trees}
@@ -10,7 +10,7 @@ use Rattle.oftp_register.specs.Offices.{View}
 use Rattle.oftp_tables.specs.Tables.{register_in}
 use Rattle.oftp_tables.specs.Stands.{IsContentOf, Stands}
 
--- an office with these limits that told so many faults, over a connection
+-- the view of an office over a connection, with these limits and this count of errors
 abbrev pub view_of : Limits → ℕ → State → View
 view_of limits faults s = record {
   register = register_in limits s.now.trees;

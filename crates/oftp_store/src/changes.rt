@@ -1,4 +1,4 @@
-//! The changes of the register in the database.
+//! The changes of the register, as SQL in the database.
 
 pub(crate) mod commit;
 pub(crate) mod edit;

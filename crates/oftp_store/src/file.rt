@@ -1,4 +1,4 @@
-//! An office over a real file.
+//! Opening an office over the files at a path.
 
 ghost use Rattle.std.specs.Prelude.{◌≡◌, ◌≢◌, ◌≤◌, ◌↔◌, IfErr, IfOk, IsTrue};
 ghost use Rattle.sqlite.specs.Tree.{Trees};
@@ -20,28 +20,28 @@ use oftp_tables::{StoreFault, store_fault_of};
 use oftp_vfile::Limits;
 use sqlite::{Alter, Connection, Error, ErrorCode, FileFrom, FileStore, Start};
 
-/// Why the office at a path isn't opened.
+/// Why the office at a path wasn't opened.
 #[derive(Clone, Copy, Debug, PartialEq, Eq, Drop)]
 pub enum PathFault {
-    /// The path is empty or `:memory:`, under which SQLite keeps nothing.
+    /// The path is empty or `:memory:`. SQLite would keep nothing there.
     Unkept,
-    /// Another connection has the files open, and nothing was asked of them. It may be tried again.
+    /// Another connection has locked the database. The call may be repeated.
     Held,
-    /// As [`SqlOffice::open`] and [`SqlOffice::migrate`] tell it; a path that can't be opened is [`StoreFault::Store`].
+    /// An error of [`SqlOffice::open`] or [`SqlOffice::migrate`]. A path that can't be opened is [`StoreFault::Store`].
     Store(StoreFault),
 }
 
-/// Why the office at a path isn't opened. Where its files were opened, their connection comes back.
+/// Why the office at a path wasn't opened. If its files were opened, the error returns their connection.
 #[derive(Drop)]
 pub enum PathRefused<S: Alter> {
     /// The files weren't opened.
     Path(PathFault),
-    /// They were, and the store that they hold is refused.
+    /// The files were opened, and the store in them was refused.
     Store(OpenRefused<S>),
 }
 
 impl<S: Alter + Drop> PathRefused<S> {
-    /// The fault alone. The connection, if there is one, is given up, and the store is left as it is.
+    /// Returns the fault alone and drops the connection, if there is one. The store stays as it is.
     pub fn into_fault(self) -> PathFault
         ensures told { result ≡ fault_told self }
     {
@@ -52,7 +52,7 @@ impl<S: Alter + Drop> PathRefused<S> {
     }
 }
 
-// The fault of a path whose files weren't opened.
+// The fault of a path whose files couldn't be opened.
 fn path_fault_of(error: Error) -> PathFault
     ensures held { (result ≡ PathFault.Held) ↔ (error ≡ Error.SqliteFailure ErrorCode.DatabaseBusy) }
     ensures memory { (result ≡ PathFault.Store StoreFault.Memory) ↔ (error ≡ Error.SqliteFailure ErrorCode.OutOfMemory) }
@@ -65,14 +65,14 @@ fn path_fault_of(error: Error) -> PathFault
     }
 }
 
-// Whether SQLite keeps a database under a path.
+// Whether SQLite keeps a database under this path.
 fn is_kept(path: &str) -> bool
     ensures { IsTrue result ↔ IsKept path.now }
 {
     !path.is_empty() && path != ":memory:"
 }
 
-// A stop leaves the last commit of an open connection.
+// A crash while the connection is open leaves its last commit. The function does nothing.
 fn leaves_committed<S: Alter>(conn: &Connection<S>)
     ensures { LeavesCommitted (state S.Store conn.now) }
 {
@@ -100,15 +100,15 @@ fn connect<S: Start>(
     }
 }
 
-/// Opens the office that the files at a path hold, or makes its tables where they hold no database. `S` stands for what the files
-/// hold. The limits are as [`SqlOffice::open`] wants them.
+/// Opens the office in the files at a path. Where the files hold no table, it makes the office's tables. `S` stands for the content of the
+/// files. The limits are those that [`SqlOffice::open`] accepts.
 ///
 /// # Errors
 ///
-/// [`PathRefused::Path`] where the files weren't opened: as [`PathFault::Unkept`] exactly where the path is empty or `:memory:`, as
-/// [`PathFault::Held`] where another connection has them open, and as [`StoreFault::Store`] or [`StoreFault::Memory`] where SQLite fails.
-/// [`PathRefused::Store`] as [`SqlOffice::open`] refuses the store that they hold: after [`StoreFault::WrongSchema`], which no files without
-/// a table are told, they hold what they held.
+/// - [`PathRefused::Path`]: the files weren't opened. It is [`PathFault::Unkept`] exactly where the path is empty or `:memory:`,
+///   [`PathFault::Held`] where another connection has locked them, and [`StoreFault::Store`] or [`StoreFault::Memory`] where SQLite fails.
+/// - [`PathRefused::Store`]: [`SqlOffice::open`] refused the store in the files. After [`StoreFault::WrongSchema`], which is never returned
+///   for files without a table, they are unchanged.
 pub fn open_at<S: Start>(
     rt: &HostRuntime,
     path: &str,
@@ -120,14 +120,14 @@ pub fn open_at<S: Start>(
     ensures unkept { (result ≡ Err (PathRefused.Path PathFault.Unkept)) ↔ ¬ IsKept path.now }
     ensures limits { IfOk result (λ o. o.limits ≡ limits) }
     ensures faults { IfOk result (λ o. o.faults ≡ 0) }
-    // The files hold no table, or the office's.
+    // The files hold no table, or the office's tables.
     ensures known { IfOk result (λ o. HasCleanDisk (file_state o.conn) → HoldsTaken IsOpenable (HoldsDatabase (image_at S.Start))) }
     // The office has the register whose tables the files hold.
     ensures found { IfOk result (λ o. HasCleanDisk (file_state o.conn) → (r : Register) (db : Trees) → r.limits ≡ limits → IsSound r
         → HoldsDatabase (image_at S.Start) db → IsStoreOf r db → Has limits r (file_state o.conn)) }
-    // It has the empty register where they hold no table.
+    // Where they hold no table, the office has the empty register.
     ensures fresh { IfOk result (λ o. HasCleanDisk (file_state o.conn) → HoldsNoTable (image_at S.Start) → Has limits (empty limits) (file_state o.conn)) }
-    // Another database is a wrong schema, and then as it was. After another fault the files hold what they held, or the new tables.
+    // Another database is a wrong schema and stays unchanged. After any other error the files hold their old content or the new tables.
     ensures refused { IfErr result (RefusesPath over_files to_open (image_at S.Start)) }
 {
     let conn = connect(rt, path, start)?;
@@ -138,14 +138,15 @@ pub fn open_at<S: Start>(
     }
 }
 
-/// Brings the database that the files at a path hold to schema 2, as [`SqlOffice::migrate`], and opens its office. Where there is no
-/// file an empty one is made, which is [`StoreFault::WrongSchema`]: a caller who wants none left looks first whether one is there.
-/// `S` stands for what the files hold. The limits are as [`SqlOffice::open`] wants them.
+/// Migrates the database in the files at a path to schema 2, as [`SqlOffice::migrate`] does, and opens its office. Where there is no file,
+/// it creates an empty one and returns [`StoreFault::WrongSchema`]; a caller who doesn't want that file checks first. `S` stands for the
+/// content of the files. The limits are those that [`SqlOffice::open`] accepts.
 ///
 /// # Errors
 ///
-/// [`PathRefused::Path`] as [`open_at`]. [`PathRefused::Store`] as [`SqlOffice::migrate`] refuses the store that the files hold: after
-/// [`StoreFault::WrongSchema`], which all files without a table are told, they hold what they held.
+/// - [`PathRefused::Path`] as for [`open_at`].
+/// - [`PathRefused::Store`]: [`SqlOffice::migrate`] refused the store in the files. After [`StoreFault::WrongSchema`], which is the error
+///   for all files without a table, they are unchanged.
 pub fn migrate_at<S: Start>(
     rt: &HostRuntime,
     path: &str,
@@ -157,7 +158,7 @@ pub fn migrate_at<S: Start>(
     ensures unkept { (result ≡ Err (PathRefused.Path PathFault.Unkept)) ↔ ¬ IsKept path.now }
     ensures limits { IfOk result (λ o. o.limits ≡ limits) }
     ensures faults { IfOk result (λ o. o.faults ≡ 0) }
-    // The files hold the tables of the one schema or of the other.
+    // The files hold the tables of schema 1 or of schema 2.
     ensures known { IfOk result (λ o. HasCleanDisk (file_state o.conn) → HoldsTaken IsMigratable (HoldsDatabase (image_at S.Start))) }
     // The office has the register whose tables of schema 1 the files hold.
     ensures migrated { IfOk result (λ o. HasCleanDisk (file_state o.conn) → (r : Register) (db : Trees) → r.limits ≡ limits
@@ -165,9 +166,10 @@ pub fn migrate_at<S: Start>(
     // It has the register whose tables of schema 2 they hold.
     ensures found { IfOk result (λ o. HasCleanDisk (file_state o.conn) → (r : Register) (db : Trees) → r.limits ≡ limits
         → HoldsDatabase (image_at S.Start) db → IsContentOf db r → Has limits r (file_state o.conn)) }
-    // They hold a table.
+    // The files hold a table.
     ensures fresh { IfOk result (λ o. HasCleanDisk (file_state o.conn) → ¬ HoldsNoTable (image_at S.Start)) }
-    // Another database is a wrong schema, and then as it was. After another fault the files hold what they held, or its tables of schema 2.
+    // Another database is a wrong schema and stays unchanged. After any other error the files hold their old content, or its tables of
+    // schema 2.
     ensures refused { IfErr result (RefusesPath over_files to_migrate (image_at S.Start)) }
 {
     let conn = connect(rt, path, start)?;

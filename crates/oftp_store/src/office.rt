@@ -9,7 +9,7 @@ use oftp_vfile::Limits;
 use sqlite::{Alter, Connection};
 use std::alloc::Global;
 
-/// An office that keeps its register in a SQLite database, which outlives the process. One program at a time uses a database.
+/// An office that keeps its register in a SQLite database, so that it outlives the process. One process at a time uses a database.
 #[derive(Drop)]
 pub struct SqlOffice<S: Alter> {
     alloc: Global,
@@ -22,7 +22,7 @@ pub struct SqlOffice<S: Alter> {
 }
 
 impl<S: Alter> SqlOffice<S> {
-    // An office over a connection, which told no fault.
+    // A new office over a connection, with no error counted.
     pub(crate) fn over(alloc: Global, conn: Connection<S>, limits: Limits) -> SqlOffice<S>
         requires autocommit { conn.in_transaction ≡ false }
         requires files { limits.files ≤ MOST_FILES }
@@ -39,7 +39,7 @@ impl<S: Alter> SqlOffice<S> {
         }
     }
 
-    /// Gives up the office for its connection, which is outside a transaction. The store is left as it was.
+    /// Drops the office and returns its connection, which is outside a transaction. The store is unchanged.
     pub fn into_conn(self) -> Connection<S>
         ensures conn { result ≡ self.conn }
         ensures autocommit { result.in_transaction ≡ false }

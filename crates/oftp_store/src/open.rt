@@ -1,4 +1,4 @@
-//! The opening of an office over a database.
+//! Opening and migrating an office over a database connection.
 
 ghost use Rattle.std.specs.Prelude.{◌≡◌, ◌≢◌, ◌≤◌, false, IfOk, MatchResult};
 ghost use Rattle.sqlite.specs.Held.{state};
@@ -16,25 +16,25 @@ use oftp_vfile::Limits;
 use sqlite::{Alter, Connection};
 use std::alloc::Global;
 
-/// Why an office is not opened. The connection comes back with the fault.
+/// Why an office wasn't opened. The connection is returned with the fault.
 #[derive(Drop)]
 pub struct OpenRefused<S: Alter> {
-    /// Why.
+    /// The fault.
     pub fault: StoreFault,
     /// The connection, outside a transaction.
     pub conn: Connection<S>,
 }
 
 impl<S: Alter> SqlOffice<S> {
-    /// Opens the office that a store holds, or makes its tables where the store has no table, no index and no view. The connection
-    /// is outside a transaction. The limits are at most 1,000,000 files and 1,024,000,000 octets of a file, which
-    /// [`are_limits`](oftp_register::are_limits) tests.
+    /// Opens the office in a store. Where the store has no table, no index and no view, it makes the office's tables. The connection is
+    /// outside a transaction. The limits are at most 1,000,000 files and 1,024,000,000 octets of a file, which
+    /// [`are_limits`](oftp_register::are_limits) checks.
     ///
     /// # Errors
     ///
-    /// [`StoreFault::WrongSchema`] exactly where the store isn't empty and hasn't the office's tables, as this call makes them and
-    /// with the right `about`, and nothing else; it is then as it was. After [`StoreFault::Store`] and [`StoreFault::Memory`] it has
-    /// what it had, or the new tables.
+    /// - [`StoreFault::WrongSchema`] exactly where the store isn't empty and doesn't hold just the office's tables, as this call makes
+    ///   them, with the right `about`. The store is unchanged.
+    /// - [`StoreFault::Store`] and [`StoreFault::Memory`]: the store has its old content or the new tables.
     pub fn open(
         alloc: Global,
         conn: Connection<S>,
@@ -56,14 +56,14 @@ impl<S: Alter> SqlOffice<S> {
         }
     }
 
-    /// Brings a store of schema 1 to schema 2, in one transaction, and opens it; on schema 2 it does what [`open`](SqlOffice::open)
-    /// does. The connection is outside a transaction, and the limits are as `open` wants them.
+    /// Migrates a store of schema 1 to schema 2, in one transaction, and opens its office. On schema 2 it does what
+    /// [`open`](SqlOffice::open) does. The connection is outside a transaction, and the limits are those that `open` accepts.
     ///
     /// # Errors
     ///
-    /// [`StoreFault::WrongSchema`] exactly where the store has neither schema, and so also where it has no table; it is then as it
-    /// was. After [`StoreFault::Store`] and [`StoreFault::Memory`] it has what it had, or the tables of schema 2; this is called
-    /// again.
+    /// - [`StoreFault::WrongSchema`] exactly where the store has neither schema, so also where it has no table. The store is unchanged.
+    /// - [`StoreFault::Store`] and [`StoreFault::Memory`]: the store has its old content or the tables of schema 2. The call may be
+    ///   repeated.
     pub fn migrate(
         alloc: Global,
         conn: Connection<S>,

@@ -1,4 +1,4 @@
-//! The look-ups in the database.
+//! The queries on the database.
 
 pub(crate) mod allocation;
 mod by_number;

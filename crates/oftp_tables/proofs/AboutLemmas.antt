@@ -1,4 +1,4 @@
--- What the query on `about` answers.
+-- What the query on `about` returns.
 use Rattle.std.proofs.Common.{◌≡◌, false, ℕ, List, [], ◌∷◌, length, map, codes, inl, inr, refl, sym, ap, subst}
 use Rattle.std.specs.List.Sorted.{IsPermutation}
 use Rattle.std.proofs.lemmas.List.Sorted.{IsPermutation-sym}
@@ -29,7 +29,7 @@ project = col 1 0 ∷ col 1 2 ∷ []
 abbrev select : Command
 select = Select (record { lets = []; body = plain_query about_tree [] project }) (codes "id" ∷ codes "schema" ∷ [])
 
--- what the text means over the tables of a schema
+-- what the SQL means over the tables of a schema
 record IsMeant (schema : Schema) : Type 0 where
   command : command_of (understood schema query_text) ≡ select
   unlisted : reads_listing schema query_text ≡ false
@@ -51,7 +51,7 @@ all_chosen : (rows : List Row) → chosen [] project [] rows ≡ map (λ row. co
 all_chosen [] = refl
 all_chosen (row ∷ rows) = ap (λ (more : List Row). (column row 0 ∷ column row 2 ∷ []) ∷ more) (all_chosen rows)
 
--- the answer is right where the table is
+-- the result is right where the table exists
 pub record IsTold (schema : ℕ) (db : Trees) (rows : List Row) : Type 0 where
   pub there : rows ≡ about_rows schema → about_told db ≡ about_rows schema
   pub back : about_told db ≡ about_rows schema → rows ≡ about_rows schema

@@ -27,7 +27,7 @@ use Rattle.oftp_tables.proofs.BodyLemmas.{bodies_back}
 
 -- ---- the parts
 
--- two digits tell a number below 100
+-- two digits represent a number below 100
 two_digits : (n : ℕ) → n < 100 → number (decimal 2 n) ≡ n
 unfolding decimal
 two_digits n h = omega arith
@@ -68,7 +68,7 @@ issued_back n r h sound =
     ∙ ap (λ m. let i : Issued = record { kind = r.kind; reason = m; text = r.text; dispatch = dispatch_in (sent_number r.dispatch) } in i) (reason_back r.kind r.reason [] r.text h sound)
     ∙ ap (λ d. let i : Issued = record { kind = r.kind; reason = r.reason; text = r.text; dispatch = d } in i) (dispatch_back r.dispatch)
 
--- ---- what belongs to one file
+-- ---- the rows of one file
 
 unlike : (m n : ℕ) → m < n → (m == n) ≡ false
 unlike m n h = grind (arith, nat_tests, h)
@@ -214,7 +214,7 @@ module _ (r : Register) (db : Trees) (kept : Tables r db) (sound : IsSound r) wh
       subst (λ (rows : List Row). IsNote x (find (has_number k) rows)) (sym notes) (note_at k 1 before x after at right) in
       same_received x _ _ _ _ (kind_back x.kind) reason note.creator note.text
 
-  -- the tables stand for one register
+  -- the tables represent one register
   pub register_of : register_in r.limits db ≡ r
   register_of =
       let incoming = ap (map (incoming_in db)) kept.incoming.headers ∙ read_back in_file_row (incoming_in db) r.incoming 1 [] r.incoming refl refl one_incoming in

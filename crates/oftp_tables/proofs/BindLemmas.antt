@@ -1,4 +1,4 @@
--- A number that is bound to a statement is the one that the database takes.
+-- A number that is bound to a statement is the one that the database stores.
 use Rattle.std.proofs.Common.{◌≡◌, ◌<◌, ◌^◌, ℕ, ℤ, pos, w64, to_z, of_z, arith}
 use Rattle.std.proofs.lemmas.Int.{ints, to_z-of_z}
 

@@ -1,4 +1,4 @@
--- The rows of files, in a table where they stand in any order.
+-- The rows of files, in a table that has them in any order.
 use Rattle.std.proofs.Common.{◌≡◌, ◌==◌, ◌&&◌, ◌+◌, ◌-◌, ◌<◌, ℕ, zero, suc, Bool, true, false, not, cond, nat_le, List, [], ◌∷◌, ◌++◌, length, map, filter, take, inl, inr, refl, sym, ap, subst, ◌∙◌, arith, append_assoc}
 use Rattle.std.specs.List.{AllByRecursion}
 use Rattle.std.specs.List.Sorted.{IsPermutation}
@@ -30,7 +30,7 @@ above m n h = grind (arith, nat_tests, h)
 alike : (n : ℕ) → (n == n) ≡ true
 alike n = grind (arith, nat_tests)
 
--- they stand in order of position
+-- they are in order of position
 placed : (n at : ℕ) (bodies : List (List ℕ)) → by_place (body_rows n at bodies) ≡ body_rows n at bodies
 placed n at [] = refl
 placed n at (b ∷ bodies) = ap (put_by_place (body_row n at b)) (placed n (at + 1) bodies) ∙ first bodies

@@ -1,4 +1,4 @@
--- What the calls of a connection leave.
+-- What the calls of a connection do.
 use Rattle.std.proofs.Common.{◌≡◌, ◌≤◌, ◌∙◌, ℕ, List, Option, Some, None, Result, Ok, Err, OnOk, OnErr, IsTrue, inl, inr, subst, subst₂, sym, ap, append-nil, false}
 use Rattle.std.proofs.lemmas.Bool.{cases_Bool}
 use Rattle.sqlite.specs.Order.{Row}
@@ -59,7 +59,7 @@ spared_write sql params old new e (inr h) =
       ]
     ]
 
--- what a text of a known meaning may commit
+-- what SQL of a known meaning may commit
 pub commits_as : (sql : List ℕ) (params : Row) (s : State) (schema : Schema) → s.now.schema ≡ schema → (command : Command) → command_of (understood schema sql) ≡ command
     → IsPlain (understood schema sql)
     → (db : Trees) → CommitsBy sql params s db → MayCommit s None command (statement_of sql (understood schema sql)) params db
@@ -73,7 +73,7 @@ pub spared_on : (sql : List ℕ) (params : Row) (old new : State) (result : Resu
 spared_on sql params old new (Ok count) h = tt
 spared_on sql params old new (Err e) h = spared_write sql params old new e h
 
--- a query leaves no connection open that was shut
+-- a query doesn't open a connection that was closed
 shows_open : (sql : List ℕ) (params : Row) (old new : State) (c : Compiled) (rows : List Row) (o : Option Returning) → ShowsRows old new sql c params rows o → IsTrue old.is_open
 shows_open sql params old new c rows None h = h.3.0.was_open
 shows_open sql params old new c rows (Some what) h = h.1.shown.was_open
@@ -105,7 +105,7 @@ query_leaves sql params old new plain survives clean db h = elim (survives.crash
 
 module _ (ours : Schema) (sql : List ℕ) (params : Row) (old new : State) (plain : (schema : Schema) → schema ≡ ours → IsPlain (understood schema sql))
     (clean : doubt old.is_clean ≤ doubt new.is_clean) (mode : old.in_transaction ≡ false → new.in_transaction ≡ false) (survives : Survives old new (CommitsShowing sql params old)) where
-  -- it answered
+  -- it returned rows
   pub queries_shown : {T E : Type 0} (result : Result T E) → (HasCleanDisk new → (rows : List Row) × Shown sql params old new rows) → IsQuery ours old new result
   queries_shown result shown = record {
     clean = clean;
@@ -127,7 +127,7 @@ module _ (ours : Schema) (sql : List ℕ) (params : Row) (old new : State) (plai
     left = λ k has. query_leaves sql params old new (plain _ has) survives k;
   }
 
--- what is made of the rows that a query answered
+-- what is made of the rows that a query returned
 pub queries_then : {A B E : Type 0} (ours : Schema) (old new : State) (rows : A) (result : Result B E) → IsQuery {E = E} ours old new (Ok rows) → IsQuery ours old new result
 queries_then ours old new rows result query = record {
   clean = query.clean;

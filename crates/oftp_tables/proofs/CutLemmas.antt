@@ -31,7 +31,7 @@ not-or false b = refl
 abbrev is_in : List ℤ → Row → Bool
 is_in ids r = list_any (λ id. has_rowid id r) ids
 
--- taking rowids out is one filter
+-- removing rowids is one filter
 pub without_ids : (ids : List ℤ) (rows : List Row) → without_all rows ids ≡ filter (λ r. not (is_in ids r)) rows
 without_ids [] [] = refl
 without_ids [] (r ∷ rows) = ap (λ (more : List Row). r ∷ more) (without_ids [] rows)
@@ -78,6 +78,6 @@ permuted : (ids found : List ℤ) → IsPermutation found ids → (rows : List R
 permuted ids found perm [] test h = tt
 permuted ids found perm (r ∷ rows) test h = (ap not (sym (list_any-IsPermutation (λ id. has_rowid id r) found ids perm) ∙ h.0), permuted ids found perm rows test h.1)
 
--- the rows that pass are gone, and no other
+-- the rows that pass are deleted, and no others
 pub deleted : (test : Row → Bool) (rows : List Row) (ids : List ℤ) → AreNumbered rows → IsPermutation (map id_of (filter test rows)) ids → without_all rows ids ≡ filter (λ r. not (test r)) rows
 deleted test rows ids apart perm = without_ids ids rows ∙ filter_same _ _ rows (permuted ids _ perm rows test (each_found test rows apart))

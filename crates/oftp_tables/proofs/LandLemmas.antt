@@ -22,7 +22,7 @@ module _ (tree : ℕ) (rows : List Row) (old new : Trees) (is : new tree ≡ row
         | inr differs ↦ rw differs (other (differ k tree differs))
       ]
 
-  -- so the new tables stand for a register where these do
+  -- so the new tables represent a register if these do
   pub lands : (s : Register) → Others tree old new → Tables s (with_tree old tree rows) → Tables s new
   lands s others t =
       let mid = with_tree old tree rows in

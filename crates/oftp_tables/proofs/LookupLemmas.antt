@@ -1,4 +1,4 @@
--- What look-ups leave of a connection over the office's tables.
+-- What look-ups do to a connection over the office's tables.
 use Rattle.std.proofs.Common.{Result, Ok, Err, IfErr}
 use Rattle.sqlite.specs.State.{State}
 use Rattle.oftp_register.specs.declared.office.OfficeFault.{OfficeFault}
@@ -13,7 +13,7 @@ use Rattle.oftp_tables.specs.Statements.{Looks}
 pub looks_of : {T : Type 0} (old new : State) (result : Result T OfficeFault) → IsQuery office_schema old new result → IfErr result IsFailure → Looks old new result
 looks_of old new result query unrefused = record { clean = query.clean; mode = query.mode; same = query.same; failed = query.failed; left = query.left; unrefused = unrefused }
 
--- what is made of the rows that a query answered
+-- what is made of the rows that a query returned
 pub looks_then : {A B : Type 0} (old new : State) (rows : A) (result : Result B OfficeFault) → Looks old new (Ok rows) → IfErr result IsFailure → Looks old new result
 looks_then old new rows result looks unrefused = record {
   clean = looks.clean;

@@ -27,7 +27,7 @@ use Rattle.oftp_tables.specs.Tables.{about_row}
 use Rattle.oftp_tables.proofs.WriteLemmas.{inserts, same_value, went}
 use Rattle.oftp_tables.proofs.TermLemmas.{no_works, cast_null, cast_int}
 
--- what the n-th text means
+-- the meaning of the n-th SQL text
 record IsMeant (n : ℕ) : Type 0 where
   command : command_of (understood (schema_at n) (text_at n)) ≡ CreateTable
   whole : statement_of (text_at n) (understood (schema_at n) (text_at n)) ≡ text_at n
@@ -76,7 +76,7 @@ and_last : (P : Table → Type 0) (ts : List Table) (t : Table) → AllByRecursi
 and_last P [] t all last = (last, tt)
 and_last P (x ∷ xs) t all last = (all.0, and_last P xs t all.1 last)
 
--- one table more with no row
+-- one more table without rows
 pub stays_empty : (n : ℕ) (old new : Database) → HasEmptyTables n old → Creates n old new → HasEmptyTables (n + 1) new
 stays_empty n old new empty made =
     let next : suc n ≡ n + 1 = omega arith in

@@ -1,4 +1,4 @@
--- What a query on the rows of one file answers, and what a DELETE of some of them leaves.
+-- What a query on the rows of one file returns, and what a DELETE of some of them leaves.
 use Rattle.std.proofs.Common.{◌≡◌, ◌==◌, ◌&&◌, ◌+◌, ◌-◌, ◌≤◌, ℕ, zero, suc, Bool, true, false, cond, nat_le, List, [], ◌∷◌, ◌++◌, length, map, drop, filter, refl, sym, ap, subst, ◌∙◌, arith, inl, inr}
 use Rattle.std.specs.List.{AllByRecursion, list_all}
 use Rattle.std.specs.List.Sorted.{IsPermutation}
@@ -14,7 +14,7 @@ use Rattle.oftp_tables.proofs.BodyLemmas.{rows_at, none_before, filter_append}
 use Rattle.oftp_tables.proofs.CutLemmas.{filter-both, filter_same}
 use Rattle.oftp_tables.proofs.SortedLemmas.{found}
 
--- a query that doesn't look at the rowid
+-- a query that doesn't use the rowid
 pub without_rowids : (q : Query) (params : Row) (test : Row → Bool) (show : Row → Output) → ((r : Row) → list_all (holds (params ∷ r ∷ [])) q.filter ≡ test (drop 1 r))
     → ((r : Row) → output q (params ∷ r ∷ []) ≡ show (drop 1 r)) → (rows : List Row) → map (output q) (found q.filter params rows) ≡ map show (filter test (less_rowids rows))
 without_rowids q params test show passes shows [] = refl
@@ -84,7 +84,7 @@ no_rows_past k from files h = sym (filter-both (has_number k) (λ r. nat_le from
 pub no_rows_zeroth : (from : ℕ) (files : List (List (List ℕ))) → filter (λ r. has_number 0 r && nat_le from (place r)) (bodies_from 1 files) ≡ []
 no_rows_zeroth from files = sym (filter-both (has_number 0) (λ r. nat_le from (place r)) (bodies_from 1 files)) ∙ ap (filter (λ r. nat_le from (place r))) (none_before 0 1 files (omega arith))
 
--- what passes a test of the statement, among rows in any order, is what passes the test of the number and the position
+-- the rows that pass the statement's test, in any order, are those that pass the test of number and position
 pub passing : (test wanted : Row → Bool) → ((n at : ℕ) (b : List ℕ) → test (body_row n at b) ≡ wanted (body_row n at b))
     → (files : List (List (List ℕ))) (rows : List Row) → IsPermutation (bodies_from 1 files) rows → IsPermutation (filter wanted (bodies_from 1 files)) (filter test rows)
 passing test wanted same files rows perm =

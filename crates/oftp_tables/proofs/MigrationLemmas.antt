@@ -1,4 +1,4 @@
--- What the steps of the migration make.
+-- What the steps of the migration do.
 use Rattle.std.proofs.Common.{◌≡◌, ◌+◌, ◌<◌, ◌++◌, ◌∙◌, ℕ, List, [], ◌∷◌, map, take, length, get_or, codes, None, Ok, refl, sym, ap, subst, arith, append-nil, append_assoc}
 use Rattle.std.specs.List.{AllByRecursion}
 use Rattle.std.proofs.lemmas.List.{take_more}
@@ -202,12 +202,12 @@ upgrades numbers a b c d made noted set = record {
       };
 }
 
--- the three steps in turn
+-- the three steps in order
 
 abbrev pub notes_made : (numbers : List Row) → Database → Database → Type 0
 notes_made numbers old new = (between : Database) × Creates 7 old between × AddsNotes numbers between new
 
--- what the transaction makes, where the numbers were read before
+-- what the transaction does, if the numbers were read before
 
 pub is_migrated : (old mid new : Database) (numbers : List Row) → mid ≡ old → AreNegatives old.trees numbers → Upgrades numbers mid new → IsMigrated old new
 is_migrated old mid new numbers same negatives up = record {

@@ -1,4 +1,4 @@
--- The numbers of the negative responses, as the query tells them.
+-- The numbers of the Negative End Responses, as the query returns them.
 use Rattle.std.proofs.Common.{◌≡◌, ◌+◌, ◌<◌, ◌++◌, ◌&&◌, ◌∙◌, ℕ, negsuc, Bool, true, false, cond, List, [], ◌∷◌, map, codes, Less, Result, Ok, Err, IfOk, OnOk, refl, sym, ap, subst, arith}
 use Rattle.std.specs.List.{AllByRecursion}
 use Rattle.std.specs.List.Sorted.{IsPermutation}
@@ -60,7 +60,7 @@ pub on_shown : {A E : Type 0} (result : Result A E) (P : A → Type 0) (Q : Type
 on_shown (Ok x) P Q h f = f x h
 on_shown (Err e) P Q h f = tt
 
--- what is shown, and by what it is ordered
+-- the columns that are returned, and the order
 abbrev shown : ℕ → Output
 shown n = (number_value n ∷ [], number_value n ∷ [])
 

@@ -1,4 +1,4 @@
--- What a store stands for once it is opened.
+-- Which register a store has once it is opened.
 use Rattle.std.proofs.Common.{◌≡◌, ◌≢◌, ◌≤◌, ◌⊎◌, ◌∙◌, List, [], false, Result, Ok, Err, IfErr, MatchResult, OnOk, IsTrue, inl, inr, sym, ap, subst, arith}
 use Rattle.std.specs.List.Sorted.{IsPermutation}
 use Rattle.std.proofs.lemmas.List.Sorted.{IsPermutation-refl}
@@ -25,7 +25,7 @@ use Rattle.oftp_tables.specs.Migration.{IsMigrated}
 use Rattle.oftp_tables.specs.Stands.{Has, IsContentOf}
 use Rattle.oftp_tables.specs.Opening.{IsAt, IsAtFirst, IsMigratable, IsOpenable, Leaves, Opens, Refuses, SparesUnless}
 
--- the new tables stand for the empty register
+-- the new tables represent the empty register
 new_tables : (limits : Limits) (db : Trees) → AreNew db → Tables (empty limits) db
 new_tables limits db new = record {
   about = new.about;
@@ -66,7 +66,7 @@ office_at r s ours at =
       | inr empty ↦ absurd (not_both s ours (no_tables s.now.schema s.now.trees empty.0 at.sound))
     ]
 
--- ---- what it stands for then
+-- ---- the register that it then has
 
 stands : (r : Register) (s : State) → IsTrue s.is_open → s.in_transaction ≡ false → s.now ≡ s.committed → s.now.schema ≡ office_schema → IsDatabase s.now → Tables r s.now.trees → IsSound r
     → Has r.limits r s
@@ -98,7 +98,7 @@ stands_found r old new ours mode at same =
     stands r new same.0.is_open (same.0.mode ∙ mode) (now ∙ at.settled ∙ sym same.0.committed_is) (ap (λ (d : Database). d.schema) now ∙ ours.schema) (subst IsDatabase (sym now) at.sound)
     (subst (λ (d : Database). Tables r d.trees) (sym now) content.tables) at.register
 
--- what a stop leaves of the making
+-- what a crash leaves while the tables are made
 new_content : (old : State) (r : Register) (db : Trees) → IsAt r old → IsEmpty old.now × MayLeave (λ old new. IsNew new) old.now db → IsContentOf db r
 new_content old r db at left =
     let made = left.1.1 in
@@ -133,7 +133,7 @@ migrated_content old r db at left =
       sound = at.content.sound;
     })
 
--- ---- what an opening makes of a connection, whichever stores it takes
+-- ---- what an opening does to a connection, whichever stores it accepts
 
 module _ (Takes Changes : Database → Type 0) (Made : Database → Database → Type 0) (IsOf : Register → State → Type 0) (old new : State) (clean : doubt old.is_clean ≤ doubt new.is_clean)
     (autocommit : new.in_transaction ≡ false) (is_open : (r : Register) → IsOf r old → IsTrue old.is_open)
@@ -145,7 +145,7 @@ module _ (Takes Changes : Database → Type 0) (Made : Database → Database →
   spares : HasCleanDisk new → SparesUnless Changes old new
   spares k was_open other db h = elim (left k was_open db h) [ inl before ↦ before | inr made ↦ absurd (other made.0) ]
 
-  -- it answered
+  -- it succeeded
   opened : (result : Result (Unit {0}) StoreFault) → (HasCleanDisk new → OnOk result (Takes old.now))
       → (HasCleanDisk new → IfErr result (λ fault. fault ≡ WrongSchema → ¬ Takes old.now × IsAsBefore old new))
       → (HasCleanDisk new → (r : Register) → IsOf r old → OnOk result (Has r.limits r new))
@@ -180,7 +180,7 @@ makes_store old new result none clean autocommit made left named =
     (λ k is_open db h. elim (left k is_open db h) [ inl before ↦ inl before | inr new ↦ inr (none, new) ]) result (λ k. on_ok result _ (inl none))
     (λ k. if_err result (λ fault other is. absurd (other is)) named) (λ k r at. if_ok result (λ h. stands_new r old new none at h.0 h.1) (made k at.is_open))
 
--- the tables of schema 2 are there, and `about` is asked what it tells
+-- the tables of schema 2 exist, and `about` is queried
 pub finds_store : (old new : State) (result : Result (Unit {0}) StoreFault) → old.in_transaction ≡ false → old.now.schema ≢ no_schema → old.now.schema ≡ office_schema
     → doubt old.is_clean ≤ doubt new.is_clean → new.in_transaction ≡ false
     → (HasCleanDisk new → OnOk result (IsUnchanged old new)) → (HasCleanDisk new → OnOk result (about_told old.now.trees ≡ about_rows 2))
@@ -223,7 +223,7 @@ migrates_store old new result schema clean autocommit known wrong made left =
     first_only other (inl first) = other first.about
     first_only other (inr ours) = first_not_office (sym schema ∙ ours.schema)
 
--- over the tables of schema 2 it has the register that they stood for
+-- over the tables of schema 2 it has the register that they represented
 pub has_found : (r : Register) (old new : State) (result : Result (Unit {0}) StoreFault) → old.in_transaction ≡ false → IsAt r old → HasOffice old.now → OnOk result (IsUnchanged old new)
     → OnOk result (Has r.limits r new)
 has_found r old new result mode at ours = if_ok result (stands_found r old new ours mode at)

@@ -1,4 +1,4 @@
--- How statements make a transaction over the office's tables.
+-- How statements make up a transaction over the office's tables.
 use Rattle.std.proofs.Common.{◌≡◌, ℕ, List, false, Result, Ok, Err, IsTrue, sym, subst}
 use Rattle.std.specs.Result.{IsErrAnd}
 use Rattle.sqlite_trees.specs.declared.store.Store.{Ghosts}
@@ -22,7 +22,7 @@ moves_then P Q R both a b c one two = record { schema = two.schema; made = both 
 pub moves_as : (Made Wanted : Trees → Trees → Type 0) (old new : Database) → ((x y : Trees) → Made x y → Wanted x y) → Moves Made old new → Moves Wanted old new
 moves_as Made Wanted old new weaker moved = record { schema = moved.schema; made = weaker _ _ moved.made; store = moved.store }
 
--- whatever they answered
+-- whatever their results
 pub performs_whatever : {S T U : Type 0} (g : Ghosts S) (old new : Held S) (Made : Trees → Trees → Type 0) (x : T) (y : U) → Performs Made g old new (Ok x) → Performs Made g old new (Ok y)
 performs_whatever g old new Made x y one = record { runs = runs_whatever IsOffice (Moves Made) (state g old) (state g new) x y one.runs; told = λ clean. tt }
 

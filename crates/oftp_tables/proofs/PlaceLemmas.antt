@@ -1,4 +1,4 @@
--- Rows in order of position, whatever order they stand in.
+-- Rows in order of position, from any order.
 use Rattle.std.proofs.Common.{◌≡◌, ◌==◌, ℕ, Bool, true, false, not, cond, nat_le, List, [], ◌∷◌, inl, inr, refl, ap, ◌∙◌, arith}
 use Rattle.std.specs.List.{AllByRecursion}
 use Rattle.std.specs.List.Sorted.{IsPermutation}
@@ -31,7 +31,7 @@ either : (b : Bool) (x y : Row) (s : List Row) (o : Bool) → o ≡ not b → co
 either true x y s o h = rw h refl
 either false x y s o h = rw h refl
 
--- two rows may be put in either order
+-- two rows may be inserted in either order
 turned : (x y : Row) (s : List Row) → (place x == place y) ≡ false → put_by_place x (put_by_place y s) ≡ put_by_place y (put_by_place x s)
 turned x y [] h = either (before x y) x y [] (before y x) (one_before _ _ h)
 turned x y (z ∷ s) h =
@@ -63,7 +63,7 @@ record Same (xs ys : List Row) : Type 0 where
 flipped : (m n : ℕ) → (m == n) ≡ false → (n == m) ≡ false
 flipped m n h = grind (arith, nat_tests, h)
 
--- the order of position doesn't depend on the order in which rows stand
+-- the order of position doesn't depend on the order of the rows
 pub by_place_same : (xs ys : List Row) → IsPermutation xs ys → AreApart xs → by_place xs ≡ by_place ys
 by_place_same xs ys same apart =
     (along_permutation Same

@@ -1,4 +1,4 @@
--- What a comparison of texts tells of a state, and a reason and its two digits.
+-- What a comparison of texts says of a state, and a reason and its two digits.
 use Rattle.std.proofs.Common.{◌≡◌, ◌∙◌, ◌≤◌, ◌<◌, ◌+◌, ◌*◌, ◌-◌, ℕ, List, [], ◌∷◌, Bool, true, length, get_or, refl, sym, ap, arith}
 use Rattle.std.specs.List.{list_all}
 use Rattle.std.proofs.lemmas.Bool.Decides.{nat_tests}
@@ -10,7 +10,7 @@ use Rattle.oftp_wire.proofs.Forms.{decimal_digits, length-decimal, number_is}
 pub compared : (text known slice word : List ℕ) (b answer : Bool) → b ≡ answer → b ≡ bytes_eq text slice → slice ≡ word → text ≡ known → answer ≡ bytes_eq known word
 compared text known slice word b answer was is said here = sym was ∙ is ∙ ap (λ t. bytes_eq t slice) here ∙ ap (bytes_eq known) said
 
--- a reason is told in two digits
+-- a reason has two digits
 pub two_digits : (n : ℕ) → IsDigits 2 (decimal 2 n)
 two_digits n = (length-decimal 2 n, decimal_digits 2 n)
 

@@ -23,7 +23,7 @@ use Rattle.oftp_tables.proofs.TermLemmas.{and_true, at_least, at_least_numbers, 
 use Rattle.oftp_tables.specs.Tables.{AreNumbered, body_row, has_number, number_value}
 use Rattle.oftp_tables.proofs.PlaceLemmas.{place}
 
--- a new row stands somewhere among the others
+-- a new row is somewhere among the others
 pub put_fresh : (new : Row) (rows : List Row) → is_taken rows new ≡ false → IsPermutation (new ∷ rows) (put_row new rows)
 put_fresh new [] h = IsPermutation-refl (new ∷ [])
 put_fresh new (r ∷ rs) h = go (value_cmp (rowid r) (rowid new)) (put_fresh new rs) h

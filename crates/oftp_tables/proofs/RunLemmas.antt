@@ -1,4 +1,4 @@
--- How statements make a transaction.
+-- How statements make up a transaction.
 use Rattle.std.proofs.Common.{◌≡◌, ◌≤◌, ◌∙◌, ℕ, List, [], true, false, Result, Ok, Err, IfErr, OnOk, OnErr, IsTrue, inl, inr, refl, sym, subst, arith}
 use Rattle.sqlite_trees.specs.declared.store.Store.{Ghosts}
 use Rattle.sqlite.specs.Held.{Held, state}
@@ -44,7 +44,7 @@ ran_on sql params old new (Ok count) e P ended runs then =
       | inr past ↦ absurd (let no_such = ended past in cc)
     ]
 
--- what a statement tells
+-- the error of a statement
 pub tells : {S : Type 0} (g : Ghosts S) (sql : List ℕ) (params : Row) (old new : Held S) (result : Result ℕ Error)
     → ((state g old).in_transaction ≡ false → (result ≡ Err (SqliteFailure TransactionState)) × (new ≡ old))
     → (IsTrue (state g old).in_transaction → ExecutesInside 0 sql params (state g old) (state g new) result) → IfErr result (IsStatementError g new)
@@ -55,12 +55,12 @@ tells g sql params old new (Err e) ended runs =
       | inr past ↦ inl (let is = (ended past).0 in cc)
     ]
 
--- what a transaction tells that was given up after a failure
+-- the error of a transaction that was rolled back after a failure
 pub tells_after : {S U : Type 0} (g : Ghosts S) (last new : Held S) (result : Result U Error) (e : Error) → result ≡ Err e → (HasCleanDisk (state g last) → IsStatementError g last e)
     → doubt (state g last).is_clean ≤ doubt (state g new).is_clean → HasCleanDisk (state g new) → IfErr result (IsTransactionError g new)
 tells_after g last new result e is told sure clean = rw is (last, inl (told (omega (arith, sure, clean))))
 
--- what the end of one tells
+-- the error of the end of a transaction
 pub tells_at_end : {S : Type 0} (g : Ghosts S) (last new : Held S) (result : Result (Unit {0}) Error) → IfErr result (FailsToCommit (state g last) (state g new))
     → IfErr result (IsTransactionError g new)
 tells_at_end g last new (Ok x) h = tt
@@ -80,7 +80,7 @@ dropped old last new kept back = record {
   undone = λ h. let same = kept.committed (back.was_open h) in ((back.undone h).0 ∙ same, (back.undone h).1 ∙ same);
 }
 
--- ---- statements in turn
+-- ---- statements in order
 
 map_ok : {T E P Q : Type 0} (result : Result T E) → (P → Q) → OnOk result P → OnOk result Q
 map_ok (Ok x) f h = f h
@@ -106,7 +106,7 @@ statement_runs g old new Before Made sql params e result ended runs survives mad
     kept : new ≡ old → KeepsCommit (state g old) (state g new)
     kept is = rw is (record { was_open = λ h. h; committed = λ h. refl })
 
--- what was known before is more, and what was made as much
+-- if more was known before, and as much was made
 pub runs_weaker : {T E : Type 0} (Before Known : Database → Type 0) (Made Then : Database → Database → Type 0) (old new : State) (result : Result T E) → ((d : Database) → Known d → Before d)
     → ((d e : Database) → Known d → Made d e → Then d e) → Runs Before Made old new result → Runs Known Then old new result
 runs_weaker Before Known Made Then old new result knows makes one = record {
@@ -144,7 +144,7 @@ runs_then Before Between First Next Both a b c x result so both one two = record
     inside : StaysInside a b → IsInside b
     inside stays = record { is_open = stays.is_open; inside = stays.mode }
 
--- whatever they told
+-- whatever their results
 pub runs_whatever : {T U E F : Type 0} (Before : Database → Type 0) (Made : Database → Database → Type 0) (old new : State) (x : T) (y : U) → Runs {E = E} Before Made old new (Ok x)
     → Runs {E = F} Before Made old new (Ok y)
 runs_whatever Before Made old new x y one = record { done = one.done; failed = λ clean within before. tt; survives = one.survives }
@@ -160,7 +160,7 @@ module _ (Before : Database → Type 0) (Made : Database → Database → Type 0
   begun : IsTrue old.is_open → IsInside (record old { in_transaction = true })
   begun is = record { is_open = is; inside = refl }
 
-  -- it was given up after a failure
+  -- it was rolled back after a failure
   pub transacts_fails : {T U E F : Type 0} (e : E) (f : F) → Runs {T = T} Before Made (record old { in_transaction = true }) last (Err e)
       → new.in_transaction ≡ false → (HasCleanDisk new → IsRolledBack last new) → Survives last new (λ _. ⊥) → Transacts {T = U} Before Made old new (Err f)
   transacts_fails e f inside mode back survives = record {
@@ -183,7 +183,7 @@ module _ (Before : Database → Type 0) (Made : Database → Database → Type 0
         undone = λ h. let same = kept.committed (back.was_open h) in ((back.undone h).0 ∙ same, (back.undone h).1 ∙ same);
       }
 
-  -- its end was tried
+  -- its commit was tried
   pub transacts_ends : {T E : Type 0} (x : T) (result : Result (Unit {0}) Error) → Runs {E = E} Before Made (record old { in_transaction = true }) last (Ok x) → new.in_transaction ≡ false
       → (HasCleanDisk new → OnOk result (IsTrue last.in_transaction × Shows last new last.now last.now false × KeepsCounts last new × (new.marks ≡ [])))
       → (HasCleanDisk new → IfErr result (FailsToCommit last new)) → Survives last new (λ db. db ≡ last.now.trees) → Transacts Before Made old new result

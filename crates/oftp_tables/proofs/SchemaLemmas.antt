@@ -1,4 +1,4 @@
--- The list of objects tells the schema, so an open after a stop finds the tables that the office made.
+-- The list of objects determines the schema, so opening after a crash finds the tables that the office made.
 use Rattle.std.proofs.Common.{◌≡◌, ◌+◌, ◌≤◌, ℕ, zero, suc, pos, true, false, List, [], ◌∷◌, length, map, filter, slice_get, Some, Ok, Err, inl, inr, refl, sym, ap, subst, ◌∙◌, arith}
 use Rattle.std.specs.List.{AllByRecursion, AllZip}
 use Rattle.std.specs.Char.{to_ascii_lowercase}

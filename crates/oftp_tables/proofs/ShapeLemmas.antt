@@ -1,4 +1,4 @@
--- A table that is as it is wanted field by field is the one that is wanted.
+-- A table that is as wanted field by field is the wanted table.
 use Rattle.std.proofs.Common.{◌≡◌, [], false, refl, sym, ap, subst, ◌∙◌}
 use Rattle.sqlite.specs.Table.{Table}
 use Rattle.sqlite_schema.specs.declared.schema.Stamps.{Stamps}

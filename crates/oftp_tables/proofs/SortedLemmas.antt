@@ -1,4 +1,4 @@
--- What a query over one table with ORDER BY answers.
+-- What a query over one table with ORDER BY returns.
 use Rattle.std.proofs.Common.{◌≡◌, ℕ, cond, List, [], ◌∷◌, map, flat_map, Less, sym, ap, subst, ◌∙◌}
 use Rattle.std.specs.List.{list_all}
 use Rattle.std.specs.List.Sorted.{IsPermutation}
@@ -22,7 +22,7 @@ ordered_query tree filter project order limit = record (plain_query tree filter 
 abbrev pub found : List Term → Row → List Row → List Env
 found filter params = flat_map (λ r. cond (list_all (holds (params ∷ r ∷ [])) filter) ((params ∷ r ∷ []) ∷ []) [])
 
--- what is found has one order with no ties, so this is the answer
+-- the rows have one order without ties, so this is the result
 pub answers_in_order : (db : Trees) (tree : ℕ) (filter project : List Term) (order : List (Term × Key)) (limit : Term) (params : Row) (rows : List Row) (wanted : List Output)
     → IsAnswer (ordered_query tree filter project order limit) (overlay db []) params rows
     → IsAscending (λ a b. output_cmp (ordered_query tree filter project order limit) a b ≡ Less) wanted

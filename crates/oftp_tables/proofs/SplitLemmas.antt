@@ -1,4 +1,4 @@
--- Rows in order of number: where the row of a number stands, or goes.
+-- Rows in order of number: where the row of a number is, or goes.
 use Rattle.std.proofs.Common.{◌≡◌, ◌==◌, ◌+◌, ◌<◌, ◌≤◌, ℕ, pos, ◌<ℤ◌, true, false, List, [], ◌∷◌, ◌++◌, length, refl, sym, ap, subst, ◌∙◌, arith, append_assoc, Equal, Greater}
 use Rattle.std.specs.List.{AllByRecursion}
 use Rattle.std.proofs.lemmas.Int.{ints}
@@ -34,7 +34,7 @@ pub record IsAbove (k : ℕ) (r : Row) : Type 0 where
   pub is : column r 0 ≡ Int (pos number)
   pub above : k < number
 
--- the rows before those of a number, and the rows behind
+-- the rows before those of a number, and the rows after
 pub record IsSplit (k : ℕ) (lo hi : List Row) : Type 0 where
   pub below : AllByRecursion (IsBelow k) lo
   pub above : AllByRecursion (IsAbove k) hi
@@ -46,7 +46,7 @@ put_between k new [] (r ∷ hi) is split = rw (split.above.0.is, is, greater spl
 put_between k new (r ∷ lo) hi is split =
     rw (split.below.0.is, is, less split.below.0.number k split.below.0.below) (ap (λ rows. r ∷ rows) (put_between k new lo hi is (record { below = split.below.1; above = split.above })))
 
--- the row with the number is taken out
+-- the row with the number is removed
 
 stays : (k : ℕ) (hi : List Row) → AllByRecursion (IsAbove k) hi → without_rowid (pos k) hi ≡ hi
 stays k [] h = refl
@@ -87,7 +87,7 @@ module _ (project : List Term) (k : ℕ) (more : Row) where
   chosen_one r (x ∷ lo) hi is split =
       rw (split.below.0.is, equal_numbers split.below.0.number k, unlike split.below.0.number k split.below.0.below) (chosen_one r lo hi is (record { below = split.below.1; above = split.above }))
 
--- ---- tables in which an entry has rows of its number alone
+-- ---- tables in which an entry only has rows of its number
 
 abbrev pub pieces_from : {X : Type 0} → (ℕ → X → List Row) → ℕ → List X → List Row
 pieces_from piece n [] = []
@@ -138,7 +138,7 @@ module _ {X : Type 0} (piece : ℕ → X → List Row) (numbered : (n : ℕ) (x 
     split = record { below = pieces_below k 1 before (omega (arith, is)); above = pieces_above k (k + 1) after (omega arith) };
   }
 
--- a table with one row an entry is one of these
+-- a table with one row for each entry is one of these
 pub rows_pieces : {X : Type 0} (row : ℕ → X → Row) (n : ℕ) (xs : List X) → rows_from row n xs ≡ pieces_from (λ n x. row n x ∷ []) n xs
 rows_pieces row n [] = refl
 rows_pieces row n (x ∷ xs) = ap (λ rows. row n x ∷ rows) (rows_pieces row (n + 1) xs)

@@ -56,7 +56,7 @@ pub entry_far : {A : Type 0} (k : ℕ) (xs : List A) → length xs < 2 ^ 63 → 
 entry_far zero xs few far = refl
 entry_far (suc k) xs few far = entry_past k xs (omega (arith, few, far))
 
--- ---- what a query by the number shows
+-- ---- what a query by the number returns
 
 unlike : (m n : ℕ) → m < n → (m == n) ≡ false
 unlike m n h = grind (arith, nat_tests, h)

@@ -1,4 +1,4 @@
--- What a statement on the row of a number makes of a table.
+-- What a statement on the row of a number does to a table.
 use Rattle.std.proofs.Common.{◌≡◌, ◌/◌, ℕ, pos, List, [], ◌∷◌, ◌++◌, length, slice_get, Some, None, Ok, refl, ap, subst, ◌∙◌}
 use Rattle.std.specs.List.Sorted.{IsPermutation}
 use Rattle.sqlite_schema.specs.declared.program.Program.{Program}
@@ -28,12 +28,12 @@ pub use Rattle.oftp_tables.specs.Statements.{Others}
 use Rattle.oftp_tables.specs.Tables.{number_value}
 use Rattle.oftp_tables.proofs.SplitLemmas.{IsSplit, by_number, chosen_one, put_between, without_between}
 
--- the table has one row more, with a number that none had
+-- the table has one more row, with a new number
 pub record PutsIn (k : ℕ) (t : Table) (source : Row) (old new : Trees) : Type 0 where
   pub rows : (lo hi : List Row) (r : Row) → IsSplit k lo hi → column r 0 ≡ Int (pos k) → cast_row t source ≡ r → old t.tree ≡ lo ++ hi → new t.tree ≡ lo ++ r ∷ hi
   pub others : Others t.tree old new
 
--- the row with a number is another
+-- the row with a number is replaced
 pub record Rewrites (k : ℕ) (t : Table) (terms : List Term) (more : Row) (old new : Trees) : Type 0 where
   pub rows : (lo hi : List Row) (r s : Row) → IsSplit k lo hi → column r 0 ≡ Int (pos k) → column s 0 ≡ Int (pos k)
       → cast_row t (column r 0 ∷ eval_all terms ((number_value k ∷ more) ∷ r ∷ [])) ≡ s → old t.tree ≡ lo ++ r ∷ hi → new t.tree ≡ lo ++ s ∷ hi
@@ -62,7 +62,7 @@ inserts_row old new text at t terms width params source k count has is plain fou
     found given (no_works t.tree) (subst does has w.changed) in
     record { schema = made.0; made = puts_in k t source old.now.trees new.now.trees made.1; store = w.sound }
 
--- what such an UPDATE shows: the rowid, and the new row
+-- what such an UPDATE selects: the rowid, and the new row
 abbrev pub shown_terms : List Term → List Term
 shown_terms terms = col 1 0 ∷ col 1 0 ∷ terms
 

@@ -1,4 +1,4 @@
--- What tests and casts of values make.
+-- The results of tests and casts of values.
 use Rattle.std.proofs.Common.{◌≡◌, ◌==◌, ◌&&◌, ◌<◌, ℕ, ℤ, pos, Bool, true, false, cond, nat_le, nat_lt, List, [], length, flat_map, Some, Less, Equal, Greater, is_ge, inl, inr, refl, sym, ap, ◌∙◌, arith}
 use Rattle.std.proofs.Common.{◌<ℤ◌}
 use Rattle.std.specs.List.{filter_map}
@@ -35,7 +35,7 @@ truth_of : (b : Bool) → is_true (from_truth (Some b)) ≡ b
 truth_of true = refl
 truth_of false = refl
 
--- `=` at two texts
+-- `=` on two texts
 pub equal_texts : (a b : List ℕ) → is_true (binary (by.Compare compare.Eq Binary) (Text a) (Text b)) ≡ bytes_eq a b
 unfolding binary
 equal_texts a b = truth_of (is_eq (value_cmp (Text a) (Text b))) ∙ ap is_eq (value_cmp-Text a b) ∙ is_eq-slice_cmp a b
@@ -82,7 +82,7 @@ ge_of_cmp m n =
           rw this (elim (m == n) as (λ b. is_ge (cond (nat_lt m n) Less (cond b Equal Greater)) ≡ true) [ true ↦ rw past refl | false ↦ rw past refl ])
     ]
 
--- `=` and `>=` at two numbers
+-- `=` and `>=` on two numbers
 pub equal_numbers : (m n : ℕ) → is_true (binary (by.Compare compare.Eq Binary) (Int (pos m)) (Int (pos n))) ≡ (m == n)
 unfolding binary
 equal_numbers m n = truth_of (is_eq (value_cmp (Int (pos m)) (Int (pos n)))) ∙ ap is_eq (number_cmp m n) ∙ eq_of_cmp m n
@@ -107,7 +107,7 @@ pub cast_int : (n : ℤ) → cast Integer (Int n) ≡ Int n
 unfolding unary
 cast_int n = either _ (Int n)
 
--- no foreign key acts
+-- no foreign key has an effect
 pub no_works : (tree : ℕ) (olds news : List Row) → works office_schema Enforced 0 tree olds news ≡ []
 no_works tree olds news =
     elim (length news == 0) as (λ b.

@@ -1,4 +1,4 @@
--- Inside: what a catalog has for the office's tables, by what is wanted of each, for the functions of src/shape.rt.
+-- Inside: what a catalog has for the office's tables, for the functions of src/shape.rt.
 use Rattle.std.specs.Prelude.{◌≡◌, [], ◌∷◌, false, true, List, ℕ, Option, None, Some}
 use Rattle.std.specs.Borrow.{Bor}
 use Rattle.sqlite.specs.Table.{Table}
@@ -13,7 +13,7 @@ use Rattle.oftp_tables.specs.declared.wanted.Wanted.{Wanted}
 use Rattle.oftp_tables.specs.declared.wanted.Wanted.TheVariants.{Numbered, Rows}
 use Rattle.oftp_tables.specs.Schema.{column, in_row, keyed, reference_to}
 
--- neither checks nor defaults that are computed, nor AUTOINCREMENT
+-- no CHECK, no computed default and no AUTOINCREMENT
 pub record HasNothingElse (t : Table) : Type 0 where
   pub checks : t.checks ≡ []
   pub computed : t.computed ≡ []
@@ -33,7 +33,7 @@ pub record IsKeyed (t : Table) : Type 0 where
   pub key : t.key ≡ Some 0
   pub primary : t.primary ≡ 0 ∷ []
 
--- the UNIQUE of these places, if there is one
+-- the UNIQUE of these columns, if there is one
 abbrev pub uniques_of : Option (Bor (List ℕ)) → List (List ℕ)
 uniques_of None = []
 uniques_of (Some places) = places.now ∷ []
@@ -43,12 +43,12 @@ abbrev pub orders_of : Option (Bor (List ℕ)) → List Order
 orders_of None = []
 orders_of (Some places) = plain ∷ []
 
--- it is the only one
+-- a table has no other UNIQUE
 pub record IsUniqueOn (places : Option (Bor (List ℕ))) (t : Table) : Type 0 where
   pub uniques : t.uniques ≡ uniques_of places
   pub orders : t.orders ≡ orders_of places
 
--- the column at a place refers to the numbers of a table, if there is one
+-- the column at an index refers to the numbers of a table, if there is one
 abbrev pub references_of : ℕ → Option (Bor (List ℕ)) → List Reference
 references_of place None = []
 references_of place (Some parent) = reference_to place parent.now ∷ []
@@ -65,19 +65,19 @@ pub record AreAlike (t u : Table) : Type 0 where
   pub references : t.references ≡ u.references
   pub nothing_else : HasNothingElse t
 
--- ---- what is wanted, as the catalog has it
+-- ---- the wanted tables, as the catalog has them
 
 -- columns of these names and types, and then others
 abbrev pub columns_then : List (Bor (List ℕ) × Kind) → List Column → List Column
 columns_then [] rest = rest
 columns_then (one ∷ others) rest = column one.0.now one.1 ∷ columns_then others rest
 
--- the columns of these parts in turn
+-- the columns of these parts in order
 abbrev pub columns_of : List (Bor (List (Bor (List ℕ) × Kind))) → List Column
 columns_of [] = []
 columns_of (part ∷ parts) = columns_then part.now (columns_of parts)
 
--- a table as it is wanted
+-- a wanted table
 abbrev pub table_of : Wanted → Table
 table_of (Numbered name tree columns unique parent) = record (keyed name.now (columns_of columns.now)) {
   tree = tree;
@@ -87,12 +87,12 @@ table_of (Numbered name tree columns unique parent) = record (keyed name.now (co
 }
 table_of (Rows name tree parent) = record in_row { name = name.now; tree = tree; references = reference_to 1 parent.now ∷ [] }
 
--- tables as they are wanted, and then others
+-- wanted tables, and then others
 abbrev pub tables_then : List Wanted → List Table → List Table
 tables_then [] rest = rest
 tables_then (one ∷ others) rest = table_of one ∷ tables_then others rest
 
--- the index that comes with a UNIQUE: its name, its tree, that of its table, and the places
+-- the index of a UNIQUE: its name, its tree, that of its table, and the columns
 abbrev pub index_of : Bor (List ℕ) × ℕ × ℕ × Bor (List ℕ) → Index
 index_of it = record { name = it.0.now; tree = it.1; table = it.2; columns = it.3.now; order = plain; is_unique = true }
 

@@ -12,23 +12,23 @@ use Rattle.sqlite.specs.State.{State}
 use Rattle.oftp_tables.specs.Schema.{about_tree, first_schema, in_file_tree, in_row_tree, issued_tree, no_schema, note_tree, office_schema, out_file_tree, out_row_tree, received_tree, schema_at}
 use Rattle.oftp_tables.specs.Tables.{about_row}
 
--- so many tables are there
+-- the first n tables exist
 abbrev pub HasTables : ℕ → Database → Type 0
 HasTables n db = db.schema ≡ schema_at n
 
--- the next table is there too, with no row, and the rows of the others stay
+-- the next table exists too, without rows, and the rows of the others are unchanged
 pub record Creates (n : ℕ) (old new : Database) : Type 0 where
   pub has : HasTables (n + 1) new
   pub sound : IsDatabase new
   pub empty : new.trees (next_tree (schema_at n)) ≡ []
   pub others : KeepsRows (schema_at n).tables old.trees new.trees
 
--- so many tables are there, with no row
+-- the first n tables exist, without rows
 pub record HasEmptyTables (n : ℕ) (db : Database) : Type 0 where
   pub has : HasTables n db
   pub empty : AllByRecursion (λ (t : Table). db.trees t.tree ≡ []) (schema_at n).tables
 
--- `about` tells schema 2, and the other tables have no row
+-- `about` has schema 2, and the other tables have no row
 pub record AreNew (db : Trees) : Type 0 where
   pub about : db about_tree ≡ about_row ∷ []
   pub in_files : db in_file_tree ≡ []
@@ -39,7 +39,7 @@ pub record AreNew (db : Trees) : Type 0 where
   pub received : db received_tree ≡ []
   pub notes : db note_tree ≡ []
 
--- the database has the office's tables, for no file and no response
+-- the database has the office's tables, without files and responses
 pub record IsNew (db : Database) : Type 0 where
   pub schema : db.schema ≡ office_schema
   pub sound : IsDatabase db
@@ -55,7 +55,7 @@ IsEmpty db = db.schema ≡ no_schema
 abbrev pub HasAbout : Schema → Type 0
 HasAbout schema = (schema ≡ first_schema) ⊎ (schema ≡ office_schema)
 
--- what `about` tells: its columns `id` and `schema`
+-- the rows of `about`: its columns `id` and `schema`
 abbrev pub about_told : Trees → List Row
 about_told db = map (λ row. column row 0 ∷ column row 2 ∷ []) (db about_tree)
 
@@ -63,12 +63,12 @@ about_told db = map (λ row. column row 0 ∷ column row 2 ∷ []) (db about_tre
 abbrev pub about_rows : ℕ → List Row
 about_rows schema = (Int (pos 1) ∷ Int (pos schema) ∷ []) ∷ []
 
--- the office's tables and nothing else, and `about` tells schema 2 and nothing else
+-- just the office's tables, and `about` has just schema 2
 pub record HasOffice (db : Database) : Type 0 where
   pub schema : db.schema ≡ office_schema
   pub about : about_told db.trees ≡ about_rows 2
 
--- likewise schema 1
+-- the same for schema 1
 pub record HasFirst (db : Database) : Type 0 where
   pub schema : db.schema ≡ first_schema
   pub about : about_told db.trees ≡ about_rows 1

@@ -13,7 +13,7 @@ use Rattle.oftp_tables.specs.Tables.{Tables, about_row, about_row_of, number_val
 use Rattle.oftp_tables.specs.Statements.{Others}
 use Rattle.oftp_tables.specs.Migration.{FirstTables, less_texts}
 
--- the numbers of the negative responses among these, which are numbered from a number on, as rows of one value
+-- the numbers of the Negative End Responses among these, which are numbered from n on, as rows of one value
 
 abbrev pub number_if_negative : ℕ → ResponseKind → List Row
 number_if_negative n EndResponse = []
@@ -23,7 +23,7 @@ abbrev pub numbers_from : ℕ → List Received → List Row
 numbers_from n [] = []
 numbers_from n (x ∷ xs) = number_if_negative n x.kind ++ numbers_from (n + 1) xs
 
--- the numbers of the negative responses in a store of schema 1
+-- the numbers of the Negative End Responses in a store of schema 1
 abbrev pub AreNegatives : Trees → List Row → Type 0
 AreNegatives db numbers = (r : Register) → FirstTables r db → numbers ≡ numbers_from 1 r.received
 
@@ -31,7 +31,7 @@ AreNegatives db numbers = (r : Register) → FirstTables r db → numbers ≡ nu
 abbrev pub empty_note : Row → Row
 empty_note number = column number 0 ∷ Null ∷ Text [] ∷ Text [] ∷ []
 
--- a row tells a number
+-- a row has a number
 pub record IsNumber (row : Row) : Type 0 where
   pub number : ℕ
   pub is : column row 0 ≡ Int (pos number)
@@ -41,20 +41,20 @@ abbrev pub put_notes : List Row → List Row → List Row
 put_notes [] rows = rows
 put_notes (number ∷ numbers) rows = put_notes numbers (put_row (empty_note number) rows)
 
--- `received_note` has the empty notes for these numbers, and the other tables stay
+-- `received_note` has the empty notes for these numbers, and the other tables are unchanged
 pub record AddsNotes (numbers : List Row) (old new : Database) : Type 0 where
   pub schema : new.schema ≡ office_schema
   pub notes : AllByRecursion IsNumber numbers → new.trees note_tree ≡ put_notes numbers (old.trees note_tree)
   pub others : Others note_tree old.trees new.trees
 
--- `about` tells schema 2, and the other tables stay
+-- `about` has schema 2, and the other tables are unchanged
 pub record SetsSchema (old new : Database) : Type 0 where
   pub schema : new.schema ≡ office_schema
   pub sound : IsDatabase new
   pub about : old.trees about_tree ≡ about_row_of 1 ∷ [] → new.trees about_tree ≡ about_row ∷ []
   pub others : Others about_tree old.trees new.trees
 
--- The tables are those of schema 2, given the numbers of the negative responses.
+-- The tables are those of schema 2, given the numbers of the Negative End Responses.
 pub record Upgrades (numbers : List Row) (old new : Database) : Type 0 where
   pub schema : new.schema ≡ office_schema
   pub sound : IsDatabase new

@@ -1,4 +1,4 @@
--- What a store stands for when it is opened.
+-- Which register a store has when it is opened.
 use Rattle.std.specs.Prelude.{◌≡◌, ◌≤◌, ◌⊎◌, false, IsTrue}
 use Rattle.sqlite.specs.Tree.{Trees}
 use Rattle.sqlite.specs.View.{doubt}
@@ -15,11 +15,11 @@ use Rattle.oftp_tables.specs.Making.{HasFirst, HasOffice, IsAsBefore, IsEmpty}
 use Rattle.oftp_tables.specs.Migration.{FirstTables, less_texts}
 use Rattle.oftp_tables.specs.Stands.{Has, IsContentOf}
 
--- The content of a store is that of the register: its tables, or no table at all where it is empty.
+-- The content of a store is that of the register: its tables, or no table at all where the register is empty.
 abbrev pub IsStoreOf : Register → Trees → Type 0
 IsStoreOf r db = IsContentOf db r ⊎ (IsSoundStore no_schema db × (r ≡ empty r.limits))
 
--- an open connection, with nothing that isn't committed, over a store of the register
+-- an open connection, without uncommitted changes, over a store of the register
 pub record IsAt (r : Register) (s : State) : Type 0 where
   pub is_open : IsTrue s.is_open
   pub settled : s.now ≡ s.committed
@@ -34,33 +34,33 @@ pub record IsFirstOf (r : Register) (db : Trees) : Type 0 where
   pub textless : less_texts r ≡ r
   pub sound : IsSound r
 
--- an open connection, with nothing that isn't committed, over such a store
+-- an open connection, without uncommitted changes, over such a store
 pub record IsAtFirst (r : Register) (s : State) : Type 0 where
   pub is_open : IsTrue s.is_open
   pub settled : s.now ≡ s.committed
   pub sound : IsDatabase s.now
   pub content : IsFirstOf r s.now.trees
 
--- a stop leaves what it left before, unless the store was so
+-- a crash leaves what it might have left before, unless the store was one of these
 abbrev pub SparesUnless : (Database → Type 0) → State → State → Type 0
 SparesUnless IsSo old new = IsTrue old.is_open → ¬ IsSo old.now → (db : Trees) → new.may_leave db → old.may_leave db
 
--- ---- what an opening makes of a connection
+-- ---- what an opening does to a connection
 
--- the stores that are opened: one with no table, or the office's
+-- the stores that are opened: without tables, or with the office's
 abbrev pub IsOpenable : Database → Type 0
 IsOpenable d = IsEmpty d ⊎ HasOffice d
 
--- the stores that are migrated: one of schema 1, or of schema 2
+-- the stores that are migrated: of schema 1, or of schema 2
 abbrev pub IsMigratable : Database → Type 0
 IsMigratable d = HasFirst d ⊎ HasOffice d
 
--- what a stop may leave of the store of a register: what it left before, or the register's tables
+-- what a crash may leave of the store of a register: what it might have left before, or the register's tables
 abbrev pub Leaves : (Register → State → Type 0) → State → State → Type 0
 Leaves IsOf old new = (r : Register) → IsOf r old → (db : Trees) → new.may_leave db → old.may_leave db ⊎ IsContentOf db r
 
--- An office is opened: over a store that is taken alone, and it has the register that the store stood for. Only one store of those
--- that are taken is changed.
+-- An office was opened. Its store is one that is accepted, and the office has the store's register. Of the accepted stores only one is
+-- changed.
 pub record Opens (Takes Changes : Database → Type 0) (IsOf : Register → State → Type 0) (limits : Limits) (old new : State) : Type 0 where
   pub clean : doubt old.is_clean ≤ doubt new.is_clean
   pub known : HasCleanDisk new → Takes old.now
@@ -68,7 +68,7 @@ pub record Opens (Takes Changes : Database → Type 0) (IsOf : Register → Stat
   pub left : HasCleanDisk new → Leaves IsOf old new
   pub spared : HasCleanDisk new → SparesUnless Changes old new
 
--- It isn't opened: for a wrong schema where the store isn't one that is taken, which is then as it was.
+-- An office wasn't opened. The error is a wrong schema where the store isn't accepted, and then it is unchanged.
 pub record Refuses (Takes Changes : Database → Type 0) (IsOf : Register → State → Type 0) (fault : StoreFault) (old new : State) : Type 0 where
   pub clean : doubt old.is_clean ≤ doubt new.is_clean
   pub autocommit : new.in_transaction ≡ false

@@ -15,7 +15,7 @@ use Rattle.sqlite_schema.specs.declared.schema.Action.TheVariants.{NoAction}
 abbrev pub column : List ℕ → Kind → Column
 column name kind = record { name = name; kind = kind; is_strict = true; not_null = true; default = Null; collation = Binary }
 
--- the column `no` of another table, which the column at a place refers to
+-- the column `no` of another table, to which the column at an index refers
 abbrev pub reference_to : ℕ → List ℕ → Reference
 reference_to place parent = record {
   columns = place ∷ [];
@@ -26,7 +26,7 @@ reference_to place parent = record {
   is_deferred = false;
 }
 
--- a table whose primary key is its first column, a whole number, so its rowid; with neither UNIQUE nor REFERENCES
+-- a table whose primary key is its first column, an integer, which is therefore its rowid; without UNIQUE and REFERENCES
 abbrev pub keyed : List ℕ → List Column → Table
 keyed name columns = record {
   name = name;
@@ -43,7 +43,7 @@ keyed name columns = record {
   is_counted = false;
 }
 
--- ---- the texts that make the tables
+-- ---- the SQL that makes the tables
 
 abbrev identity_text : List ℕ
 identity_text = codes "dataset TEXT NOT NULL, date TEXT NOT NULL, time TEXT NOT NULL, originator TEXT NOT NULL, destination TEXT NOT NULL, "
@@ -166,12 +166,12 @@ text_at n = unwrap_or (slice_get texts n) []
 abbrev pub no_schema : Schema
 no_schema = record { tables = []; indexes = []; views = [] }
 
--- the schema after so many tables
+-- the schema after the first n tables
 abbrev pub schema_at : ℕ → Schema
 schema_at zero = no_schema
 schema_at (suc n) = created (schema_at n) (table_at n)
 
--- schema 1, which `migrate` alone reads
+-- schema 1, which only `migrate` reads
 abbrev pub first_schema : Schema
 first_schema = schema_at 7
 

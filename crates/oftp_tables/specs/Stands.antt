@@ -1,4 +1,4 @@
--- When an office over a database stands.
+-- When an office over a database is open and has its register.
 use Rattle.std.specs.Prelude.{◌≡◌, false, IsTrue}
 use Rattle.sqlite.specs.Tree.{Trees}
 use Rattle.sqlite.specs.Effect.{Database, IsDatabase}
@@ -10,20 +10,20 @@ use Rattle.oftp_register.specs.Soundness.{IsSound}
 use Rattle.oftp_tables.specs.Schema.{office_schema}
 use Rattle.oftp_tables.specs.Tables.{Tables, register_in}
 
--- The content of a store stands for a register under the limits with which it is opened.
+-- the content of a store represents a register
 pub record IsContentOf (db : Trees) (r : Register) : Type 0 where
   pub store : IsSoundStore office_schema db
   pub tables : Tables r db
   pub sound : IsSound r
 
--- the database has the office's tables, and they stand for the register that is read from them
+-- the database has the office's tables, and they represent the register that is read from them
 pub record Holds (limits : Limits) (d : Database) : Type 0 where
   pub schema : d.schema ≡ office_schema
   pub store : IsDatabase d
   pub tables : Tables (register_in limits d.trees) d.trees
   pub sound : IsSound (register_in limits d.trees)
 
--- the connection is open, outside a transaction, and its tables stand for a register
+-- the connection is open, outside a transaction, and its tables represent a register
 pub record Stands (limits : Limits) (s : State) : Type 0 where
   pub is_open : IsTrue s.is_open
   pub autocommit : s.in_transaction ≡ false

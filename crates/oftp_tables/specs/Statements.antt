@@ -22,27 +22,27 @@ pub record IsOffice (db : Database) : Type 0 where
   pub schema : db.schema ≡ office_schema
   pub store : IsDatabase db
 
--- this was made of the office's tables
+-- this was done to the office's tables
 pub record Moves (Made : Trees → Trees → Type 0) (old new : Database) : Type 0 where
   pub schema : new.schema ≡ office_schema
   pub made : Made old.trees new.trees
   pub store : IsDatabase new
 
--- the tables but the one in this tree stay
+-- all tables except the one in this tree are unchanged
 abbrev pub Others : ℕ → Trees → Trees → Type 0
 Others tree old new = AllByRecursion (λ (t : Table). t.tree ≢ tree → new t.tree ≡ old t.tree) office_schema.tables
 
--- What statements in a transaction do to the office's tables: they make this of them, and an error is SQLite's.
+-- What statements in a transaction do to the office's tables. An error is one of SQLite.
 pub record Performs {S T : Type 0} (Made : Trees → Trees → Type 0) (g : Ghosts S) (old new : Held S) (result : Result T Error) : Type 0 where
   pub runs : Runs IsOffice (Moves Made) (state g old) (state g new) result
   pub told : HasCleanDisk (state g new) → IfErr result (IsStatementError g new)
 
--- what a statement came to, however many rows it changed
+-- the outcome of a statement, without the number of rows that it changed
 abbrev pub uncounted : Result ℕ Error → Result (Unit {0}) Error
 uncounted (Ok count) = Ok tt
 uncounted (Err e) = Err e
 
--- What a look-up does, whatever it answers: it reads, and a failure undoes no more than an open transaction.
+-- What a look-up does, whatever its result. It only reads, and an error undoes at most an open transaction.
 pub record Looks {T : Type 0} (old new : State) (result : Result T OfficeFault) : Type 0 where
   pub clean : doubt old.is_clean ≤ doubt new.is_clean
   pub mode : old.in_transaction ≡ false → new.in_transaction ≡ false
@@ -51,7 +51,7 @@ pub record Looks {T : Type 0} (old new : State) (result : Result T OfficeFault) 
   pub left : HasCleanDisk new → old.now.schema ≡ office_schema → (db : Trees) → new.may_leave db → old.may_leave db
   pub unrefused : IfErr result IsFailure
 
--- the fault as which an error is told, of which this holds
+-- the office's error for an error of which this holds
 abbrev pub IsFaultOf : (Error → Type 0) → OfficeFault → Type 0
 IsFaultOf Was fault =
     (e : Error) × Was e × IsFailure fault × ((fault ≡ Memory) ↔ ((e ≡ SqliteFailure code.OutOfMemory) ⊎ (e ≡ SqliteFailure code.NoRowid)))

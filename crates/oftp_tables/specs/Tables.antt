@@ -1,4 +1,4 @@
--- What the tables hold for a register.
+-- What the tables hold of a register.
 use Rattle.std.specs.Prelude.{length, ◌^◌, ◌≡◌, ◌+◌, ◌<◌, ◌==◌, ℕ, Bool, true, false, if◌then◌else◌, List, [], ◌∷◌, ◌++◌, map, drop, filter, find, codes, pos, negsuc, Option, Some, None, nat_le, ⊤}
 use Rattle.std.specs.List.{AllByRecursion}
 use Rattle.std.specs.Option.{option_map}
@@ -38,7 +38,7 @@ abbrev pub kind_text : ResponseKind → List ℕ
 kind_text EndResponse = codes "EERP"
 kind_text NegativeEndResponse = codes "NERP"
 
--- a reason is two digits in a negative response, and empty in the other
+-- a reason is two digits in a Negative End Response, and empty in an End-to-End Response
 abbrev pub reason_text : ResponseKind → ℕ → List ℕ
 reason_text EndResponse reason = []
 reason_text NegativeEndResponse reason = decimal 2 reason
@@ -72,11 +72,11 @@ sent_number Sent = 1
 abbrev pub number_value : ℕ → Value
 number_value n = Int (pos n)
 
--- the row of `about`, which tells a schema
+-- the row of `about` with a schema
 abbrev pub about_row_of : ℕ → Row
 about_row_of schema = number_value 1 ∷ Null ∷ number_value schema ∷ []
 
--- that of schema 2
+-- the row of `about` with schema 2
 abbrev pub about_row : Row
 about_row = about_row_of 2
 
@@ -97,7 +97,7 @@ issued_row n r = number_value n ∷ Null ∷ Text (kind_text r.kind) ∷ Text (r
 abbrev pub received_row : ℕ → Received → Row
 received_row n r = number_value n ∷ Null ∷ Text (kind_text r.kind) ∷ identity_values r.identity ++ Text (reason_text r.kind r.reason) ∷ []
 
--- a row of `in_row` or `out_row` without its rowid, which no register names
+-- a row of `in_row` or `out_row` without its rowid, which is no part of the register
 abbrev pub body_row : ℕ → ℕ → List ℕ → Row
 body_row n at body = number_value n ∷ number_value at ∷ Blob body ∷ []
 
@@ -143,7 +143,7 @@ rows_in f = f.rows
 abbrev pub rows_out : Outgoing → List (List ℕ)
 rows_out f = f.rows
 
--- each reason has two digits at most
+-- each reason has at most two digits
 
 abbrev pub HasReason : Option Issued → Type 0
 HasReason None = ⊤
@@ -162,7 +162,7 @@ abbrev pub AreNumbered : List Row → Type 0
 AreNumbered rows =
     AllByRecursion (λ r. has_rowid (id_in (rowid r)) r ≡ true) rows × IsAscending (λ a b. (has_rowid (id_in (rowid a)) b ≡ false) × (has_rowid (id_in (rowid b)) a ≡ false)) rows
 
--- These are the rows of `in_file`, `in_row` and `issued` for incoming files. The rows of `in_row` stand in any order.
+-- These are the rows of `in_file`, `in_row` and `issued` for incoming files. The rows of `in_row` are in any order.
 pub record HoldIncoming (files : List Incoming) (in_file in_row issued : List Row) : Type 0 where
   pub headers : in_file ≡ rows_from in_file_row 1 files
   pub rows : IsPermutation (bodies_from 1 (map rows_in files)) (less_rowids in_row)
@@ -171,7 +171,7 @@ pub record HoldIncoming (files : List Incoming) (in_file in_row issued : List Ro
   pub reasons : AllByRecursion (λ (f : Incoming). HasReason f.response) files
   pub few : length files < 2 ^ 63
 
--- These are the rows of `out_file` and `out_row` for outgoing files. The rows of `out_row` stand in any order.
+-- These are the rows of `out_file` and `out_row` for outgoing files. The rows of `out_row` are in any order.
 pub record HoldOutgoing (files : List Outgoing) (out_file out_row : List Row) : Type 0 where
   pub headers : out_file ≡ rows_from out_file_row 1 files
   pub rows : IsPermutation (bodies_from 1 (map rows_out files)) (less_rowids out_row)
@@ -185,14 +185,14 @@ pub record HoldReceived (responses : List Received) (received notes : List Row) 
   pub notes_are : notes ≡ notes_from 1 responses
   pub reasons : AllByRecursion (λ (x : Received). x.reason < 100) responses
 
--- the tables stand for the register
+-- the tables represent the register
 pub record Tables (r : Register) (db : Trees) : Type 0 where
   pub about : db about_tree ≡ about_row ∷ []
   pub incoming : HoldIncoming r.incoming (db in_file_tree) (db in_row_tree) (db issued_tree)
   pub outgoing : HoldOutgoing r.outgoing (db out_file_tree) (db out_row_tree)
   pub received : HoldReceived r.received (db received_tree) (db note_tree)
 
--- ---- the register that rows stand for
+-- ---- the register that rows represent
 
 abbrev pub number_in : Value → ℕ
 number_in (Int (pos n)) = n
@@ -236,7 +236,7 @@ identity_in at row = record {
   destination = bytes (column row (at + 4));
 }
 
--- a row tells an identity, in five columns from a place on
+-- a row has an identity, in five columns from an index on
 pub record TellsIdentity (it : Identity) (at : ℕ) (row : Row) : Type 0 where
   pub dataset : IsName 26 it.dataset × (column row at ≡ Text it.dataset)
   pub date : IsDigits 8 it.date × (column row (at + 1) ≡ Text it.date)
@@ -244,7 +244,7 @@ pub record TellsIdentity (it : Identity) (at : ℕ) (row : Row) : Type 0 where
   pub originator : IsName 25 it.originator × (column row (at + 3) ≡ Text it.originator)
   pub destination : IsName 25 it.destination × (column row (at + 4) ≡ Text it.destination)
 
--- a row tells these values in turn, from a place on
+-- a row has these values in order, from an index on
 abbrev pub TellsValues : Row → ℕ → Row → Type 0
 TellsValues [] at row = ⊤
 TellsValues (value ∷ values) at row = (column row at ≡ value) × TellsValues values (at + 1) row
@@ -252,7 +252,7 @@ TellsValues (value ∷ values) at row = (column row at ≡ value) × TellsValues
 abbrev pub has_number : ℕ → Row → Bool
 has_number n row = number_in (column row 0) == n
 
--- one row more among others in order of position
+-- a row is inserted into others that are in order of position
 abbrev pub put_by_place : Row → List Row → List Row
 put_by_place new [] = new ∷ []
 put_by_place new (row ∷ rows) = if nat_le (number_in (column new 1)) (number_in (column row 1)) then new ∷ row ∷ rows else row ∷ put_by_place new rows

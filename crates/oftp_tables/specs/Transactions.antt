@@ -1,4 +1,4 @@
--- What calls leave of a connection, whatever its tables are.
+-- What calls do to a connection, whatever its tables are.
 use Rattle.std.specs.Prelude.{◌≡◌, ◌≢◌, ◌≤◌, ◌↔◌, ◌⊎◌, ℕ, List, Result, Err, OnOk, OnErr, IsTrue, true, false}
 use Rattle.sqlite.specs.declared.error.Error.{Error}
 use Rattle.sqlite.specs.declared.error.Error.TheVariants.{SqliteFailure}
@@ -20,7 +20,7 @@ use Rattle.oftp_tables.specs.declared.fault.StoreFault.TheVariants.{Memory, Wron
 abbrev pub IsSpared : State → State → Type 0
 IsSpared old new = IsUnchanged old new ⊎ IsRolledBack old new
 
--- a statement in a transaction, or several, committed nothing
+-- one or several statements in a transaction committed nothing
 abbrev pub StaysInside : State → State → Type 0
 StaysInside old new = Shows old new new.now old.committed true
 
@@ -38,17 +38,17 @@ pub record IsInside (s : State) : Type 0 where
   pub is_open : IsTrue s.is_open
   pub inside : s.in_transaction ≡ true
 
--- What statements in a transaction do to a database that was so: they make this of it, and where they fail, nothing is committed.
+-- What statements in a transaction do to a database of this kind. If they fail, nothing is committed.
 pub record Runs {T E : Type 0} (Before : Database → Type 0) (Made : Database → Database → Type 0) (old new : State) (result : Result T E) : Type 0 where
   pub done : HasCleanDisk new → IsInside old → Before old.now → OnOk result (Made old.now new.now × StaysInside old new)
   pub failed : HasCleanDisk new → IsInside old → Before old.now → OnErr result (KeepsCommit old new)
   pub survives : Survives old new (λ _. ⊥)
 
--- what a stop within a transaction may leave, beside what it might have left before
+-- what a crash within a transaction may leave, besides what it might have left before
 abbrev pub MayLeave : (Database → Database → Type 0) → Database → Trees → Type 0
 MayLeave Made old db = (new : Database) × Made old new × (db ≡ new.trees)
 
--- What one transaction does to a database that was so: it makes this of it, and commits it, or leaves the last commit.
+-- What one transaction does to a database of this kind: it does this to it and commits, or leaves the last commit.
 pub record Transacts {T E : Type 0} (Before : Database → Type 0) (Made : Database → Database → Type 0) (old new : State) (result : Result T E) : Type 0 where
   pub clean : doubt old.is_clean ≤ doubt new.is_clean
   pub mode : new.in_transaction ≡ false
@@ -56,25 +56,25 @@ pub record Transacts {T E : Type 0} (Before : Database → Type 0) (Made : Datab
   pub failed : HasCleanDisk new → IsTrue old.is_open → Before old.now → OnErr result (IsUndone old new)
   pub left : HasCleanDisk new → IsTrue old.is_open → Before old.now → (db : Trees) → new.may_leave db → old.may_leave db ⊎ MayLeave Made old.now db
 
--- ---- what SQLite tells
+-- ---- the errors of SQLite
 
--- a statement told this error, in a transaction or past its end
+-- a statement returned this error, in a transaction or past its end
 abbrev pub IsStatementError : {S : Type 0} → Ghosts S → Held S → Error → Type 0
 IsStatementError {S} g new e = (e ≡ SqliteFailure TransactionState) ⊎ ((old : Held S) × (text : List ℕ) × (params : Row) × ExecutesInside 0 text params (state g old) (state g new) (Err e))
 
--- a statement of a transaction told it, or the end of the transaction
+-- a statement of a transaction returned it, or the end of the transaction
 abbrev pub IsTransactionError : {S : Type 0} → Ghosts S → Held S → Error → Type 0
 IsTransactionError {S} g new e = (last : Held S) × (IsStatementError g last e ⊎ FailsToCommit (state g last) (state g new) e)
 
--- a transaction told it, or a query
+-- a transaction or a query returned it
 abbrev pub IsToldError : {S : Type 0} → Ghosts S → Held S → Held S → Error → Type 0
 IsToldError g old new e = IsTransactionError g new e ⊎ ((text : List ℕ) × (params : Row) × FailsToQuery text params (state g old) (state g new) e)
 
--- the fault as which an error is told, of which this holds
+-- the fault of an error of which this holds
 abbrev pub IsStoreFaultOf : (Error → Type 0) → StoreFault → Type 0
 IsStoreFaultOf Was fault = (e : Error) × Was e × (fault ≢ WrongSchema) × ((fault ≡ Memory) ↔ (e ≡ SqliteFailure OutOfMemory))
 
--- What a query over the tables of a schema does, whatever it answers: it reads, and a failure undoes no more than an open transaction.
+-- What a query over the tables of a schema does, whatever its result. It only reads, and an error undoes at most an open transaction.
 pub record IsQuery {T E : Type 0} (schema : Schema) (old new : State) (result : Result T E) : Type 0 where
   pub clean : doubt old.is_clean ≤ doubt new.is_clean
   pub mode : old.in_transaction ≡ false → new.in_transaction ≡ false

@@ -1,4 +1,4 @@
-//! What the table `about` tells.
+//! The table `about`, which has the number of the schema.
 
 ghost use Rattle.std.specs.Prelude.{◌≡◌, ◌≢◌, ◌↔◌, ◌⊎◌, ◌<◌, ◌≤◌, [], codes, false, length, pos, IfErr, IfOk, OnOk, OnErr, IsTrue};
 ghost use Rattle.sqlite.specs.declared.types.Value.TheVariants.{Int};
@@ -14,7 +14,7 @@ use crate::fault::{StoreFault, store_fault_of};
 use sqlite::types::ValueRef;
 use sqlite::{Alter, Connection, Error, Row};
 
-// Whether a row tells a number.
+// Whether the value at an index of a row is this number.
 fn is_number(row: &Row, at: usize, wanted: u32) -> bool
     requires { at < length row.now }
     ensures { IsTrue result ↔ (column row.now at ≡ Int (pos wanted)) }
@@ -25,7 +25,7 @@ fn is_number(row: &Row, at: usize, wanted: u32) -> bool
     }
 }
 
-// Whether the rows are the one with id 1 and this schema.
+// Whether the rows of `about` are just the one with id 1 and this schema.
 fn tells(rows: &[Row], schema: u32) -> bool
     ensures { IsTrue result ↔ (rows.now ≡ about_rows schema) }
 {
@@ -35,7 +35,7 @@ fn tells(rows: &[Row], schema: u32) -> bool
     }
 }
 
-// Whether `about` tells a schema. The database has schema 1 or 2. An error is that of the query.
+// Whether `about` has this schema. The database has schema 1 or 2. An error is that of the query.
 fn about_tells<S: Alter>(conn: &mut Connection<S>, schema: u32) -> Result<bool, Error>
     requires has { HasAbout conn.old.schema }
     requires autocommit { conn.old.in_transaction ≡ false }
@@ -53,7 +53,7 @@ fn about_tells<S: Alter>(conn: &mut Connection<S>, schema: u32) -> Result<bool, 
     }
 }
 
-// Finds that `about` tells a schema; it is WrongSchema where it tells another. The database has schema 1 or 2.
+// Returns `WrongSchema` unless `about` has this schema. The database has schema 1 or 2.
 pub(crate) fn expect_schema<S: Alter>(
     conn: &mut Connection<S>,
     schema: u32,

@@ -1,21 +1,21 @@
-//! Why a store is not opened.
+//! Why a store wasn't opened.
 
 ghost use Rattle.std.specs.Prelude.{◌≡◌, ◌≢◌, ◌↔◌};
 
 use sqlite::{Error, ErrorCode};
 
-/// Why a store is not opened, or not brought to schema 2.
+/// Why a store wasn't opened, or wasn't migrated to schema 2.
 #[derive(Clone, Copy, Debug, PartialEq, Eq, Drop)]
 pub enum StoreFault {
     /// The store failed (fault 1).
     Store,
-    /// A growth was refused (fault 2).
+    /// Out of memory (fault 2).
     Memory,
-    /// The store holds something else than what is asked for (fault 3).
+    /// The store isn't one that the call accepts (fault 3).
     WrongSchema,
 }
 
-/// The fault that a failed call of the store is.
+/// The fault of a failed call of the store.
 pub fn store_fault_of(error: Error) -> StoreFault
     ensures named { result ≢ StoreFault.WrongSchema }
     ensures memory { (result ≡ StoreFault.Memory) ↔ (error ≡ Error.SqliteFailure ErrorCode.OutOfMemory) }

@@ -1,11 +1,11 @@
-//! The tables that an office keeps in a SQLite database: how they are made and known again, what they hold for a register, and how
-//! their rows are asked for and read.
+//! The tables in which an office keeps its register in a SQLite database: how they are made and recognised, what they hold of a register,
+//! and how their rows are queried and read.
 //!
 //! The definitions are in `specs/`, in this order: [`Schema`](../specs/Schema.antt) has the tables as data,
-//! [`Transactions`](../specs/Transactions.antt) says what calls leave of a connection, [`Making`](../specs/Making.antt) how the tables
-//! are made, [`Tables`](../specs/Tables.antt) which rows stand for a register, [`Statements`](../specs/Statements.antt) what statements
-//! do over these tables, [`Stands`](../specs/Stands.antt) and [`Opening`](../specs/Opening.antt) what a store stands for when it is
-//! opened, and [`Migration`](../specs/Migration.antt) and [`MigrationSteps`](../specs/MigrationSteps.antt) what becomes of schema 1.
+//! [`Transactions`](../specs/Transactions.antt) says what calls do to a connection, [`Making`](../specs/Making.antt) how the tables are
+//! made, [`Tables`](../specs/Tables.antt) which rows represent a register, [`Statements`](../specs/Statements.antt) what statements do to
+//! these tables, [`Stands`](../specs/Stands.antt) and [`Opening`](../specs/Opening.antt) which register a store has when it is opened, and
+//! [`Migration`](../specs/Migration.antt) and [`MigrationSteps`](../specs/MigrationSteps.antt) what a migration does to schema 1.
 #![tactic(auto)]
 
 mod about;

@@ -1,4 +1,4 @@
-//! The making of the tables.
+//! Making the tables.
 
 ghost use Rattle.std.specs.Prelude.{◌≡◌, ◌<◌, [], false, IfErr, IsTrue};
 ghost use Rattle.sqlite.specs.Held.{state};
@@ -9,7 +9,7 @@ ghost use Rattle.oftp_tables.specs.Making.{Creates, HasEmptyTables, HasTables, I
 
 use sqlite::{Alter, Connection, Error, Transaction};
 
-// The text that makes a table, by its place in the order of making.
+// The SQL that makes a table, by its index in the order of making.
 fn text_of(at: usize) -> &'static str
     requires { at < 8 }
     ensures { result.now ≡ text_at at }
@@ -42,7 +42,7 @@ fn text_of(at: usize) -> &'static str
     }
 }
 
-/// Makes one table, which its place in the order of making names, below 8. It tells what the statement does, its errors too.
+/// Makes one table, by its index below 8 in the order of making. It returns the result of the statement.
 pub(crate) fn make_table<S: Alter>(tx: &mut Transaction<'_, S>, at: usize) -> Result<usize, Error>
     requires { at < 8 }
     ensures same_reference { tx.new.conn.ghost_name ≡ tx.old.conn.ghost_name }

@@ -1,4 +1,4 @@
-//! The migration of a store of schema 1, in one transaction.
+//! Migrating a store of schema 1, in one transaction.
 
 ghost use Rattle.std.specs.Prelude.{◌≡◌, ◌≢◌, ◌∷◌, ◌⊎◌, ◌≤◌, [], Err, false, IfOk, IfErr, MatchResult, OnOk, OnErr, IsTrue};
 ghost use Rattle.sqlite.specs.Held.{state};
@@ -21,7 +21,7 @@ use crate::shape::{is_first, is_ours};
 use sqlite::{Alter, Connection, Error, Row, Transaction, params};
 use std::alloc::Global;
 
-// The numbers of the received negative responses, in rising order.
+// The numbers of the received Negative End Responses, in ascending order.
 fn find_negatives<S: Alter>(conn: &mut Connection<S>) -> Result<Vec<Row>, Error>
     requires { conn.old.in_transaction ≡ false }
     ensures mode { conn.new.in_transaction ≡ false }
@@ -36,7 +36,7 @@ fn find_negatives<S: Alter>(conn: &mut Connection<S>) -> Result<Vec<Row>, Error>
     )
 }
 
-// Adds the note of one negative response, with two empty texts.
+// Adds the note of one Negative End Response, with two empty texts.
 fn add_note<S: Alter>(tx: &mut Transaction<'_, S>, number: &Row) -> Result<usize, Error>
     ensures same_reference { tx.new.conn.ghost_name ≡ tx.old.conn.ghost_name }
     ensures runs { Runs (λ db. db.schema ≡ office_schema) (AddsNotes (number.now ∷ [])) (state S.Store tx.old.conn.now) (state S.Store tx.new.conn.now) result }
@@ -47,7 +47,7 @@ fn add_note<S: Alter>(tx: &mut Transaction<'_, S>, number: &Row) -> Result<usize
     )
 }
 
-// Adds the notes of all negative responses.
+// Adds the notes of all Negative End Responses.
 fn add_notes<S: Alter>(tx: &mut Transaction<'_, S>, numbers: &[Row]) -> Result<(), Error>
     ensures same_reference { tx.new.conn.ghost_name ≡ tx.old.conn.ghost_name }
     ensures runs { Runs (λ db. db.schema ≡ office_schema) (AddsNotes numbers.now) (state S.Store tx.old.conn.now) (state S.Store tx.new.conn.now) result }
@@ -58,7 +58,7 @@ fn add_notes<S: Alter>(tx: &mut Transaction<'_, S>, numbers: &[Row]) -> Result<(
     Ok(())
 }
 
-// Says that the tables are those of schema 2.
+// Writes schema 2 into `about`.
 fn set_schema<S: Alter>(tx: &mut Transaction<'_, S>) -> Result<usize, Error>
     ensures same_reference { tx.new.conn.ghost_name ≡ tx.old.conn.ghost_name }
     ensures runs { Runs (λ db. db.schema ≡ office_schema) SetsSchema (state S.Store tx.old.conn.now) (state S.Store tx.new.conn.now) result }
@@ -69,7 +69,7 @@ fn set_schema<S: Alter>(tx: &mut Transaction<'_, S>) -> Result<usize, Error>
     )
 }
 
-// Makes the tables of schema 2 of those of schema 1, given the numbers of the negative responses.
+// Turns the tables of schema 1 into those of schema 2, given the numbers of the Negative End Responses.
 fn upgrade<S: Alter>(tx: &mut Transaction<'_, S>, numbers: &[Row]) -> Result<(), Error>
     ensures same_reference { tx.new.conn.ghost_name ≡ tx.old.conn.ghost_name }
     ensures runs { Runs (λ db. db.schema ≡ first_schema) (Upgrades numbers.now) (state S.Store tx.old.conn.now) (state S.Store tx.new.conn.now) result }
@@ -90,7 +90,7 @@ fn upgrade_at_once<S: Alter>(conn: &mut Connection<S>, numbers: &[Row]) -> Resul
     tx.commit()
 }
 
-// Brings a store with the tables of schema 1 to schema 2.
+// Migrates a store with the tables of schema 1 to schema 2.
 fn renew<S: Alter>(conn: &mut Connection<S>) -> Result<(), Error>
     requires { conn.old.in_transaction ≡ false }
     ensures mode { conn.new.in_transaction ≡ false }
@@ -104,7 +104,7 @@ fn renew<S: Alter>(conn: &mut Connection<S>) -> Result<(), Error>
     upgrade_at_once(conn, numbers.as_slice())
 }
 
-// Brings a store with the tables of schema 1 to schema 2, if `about` tells schema 1.
+// Migrates a store with the tables of schema 1 to schema 2, if `about` has schema 1.
 fn migrate_first<S: Alter>(conn: &mut Connection<S>) -> Result<(), StoreFault>
     requires autocommit { conn.old.in_transaction ≡ false }
     requires has { conn.old.schema ≡ first_schema }
@@ -125,13 +125,13 @@ fn migrate_first<S: Alter>(conn: &mut Connection<S>) -> Result<(), StoreFault>
     }
 }
 
-/// Brings a store of schema 1 to schema 2, in one transaction: the table `received_note`, with one row of two empty texts for each
-/// received negative response, and `about`. A store of schema 2 is found. The connection is outside a transaction.
+/// Migrates a store of schema 1 to schema 2, in one transaction. It adds the table `received_note`, with one row of two empty texts for
+/// each received Negative End Response, and sets `about`. A store of schema 2 is accepted. The connection is outside a transaction.
 ///
 /// # Errors
 ///
-/// [`StoreFault::WrongSchema`] exactly where the store has neither schema, and so also where it has no table; it is then as it was.
-/// After another fault the store has the tables that it had, or those of schema 2; it is called again.
+/// - [`StoreFault::WrongSchema`] exactly where the store has neither schema, so also where it has no table. The store is unchanged.
+/// - [`StoreFault::Store`] and [`StoreFault::Memory`]: the store has its old tables or those of schema 2. The call may be repeated.
 pub fn migrate_tables<S: Alter>(conn: &mut Connection<S>) -> Result<(), StoreFault>
     requires { conn.old.in_transaction ≡ false }
     ensures mode { conn.new.in_transaction ≡ false }

@@ -1,4 +1,4 @@
-//! The opening of a store.
+//! Opening a store.
 
 ghost use Rattle.std.specs.Prelude.{◌≡◌, ◌≢◌, ◌⊎◌, Err, false, IfErr, MatchResult, OnOk, IsTrue};
 ghost use Rattle.sqlite.specs.Held.{state};
@@ -15,13 +15,13 @@ use crate::make::create;
 use crate::shape::{is_blank, is_ours};
 use sqlite::{Alter, Connection};
 
-/// Makes the tables of schema 2 where the store is empty, or finds them. The connection is outside a transaction.
+/// Accepts a store with the tables of schema 2, and makes these tables in an empty store. The connection is outside a transaction.
 ///
 /// # Errors
 ///
-/// [`StoreFault::WrongSchema`] exactly where the store is neither empty nor has those tables and nothing else, with the right `about`;
-/// it is then as it was. A store with other tables is told so whatever its disk does. After another fault, which is one of SQLite, the
-/// store has what it had, or the new tables.
+/// - [`StoreFault::WrongSchema`] exactly where the store isn't empty and doesn't hold just those tables, with the right `about`. The store
+///   is unchanged. For a store with other tables this is the error whatever its disk does.
+/// - [`StoreFault::Store`] and [`StoreFault::Memory`], from an error of SQLite: the store has its old content or the new tables.
 pub fn open_tables<S: Alter>(conn: &mut Connection<S>) -> Result<(), StoreFault>
     requires { conn.old.in_transaction ≡ false }
     ensures mode { conn.new.in_transaction ≡ false }

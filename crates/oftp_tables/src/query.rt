@@ -1,4 +1,4 @@
-//! Statements over the office's tables.
+//! Queries over the office's tables.
 
 ghost use Rattle.std.specs.Prelude.{◌≡◌, ◌↔◌, ◌⊎◌, ◌<◌, ◌^◌, pos, IfErr, IfOk};
 ghost use Rattle.sqlite.specs.Held.{state};
@@ -14,7 +14,7 @@ use oftp_register::OfficeFault;
 use sqlite::types::ValueRef;
 use sqlite::{Alter, Connection, Error, ErrorCode, Row};
 
-/// A number as a value of the database, below 2^63.
+/// A number below 2^63 as an integer of the database.
 pub fn number(no: u64) -> i64
     requires { no < 2 ^ 63 }
     ensures { result ≡ pos no }
@@ -22,7 +22,7 @@ pub fn number(no: u64) -> i64
     no as i64
 }
 
-/// An error of the store as the office tells it: want of memory, and where no number is left, is [`OfficeFault::Memory`].
+/// The office's error for an error of the store. Out of memory, and that no rowid is left, are [`OfficeFault::Memory`].
 pub fn office_fault_of(error: Error) -> OfficeFault
     ensures fails { IsFailure result }
     ensures memory { (result ≡ OfficeFault.Memory) ↔ ((error ≡ Error.SqliteFailure ErrorCode.OutOfMemory) ⊎ (error ≡ Error.SqliteFailure ErrorCode.NoRowid)) }
@@ -35,11 +35,11 @@ pub fn office_fault_of(error: Error) -> OfficeFault
     }
 }
 
-/// Asks the store, by the text of a SELECT over the office's tables. All rows of the answer are held in memory.
+/// Runs a query over the office's tables. All rows of the result are in memory.
 ///
 /// # Errors
 ///
-/// That of the query as [`office_fault_of`] tells it.
+/// That of the query, as [`office_fault_of`] gives it.
 pub fn ask<S: Alter>(
     conn: &mut Connection<S>,
     sql: &str,

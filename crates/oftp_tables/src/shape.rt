@@ -12,28 +12,28 @@ use sqlite_schema::schema::{Action, Column, Index, Kind, Reference, Schema, Tabl
 use sqlite_value::keys::{Collation, Order};
 use sqlite_value::value::{Bytes, Value};
 
-// Whether it is this name.
+// Whether this is the name.
 fn is_named(name: &Bytes, text: &str) -> bool
     ensures { IsTrue result ↔ (name.now ≡ text.now) }
 {
     name.as_slice() == text.as_bytes()
 }
 
-// Whether these are the places.
+// Whether the lists of column indexes are equal.
 fn are_places(places: &[usize], wanted: &[usize]) -> bool
     ensures { IsTrue result ↔ (places.now ≡ wanted.now) }
 {
     places == wanted
 }
 
-// Whether it is the order without a word.
+// Whether this is the default order.
 fn is_plain(order: Order) -> bool
     ensures { IsTrue result ↔ (order ≡ plain) }
 {
     order.digits == 0
 }
 
-// Whether it is this column of a table of the office.
+// Whether this is such a column of one of the office's tables.
 fn is_column(column: &Column, name: &str, kind: Kind) -> bool
     ensures { IsTrue result ↔ (column.now ≡ schema.column name.now kind) }
 {
@@ -45,7 +45,7 @@ fn is_column(column: &Column, name: &str, kind: Kind) -> bool
         && column.collation == Collation::Binary
 }
 
-// Whether the columns are the first ones and those of the parts, in this order.
+// Whether the columns are `first` and then those of the parts, in this order.
 fn are_columns(columns: &[Column], first: &[(&str, Kind)], parts: &[Columns]) -> bool
     ensures { IsTrue result ↔ (columns.now ≡ columns_then first.now (columns_of parts.now)) }
 {
@@ -68,7 +68,7 @@ fn is_no_term(terms: &Terms) -> bool
     terms.roots.is_empty()
 }
 
-// Whether a table has neither checks nor defaults that are computed, nor AUTOINCREMENT.
+// Whether a table has no CHECK, no computed default and no AUTOINCREMENT.
 fn has_nothing_else(table: &Table) -> bool
     ensures { IsTrue result ↔ HasNothingElse table.now }
 {
@@ -80,14 +80,14 @@ fn has_nothing_else(table: &Table) -> bool
         && !table.is_counted
 }
 
-// Whether it is a table of this name in this tree.
+// Whether this is a table with this name in this tree.
 fn is_framed(table: &Table, name: &str, tree: u32) -> bool
     ensures { IsTrue result ↔ IsFramed name.now tree table.now }
 {
     is_named(&table.name, name) && table.tree == tree && has_nothing_else(table)
 }
 
-// Whether it is a table with a number.
+// Whether this is a table whose key is its number.
 fn is_keyed(table: &Table) -> bool
     ensures { IsTrue result ↔ IsKeyed table.now }
 {
@@ -97,7 +97,7 @@ fn is_keyed(table: &Table) -> bool
     }
 }
 
-// Whether a table has this UNIQUE and no other, or none.
+// Whether a table has just this UNIQUE, or none.
 fn is_unique_on(table: &Table, wanted: Option<&[usize]>) -> bool
     ensures { IsTrue result ↔ IsUniqueOn wanted.entry table.now }
 {
@@ -110,7 +110,7 @@ fn is_unique_on(table: &Table, wanted: Option<&[usize]>) -> bool
     }
 }
 
-// Whether it is the name `no` alone.
+// Whether the only name is `no`.
 fn is_no(names: &[Bytes]) -> bool
     ensures { IsTrue result ↔ (names.now ≡ codes "no" ∷ []) }
 {
@@ -120,7 +120,7 @@ fn is_no(names: &[Bytes]) -> bool
     }
 }
 
-// Whether it refers to the numbers of a table.
+// Whether this refers to the numbers of a table.
 fn is_reference_to(reference: &Reference, place: usize, parent: &str) -> bool
     ensures { IsTrue result ↔ (reference.now ≡ reference_to place parent.now) }
 {
@@ -132,7 +132,7 @@ fn is_reference_to(reference: &Reference, place: usize, parent: &str) -> bool
         && !reference.is_deferred
 }
 
-// Whether a table refers to the numbers of another and to nothing else, or to nothing.
+// Whether a table refers just to the numbers of another, or to nothing.
 fn refers_to(references: &[Reference], place: usize, parent: Option<&str>) -> bool
     ensures { IsTrue result ↔ (references.now ≡ references_of place parent.entry) }
 {
@@ -145,7 +145,7 @@ fn refers_to(references: &[Reference], place: usize, parent: Option<&str>) -> bo
     }
 }
 
-// Whether it is a table as it is wanted, field by field.
+// Whether the table is as wanted, field by field.
 fn is_alike(table: &Table, wanted: &Wanted) -> bool
     ensures { IsTrue result ↔ AreAlike table.now (table_of wanted.now) }
 {
@@ -174,7 +174,7 @@ fn is_alike(table: &Table, wanted: &Wanted) -> bool
     }
 }
 
-// Whether it is a table as it is wanted.
+// Whether the table is as wanted.
 fn is_table(table: &Table, wanted: &Wanted) -> bool
     ensures { IsTrue result ↔ (table.now ≡ table_of wanted.now) }
 {
@@ -197,7 +197,7 @@ fn are_tables(tables: &[Table], first: &[Wanted], later: &[Wanted]) -> bool
     are_tables(tables, later, &[])
 }
 
-// Whether it is this index.
+// Whether this is the index.
 fn is_index(index: &Index, wanted: &(&str, u32, u32, &[usize])) -> bool
     ensures { IsTrue result ↔ (index.now ≡ index_of wanted.now) }
 {
@@ -222,7 +222,7 @@ fn are_indexes(indexes: &[Index], wanted: &[(&str, u32, u32, &[usize])]) -> bool
     is_index(index, one) && are_indexes(rest, others)
 }
 
-// Whether the schema has these tables and indexes, and no view.
+// Whether the schema has just these tables and indexes, and no view.
 fn is_shape(
     schema: &Schema,
     first: &[Wanted],
@@ -236,14 +236,14 @@ fn is_shape(
         && are_indexes(schema.indexes.as_slice(), indexes)
 }
 
-/// Whether a database has the tables of schema 2, as the office makes them, and nothing else.
+/// Whether a database has just the tables of schema 2, as the office makes them.
 pub(crate) fn is_ours(schema: &Schema) -> bool
     ensures { IsTrue result ↔ (schema.now ≡ office_schema) }
 {
     is_shape(schema, &FIRST, &LATER, &INDEXES)
 }
 
-/// Whether a database has the tables of schema 1, as they were made, and nothing else.
+/// Whether a database has just the tables of schema 1, as they were made.
 pub(crate) fn is_first(schema: &Schema) -> bool
     ensures { IsTrue result ↔ (schema.now ≡ first_schema) }
 {

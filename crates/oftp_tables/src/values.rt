@@ -1,4 +1,4 @@
-//! The values that rows tell. A value that fits no part of an entry is `None`, and counts as a failure of the store.
+//! Reading the values of a row. A value that no part of an entry could have is `None`, which counts as an error of the store.
 
 ghost use Rattle.std.specs.Prelude.{◌≡◌, ◌⊎◌, ◌+◌, ◌<◌, ◌≤◌, ◌^◌, ℕ, List, [], codes, false, length, IfOk, IfSome, IfErr, IsSome, pos};
 ghost use Rattle.std.specs.Str.{IsUtf8, bytes_eq};
@@ -18,7 +18,7 @@ use sqlite::Row;
 use sqlite::types::ValueRef;
 use std::alloc::Global;
 
-/// The name that a row tells at a place.
+/// Reads a name from column `at`.
 pub fn name_at<const N: usize>(row: &Row, at: usize) -> Option<Name<N>>
     ensures told { IfSome result (λ name. name ≡ bytes (column row.now at)) }
     ensures fits { IfSome result (λ name. column row.now at ≡ value.Text name) }
@@ -33,7 +33,7 @@ pub fn name_at<const N: usize>(row: &Row, at: usize) -> Option<Name<N>>
     }
 }
 
-/// The digits that a row tells at a place.
+/// Reads digits from column `at`.
 pub fn digits_at<const N: usize>(row: &Row, at: usize) -> Option<DigitString<N>>
     ensures told { IfSome result (λ digits. digits ≡ bytes (column row.now at)) }
     ensures fits { IfSome result (λ digits. column row.now at ≡ value.Text digits) }
@@ -48,7 +48,7 @@ pub fn digits_at<const N: usize>(row: &Row, at: usize) -> Option<DigitString<N>>
     }
 }
 
-/// The identity that a row tells, in five columns from a place on. The place is below 100.
+/// Reads an identity from five columns, the first of which is `at`, below 100.
 pub fn identity_at(row: &Row, at: usize) -> Option<Identity>
     requires { at < 100 }
     ensures told { IfSome result (λ identity. identity ≡ identity_in at row.now) }
@@ -64,7 +64,7 @@ pub fn identity_at(row: &Row, at: usize) -> Option<Identity>
     })
 }
 
-/// The format that a row tells at a place.
+/// Reads a format from column `at`.
 pub fn format_at(row: &Row, at: usize) -> Option<Format>
     ensures told { IfSome result (λ format. format ≡ format_in (bytes (column row.now at))) }
     ensures fits { IfSome result (λ format. column row.now at ≡ value.Text (format_text format)) }
@@ -88,7 +88,7 @@ pub fn format_at(row: &Row, at: usize) -> Option<Format>
     }
 }
 
-/// The number of octets or rows that a row tells at a place.
+/// Reads a number of octets or rows from column `at`.
 pub fn number_at(row: &Row, at: usize) -> Option<u32>
     ensures told { IfSome result (λ n. n ≡ number_in (column row.now at)) }
     ensures fits { IfSome result (λ n. column row.now at ≡ value.Int (pos n)) }
@@ -103,7 +103,7 @@ pub fn number_at(row: &Row, at: usize) -> Option<u32>
     }
 }
 
-/// The number of an entry that a row tells at a place.
+/// Reads the number of an entry from column `at`.
 pub fn no_at(row: &Row, at: usize) -> Option<u64>
     ensures fits { IfSome result (λ n. column row.now at ≡ value.Int (pos n)) }
     ensures found { (n : ℕ) → column row.now at ≡ value.Int (pos n) → IsSome result }
@@ -117,11 +117,11 @@ pub fn no_at(row: &Row, at: usize) -> Option<u64>
     }
 }
 
-/// The text that a row tells at a place.
+/// Reads a text from column `at`.
 ///
 /// # Errors
 ///
-/// [`OfficeFault::Store`] where there is none that fits, and [`OfficeFault::Memory`].
+/// [`OfficeFault::Store`] where there is no text that fits, and [`OfficeFault::Memory`].
 pub fn text_at(alloc: Global, row: &Row, at: usize) -> Result<Note, OfficeFault>
     ensures told { IfOk result (λ note. note ≡ bytes (column row.now at)) }
     ensures fits { IfOk result (λ note. column row.now at ≡ value.Text note) }
@@ -143,7 +143,7 @@ pub fn text_at(alloc: Global, row: &Row, at: usize) -> Result<Note, OfficeFault>
     }
 }
 
-/// The state of an incoming file that a row tells at a place.
+/// Reads the state of an incoming file from column `at`.
 pub fn incoming_state_at(row: &Row, at: usize) -> Option<IncomingState>
     ensures told { IfSome result (λ state. state ≡ in_state_in (bytes (column row.now at))) }
     ensures fits { IfSome result (λ state. column row.now at ≡ value.Text (in_state_text state)) }
@@ -163,7 +163,7 @@ pub fn incoming_state_at(row: &Row, at: usize) -> Option<IncomingState>
     }
 }
 
-// The number that two digits make.
+// The number that two digits stand for.
 fn two_digits_of(text: &[u8]) -> Option<Count<2>>
     ensures told { IfSome result (λ reason. reason ≡ number text.now) }
     ensures fits { IfSome result (λ reason. text.now ≡ decimal 2 reason) }
@@ -204,7 +204,7 @@ fn unrefused_state_of(text: &[u8]) -> Option<OutgoingState>
     }
 }
 
-// The state of an outgoing file by its text, and by the text of its reason.
+// The state of an outgoing file, from its text and the text of its reason.
 fn outgoing_state_of(text: &[u8], reason: &[u8]) -> Option<OutgoingState>
     ensures told { IfSome result (λ state. state ≡ out_state_in text.now reason.now) }
     ensures fits { IfSome result (λ state. (text.now ≡ out_state_text state) × (reason.now ≡ refusal_text state)) }
@@ -222,8 +222,8 @@ fn outgoing_state_of(text: &[u8], reason: &[u8]) -> Option<OutgoingState>
     }
 }
 
-/// The state of an outgoing file that a row tells at a place, and at the next the reason of a refusal, which is empty in every other
-/// state. The place is below 100.
+/// Reads the state of an outgoing file from column `at`, below 100, and the reason of a refusal from the next column, which is empty in any
+/// other state.
 pub fn outgoing_state_at(row: &Row, at: usize) -> Option<OutgoingState>
     requires { at < 100 }
     ensures told { IfSome result (λ state. state ≡ out_state_in (bytes (column row.now at)) (bytes (column row.now (at + 1)))) }
@@ -237,7 +237,7 @@ pub fn outgoing_state_at(row: &Row, at: usize) -> Option<OutgoingState>
     }
 }
 
-/// The kind of response that a row tells at a place.
+/// Reads the kind of a response from column `at`.
 pub fn kind_at(row: &Row, at: usize) -> Option<ResponseKind>
     ensures told { IfSome result (λ kind. kind ≡ kind_in (bytes (column row.now at))) }
     ensures fits { IfSome result (λ kind. column row.now at ≡ value.Text (kind_text kind)) }
@@ -257,7 +257,7 @@ pub fn kind_at(row: &Row, at: usize) -> Option<ResponseKind>
     }
 }
 
-// The reason of a response of a kind by its text.
+// The reason of a response of this kind, from its text.
 fn reason_of(kind: ResponseKind, text: &[u8]) -> Option<Count<2>>
     ensures told { IfSome result (λ reason. reason ≡ number text.now) }
     ensures fits { IfSome result (λ reason. text.now ≡ reason_text kind reason) }
@@ -270,7 +270,8 @@ fn reason_of(kind: ResponseKind, text: &[u8]) -> Option<Count<2>>
     }
 }
 
-/// The reason that a row tells at a place of a response of a kind: two digits of a negative one, and nothing of the other, which is 0.
+/// Reads the reason of a response of this kind from column `at`: two digits for a Negative End Response, and an empty text, which is 0, for
+/// an End-to-End Response.
 pub fn reason_at(row: &Row, at: usize, kind: ResponseKind) -> Option<Count<2>>
     ensures told { IfSome result (λ reason. reason ≡ number (bytes (column row.now at))) }
     ensures fits { IfSome result (λ reason. column row.now at ≡ value.Text (reason_text kind reason)) }
@@ -282,7 +283,7 @@ pub fn reason_at(row: &Row, at: usize, kind: ResponseKind) -> Option<Count<2>>
     }
 }
 
-/// Whether a response was sent, as a row tells it at a place.
+/// Reads from column `at` whether a response was sent.
 pub fn dispatch_at(row: &Row, at: usize) -> Option<Dispatch>
     ensures told { IfSome result (λ dispatch. dispatch ≡ dispatch_in (number_in (column row.now at))) }
     ensures fits { IfSome result (λ dispatch. column row.now at ≡ value.Int (pos (sent_number dispatch))) }
@@ -295,7 +296,7 @@ pub fn dispatch_at(row: &Row, at: usize) -> Option<Dispatch>
     }
 }
 
-/// The body of a row of a file.
+/// Reads the body of a row of a file from column `at`.
 ///
 /// # Errors
 ///

@@ -7,21 +7,21 @@ pub(crate) type Columns = &'static [(&'static str, Kind)];
 
 /// A table as a catalog has it.
 pub(crate) enum Wanted {
-    /// One whose first column is its key, a number.
+    /// A table whose first column, a number, is its key.
     Numbered {
         name: &'static str,
         tree: u32,
         columns: &'static [Columns],
-        /// The places of its UNIQUE.
+        /// The columns of its UNIQUE.
         unique: Option<&'static [usize]>,
-        /// The table whose numbers it has.
+        /// The table to whose numbers it refers.
         parent: Option<&'static str>,
     },
-    /// One of the rows of files: its name, its tree, and the table of the files.
+    /// A table of rows of files: its name, its tree, and the table of the files.
     Rows(&'static str, u32, &'static str),
 }
 
-// The columns that several tables have: a number, an identity, and what else is told of a file.
+// The columns that several tables share: a number, an identity, and other fields of a file.
 const NUMBER: Columns = &[("no", Integer)];
 
 const NAMES: Columns = &[
@@ -38,13 +38,13 @@ const FILE: Columns = &[
     ("description", Text),
 ];
 
-/// The columns of rows.
+/// The columns of a table of rows.
 pub(crate) const ROW: Columns = &[("no", Integer), ("pos", Integer), ("body", Blob)];
 
-/// The places of a row's number and position.
+/// The indexes of a row's number and position.
 pub(crate) const POSITION: &[usize] = &[1, 2];
 
-// The places of an identity, and of a kind and an identity.
+// The indexes of an identity, and of a kind with an identity.
 const IDENTITY: &[usize] = &[2, 3, 4, 5, 6];
 
 const RESPONSE: &[usize] = &[2, 3, 4, 5, 6, 7];
@@ -103,7 +103,7 @@ pub(crate) const FIRST: [Wanted; 7] = [
     },
 ];
 
-/// The tables that schema 2 has behind these.
+/// The tables that schema 2 adds.
 pub(crate) const LATER: [Wanted; 1] = [Wanted::Numbered {
     name: "received_note",
     tree: 12,
@@ -112,7 +112,7 @@ pub(crate) const LATER: [Wanted; 1] = [Wanted::Numbered {
     parent: Some("received"),
 }];
 
-/// The index of each UNIQUE: its name, its tree, that of its table, and the places.
+/// The index of each UNIQUE: its name, its tree, that of its table, and the columns.
 pub(crate) const INDEXES: [(&str, u32, u32, &[usize]); 5] = [
     ("sqlite_autoindex_in_file_1", 2, 1, IDENTITY),
     ("sqlite_autoindex_in_row_1", 4, 3, POSITION),

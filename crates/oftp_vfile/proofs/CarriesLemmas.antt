@@ -1,4 +1,4 @@
--- What a taker takes carries its rows, and what carries rows within the limits has no fault.
+-- The payloads that a taker takes carry its rows, and payloads that carry rows within the limits have no error.
 use Rattle.std.proofs.Common.{◌≡◌, ◌≢◌, ℕ, suc, ◌+◌, ◌*◌, ◌/◌, ◌%◌, ◌<◌, ◌≤◌, Bool, true, false, cond, nat_le, eqb, ◌&&◌, Some, None, List, [], ◌∷◌, ◌++◌, length, get_or, take, drop, map, refl, sym, ap, ◌∙◌, subst, arith, append_assoc, All, not}
 use Rattle.std.specs.List.{flat_map}
 use Rattle.std.proofs.lemmas.Bool.{eq-eqb, eqb-true, leb-false, leb-true, le-leb, le-ltb, lt-leb, ltb-false, false≢true, not-false, not_from_true, or_from, or_parts}
@@ -53,7 +53,7 @@ joins_open octets xs xys p ps q qs g ih (r ∷ rs) tail e =
     let k : xys ≡ (q ∷ rs) ++ (tail ++ p) ∷ ps = ih (q ∷ rs) tail (g ∙ ap (λ (x : List (List ℕ)). q ∷ x) t) in
     ap (onto octets) k ∙ ap (λ (x : List ℕ). x ∷ (rs ++ (tail ++ p) ∷ ps)) h
 
--- what more subrecords add: the first of their pieces goes on from the open part
+-- what more subrecords add: the first of their pieces continues the open part
 pub pieces_more : (xs ys : List Subrecord) (p : List ℕ) (ps : List (List ℕ)) → pieces ys ≡ p ∷ ps → (rows : List (List ℕ)) (tail : List ℕ) → pieces xs ≡ rows ++ tail ∷ []
     → pieces (xs ++ ys) ≡ rows ++ (tail ++ p) ∷ ps
 pieces_more [] ys p ps f rows tail e =
@@ -122,7 +122,7 @@ blocks_more octets more rows tail b h =
     ] in
     both (nat_le BLOCK (length all)) refl
 
--- what a header says
+-- what a header encodes
 pub header_says : (s : Subrecord) → length s.octets < 64 → (header s % 64 ≡ length s.octets) × (nat_le 128 (header s) ≡ s.ends) × (header s % 128 ≡ length s.octets)
 header_says s h =
     let n : ℕ = length s.octets in
@@ -299,7 +299,7 @@ same_lengths (a ∷ as') (b ∷ bs) x y l e =
     let r = same_lengths as' bs x y (omega arith) t in
     (ap (λ (z : ℕ). z ∷ as') h ∙ ap (λ (z : List ℕ). b ∷ z) r.0, r.1)
 
--- subrecords are spelled in one way: what begins with them has them first
+-- subrecords are encoded in one way: what begins with them has them first
 pub decode : (xs ys : List Subrecord) (rest : List ℕ) → AreShort xs → AreShort ys → payload_of xs ++ rest ≡ payload_of ys → (more : List Subrecord) × (ys ≡ xs ++ more) × (rest ≡ payload_of more)
 decode [] ys rest h k e = (ys, refl, e)
 decode (x ∷ xs) [] rest h k e = absurd (let q : header x ∷ (x.octets ++ payload_of xs ++ rest) ≡ [] = e in cc)
@@ -360,7 +360,7 @@ carried-joined Variable longest ss rows tail c = joined_pieces ss rows tail c.0
 carried-joined Unstructured longest ss rows tail c = c.1.joined
 carried-joined Text longest ss rows tail c = c.1.joined
 
--- where a stream goes on it hasn't ended
+-- a stream that goes on hasn't ended
 stream_on : (xs : List Subrecord) (s : Subrecord) (ys : List Subrecord) → IsStream (xs ++ s ∷ ys) → is_ended (stage_of xs) ≡ false
 stream_on [] s ys h = refl
 stream_on (x ∷ []) s ys h = ap (λ (b : Bool). is_ended (cond b Ended Open)) h.0
@@ -383,7 +383,7 @@ stage_some [] s (y ∷ ys) e = stage_some [] y ys e
 stage_some (x ∷ []) s ys e = stage_some [] s ys e
 stage_some (x ∷ y ∷ xs) s ys e = stage_some (y ∷ xs) s ys e
 
--- the first piece of what goes on: the octets of the subrecord where it ends its record, and more pieces stand behind
+-- the first piece of what follows: the octets of the subrecord if it ends its record, and then more pieces
 first_piece : (s : Subrecord) (ys : List Subrecord) → (p : List ℕ) × (ps : List (List ℕ)) × (more : List ℕ) × (pieces (s ∷ ys) ≡ p ∷ ps) × (p ≡ s.octets ++ more)
     × (s.ends ≡ true → (more ≡ []) × (0 < length ps))
 first_piece s ys =
@@ -396,7 +396,7 @@ first_piece s ys =
     ] in
     both s.ends
 
--- a piece among rows and an open part is one of the rows, or the open part where nothing stands behind it
+-- a piece among rows and an open part is one of the rows, or the open part if nothing follows it
 piece_among : (P : List ℕ → Type 0) (longest : ℕ) (rows all : List (List ℕ)) (tail p : List ℕ) (ps : List (List ℕ)) → rows ++ tail ∷ [] ≡ all ++ p ∷ ps → All P rows
     → ((r : List ℕ) → P r → length r ≤ longest) → length tail ≤ longest
     → (length p ≤ longest) × (0 < length ps → P p) × (length all + length ps ≡ length rows)
@@ -423,7 +423,7 @@ blocks_length octets rows tail b = ap length b.joined ∙ length-append (octets_
         let more : length (octets_in rs) ≡ BLOCK * length rs = whole rs (λ k d h. a (suc k) d (omega arith)) in
         omega (arith, length-append r (octets_in rs), one, more)
 
--- what a record's subrecord leaves room for, where the records go on so
+-- what a record's subrecord leaves room for, if the records go on
 record_on : (longest : ℕ) (P : List ℕ → Type 0) (xs : List Subrecord) (s : Subrecord) (ys : List Subrecord) (all rows : List (List ℕ)) (tail tail1 : List ℕ)
     → pieces xs ≡ all ++ tail ∷ [] → pieces (xs ++ s ∷ ys) ≡ rows ++ tail1 ∷ [] → All P rows → ((r : List ℕ) → P r → length r ≤ longest) → length tail1 ≤ longest
     → (length tail + length s.octets ≤ longest) × (s.ends ≡ true → P (tail ++ s.octets)) × (length all + cond s.ends 1 0 ≤ length rows)
@@ -465,7 +465,7 @@ on_within Text longest xs s ys all rows tail tail1 c d =
     ∙ ap (λ n. length (octets_of xs) + n) (length-append s.octets (octets_of ys)) in
     (omega (arith, a, b, l, d.1.rest), refl)
 
--- where what goes on so carries rows within the limits, the next subrecord has no fault
+-- if what follows carries rows within the limits, the next subrecord has no error
 no_fault_within : (t : Taking) (gone : List (List ℕ)) (xs : List Subrecord) (s : Subrecord) (ys : List Subrecord) (rows : List (List ℕ)) (tail : List ℕ) → HasTaken t gone xs
     → Carried t.format t.longest (xs ++ s ∷ ys) rows tail → length s.octets < 64
     → t.kept_units + length (octets_in rows ++ tail) ≤ t.limit → t.kept_rows + length rows ≤ MOST_ROWS → NoFault t (header s) (length (s.octets ++ payload_of ys))
@@ -504,7 +504,7 @@ no_fault_next t gone xs (s ∷ ys) rows tail stage f h a c l o r e =
     let q : None ≡ Some f = sym none ∙ e in
     cc
 
--- a payload that carries rows within the limits, after those before, has no fault
+-- a payload that carries rows within the limits, after those before, has no error
 pub no_first_fault : (old : Taking) (gone payloads : List (List ℕ)) (payload : List ℕ) (f : TakeFault) → Took old gone payloads → CarriesWithin old (payloads ++ payload ∷ [])
     → FirstFault old payload f → ⊥
 no_first_fault old gone payloads payload f k c ff =
@@ -525,7 +525,7 @@ no_first_fault old gone payloads payload f k c ff =
     (subst (λ (x : List Subrecord). Carried mid.format mid.longest x m.rows m.tail) split m.carries.carried)
     (m.carries.last ∙ ap stage_of split) m.octets m.few (ap (fault_in mid) (sym p.2) ∙ ff.faulty)
 
--- what a taker took carries its rows within the limits
+-- the payloads that a taker took carry its rows within the limits
 pub took_within : (t : Taking) (gone payloads : List (List ℕ)) → Took t gone payloads → CarriesWithin t payloads
 took_within t gone payloads k =
     let h = k.holds in

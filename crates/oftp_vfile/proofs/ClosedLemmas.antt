@@ -1,4 +1,4 @@
--- Where payloads are closed, they carry a file, whose counts the taker tells.
+-- Closed payloads carry a file, whose counts are the taker's.
 use Rattle.std.proofs.Common.{◌≡◌, ℕ, ◌+◌, ◌≤◌, Bool, true, false, cond, List, [], ◌∷◌, ◌++◌, length, refl, sym, ap, ◌∙◌, subst, arith, append_assoc, All}
 use Rattle.std.specs.List.{flat_map}
 use Rattle.std.proofs.lemmas.Bool.{true≢false}
@@ -36,7 +36,7 @@ counts_file t kept gone payloads k r u =
     let count : t.kept_rows + t.away + length t.rows ≡ length (kept ++ rows) = omega (arith, r, h.away, length-append kept rows, length-append gone t.rows) in
     ap (λ (n : ℕ). (cond (is_stream t.format) 0 n, t.kept_units + t.units)) count ∙ ap (λ (n : ℕ). (records_in t.format (kept ++ rows), n)) units
 
--- behind an end flag stands an open part without octets
+-- after an end flag the open part is empty
 last_ended : (s : Subrecord) (ss : List Subrecord) → is_open (stage_of (s ∷ ss)) ≡ false → (p : List ℕ) × (ps : List (List ℕ)) × (pieces (s ∷ ss) ≡ p ∷ (ps ++ [] ∷ []))
 last_ended s [] o = by_flag s.ends o
   where
@@ -68,7 +68,7 @@ closed_carried Variable longest ss rows tail c o = closed_records (λ (r : List 
 closed_carried Unstructured longest ss rows tail c o = closed_blocks (octets_of ss) rows tail c.1
 closed_carried Text longest ss rows tail c o = closed_blocks (octets_of ss) rows tail c.1
 
--- where payloads are closed, what they carry are the rows of a file
+-- if payloads are closed, the rows that they carry are those of a file
 pub closed_file : (format : Format) (longest : ℕ) (payloads rows : List (List ℕ)) (tail : List ℕ) (stage : Stage) → Carries format longest payloads rows tail stage
     → is_open stage ≡ false → AreRows format longest (closed rows tail)
 closed_file format longest payloads rows tail stage c o = closed_carried format longest (flat_map (λ (x : List Subrecord). x) c.subs) rows tail c.carried (ap is_open (sym c.last) ∙ o)

@@ -1,4 +1,4 @@
--- A payload has one first fault.
+-- A payload has only one first error.
 use Rattle.std.proofs.Common.{◌≡◌, ℕ, ◌%◌, Bool, Some, None, List, [], ◌∷◌, ◌++◌, length, nat_le, sym, ap, ◌∙◌, subst, arith, append_assoc}
 use Rattle.std.proofs.lemmas.List.{length-append}
 use Rattle.oftp_vfile.specs.declared.format.TakeFault.{TakeFault}
@@ -7,7 +7,7 @@ use Rattle.oftp_vfile.specs.Taking.{Taking, added, added_all, fault_at, fault_in
 use Rattle.oftp_vfile.proofs.TakingLemmas.{NoFault, no_fault, fault_none}
 use Rattle.oftp_vfile.proofs.CarriesLemmas.{header_says, same_lengths}
 
--- a subrecord that is taken has no fault, whatever stands behind it
+-- a subrecord that is taken has no error, whatever follows it
 taken_no_fault : (t : Taking) (s : Subrecord) (rest : List ℕ) (f : TakeFault) → IsAllowed t s → fault_in t (spelled s ++ rest) ≡ Some f → ⊥
 taken_no_fault t s rest f a e =
     let n : NoFault t (header s) (length s.octets) = no_fault t (header s) (length s.octets) a.1 in
@@ -16,7 +16,7 @@ taken_no_fault t s rest f a e =
     let q : None ≡ Some f = sym none ∙ e in
     cc
 
--- two fronts of one payload that end before a faulty subrecord are one
+-- two beginnings of one payload that end before a faulty subrecord are the same
 same_fault : (t : Taking) (xs ys : List Subrecord) (r q : List ℕ) (f g : TakeFault) → AreAllowed t xs → AreAllowed t ys → payload_of xs ++ r ≡ payload_of ys ++ q
     → fault_in (added_all t xs) r ≡ Some f → fault_in (added_all t ys) q ≡ Some g → f ≡ g
 same_fault t [] [] r q f g a b e m n = let s : Some f ≡ Some g = sym m ∙ ap (fault_in t) e ∙ n in cc
@@ -34,7 +34,7 @@ same_fault t (x ∷ xs) (y ∷ ys) r q f g a b e m n =
     let same : y ≡ x = ap (λ (z : Bool). record { ends = z; octets = y.octets }) (sym flag) ∙ ap (λ (z : List ℕ). record { ends = x.ends; octets = z }) (sym both.0) in
     same_fault (added t x) xs ys r q f g a.1 (subst (λ (z : Subrecord). AreAllowed (added t z) ys) same b.1) both.1 m (ap (λ (z : Subrecord). fault_in (added_all (added t z) ys) q) (sym same) ∙ n)
 
--- a payload has one first fault only
+-- a payload has only one first error
 pub one_fault : (t : Taking) (payload : List ℕ) (f g : TakeFault) → FirstFault t payload f → FirstFault t payload g → f ≡ g
 one_fault t payload f g a b =
     let first = ap (λ (x : Taking). fault_in x a.rest) (sym a.walked.after) ∙ a.faulty in

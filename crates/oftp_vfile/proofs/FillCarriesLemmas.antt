@@ -1,4 +1,4 @@
--- The payloads of fill carry the rows of the file, and nothing else does.
+-- The payloads of fill carry the rows of the file, and no other rows.
 use Rattle.std.proofs.Common.{◌≡◌, ℕ, suc, ◌+◌, ◌-◌, ◌<◌, ◌≤◌, Bool, true, false, cond, eqb, List, [], ◌∷◌, ◌++◌, length, take, drop, map, refl, sym, ap, ◌∙◌, subst, arith, append_assoc, ◌⊎◌, inl, inr, All}
 use Rattle.std.specs.List.{flat_map}
 use Rattle.std.proofs.lemmas.Bool.{cases_lt, eqb-true}
@@ -62,7 +62,7 @@ stage_cons : (s : Subrecord) (xs : List Subrecord) → 0 < length xs → stage_o
 stage_cons s [] h = absurd (omega arith)
 stage_cons s (x ∷ xs) h = refl
 
--- what a payload of one record is: its end, or a part with no flag
+-- a payload of one record is its end, or a part without the flag
 abbrev Streams : List Subrecord → List (List ℕ) → Type 0
 Streams ss left = ((left ≡ []) × IsStream ss × (stage_of ss ≡ Ended) × (0 < length ss)) ⊎ ((q : List ℕ) × (left ≡ q ∷ [])
     × ((rest : List Subrecord) → IsStream rest → 0 < length rest → IsStream (ss ++ rest) × (stage_of (ss ++ rest) ≡ stage_of rest)))
@@ -75,7 +75,7 @@ stream_part : (s : Subrecord) (ss : List Subrecord) (left : List (List ℕ)) →
 stream_part s ss left e (inl h) = inl (h.0, stream_cons s ss e h.1, stage_cons s ss h.3 ∙ h.2, omega arith)
 stream_part s ss left e (inr h) = inr (h.0, h.1, λ rest i n. (let r = h.2 rest i n in (stream_cons s (ss ++ rest) e r.0, stage_cons s (ss ++ rest) (omega (arith, length-append ss rest)) ∙ r.1)))
 
--- one record: the end flag stands on the last subrecord alone
+-- one record: only the last subrecord has the end flag
 packs_stream : (free : ℕ) (r : List ℕ) (ss : List Subrecord) (left : List (List ℕ)) → Packs free (r ∷ []) ss left → Streams ss left
 packs_stream free r [] left p = inr (r, p.0, λ rest h s. (h, refl))
 packs_stream free r (s ∷ ss) left p =
@@ -218,7 +218,7 @@ fill_whole Unstructured longest size rows h a =
 fill_whole Text longest size rows h a =
     whole_stream longest size Text rows _ a (fills_fill (weight (octets_in rows ∷ [])) size (octets_in rows ∷ []) h (omega arith)) (λ ss found tail i b. (i, b))
 
--- payloads are spelled by one list of subrecords
+-- payloads are encoded by one list of subrecords
 pub decode_all : (xs ys : List (List Subrecord)) → AreShort (flat xs) → AreShort (flat ys) → map payload_of xs ≡ map payload_of ys → flat xs ≡ flat ys
 decode_all [] [] h k e = refl
 decode_all [] (y ∷ ys) h k e = absurd (let q : [] ≡ payload_of y ∷ map payload_of ys = e in cc)
@@ -253,7 +253,7 @@ one_carried Variable longest ss rows rows' tail tail' a b = same_from_push rows 
 one_carried Unstructured longest ss rows rows' tail tail' a b = one_full_blocks rows rows' tail tail' a.1.full b.1.full a.1.rest b.1.rest (sym a.1.joined ∙ b.1.joined)
 one_carried Text longest ss rows rows' tail tail' a b = one_full_blocks rows rows' tail tail' a.1.full b.1.full a.1.rest b.1.rest (sym a.1.joined ∙ b.1.joined)
 
--- payloads carry one thing only
+-- payloads carry only one list of rows
 pub one_reading : (format : Format) (longest : ℕ) (payloads rows rows' : List (List ℕ)) (tail tail' : List ℕ) (stage stage' : Stage)
     → Carries format longest payloads rows tail stage → Carries format longest payloads rows' tail' stage'
     → (rows ≡ rows') × (tail ≡ tail') × (stage ≡ stage')
@@ -263,7 +263,7 @@ one_reading format longest payloads rows rows' tail tail' stage stage' a b =
     let r = one_carried format longest (flat a.subs) rows rows' tail tail' a.carried c in
     (r.0, r.1, a.last ∙ ap stage_of (sym same) ∙ sym b.last)
 
--- a taker that took the payloads of fill holds exactly these rows, with those taken away, closed
+-- a taker that took the payloads of fill holds exactly these rows, with those that were removed, closed
 pub taken_back : (t : Taking) (gone : List (List ℕ)) (size : ℕ) (rows : List (List ℕ)) → 2 ≤ size → AreRows t.format t.longest rows → Took t gone (payloads_of t.format size rows)
     → (closed (gone ++ t.rows) t.tail ≡ rows) × (is_open t.stage ≡ false)
 taken_back t gone size rows h a k =

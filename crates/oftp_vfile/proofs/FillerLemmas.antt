@@ -1,4 +1,4 @@
--- What the filler's steps make of what is left.
+-- What the filler's steps leave.
 use Rattle.std.proofs.Common.{◌≡◌, ℕ, suc, zero, ◌+◌, ◌-◌, ◌<◌, ◌≤◌, Bool, true, false, cond, eqb, ◌&&◌, min, List, [], ◌∷◌, ◌++◌, length, get_or, take, drop, refl, sym, ap, ◌∙◌, subst, arith, inl, inr}
 use Rattle.std.proofs.lemmas.Bool.{and_parts, cases_lt, eq-eqb, eqb-true, false≢true}
 use Rattle.std.proofs.lemmas.List.{append-nil, length-append, length-drop, drop-append-le, drop_all, get_or-drop, nil_from_length}
@@ -13,7 +13,7 @@ use Rattle.oftp_vfile.specs.Fill.{needs, next_length, next_subrecord, behind, Is
 use Rattle.oftp_vfile.specs.Packing.{HasPacked, rest_at, IsTail, HasStreamed, HasEnded, PacksNext}
 use Rattle.oftp_vfile.proofs.PackingLemmas.{from_offset-zero, needs_most}
 
--- a payload is one only
+-- there is only one such payload
 pub packs_one : (free : ℕ) (records : List (List ℕ)) (ss tt' : List Subrecord) (l m : List (List ℕ)) → Packs free records ss l → Packs free records tt' m → (ss ≡ tt') × (l ≡ m)
 packs_one free records [] [] l m p q = (refl, p.0 ∙ sym q.0)
 packs_one free [] [] (t ∷ ts) l m p q = absurd q
@@ -34,7 +34,7 @@ from_offset-append offset (r ∷ rs) more h = refl
 pub left_records : (f : Filling) (rows : List (List ℕ)) → is_stream f.format ≡ false → left_of f rows ≡ from_offset f.offset rows
 left_records f rows e = ap (λ (b : Bool). cond b (cond f.done [] (drop f.offset (octets_in rows) ∷ [])) (from_offset f.offset rows)) e
 
--- where nothing fits any more of what was lent, nothing fits of what stands behind
+-- if nothing of the given rows fits, nothing of what follows fits
 full_more : (format : Format) (last : Bool) (free : ℕ) (cur more : List (List ℕ)) → IsFull free cur → (cur ≡ [] → last ≡ false → free < needs (least format))
     → AreBehind format last more → IsFull free (cur ++ more)
 full_more format last free (x ∷ xs) more f g b = f
@@ -56,7 +56,7 @@ some_subs (s ∷ ss) octets e h = omega arith
 pub drop_place : (rows : List (List ℕ)) (row offset : ℕ) → (0 < offset → offset < length (get_or rows row [])) → 0 < offset → offset < length (get_or (drop row rows) 0 [])
 drop_place rows row offset h o = subst (λ (x : List ℕ). offset < length x) (ap (λ n. get_or rows n []) (omega arith) ∙ sym (get_or-drop row rows 0 [])) (h o)
 
--- a filler that goes on to a place in the lent rows moves on within them
+-- a filler that moves on to a place in the given rows stays within them
 pub moves_to : (f : Filling) (rows : List (List ℕ)) (row offset : ℕ) (last : Bool) → row ≤ length rows → (0 < offset → offset < length (get_or rows row []))
     → (is_stream f.format ≡ true → f.done ≡ false) → Moves f (advanced f rows row offset) rows last
 moves_to f rows row offset last within place going =
@@ -94,7 +94,7 @@ least_behind Variable = tt
 least_behind Unstructured = omega arith
 least_behind Text = omega arith
 
--- where something is left behind the least further row, no such row goes into the payload
+-- if something is left after the least further row, no such row goes into the payload
 pub next_enough : (size : ℕ) (old new : Filling) (rows : List (List ℕ)) (last : Bool) (octets : List ℕ) → PacksNext size old new rows last octets
     → (left_of new (drop (new.row - old.row) rows ++ least old.format ∷ []) ≡ [] → ⊥) → last ≡ false → Reaches size old rows → ⊥
 next_enough size old new rows last octets n left e r =
@@ -121,7 +121,7 @@ least_packs format free h =
     let b : eqb (next_length r free) (length r) ≡ true = eq-eqb _ _ (least_count format free h) in
     (h, refl, subst (λ (x : Bool). Packs (free - (1 + length (next_subrecord r free).octets)) (cond x [] (drop (next_length r free) r ∷ [])) [] []) (sym b) (refl, tt))
 
--- the rows that were lent ended before the payload was full
+-- the given rows ended before the payload was full
 pub records_more : (size : ℕ) (f : Filling) (rows : List (List ℕ)) (row offset free : ℕ) (octets : List ℕ) → is_stream f.format ≡ false → IsInRows f rows
     → row ≡ length rows → HasPacked size (from_offset f.offset rows) octets free (from_offset offset (drop row rows)) → needs (least f.format) ≤ free → Reaches size f rows
 records_more size f rows row offset free octets e i n p h =
@@ -270,7 +270,7 @@ least_stream Variable e = absurd (false≢true e)
 least_stream Unstructured e = refl
 least_stream Text e = refl
 
--- one octet behind octets that fit
+-- one octet after octets that fit
 one_packs : (free : ℕ) (cur : List ℕ) → length cur < min 63 (free - 1) → Packs free ((cur ++ 0 ∷ []) ∷ []) (next_subrecord (cur ++ 0 ∷ []) free ∷ []) []
 one_packs free cur h =
     let r : List ℕ = cur ++ 0 ∷ [] in

@@ -1,4 +1,4 @@
--- Rows and a tail that have grown can be put back.
+-- Rows and a tail that have grown can be restored.
 use Rattle.std.proofs.Common.{◌≡◌, ℕ, suc, ◌+◌, ◌<◌, ◌≤◌, List, [], ◌∷◌, ◌++◌, length, get_or, take, drop, refl, sym, ap, ◌∙◌, arith, append_assoc, Result, Ok, Err, OnErr}
 use Rattle.std.proofs.lemmas.List.{append-nil, take_at, length-append, take-append-le, nil_from_length, same_from_push, get_or_at, get_or_append_left, drop_at, drop-drop}
 use Rattle.std.proofs.Math.Seq.{take-append-add}
@@ -22,7 +22,7 @@ pub at_error : {T E : Type 0} (r : Result T E) {P : Type 0} → P → OnErr r P
 at_error (Ok x) p = tt
 at_error (Err e) p = p
 
--- the rows before, of rows that go on, where none is new
+-- the old rows, of rows that go on, if none is new
 pub rows_before : (old : List (List ℕ)) (front : List ℕ) (rows : List (List ℕ)) (tail : List ℕ) → HasGrown old front rows tail → length rows ≤ length old → (rows ≡ old)
     × (take (length front) tail ≡ front)
 rows_before old front rows tail g h =

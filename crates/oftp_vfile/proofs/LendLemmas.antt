@@ -1,4 +1,4 @@
--- Which rows of a file may be lent to a filler.
+-- Which rows of a file a filler may borrow.
 use Rattle.std.proofs.Common.{◌≡◌, ℕ, suc, zero, ◌-◌, ◌<◌, ◌≤◌, Bool, true, false, List, [], ◌∷◌, length, take, drop, refl, sym, subst, arith, All}
 use Rattle.std.proofs.lemmas.Bool.{false≢true}
 use Rattle.std.proofs.lemmas.List.{length-drop, take-append-drop, drop_all, nil_from_length}
@@ -15,7 +15,7 @@ blocks_from size (suc c) [] a = tt
 blocks_from size (suc c) (r ∷ []) a = subst (AreBlocks size) (sym (drop_all c [] (omega arith))) tt
 blocks_from size (suc c) (r ∷ q ∷ rs) a = blocks_from size c (q ∷ rs) a.1
 
--- the rows of a file from one on are rows of a file
+-- the rows of a file from a row on are rows of a file
 pub rows_from : (format : Format) (longest c : ℕ) (rows : List (List ℕ)) → AreRows format longest rows → AreRows format longest (drop c rows)
 rows_from Fixed longest c rows a = All-drop (λ (r : List ℕ). length r ≡ longest) c rows a
 rows_from Variable longest c rows a = All-drop (λ (r : List ℕ). length r ≤ longest) c rows a
@@ -34,7 +34,7 @@ stream_some Variable longest rows a e = absurd (false≢true e)
 stream_some Unstructured longest rows a e = blocks_some BLOCK rows (omega arith) a
 stream_some Text longest rows a e = blocks_some BLOCK rows (omega arith) a
 
--- rows behind those that were lent
+-- rows after the given ones
 some_behind : (format : Format) (longest : ℕ) (more : List (List ℕ)) → IsLongest format longest → AreRows format longest more → 0 < length more → AreBehind format false more
 some_behind format longest [] l a h = absurd (omega arith)
 some_behind Fixed longest (r ∷ rs) l a h = let e : length r ≡ longest = a 0 [] (omega arith) in omega (arith, e, l.0)
@@ -52,7 +52,7 @@ first_lent f zero rest h p = absurd (omega arith)
 first_lent f (suc n) [] h p = p
 first_lent f (suc n) (r ∷ rs) h p = p
 
--- rows from the filler's row on, some or the last, are lent as it asks
+-- the filler may borrow rows from its row on, some or the last
 pub lends_rows : (f : Filling) (longest size from n : ℕ) (rows payloads : List (List ℕ)) (last : Bool) → IsLongest f.format longest → AreRows f.format longest rows
     → Sent f size from rows payloads → 0 < n
     → (last ≡ true → length (drop (f.row - from) rows) ≤ n) → (last ≡ false → n < length (drop (f.row - from) rows))

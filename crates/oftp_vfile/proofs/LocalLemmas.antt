@@ -1,4 +1,4 @@
--- The local form is read back as the file that it stands for.
+-- The local form is read back as the file that it represents.
 use Rattle.std.proofs.Common.{◌≡◌, ℕ, suc, zero, ◌+◌, ◌-◌, ◌*◌, ◌%◌, ◌<◌, ◌≤◌, Bool, true, false, eqb, min, List, [], ◌∷◌, ◌++◌, length, take, drop, refl, sym, ap, ◌∙◌, subst, arith, append_assoc, ◌⊎◌, inl, inr, All, fold}
 use Rattle.std.proofs.Math.Nat.{add-mod_left, mod-eq_of_lt, mul-mod_right}
 use Rattle.std.proofs.lemmas.Bool.{cases_lt, eqb-false, eqb-true}
@@ -16,11 +16,11 @@ use Rattle.oftp_vfile.proofs.CarriesLemmas.{same_lengths, octets_in-push}
 abbrev pub IsDigit : ℕ → Type 0
 IsDigit d = (48 ≤ d) × (d ≤ 57)
 
--- the number that decimal digits spell
+-- the number of decimal digits
 abbrev pub number_of : List ℕ → ℕ
 number_of digits = fold (λ n d. n * 10 + (d - 48)) 0 digits
 
--- the number that five digits of it spell
+-- the number of its five digits
 pub number_digits : (n : ℕ) → n < 100000 → number_of (digits_of n) ≡ n
 number_digits n h = omega arith
 
@@ -42,7 +42,7 @@ fourth_digit v q a r e h l m = omega arith
 last_digit : (v q a : ℕ) → v ≡ q * 10 + (a - 48) → 48 ≤ a → a ≤ 57 → digit_of v 1 ≡ a
 last_digit v q a e l m = omega arith
 
--- the digits of the number that five digits spell
+-- the digits of the number of five digits
 pub digits_number : (ds : List ℕ) → length ds ≡ 5 → All IsDigit ds → (number_of ds < 100000) × (digits_of (number_of ds) ≡ ds)
 digits_number [] l h = absurd (omega arith)
 digits_number (a ∷ []) l h = absurd (omega arith)
@@ -79,19 +79,19 @@ number_small (a ∷ b ∷ c ∷ d ∷ []) l h = let A : IsDigit a = h 0 0 (omega
     let D : IsDigit d = h 3 0 (omega arith) in omega arith
 number_small (a ∷ b ∷ c ∷ d ∷ e ∷ ds) l h = absurd (omega arith)
 
--- where a record begins that is read
+-- where a record begins
 pub first_found : (content ds behind : List ℕ) (n : ℕ) → content ≡ ds ++ behind → digits_of n ≡ ds → n ≤ length behind → content ≡ local_row Variable (take n behind) ++ drop n behind
 first_found content ds behind n e d h =
     let l : length (take n behind) ≡ n = length-take-le n behind h in
     e ∙ ap (λ (x : List ℕ). x ++ behind) (sym d ∙ ap digits_of (sym l)) ∙ ap (λ (x : List ℕ). digits_of (length (take n behind)) ++ x) (sym (take-append-drop n behind))
     ∙ sym (append_assoc (digits_of (length (take n behind))) (take n behind) (drop n behind))
 
--- a record's digits, and what stands behind them
+-- a record's digits, and what follows them
 pub first_split : (content ds behind row rest : List ℕ) → content ≡ ds ++ behind → length ds ≡ 5 → content ≡ local_row Variable row ++ rest → (ds ≡ digits_of (length row)) × (behind ≡ row ++ rest)
 first_split content ds behind row rest e l r =
     same_lengths ds (digits_of (length row)) behind (row ++ rest) l (sym e ∙ r ∙ append_assoc (digits_of (length row)) row rest)
 
--- a content begins with one record only
+-- a content begins with only one record
 pub one_first : (longest : ℕ) (content row rest row' rest' : List ℕ) → longest < 100000 → IsFirstRecord longest content row rest → IsFirstRecord longest content row' rest'
     → (row ≡ row') × (rest ≡ rest')
 one_first longest content row rest row' rest' h a b =
@@ -99,7 +99,7 @@ one_first longest content row rest row' rest' h a b =
     let n : length row ≡ length row' = digits_same (length row) (length row') (omega (arith, a.1)) (omega (arith, b.1)) s.0 in
     same_lengths row row' rest rest' n s.1
 
--- of a content a part was read, and this is the rest: the two are local forms of V together
+-- a part of a content was read, and this is the rest: together they are the local form of a V file
 pub record GoesTo (longest : ℕ) (content rest : List ℕ) : Type 0 where
   pub all : (rows : List (List ℕ)) → IsLocal Variable longest rest rows → (file : List (List ℕ)) × IsLocal Variable longest content file
   pub only : (file : List (List ℕ)) → IsLocal Variable longest content file → (rows : List (List ℕ)) × IsLocal Variable longest rest rows
@@ -107,7 +107,7 @@ pub record GoesTo (longest : ℕ) (content rest : List ℕ) : Type 0 where
 pub goes_none : (longest : ℕ) (content : List ℕ) → GoesTo longest content content
 goes_none longest content = record { all = λ rows i. (rows, i); only = λ file i. (file, i) }
 
--- the records behind the first
+-- the records after the first
 others : (longest : ℕ) (rest row behind : List ℕ) (rows : List (List ℕ)) → longest < 100000 → IsFirstRecord longest rest row behind → IsLocal Variable longest rest rows
     → (left : List (List ℕ)) × IsLocal Variable longest behind left
 others longest rest row behind [] h f i = absurd (let e : [] ≡ digits_of (length row) ++ row ++ behind = sym i.1 ∙ f.0 in omega (arith, ap length e))
@@ -127,7 +127,7 @@ goes_on longest content rest row behind h g f =
 pub goes_end : (longest : ℕ) (content rest : List ℕ) → GoesTo longest content rest → rest ≡ [] → (file : List (List ℕ)) × IsLocal Variable longest content file
 goes_end longest content rest g e = g.all [] (All-nil (λ (r : List ℕ). length r ≤ longest), e)
 
--- where no record begins, and more is there, the content is no records
+-- if no record begins, and more octets are left, the content isn't records
 pub goes_wrong : (longest : ℕ) (content rest : List ℕ) → GoesTo longest content rest → 0 < length rest → ((row behind : List ℕ) → IsFirstRecord longest rest row behind → ⊥)
     → (file : List (List ℕ)) → IsLocal Variable longest content file → ⊥
 goes_wrong longest content rest g h n file i = let r = g.only file i in wrong r.0 r.1
@@ -143,7 +143,7 @@ read_more longest content rest row behind rows e f =
     e ∙ ap (λ (x : List ℕ). local_of Variable rows ++ x) f ∙ sym (append_assoc (local_of Variable rows) (local_row Variable row) behind)
     ∙ ap (λ (x : List ℕ). x ++ behind) (ap (λ (x : List ℕ). local_of Variable rows ++ x) (sym (append-nil (local_row Variable row))) ∙ sym (flat_map-append (local_row Variable) rows (row ∷ [])))
 
--- a block behind full ones
+-- a block after full ones
 pub blocks_push : (size : ℕ) (rows : List (List ℕ)) (r : List ℕ) → All (λ (x : List ℕ). length x ≡ size) rows → 0 < length r → length r ≤ size → AreBlocks size (rows ++ r ∷ [])
 blocks_push size [] r a h k = (h, k)
 blocks_push size (x ∷ []) r a h k = (a 0 [] (omega arith), (h, k))
@@ -173,7 +173,7 @@ some_blocks (suc fuel) size (x ∷ xs) h l =
     more [] r e b n = absurd (n refl)
     more (q ∷ rs) r e b n = (e, b)
 
--- blocks that no part is left of are full
+-- blocks that leave no part are full
 full_blocks : (size : ℕ) (rows : List (List ℕ)) → 0 < size → AreBlocks size rows → length (octets_in rows) % size ≡ 0 → All (λ (r : List ℕ). length r ≡ size) rows
 full_blocks size [] h b e = All-nil (λ (r : List ℕ). length r ≡ size)
 full_blocks size (r ∷ []) h b e =
@@ -213,7 +213,7 @@ some_octets size [] h a l = absurd (omega arith)
 some_octets size (r ∷ []) h a l = omega (arith, a.0, length-append r [])
 some_octets size (r ∷ q ∷ rs) h a l = omega (arith, a.0, length-append r (octets_in (q ∷ rs)))
 
--- octets are cut into blocks in one way only
+-- octets are cut into blocks in only one way
 one_blocks : (size : ℕ) (rows rows' : List (List ℕ)) → 0 < size → AreBlocks size rows → AreBlocks size rows' → octets_in rows ≡ octets_in rows' → rows ≡ rows'
 one_blocks size [] [] h a b e = refl
 one_blocks size [] (r ∷ rs) h a b e = absurd (omega (arith, ap length e, some_octets size (r ∷ rs) h b (omega arith)))
@@ -240,7 +240,7 @@ one_records longest (r ∷ rs) (q ∷ qs) h a b e =
     let s = one_first longest (local_of Variable (r ∷ rs)) r (local_of Variable rs) q (local_of Variable qs) h (refl, a 0 [] (omega arith)) (e, b 0 [] (omega arith)) in
     ap (λ (z : List ℕ). z ∷ rs) s.0 ∙ ap (λ (z : List (List ℕ)). q ∷ z) (one_records longest rs qs h (λ k d l. a (suc k) d (omega arith)) (λ k d l. b (suc k) d (omega arith)) s.1)
 
--- a content is the local form of one file only
+-- a content is the local form of only one file
 pub one_file : (format : Format) (longest : ℕ) (content : List ℕ) (rows rows' : List (List ℕ)) → IsLongest format longest → IsLocal format longest content rows
     → IsLocal format longest content rows' → rows ≡ rows'
 one_file Fixed longest content rows rows' h a b = one_blocks longest rows rows' h.0 (full_are_blocks longest rows h.0 a.0) (full_are_blocks longest rows' h.0 b.0) (sym a.1 ∙ b.1)
@@ -248,7 +248,7 @@ one_file Variable longest content rows rows' h a b = one_records longest rows ro
 one_file Unstructured longest content rows rows' h a b = one_blocks BLOCK rows rows' (omega arith) a.0 b.0 (sym a.1 ∙ b.1)
 one_file Text longest content rows rows' h a b = one_blocks BLOCK rows rows' (omega arith) a.0 b.0 (sym a.1 ∙ b.1)
 
--- where a test says that something is left, or that nothing is
+-- a test says that something is left, or that nothing is
 pub some_left : (xs : List ℕ) (b : Bool) → b ≡ eqb (length xs) 0 → b ≡ false → 0 < length xs
 some_left xs b e f = let n : length xs ≡ 0 → ⊥ = eqb-false (length xs) 0 (sym e ∙ f) in omega arith
 
@@ -276,7 +276,7 @@ block_more size n content rest row behind rows rows' e f g m h l j a =
       ))),
     )
 
--- blocks read from a content are its file
+-- the blocks of a content are its file
 pub blocks_local : (format : Format) (longest : ℕ) (content : List ℕ) (rows : List (List ℕ)) → (format ≡ Unstructured) ⊎ (format ≡ Text) → AreBlocks BLOCK rows
     → octets_in rows ≡ content → IsLocal format longest content rows
 blocks_local format longest content rows (inl u) a e = subst (λ (x : Format). IsLocal x longest content rows) (sym u) (a, sym e)

@@ -29,7 +29,7 @@ record Splits (records : List (List ℕ)) (p : List Subrecord × List (List ℕ)
   rows : ended p.0 + length p.1 ≡ length records
   octets : length (octets_of p.0) + length (octets_in p.1) ≡ length (octets_in records)
 
--- what is left behind one subrecord of a record
+-- what is left after one subrecord of a record
 left_of_one : (r : List ℕ) (rs : List (List ℕ)) (n : ℕ) (whole : Bool) → eqb n (length r) ≡ whole → n ≤ length r
     → let left = cond whole rs (drop n r ∷ rs) in (cond whole 1 0 + length left ≡ suc (length rs)) × (n + length (octets_in left) ≡ length (octets_in (r ∷ rs)))
 left_of_one r rs n true h within = (omega arith, omega (arith, eqb-true n (length r) h, length-append r (octets_in rs)))
@@ -60,7 +60,7 @@ packed_splits (suc k) free (r ∷ rs) = by (packed_splits k (free - (1 + length 
           octets = omega (arith, ih.octets, one.1, n, length-append s.octets (octets_of rest.0));
         }
 
--- so many payloads of these records
+-- the payloads of these records
 front : ℕ → ℕ → ℕ → List (List ℕ) → List Subrecord
 front m k size records = flat_map (λ ss. ss) (take k (fill_from m size records))
 

@@ -1,4 +1,4 @@
--- Few rows are lent where more are asked for.
+-- Few rows were given if more are asked for.
 use Rattle.std.proofs.Common.{◌≡◌, ℕ, suc, zero, ◌+◌, ◌-◌, ◌<◌, ◌≤◌, Bool, true, false, cond, eqb, List, [], ◌∷◌, ◌++◌, length, get_or, drop, refl, ap, ◌∙◌, subst, arith, All}
 use Rattle.std.proofs.lemmas.Bool.{eqb-true, false≢true}
 use Rattle.std.proofs.lemmas.List.{length-append, length-drop, length-take-le}
@@ -13,7 +13,7 @@ use Rattle.oftp_vfile.specs.Filling.{Filling, from_offset, left_of, least, IsInR
 use Rattle.oftp_vfile.proofs.PackingLemmas.{needs_some}
 use Rattle.oftp_vfile.proofs.FillerLemmas.{left_records, left_stream, packs_nothing}
 
--- a record passes into a payload with all its octets, and at least one header
+-- a record goes into a payload with all its octets, and at least one header
 behind_weight : (r : List ℕ) (rs : List (List ℕ)) (n : ℕ) (whole : Bool) → eqb n (length r) ≡ whole → n ≤ length r
     → weight (r ∷ rs) ≤ 1 + n + weight (cond whole rs (drop n r ∷ rs))
 behind_weight r rs n true h l = omega (arith, eqb-true n (length r) h)
@@ -83,7 +83,7 @@ stream_few f size rows false e d h a p =
     let both = length-append (octets_in rows) (octets_in (least f.format ∷ [])) in
     omega (arith, w, n, some, length-drop f.offset (octets_in all), joined, both, one)
 
--- more rows are asked for only where fewer were lent than the payload has octets
+-- more rows are asked for only if fewer were given than the payload has octets
 pub more_few : (f : Filling) (size : ℕ) (rows : List (List ℕ)) → IsInRows f rows → (is_stream f.format ≡ true → All (λ (r : List ℕ). 0 < length r) rows)
     → Reaches size f rows → length rows < size
 more_few f size rows h some p = by (is_stream f.format) refl

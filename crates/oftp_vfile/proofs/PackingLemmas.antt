@@ -12,7 +12,7 @@ use Rattle.oftp_vfile.specs.Filling.{from_offset}
 use Rattle.oftp_vfile.specs.VirtualFile.{octets_in}
 use Rattle.oftp_vfile.specs.Packing.{HasPacked, rest_at, IsTail, HasStreamed, HasEnded}
 
--- the octets of the rows from one on
+-- the octets of the rows from a row on
 pub octets_in-drop : (rows : List (List ℕ)) (i : ℕ) (d : List ℕ) → i < length rows → octets_in (drop i rows) ≡ get_or rows i d ++ octets_in (drop (i + 1) rows)
 octets_in-drop rows i d h = ap octets_in (drop_more rows i d h)
 
@@ -129,7 +129,7 @@ packed_done size size' at count free start records records' written e f p r =
     let b : HasPacked size' start written (size' - (at + (1 + count))) records = subst (λ (x : ℕ). HasPacked x start written (x - (at + (1 + count))) records) (sym e) a in
     subst (λ (x : List (List ℕ)). HasPacked size' start written (size' - (at + (1 + count))) x) r b
 
--- the loop wrote the next subrecord, which is the part in front of what is left of its record
+-- the loop wrote the next subrecord, which is the first part of what is left of its record
 packed_step : (size : ℕ) (start rows : List (List ℕ)) (row offset at count : ℕ) (r rest part out out' : List ℕ)
     → row < length rows → r ≡ get_or rows row r → rest ≡ drop offset r → part ≡ take count rest → length part ≡ count
     → HasPacked size start (take at out) (size - at) (from_offset offset (drop row rows))
@@ -151,7 +151,7 @@ pub needs_some : (octets : List ℕ) → 0 < needs octets
 needs_some [] = omega arith
 needs_some (x ∷ xs) = omega arith
 
--- the loop goes on behind the subrecord that it wrote: there is room for it, and what is packed then leaves what stands behind it
+-- the loop goes on after the subrecord that it wrote: there is room for it, and what is packed then leaves what follows it
 pub record GoesOn (start rows : List (List ℕ)) (row offset at count : ℕ) (r rest out : List ℕ) : Type 0 where
   pub room : at + (1 + count) ≤ length out
   pub packed : (left : List (List ℕ)) → cond (eqb count (length rest)) (drop (row + 1) rows) (drop count (drop offset r) ∷ drop (row + 1) rows) ≡ left
@@ -196,7 +196,7 @@ below_row : (offset n : ℕ) → 0 < n → (0 < offset → offset < n) → offse
 below_row zero n s h = s
 below_row (suc k) n s h = h (omega arith)
 
--- where a row is left, octets are
+-- if a row is left, octets are
 pub rest_some : (rows : List (List ℕ)) (row offset : ℕ) → row < length rows → All (λ (r : List ℕ). 0 < length r) rows → (0 < offset → offset < length (get_or rows row []))
     → 0 < length (rest_at rows row offset)
 rest_some rows row offset h a p =
@@ -210,7 +210,7 @@ rest_some rows row offset h a p =
 pub false_row : (a b : ℕ) → eqb a b ≡ false → a ≤ b → a < b
 false_row a b e l = let n : a ≡ b → ⊥ = eqb-false a b e in omega arith
 
--- two free octets are enough for a subrecord of any record
+-- two free octets suffice for a subrecord of any record
 pub needs_most : (octets : List ℕ) → needs octets ≤ 2
 needs_most [] = omega arith
 needs_most (x ∷ xs) = omega arith

@@ -1,4 +1,4 @@
--- What a part of a file brings to its rows, cut anywhere; and its end, by the counts alone.
+-- What a part of a file adds to its rows, cut off anywhere; and the end of a file, by its counts alone.
 use Rattle.std.proofs.Common.{◌≡◌, ℕ, suc, ◌<◌, ◌≤◌, false, List, [], ◌∷◌, ◌++◌, length, map, All, refl, sym, ap, ◌∙◌, subst, arith, append_assoc}
 use Rattle.std.proofs.lemmas.List.{append-nil, length-append, same_from_push}
 use Rattle.std.proofs.lemmas.List.Concat.{flat_map-append}
@@ -16,7 +16,7 @@ use Rattle.oftp_vfile.proofs.FillCarriesLemmas.{flat, fill_whole, fills_short, o
 use Rattle.oftp_vfile.proofs.FillListLemmas.{fills_fill}
 use Rattle.oftp_vfile.proofs.TakingLemmas.{last_of}
 
--- where the first payloads of a list are spelled by subrecords, those of the list go on from them
+-- if the first payloads of a list are encoded by subrecords, those of the list continue them
 pub subs_go_on : (subs all : List (List Subrecord)) (next : List (List ℕ)) → AreShort (flat subs) → AreShort (flat all)
     → map payload_of subs ++ next ≡ map payload_of all → (rest : List Subrecord) × (flat all ≡ flat subs ++ rest)
 subs_go_on [] all next h k e = (flat all, refl)
@@ -31,14 +31,14 @@ subs_go_on (x ∷ xs) (y ∷ ys) next h k e =
     let first : flat (y ∷ ys) ≡ x ++ flat ys = ap (λ (z : List Subrecord). z ++ flat ys) same in
     (ih.0, first ∙ ap (λ (z : List Subrecord). x ++ z) ih.1 ∙ sym (append_assoc x (flat xs) ih.0))
 
--- the subrecords of a whole list go on from those of its first payloads
+-- the subrecords of a whole list continue those of its first payloads
 go_on : (format : Format) (longest : ℕ) (payloads next rows found : List (List ℕ)) (tail end : List ℕ) (stage last : Stage)
     → (c : Carries format longest payloads rows tail stage) → (w : Carries format longest (payloads ++ next) found end last)
     → (rest : List Subrecord) × (flat w.subs ≡ flat c.subs ++ rest)
 go_on format longest payloads next rows found tail end stage last c w =
     subs_go_on c.subs w.subs next c.short w.short (ap (λ (x : List (List ℕ)). x ++ next) (sym c.spelling) ∙ w.spelling)
 
--- pieces in front of others: the finished rows of the first begin those of all
+-- pieces before others: the finished rows of the first ones are a beginning of all
 rows_in_front : (rows found : List (List ℕ)) (tail end : List ℕ) (subs all rest : List Subrecord)
     → pieces all ≡ found ++ end ∷ [] → pieces subs ≡ rows ++ tail ∷ [] → all ≡ subs ++ rest → BeginsWith found rows
 rows_in_front rows found tail end subs all rest e f g =
@@ -56,7 +56,7 @@ closed_begins found (x ∷ xs) = ((x ∷ xs) ∷ [], refl)
 begins_trans : (a b c : List (List ℕ)) → BeginsWith a b → BeginsWith b c → BeginsWith a c
 begins_trans a b c h k = (k.0 ++ h.0, h.1 ∙ ap (λ x. x ++ h.0) k.1 ∙ append_assoc c k.0 h.0)
 
--- full blocks in front of others
+-- full blocks before others
 blocks_in_front : (rows found : List (List ℕ)) (behind end : List ℕ) → All (λ (r : List ℕ). length r ≡ BLOCK) rows
     → All (λ (r : List ℕ). length r ≡ BLOCK) found → length end < BLOCK → octets_in found ++ end ≡ octets_in rows ++ behind → BeginsWith found rows
 blocks_in_front [] found behind end a b l e = (found, refl)
@@ -90,14 +90,14 @@ in_front format longest payloads next rows found tail end stage last c w = by fo
     by Unstructured c w g = stream_in_front rows found tail end (flat c.subs) (flat w.subs) g.0 w.carried.1 c.carried.1 g.1
     by Text c w g = stream_in_front rows found tail end (flat c.subs) (flat w.subs) g.0 w.carried.1 c.carried.1 g.1
 
--- what a part carries, cut anywhere, begins the rows
+-- the rows that a part carries, cut off anywhere, are a beginning of the rows
 pub part_begins : (format : Format) (longest : ℕ) (file payloads next rows : List (List ℕ)) (tail : List ℕ) (stage : Stage)
     → CarriesWhole format longest (payloads ++ next) file → Carries format longest payloads rows tail stage → BeginsWith file rows
 part_begins format longest file payloads next rows tail stage w c =
     let whole : BeginsWith file w.found = subst (λ f. BeginsWith f w.found) w.same (closed_begins w.found w.tail) in
     begins_trans file w.found rows whole (in_front format longest payloads next rows w.found tail w.tail stage w.stage c w.carries)
 
--- what the first payloads that fill makes of a file carry begins its rows
+-- the rows that the first payloads of fill carry are a beginning of the file's rows
 pub carried_begins : (format : Format) (longest size : ℕ) (file payloads next rows : List (List ℕ)) (tail : List ℕ) (stage : Stage)
     → 2 ≤ size → AreRows format longest file → payloads ++ next ≡ payloads_of format size file
     → Carries format longest payloads rows tail stage → BeginsWith file rows
@@ -121,7 +121,7 @@ nothing_behind : (a b : List ℕ) → length (a ++ b) ≡ length a → a ++ b �
 nothing_behind a [] l = append-nil a
 nothing_behind a (x ∷ xs) l = absurd (omega (arith, l, length-append a (x ∷ xs)))
 
--- where as many octets came as the whole has, the blocks are those of the whole
+-- if as many octets were received as the whole has, the blocks are those of the whole
 stream_closes : (file rows found : List (List ℕ)) (tail end : List ℕ) (subs all rest : List Subrecord)
     → InBlocks (octets_of all) found end → InBlocks (octets_of subs) rows tail → all ≡ subs ++ rest → closed found end ≡ file
     → units_in (closed rows tail) ≡ units_in file → closed rows tail ≡ file
@@ -150,7 +150,7 @@ part_closes format longest file payloads next rows tail stage w c o records unit
     by Text w c b g n =
         stream_closes file rows w.found tail w.tail (flat c.subs) (flat w.carries.subs) g.0 w.carries.carried.1 c.carried.1 g.1 w.same units
 
--- a payload among those that are spelled by short subrecords is so spelled
+-- a payload among those that short subrecords encode is encoded by them
 pub spelled_payload : (before next : List (List ℕ)) (payload : List ℕ) (all : List (List Subrecord)) → AreShort (flat all)
     → before ++ payload ∷ next ≡ map payload_of all → (ss : List Subrecord) × AreShort ss × (payload ≡ payload_of ss)
 spelled_payload [] next payload [] h e = absurd (let q : payload ∷ next ≡ [] = e in cc)
@@ -163,7 +163,7 @@ spelled_payload (b ∷ bs) next payload (y ∷ ys) h e =
     let tl : bs ++ payload ∷ next ≡ map payload_of ys = cc in
     spelled_payload bs next payload ys (short-right y (flat ys) h) tl
 
--- each payload that fill makes of a file is spelled by short subrecords
+-- short subrecords encode each payload that fill makes of a file
 pub fill_payload : (format : Format) (size : ℕ) (file before next : List (List ℕ)) (payload : List ℕ) → 2 ≤ size
     → before ++ payload ∷ next ≡ payloads_of format size file → (ss : List Subrecord) × AreShort ss × (payload ≡ payload_of ss)
 fill_payload format size file before next payload h e =

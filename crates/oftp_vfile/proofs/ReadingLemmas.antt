@@ -1,4 +1,4 @@
--- What a taker makes of a payload as a function is what the taker's relation says.
+-- What a taker does with a payload as a function is what the taker's relation says.
 use Rattle.std.proofs.Common.{◌%◌, append_assoc, true, false, cond, ◌≡◌, ℕ, zero, suc, ◌<◌, ◌≤◌, nat_le, Bool, Option, None, Some, Result, Ok, Err, List, [], ◌∷◌, ◌++◌, length, take, drop, refl, sym, ap, ◌∙◌, subst, arith}
 use Rattle.std.specs.Option.{option_or}
 use Rattle.std.proofs.lemmas.Bool.{leb-false, leb-true, lt-leb}
@@ -15,7 +15,7 @@ use Rattle.oftp_vfile.proofs.CarriesLemmas.{header_says, took_walked}
 use Rattle.std.specs.Result.{result_unwrap_or}
 use Rattle.oftp_vfile.specs.Reading.{subrecord_in, fault_before, unless_fault, then_go_on, take_subrecords, taken, taken_all}
 
--- no fault before a subrecord: none at its header, which is an octet
+-- no error before a subrecord: none at its header, which is an octet
 
 neither : (fault : Option TakeFault) (beyond : Bool) → option_or fault (cond beyond (Some Cut) None) ≡ None → (fault ≡ None) × (beyond ≡ false)
 neither None true h = absurd (cc)
@@ -33,18 +33,18 @@ either : (fault : Option TakeFault) (beyond : Bool) (told : TakeFault) → fault
 either None beyond told h = absurd (cc)
 either (Some fault) beyond told h = h
 
--- a spelled subrecord has the fault of its header, or none
+-- an encoded subrecord has the error of its header, or none
 spelled_before : (t : Taking) (s : Subrecord) (room : ℕ) → length s.octets < 64 → fault_at t (header s) room ≡ None → fault_before t (header s) room ≡ None
 spelled_before t s room short h =
     ap (λ (fault : Option TakeFault). option_or fault (cond (nat_le 256 (header s)) (Some Cut) None)) h
     ∙ ap (λ (beyond : Bool). cond beyond (Some Cut) None) (lt-leb 256 (header s) (header_below s.ends (length s.octets) short))
 
--- where a result is reached, there was no fault before it
+-- if a result is reached, there was no error before it
 pub went_on : {A B : Type 0} (fault : Option TakeFault) (x : A) (f : A → Result B TakeFault) (y : B) → then_go_on (unless_fault fault x) f ≡ Ok y → (fault ≡ None) × (f x ≡ Ok y)
 went_on None x f y h = (refl, h)
 went_on (Some fault) x f y h = absurd (cc)
 
--- a subrecord is read as it is spelled
+-- a subrecord is read as it was encoded
 subrecord_again : (s : Subrecord) (rest : List ℕ) → length s.octets < 64 → subrecord_in (header s) (s.octets ++ rest) ≡ s
 subrecord_again s rest short =
     let says = header_says s short in
@@ -52,7 +52,7 @@ subrecord_again s rest short =
     let made : Bool → List ℕ → Subrecord = λ b o. record { ends = b; octets = o } in
     ap (λ b. made b (take (count_in (header s)) (s.octets ++ rest))) says.1 ∙ ap (made s.ends) octets
 
--- no fault with more octets behind is no fault with its own alone
+-- if there is no error with more octets after, there is none with its own alone
 no_fault_alone : (t : Taking) (s : Subrecord) (rest : List ℕ) → length s.octets < 64 → fault_at t (header s) (length (s.octets ++ rest)) ≡ None → fault_at t (header s) (length s.octets) ≡ None
 no_fault_alone t s rest short h =
     let n : NoFault t (header s) (length (s.octets ++ rest)) = no_fault t (header s) (length (s.octets ++ rest)) h in
@@ -120,14 +120,14 @@ took_one t after gone payloads ss short took h =
     let w = walk_spelled (length (payload_of ss)) t ss after short (omega arith) h in
     took_walked t after gone payloads (payload_of ss) took (record { subs = ss; spelling = sym (append-nil (payload_of ss)); allowed = w.0; after = w.1 })
 
--- so a taker that took those before took whatever payload it takes
+-- so a taker that took those before took any payload that it takes
 pub took_next : (t after : Taking) (gone payloads : List (List ℕ)) (payload : List ℕ) → Took t gone payloads → taken t payload ≡ Ok after → Took after gone (payloads ++ payload ∷ [])
 took_next t after gone payloads payload took h =
     let spelled = taken_spelled (length payload) t payload after (omega arith) h in
     subst (λ (x : List ℕ). Took after gone (payloads ++ x ∷ [])) (sym spelled.1)
     (took_one t after gone payloads spelled.0 spelled.2 took (subst (λ (x : List ℕ). taken t x ≡ Ok after) spelled.1 h))
 
--- a taker stays one of its file
+-- a taker keeps the constants of its file
 then_same : {A : Type 0} (fault : Option TakeFault) (x : A) (f : A → Result Taking TakeFault) (after t : Taking) → then_go_on (unless_fault fault x) f ≡ Ok after
     → (f x ≡ Ok after → (after.format ≡ t.format) × (after.longest ≡ t.longest)) → (after.format ≡ t.format) × (after.longest ≡ t.longest)
 then_same fault x f after t h k = k (went_on fault x f after h).1
@@ -152,14 +152,14 @@ taken_all_same t (p ∷ ps) =
     let more = taken_all_same (result_unwrap_or (taken t p) t) ps in
     (more.0 ∙ one.0, more.1 ∙ one.1)
 
--- one payload more
+-- one more payload
 pub taken_all_push : (t : Taking) (payloads : List (List ℕ)) (p : List ℕ) → taken_all t (payloads ++ p ∷ []) ≡ result_unwrap_or (taken (taken_all t payloads) p) (taken_all t payloads)
 taken_all_push t [] p = refl
 taken_all_push t (q ∷ qs) p = taken_all_push (result_unwrap_or (taken t q) t) qs p
 
 -- the other way round: what is walked through is what the function gives
 
--- no fault with its own octets alone is no fault with more behind
+-- if there is no error with its own octets alone, there is none with more after
 no_fault_more : (t : Taking) (s : Subrecord) (rest : List ℕ) → fault_at t (header s) (length s.octets) ≡ None → fault_at t (header s) (length (s.octets ++ rest)) ≡ None
 no_fault_more t s rest h =
     let n : NoFault t (header s) (length s.octets) = no_fault t (header s) (length s.octets) h in
@@ -229,7 +229,7 @@ fault_taken t payload fault f =
     let at : fault_in (added_all t w.subs) rest ≡ Some fault = subst (λ (x : Taking). fault_in x rest ≡ Some fault) w.after f.faulty in
     ap (take_subrecords (length payload) t) w.spelling ∙ ih.2 ∙ fault_left ih.0 (added_all t w.subs) rest fault ih.1 at
 
--- a subrecord takes no row away
+-- a subrecord removes no row
 pub added_rows : (t : Taking) (s : Subrecord) → length t.rows ≤ length (added t s).rows
 added_rows t s = by (is_stream t.format) (nat_le BLOCK (length (t.tail ++ s.octets))) s.ends
   where
@@ -240,7 +240,7 @@ added_rows t s = by (is_stream t.format) (nat_le BLOCK (length (t.tail ++ s.octe
     by false b true = omega (arith, length-append t.rows ((t.tail ++ s.octets) ∷ []))
     by false b false = omega arith
 
--- nor do subrecords
+-- subrecords remove none
 pub more_rows : (n : ℕ) (t : Taking) (payload : List ℕ) (after : Taking) → take_subrecords n t payload ≡ Ok after → length t.rows ≤ length after.rows
 unfolding take_subrecords
 more_rows zero t payload after h = let is : t ≡ after = cc in subst (λ (x : Taking). length t.rows ≤ length x.rows) is (omega arith)

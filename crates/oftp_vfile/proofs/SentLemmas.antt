@@ -25,7 +25,7 @@ use Rattle.oftp_vfile.proofs.CarriesLemmas.{octets_in-pieces, octets_in-push, so
 use Rattle.oftp_vfile.proofs.TakingLemmas.{last_of}
 use Rattle.oftp_vfile.proofs.FillCarriesLemmas.{flat, flat-append, fills_pieces, fills_short, decode_all, sent_records}
 
--- what a filler that begins at a row has left is all
+-- a filler at its first row has all rows left
 left_new : (format : Format) (from : ℕ) (rows : List (List ℕ)) → left_of (new_filling format from) rows ≡ records_of format rows
 left_new Fixed from rows = from_offset-zero rows
 left_new Variable from rows = from_offset-zero rows
@@ -44,7 +44,7 @@ whole_count-append Variable xs ys = length-append xs ys
 whole_count-append Unstructured xs ys = sum_by-append (λ (r : List ℕ). cond (eqb (length r) BLOCK) 1 0) xs ys
 whole_count-append Text xs ys = sum_by-append (λ (r : List ℕ). cond (eqb (length r) BLOCK) 1 0) xs ys
 
--- a filler that begins has sent nothing
+-- a filler at its first row has sent nothing
 pub sent_new : (format : Format) (size from : ℕ) (rows : List (List ℕ)) → Sent (new_filling format from) size from rows []
 sent_new format size from rows =
     let z : from - from ≡ 0 = omega arith in
@@ -113,7 +113,7 @@ nothing_filled size f lent more last n behind =
     ] in
     both (is_stream f.format) n
 
--- where nothing is left all payloads were made
+-- if nothing is left, all payloads were made
 sent_all : (size : ℕ) (f : Filling) (from : ℕ) (file lent payloads : List (List ℕ)) (last : Bool) → Sent f size from file payloads → AreLent f from file lent last
     → nothing_left f lent last ≡ true → payloads ≡ payloads_of f.format size file
 sent_all size f from file lent payloads last s a n =
@@ -123,7 +123,7 @@ sent_done : (size : ℕ) (f new : Filling) (from : ℕ) (file lent payloads : Li
     → AreLent f from file lent last → FillsNext size f new lent last r → r ≡ Done → payloads ≡ payloads_of f.format size file
 sent_done size f new from file lent payloads last r s a h d = sent_all size f from file lent payloads last s a (subst (λ (x : Filled). FillsNext size f new lent last x) d h).none
 
--- what a call of the filler tells whose answer is the next payload of the lent rows
+-- what a call of the filler says that returned the next payload of the given rows
 pub record Tells (size : ℕ) (old new : Filling) (lent : List (List ℕ)) (last : Bool) (out : List ℕ) (r : Filled) : Type 0 where
   pub buffer : IfBuffer r (λ n. (n ≤ size) × IsFirstPayload size old new lent last (take n out))
   pub sent : (from : ℕ) (file payloads : List (List ℕ)) → Sent old size from file payloads → AreLent old from file lent last
@@ -161,7 +161,7 @@ found_records ss found tail e = let l : length (pieces ss) ≡ length found + 1 
 blocks_found : (octets : List ℕ) (found : List (List ℕ)) (tail : List ℕ) → length octets ≡ BLOCK * length found + length tail → length tail < BLOCK → length found ≡ length octets / BLOCK
 blocks_found octets found tail e h = omega arith
 
--- the rows that subrecords carry are those that they bring to an end
+-- the rows that subrecords carry are those that they finish
 found_ended : (format : Format) (longest : ℕ) (ss : List Subrecord) (found : List (List ℕ)) (tail : List ℕ) → Carried format longest ss found tail → length found ≡ rows_ended format ss
 found_ended Fixed longest ss found tail c = found_records ss found tail c.0
 found_ended Variable longest ss found tail c = found_records ss found tail c.0
@@ -205,7 +205,7 @@ sent_octets size records left subs all rest a b s e =
 counted : (r : List ℕ) (rs : List (List ℕ)) → count_by (λ (x : List ℕ). eqb (length x) BLOCK) (r ∷ rs) ≡ cond {A = ℕ} (eqb (length r) BLOCK) 1 0 + count_by (λ (x : List ℕ). eqb (length x) BLOCK) rs
 counted r rs = sum_by-cons (λ (x : List ℕ). cond {A = ℕ} (eqb (length x) BLOCK) 1 0) r rs
 
--- the first rows of a stream: full blocks, and, where these are all rows, a shorter one
+-- the first rows of a stream: full blocks, and, if these are all rows, a shorter one
 blocks_front : (rows : List (List ℕ)) (k : ℕ) → AreBlocks BLOCK rows → k ≤ length rows
     → (rest : ℕ) × (length (octets_in (take k rows)) ≡ BLOCK * count_by (λ (r : List ℕ). eqb (length r) BLOCK) (take k rows) + rest) × (rest < BLOCK)
     × (k < length rows → (rest ≡ 0) × (length (get_or rows k []) ≤ BLOCK))
@@ -237,7 +237,7 @@ blocks_front (r ∷ q ∷ rs) (suc k) a h =
     let full : cond {A = ℕ} (eqb (length r) BLOCK) 1 0 ≡ 1 = ap (λ (x : Bool). cond {A = ℕ} x 1 0) (eq-eqb (length r) BLOCK a.0) in
     (b.0, omega (arith, b.1, full, a.0, length-append r (octets_in (take k (q ∷ rs))), counted r (take k (q ∷ rs))), b.2, λ l. b.3 (omega arith))
 
--- how many blocks so many octets fill
+-- how many blocks these octets fill
 filled_blocks : (sent part rest count offset : ℕ) → sent ≡ part + offset → part ≡ BLOCK * count + rest → rest + offset < BLOCK → sent / BLOCK ≡ count
 filled_blocks sent part rest count offset e p l = omega arith
 
@@ -245,7 +245,7 @@ below : (o m : ℕ) → m ≤ BLOCK → (0 < o → o < m) → o < BLOCK
 below zero m q r = omega arith
 below (suc j) m q r = let x : suc j < m = r (omega arith) in omega arith
 
--- what stands behind the full blocks that were sent is less than one
+-- what follows the full blocks that were sent is less than one
 small_rest : (rows : List (List ℕ)) (k o rest : ℕ) → (0 < o → o < length (get_or (drop k rows) 0 [])) → rest < BLOCK
     → (k < length rows → (rest ≡ 0) × (length (get_or rows k []) ≤ BLOCK)) → rest + o < BLOCK
 small_rest rows k o rest p r g =
@@ -321,7 +321,7 @@ records_mark f size from rows payloads subs all rest e s a b short j =
     let l2 : length (records_of f.format rows) ≡ length rows = ap (λ (x : Bool). length (cond x (octets_in rows ∷ []) rows)) e in
     omega (arith, n, l1, l2, le, length-take-le k rows le, found_records (flat subs) l.0 l.1 p)
 
--- the mark of a filler is the row that it began at and the rows wholly sent since
+-- the mark of a filler is the row at which it began and the rows wholly sent since
 pub mark_sent : (f : Filling) (longest size from : ℕ) (rows payloads : List (List ℕ)) → 2 ≤ size → AreRows f.format longest rows → Sent f size from rows payloads
     → f.mark ≡ from + wholly_sent f.format size rows (length payloads)
 mark_sent f longest size from rows payloads h a s =

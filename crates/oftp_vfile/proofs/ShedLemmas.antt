@@ -1,4 +1,4 @@
--- A taker from which rows were taken away goes on as it would with them.
+-- A taker from which rows were removed goes on as it would with them.
 use Rattle.std.proofs.Common.{◌≡◌, ℕ, zero, suc, ◌+◌, ◌≤◌, Bool, true, false, cond, nat_le, nat_lt, ◌&&◌, ◌||◌, Option, None, Some, Result, Ok, Err, List, [], ◌∷◌, ◌++◌, length, take, drop, refl, sym, ap, ◌∙◌, arith}
 use Rattle.std.specs.Option.{option_or}
 use Rattle.std.proofs.lemmas.List.{length-drop, drop-append-le}
@@ -60,7 +60,7 @@ shed_walk (suc n) k t (header ∷ rest) h =
 pub shed_taken : (k : ℕ) (t : Taking) (payload : List ℕ) → k ≤ length t.rows → taken (shed k t) payload ≡ shed_in k (taken t payload)
 shed_taken k t payload h = shed_walk (length payload) k t payload h
 
--- what the taker without its rows answered, the whole one answers
+-- the result of the taker without its rows is that of the whole one
 pub shed_ok : (k : ℕ) (t new : Taking) (payload : List ℕ) → k ≤ length t.rows → taken (shed k t) payload ≡ Ok new → (after : Taking) × (taken t payload ≡ Ok after) × (new ≡ shed k after)
 shed_ok k t new payload h e = by (taken t payload) refl (sym (shed_taken k t payload h) ∙ e)
   where
@@ -79,7 +79,7 @@ shed_err k t payload fault h e = by (taken t payload) refl (sym (shed_taken k t 
 pub shed_counts : (k : ℕ) (t : Taking) → k ≤ length t.rows → counts_of (shed k t) ≡ counts_of t
 shed_counts k t h = ap (λ (n : ℕ). (cond (is_stream t.format) 0 n, t.kept_units + t.units)) (shed_count k t t.kept_rows h)
 
--- all its rows were taken away
+-- all its rows were removed
 pub shed_all : (k : ℕ) (t : Taking) → k ≤ length t.rows → (record (shed k t) { rows = []; away = (shed k t).away + length (shed k t).rows }) ≡ shed (length t.rows) t
 shed_all k t h =
     let n : t.away + k + length (drop k t.rows) ≡ t.away + length t.rows = omega (arith, h, length-drop k t.rows) in

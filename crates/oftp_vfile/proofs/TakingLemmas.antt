@@ -1,4 +1,4 @@
--- What a taker makes of subrecords, one after another, and how it is put back.
+-- What a taker does with subrecords, one after another, and how it is restored.
 use Rattle.std.proofs.Common.{◌≡◌, ℕ, ◌+◌, ◌-◌, ◌<◌, ◌≤◌, ◌%◌, ◌/◌, Bool, true, false, cond, nat_le, ◌&&◌, Option, Some, None, List, [], ◌∷◌, ◌++◌, length, take, drop, refl, sym, ap, ◌∙◌, subst, arith, append_assoc}
 use Rattle.std.proofs.lemmas.Bool.{leb-false, ltb-false, lt-leb, le-ltb, leb-true, or_parts}
 use Rattle.std.proofs.lemmas.List.{append-nil, length-append, length-take-le, length_push, same_from_push, length-drop, take-append-drop}
@@ -15,7 +15,7 @@ no_first : {A : Type 0} (b : Bool) (x : A) (y : Option A) → cond b (Some x) y 
 no_first true x y e = cc
 no_first false x y e = (refl, e)
 
--- what a subrecord without a fault keeps
+-- what a subrecord without an error preserves
 pub record NoFault (t : Taking) (h room : ℕ) : Type 0 where
   pub plain : h % 128 < 64
   pub within : h % 64 ≤ room
@@ -125,7 +125,7 @@ added-rows_few t s =
     let both : (b d : Bool) → P b d = λ b d. elim b as (λ b. P b d) [ true ↦ few | false ↦ elim d as (λ d. P false d) [ true ↦ omega (arith, length_push t.rows octets) | false ↦ omega arith ] ] in
     both (is_stream t.format) s.ends
 
--- a taker as it was before some subrecords: what never changes is kept
+-- a taker as it was before some subrecords, with its constants
 abbrev pub restored : Taking → Taking → Taking
 restored t old = record t { rows = old.rows; tail = old.tail; units = old.units; stage = old.stage }
 
@@ -180,7 +180,7 @@ goes_on-all t (s ∷ ss) a h =
     let v = added_all t (s ∷ ss) in
     goes_on-trans t.rows t.tail u.rows u.tail v.rows v.tail (goes_on-added t s h) (goes_on-all u ss a.1 (added-tail_short t s a.0.0 h))
 
--- after some subrecords of a payload the taker can be put back
+-- after some subrecords of a payload the taker can be restored
 pub walked_back : (old mid : Taking) (payload rest : List ℕ) → Walked old mid payload rest → (is_stream old.format ≡ true → length old.tail < BLOCK)
     → HasGrown old.rows old.tail mid.rows mid.tail × (restored mid old ≡ old)
 walked_back old mid payload rest w h = (
@@ -188,7 +188,7 @@ walked_back old mid payload rest w h = (
   ap (λ (x : Taking). restored x old) w.after ∙ restored-all old w.subs,
 )
 
--- what the call that puts a taker back leaves
+-- what the call that restores a taker leaves
 pub put_back : (v old w mid : Taking) (payload rest : List ℕ) (rows : List (List ℕ)) (tail : List ℕ) (row_count tail_len : ℕ) → v ≡ old → w ≡ mid
     → Walked old mid payload rest → (is_stream v.format ≡ true → length v.tail < BLOCK)
     → ((r : List (List ℕ)) → (f : List ℕ) → HasGrown r f w.rows w.tail → length r ≡ row_count → length f ≡ tail_len → (rows ≡ r) × (tail ≡ f))
@@ -225,7 +225,7 @@ grown_record t s rows tail e r q =
     let octets : List ℕ = t.tail ++ s.octets in
     (r ∙ ap (λ (b : Bool). cond b (stream_rows t.rows octets) (cond s.ends (t.rows ++ octets ∷ []) t.rows)) (sym e), q ∙ ap (λ (b : Bool). cond b (stream_tail octets) (cond s.ends [] octets)) (sym e))
 
--- what every taker keeps
+-- the invariant of a taker
 pub record Bounded (t : Taking) : Type 0 where
   pub short : is_stream t.format ≡ true → length t.tail < BLOCK
   pub fits : t.kept_units + t.limit < 9223372036854775808

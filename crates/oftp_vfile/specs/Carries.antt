@@ -1,4 +1,4 @@
--- What payloads carry: the subrecords that spell them, and the rows that these make (RFC 5024, section 7.2).
+-- What payloads carry: their subrecords, and the rows of these (RFC 5024, section 7.2).
 use Rattle.std.specs.Prelude.{◌≡◌, ℕ, Bool, true, false, List, [], ◌∷◌, ◌++◌, ◌<◌, ◌≤◌, length, map, All, if◌then◌else◌}
 use Rattle.std.specs.List.{flat_map}
 use Rattle.oftp_vfile.specs.declared.format.TheConstants.{BLOCK}
@@ -14,7 +14,7 @@ abbrev pub onto : List ℕ → List (List ℕ) → List (List ℕ)
 onto octets [] = octets ∷ []
 onto octets (p ∷ ps) = (octets ++ p) ∷ ps
 
--- the octets of all subrecords, joined and cut after each end flag. The last piece is the open part.
+-- The octets of all subrecords, joined and cut after each end flag. The last piece is the open part.
 abbrev pub pieces : List Subrecord → List (List ℕ)
 pieces [] = [] ∷ []
 pieces (s ∷ ss) = if s.ends then s.octets ∷ pieces ss else onto s.octets (pieces ss)
@@ -25,7 +25,7 @@ IsStream [] = Unit {0}
 IsStream (s ∷ []) = Unit {0}
 IsStream (s ∷ t ∷ ss) = (s.ends ≡ false) × IsStream (t ∷ ss)
 
--- the octets in blocks of 1024: the full ones, and the rest
+-- the octets in blocks of 1024: the full blocks, and the rest
 pub record InBlocks (octets : List ℕ) (rows : List (List ℕ)) (tail : List ℕ) : Type 0 where
   pub joined : octets ≡ octets_in rows ++ tail
   pub full : All (λ (r : List ℕ). length r ≡ BLOCK) rows
@@ -40,20 +40,20 @@ Carried Variable longest ss rows tail =
 Carried Unstructured longest ss rows tail = IsStream ss × InBlocks (octets_of ss) rows tail
 Carried Text longest ss rows tail = IsStream ss × InBlocks (octets_of ss) rows tail
 
--- whether a subrecord came, and whether the last one has the end flag
+-- whether a subrecord was received, and whether the last one has the end flag
 abbrev pub stage_of : List Subrecord → Stage
 stage_of [] = Fresh
 stage_of (s ∷ []) = if s.ends then Ended else Open
 stage_of (s ∷ t ∷ ss) = stage_of (t ∷ ss)
 
--- whether a subrecord came since the last end flag
+-- whether a subrecord was received since the last end flag
 abbrev pub is_open : Stage → Bool
 is_open Fresh = false
 is_open Open = true
 is_open Ended = false
 
--- carries: each payload is a concatenation of subrecords, and these carry the rows and the open part. The stage says whether a
--- flag closed the last subrecord.
+-- Carries: each payload is a concatenation of subrecords, and these carry the rows and the open part. The stage says whether the last
+-- subrecord has the end flag.
 pub record Carries (format : Format) (longest : ℕ) (payloads : List (List ℕ)) (rows : List (List ℕ)) (tail : List ℕ) (stage : Stage) : Type 0 where
   pub subs : List (List Subrecord)
   pub spelling : payloads ≡ map payload_of subs

@@ -6,12 +6,12 @@ use Rattle.oftp_vfile.specs.declared.format.Format.{Format}
 use Rattle.oftp_vfile.specs.VirtualFile.{is_stream, octets_in}
 use Rattle.oftp_vfile.specs.Subrecord.{Subrecord, payload_of, octets_of}
 
--- how many octets the next subrecord of a record needs, of which these are left: its header, and an octet if there is one
+-- how many octets the next subrecord of a record needs, if these octets of it are left: its header, and an octet if there is one
 abbrev pub needs : List ℕ → ℕ
 needs [] = 1
 needs (x ∷ xs) = 2
 
--- how many octets of the record the next subrecord has, where so many are free
+-- how many octets of the record the next subrecord has, if `free` octets are free
 abbrev pub next_length : List ℕ → ℕ → ℕ
 next_length octets free = min 63 (min (length octets) (free - 1))
 
@@ -19,19 +19,19 @@ next_length octets free = min 63 (min (length octets) (free - 1))
 abbrev pub next_subrecord : List ℕ → ℕ → Subrecord
 next_subrecord octets free = record { ends = next_length octets free == length octets; octets = take (next_length octets free) octets }
 
--- what is left of the records behind it
+-- what is left of the records after it
 abbrev pub behind : List ℕ → List (List ℕ) → ℕ → List (List ℕ)
 behind octets records free =
     if next_length octets free == length octets then records else drop (next_length octets free) octets ∷ records
 
--- nothing of these records fits any more
+-- no subrecord of these records fits
 abbrev pub IsFull : ℕ → List (List ℕ) → Type 0
 IsFull free [] = Unit {0}
 IsFull free (r ∷ rs) = free < needs r
 
--- the filling rule (a choice within RFC 5024, section 7.3). With so much free, and these (rests of) records to send, a payload
--- has these subrecords, and leaves the other records: each subrecord takes as much as it can, and the payload ends only where
--- the next one doesn't fit.
+-- The filling rule (a choice within RFC 5024, section 7.3). With `free` octets free, and these (rests of) records to send, a payload has
+-- these subrecords, and leaves the other records. Each subrecord is as long as possible, and the payload ends only where the next one
+-- doesn't fit.
 abbrev pub Packs : ℕ → List (List ℕ) → List Subrecord → List (List ℕ) → Type 0
 Packs free records [] left = (left ≡ records) × IsFull free records
 Packs free [] (s ∷ ss) left = ⊥
@@ -43,7 +43,7 @@ abbrev pub Fills : ℕ → List (List ℕ) → List (List Subrecord) → Type 0
 Fills size records [] = records ≡ []
 Fills size records (ss ∷ rest) = (0 < length ss) × (left : List (List ℕ)) × Packs size records ss left × Fills size left rest
 
--- the subrecords that a payload with so much free has, and the records behind them. It goes on at most so many times.
+-- the subrecords of a payload with `free` octets free, and the records after them, in at most k steps
 unfoldable pub packed : ℕ → ℕ → List (List ℕ) → List Subrecord × List (List ℕ)
 packed zero free records = ([], records)
 packed (suc k) free [] = ([], [])
@@ -52,7 +52,7 @@ packed (suc k) free (r ∷ rs) =
     let rest = packed k (free - (1 + length s.octets)) (behind r rs free) in
     if nat_lt free (needs r) then ([], r ∷ rs) else (s ∷ rest.0, rest.1)
 
--- the payloads for these records, as subrecords, at most so many
+-- the payloads for these records, as subrecords, at most this many
 unfoldable pub fill_from : ℕ → ℕ → List (List ℕ) → List (List Subrecord)
 fill_from zero size records = []
 fill_from (suc k) size [] = []
@@ -75,12 +75,12 @@ records_of format rows = if is_stream format then octets_in rows ∷ [] else row
 abbrev pub payloads_of : Format → ℕ → List (List ℕ) → List (List ℕ)
 payloads_of format size rows = fill size (records_of format rows)
 
--- how many rows these subrecords bring to an end, full blocks alone of a stream
+-- how many rows these subrecords finish; in a stream only full blocks count
 abbrev pub rows_ended : Format → List Subrecord → ℕ
 rows_ended format subs = if is_stream format then length (octets_of subs) / BLOCK else count_by (λ (s : Subrecord). s.ends) subs
 
--- how many of these rows are wholly sent after k payloads, full blocks alone of a stream: where a transfer that breaks there is
--- taken up (RFC 5024, section 1.5.4)
+-- how many of these rows are wholly sent after k payloads, where in a stream only full blocks count; a transfer that breaks there is
+-- continued from there (RFC 5024, section 1.5.4)
 abbrev pub wholly_sent : Format → ℕ → List (List ℕ) → ℕ → ℕ
 wholly_sent format size rows k =
     rows_ended format (flat_map (λ ss. ss) (take k (fill_from (weight (records_of format rows)) size (records_of format rows))))

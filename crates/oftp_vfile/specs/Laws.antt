@@ -1,4 +1,4 @@
--- Laws of these definitions.
+-- Theorems about these definitions.
 use Rattle.std.specs.Prelude.{◌≡◌, ℕ, false, List, ◌++◌, ◌+◌, ◌<◌, ◌≤◌, length, map, take, All, Bool, true, drop, ◌-◌}
 use Rattle.oftp_vfile.specs.declared.format.Format.{Format}
 use Rattle.oftp_vfile.specs.declared.format.Stage.{Stage}
@@ -26,13 +26,13 @@ abbrev pub FillIsWhole : Type 0
 FillIsWhole = (format : Format) (longest size : ℕ) (rows : List (List ℕ)) → 2 ≤ size → AreRows format longest rows
     → CarriesWhole format longest (payloads_of format size rows) rows
 
--- payloads carry one thing only
+-- payloads carry only one list of rows
 abbrev pub OneReading : Type 0
 OneReading = (format : Format) (longest : ℕ) (payloads rows rows' : List (List ℕ)) (tail tail' : List ℕ) (stage stage' : Stage)
     → Carries format longest payloads rows tail stage → Carries format longest payloads rows' tail' stage'
     → (rows ≡ rows') × (tail ≡ tail') × (stage ≡ stage')
 
--- a taker that took the payloads of fill holds exactly these rows, with those taken away, and is closed
+-- a taker that took the payloads of fill holds exactly these rows, with those that were removed, and is closed
 abbrev pub FillIsTaken : Type 0
 FillIsTaken = (t : Taking) (gone : List (List ℕ)) (size : ℕ) (rows : List (List ℕ)) → 2 ≤ size → AreRows t.format t.longest rows
     → Took t gone (payloads_of t.format size rows) → (closed (gone ++ t.rows) t.tail ≡ rows) × (is_open t.stage ≡ false)
@@ -42,16 +42,16 @@ abbrev pub WhollySent : Type 0
 WhollySent = (format : Format) (longest size k : ℕ) (rows found : List (List ℕ)) (tail : List ℕ) (stage : Stage) → 2 ≤ size
     → Carries format longest (take k (payloads_of format size rows)) found tail stage → length found ≡ wholly_sent format size rows k
 
--- the mark of a filler is the row that it began at and the rows wholly sent since
+-- the mark of a filler is the row at which it began and the rows wholly sent since
 abbrev pub MarkIsSent : Type 0
 MarkIsSent = (f : Filling) (longest size from : ℕ) (rows payloads : List (List ℕ)) → 2 ≤ size → AreRows f.format longest rows
     → Sent f size from rows payloads → f.mark ≡ from + wholly_sent f.format size rows (length payloads)
 
--- the rows of a file from one on are rows of a file
+-- the rows of a file from a row on are rows of a file
 abbrev pub RowsFrom : Type 0
 RowsFrom = (format : Format) (longest c : ℕ) (rows : List (List ℕ)) → AreRows format longest rows → AreRows format longest (drop c rows)
 
--- the next n rows from the filler's row on, or all that are left where these are fewer, are lent as it asks
+-- the next n rows from the filler's row on, or all that are left if these are fewer, are such as it may borrow
 abbrev pub LendsRows : Type 0
 LendsRows = (f : Filling) (longest size from n : ℕ) (rows payloads : List (List ℕ)) (last : Bool)
     → IsLongest f.format longest → AreRows f.format longest rows → Sent f size from rows payloads → 0 < n
@@ -60,12 +60,12 @@ LendsRows = (f : Filling) (longest size from n : ℕ) (rows payloads : List (Lis
     × IsInRows f (take n (drop (f.row - from) rows))
     × (is_stream f.format ≡ true → All (λ (r : List ℕ). 0 < length r) (take n (drop (f.row - from) rows)))
 
--- more rows are asked for only where fewer were lent than the payload has octets
+-- more rows are asked for only where fewer were given than the payload has octets
 abbrev pub MoreAreFew : Type 0
 MoreAreFew = (f : Filling) (size : ℕ) (rows : List (List ℕ)) → IsInRows f rows → (is_stream f.format ≡ true → All (λ (r : List ℕ). 0 < length r) rows)
     → Reaches size f rows → length rows < size
 
--- what a taker took carries its rows within the limits
+-- the payloads that a taker took carry its rows within the limits
 abbrev pub TookIsWithin : Type 0
 TookIsWithin = (t : Taking) (gone payloads : List (List ℕ)) → Took t gone payloads
     → Carries t.format t.longest payloads (gone ++ t.rows) t.tail t.stage × CarriesWithin t payloads
@@ -75,26 +75,26 @@ abbrev pub CountsAreFile : Type 0
 CountsAreFile = (t : Taking) (kept gone payloads : List (List ℕ)) → Took t gone payloads → t.kept_rows ≡ length kept → t.kept_units ≡ units_in kept
     → counts_of t ≡ (records_in t.format (kept ++ (gone ++ t.rows)), units_in (closed (kept ++ (gone ++ t.rows)) t.tail))
 
--- where payloads are closed, what they carry are the rows of a file, the open part of a stream as the last
+-- if payloads are closed, the rows that they carry are those of a file, with the open part of a stream as the last
 abbrev pub ClosedIsFile : Type 0
 ClosedIsFile = (format : Format) (longest : ℕ) (payloads rows : List (List ℕ)) (tail : List ℕ) (stage : Stage)
     → Carries format longest payloads rows tail stage → is_open stage ≡ false → AreRows format longest (closed rows tail)
 
--- a payload has one first fault only
+-- a payload has only one first fault
 abbrev pub OneFault : Type 0
 OneFault = (t : Taking) (payload : List ℕ) (f g : TakeFault) → FirstFault t payload f → FirstFault t payload g → f ≡ g
 
--- a content is the local form of one file only
+-- a content is the local form of only one file
 abbrev pub OneFile : Type 0
 OneFile = (format : Format) (longest : ℕ) (content : List ℕ) (rows rows' : List (List ℕ)) → IsLongest format longest
     → IsLocal format longest content rows → IsLocal format longest content rows' → rows ≡ rows'
 
--- what a part of a file's payloads carries, cut anywhere, begins the rows of the file
+-- the rows that a part of a file's payloads carries, cut off anywhere, are a beginning of the rows of the file
 abbrev pub PartBegins : Type 0
 PartBegins = (format : Format) (longest : ℕ) (file payloads next rows : List (List ℕ)) (tail : List ℕ) (stage : Stage)
     → CarriesWhole format longest (payloads ++ next) file → Carries format longest payloads rows tail stage → BeginsWith file rows
 
--- what the first payloads of a file carry, as the filling rule makes them, begins its rows
+-- the rows that the first payloads of a file carry, as the filling rule makes them, are a beginning of its rows
 abbrev pub CarriedBegins : Type 0
 CarriedBegins = (format : Format) (longest size : ℕ) (file payloads next rows : List (List ℕ)) (tail : List ℕ) (stage : Stage)
     → 2 ≤ size → AreRows format longest file → payloads ++ next ≡ payloads_of format size file
@@ -106,6 +106,6 @@ PartCloses = (format : Format) (longest : ℕ) (file payloads next rows : List (
     → CarriesWhole format longest (payloads ++ next) file → Carries format longest payloads rows tail stage → is_open stage ≡ false
     → records_in format rows ≡ records_in format file → units_in (closed rows tail) ≡ units_in file → closed rows tail ≡ file
 
--- a taker without its first rows takes and refuses what the whole one does
+-- a taker without its first rows accepts and refuses what the whole one does
 abbrev pub ShedTaken : Type 0
 ShedTaken = (k : ℕ) (t : Taking) (payload : List ℕ) → k ≤ length t.rows → taken (shed k t) payload ≡ shed_in k (taken t payload)

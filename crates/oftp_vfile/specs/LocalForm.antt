@@ -1,11 +1,11 @@
--- The local form of files: what an operator hands in and fetches.
+-- The local form of files, in which an operator submits and fetches them.
 use Rattle.std.specs.Prelude.{◌≡◌, ◌≤◌, ◌+◌, ◌/◌, ◌%◌, ◌++◌, ◌∷◌, [], ℕ, List, length}
 use Rattle.std.specs.List.{flat_map}
 use Rattle.oftp_vfile.specs.declared.format.Format.{Format}
 use Rattle.oftp_vfile.specs.declared.format.Format.TheVariants.{Fixed, Variable, Unstructured, Text}
 use Rattle.oftp_vfile.specs.VirtualFile.{AreRows}
 
--- a decimal digit of a number, as a character: how often a power of ten is in it, the tens left out
+-- the decimal digit of a number at this power of ten, as a character
 abbrev pub digit_of : ℕ → ℕ → ℕ
 digit_of n place = 48 + n / place % 10
 
@@ -28,6 +28,6 @@ local_of format rows = flat_map (local_row format) rows
 abbrev pub IsLocal : Format → ℕ → List ℕ → List (List ℕ) → Type 0
 IsLocal format longest content rows = AreRows format longest rows × (content ≡ local_of format rows)
 
--- the content of a V file begins with this record, and has this rest
+-- the content of a V file begins with this record, and these octets follow
 abbrev pub IsFirstRecord : ℕ → List ℕ → List ℕ → List ℕ → Type 0
 IsFirstRecord longest content row rest = (content ≡ local_row Variable row ++ rest) × (length row ≤ longest)

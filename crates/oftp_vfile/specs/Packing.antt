@@ -5,8 +5,7 @@ use Rattle.oftp_vfile.specs.Subrecord.{Subrecord, payload_of}
 use Rattle.oftp_vfile.specs.Fill.{Packs}
 use Rattle.oftp_vfile.specs.Filling.{Filling, left_of, AreBehind}
 
--- these octets are subrecords of the records, as far as they went: whatever packs what is left, and the records behind, packs
--- all of them after these
+-- These octets are subrecords of the records so far. Whatever packs what is left, and further records, packs all of them after these.
 abbrev pub HasPacked : ℕ → List (List ℕ) → List ℕ → ℕ → List (List ℕ) → Type 0
 HasPacked free records octets free' records' =
     (sofar : List Subrecord) × (octets ≡ payload_of sofar)
@@ -16,12 +15,12 @@ HasPacked free records octets free' records' =
 abbrev pub rest_at : List (List ℕ) → ℕ → ℕ → List ℕ
 rest_at rows row offset = drop offset (octets_in (drop row rows))
 
--- the octets behind those that were lent: none where these were the last, else some
+-- the octets after the given ones: none if these were the last, else some
 abbrev pub IsTail : Bool → List ℕ → Type 0
 IsTail true tail = tail ≡ []
 IsTail false tail = 0 < length tail
 
--- the same as HasPacked for a stream, one record of which more octets may stand behind
+-- the same as HasPacked for a stream, which is one record that more octets may follow
 abbrev pub HasStreamed : Bool → ℕ → List ℕ → List ℕ → ℕ → List ℕ → Type 0
 HasStreamed last free stream octets free' stream' =
     (sofar : List Subrecord) × (octets ≡ payload_of sofar)
@@ -31,8 +30,8 @@ HasStreamed last free stream octets free' stream' =
 abbrev pub HasEnded : ℕ → List ℕ → List ℕ → Type 0
 HasEnded free stream octets = (sofar : List Subrecord) × (octets ≡ payload_of sofar) × Packs free (stream ∷ []) sofar []
 
--- these octets are subrecords that the filling rule packs of what is left, up to what is left behind them, whatever rows stand
--- behind those that were lent. So says the rule itself; IsFirstPayload says it of the list that fill makes.
+-- These octets are subrecords that the filling rule packs of what is left, whatever rows follow the given ones. This is in terms of the
+-- rule itself; IsFirstPayload says it of the list that fill makes.
 abbrev pub PacksNext : ℕ → Filling → Filling → List (List ℕ) → Bool → List ℕ → Type 0
 PacksNext size old new rows last octets =
     (more : List (List ℕ)) → AreBehind old.format last more →

@@ -1,4 +1,4 @@
--- What a taker makes of payloads, as functions (RFC 5024, section 7.2).
+-- What a taker does with payloads, as functions (RFC 5024, section 7.2).
 use Rattle.std.specs.Prelude.{ℕ, zero, suc, List, [], ◌∷◌, ◌+◌, length, take, drop, fold, nat_le, if◌then◌else◌, Option, None, Some, Result, Ok, Err}
 use Rattle.std.specs.Option.{option_or}
 use Rattle.std.specs.Result.{result_unwrap_or}
@@ -7,7 +7,7 @@ use Rattle.oftp_vfile.specs.declared.format.TakeFault.TheVariants.{Cut}
 use Rattle.oftp_vfile.specs.Subrecord.{Subrecord, has_end, count_in}
 use Rattle.oftp_vfile.specs.Taking.{Taking, added, fault_at}
 
--- the subrecord of a header and the octets behind it
+-- the subrecord of a header and the octets after it
 abbrev pub subrecord_in : ℕ → List ℕ → Subrecord
 subrecord_in header rest = record { ends = has_end header; octets = take (count_in header) rest }
 
@@ -21,12 +21,11 @@ abbrev pub then_go_on : {A B : Type 0} → Result A TakeFault → (A → Result 
 then_go_on (Ok x) f = f x
 then_go_on (Err fault) f = Err fault
 
--- the fault of a header with so many octets behind it; a number that is no octet begins no subrecord
+-- the fault of a header with `room` octets after it; a number that isn't an octet begins no subrecord
 abbrev pub fault_before : Taking → ℕ → ℕ → Option TakeFault
 fault_before t header room = option_or (fault_at t header room) (if nat_le 256 header then Some Cut else None)
 
--- what a taker holds after the first n subrecords of a payload, or after all where these are fewer, or the fault of the first
--- faulty one
+-- a taker after the first n subrecords of a payload, or after all if these are fewer, or the fault of the first faulty one
 unfoldable pub take_subrecords : ℕ → Taking → List ℕ → Result Taking TakeFault
 take_subrecords zero t payload = Ok t
 take_subrecords (suc n) t [] = Ok t
@@ -34,19 +33,19 @@ take_subrecords (suc n) t (header ∷ rest) =
     then_go_on (unless_fault (fault_before t header (length rest)) (added t (subrecord_in header rest)))
     (λ after. take_subrecords n after (drop (count_in header) rest))
 
--- what a taker holds after a payload, or the fault of its first faulty subrecord
+-- a taker after a payload, or the fault of its first faulty subrecord
 abbrev pub taken : Taking → List ℕ → Result Taking TakeFault
 taken t payload = take_subrecords (length payload) t payload
 
--- what a taker holds after payloads, of which a refused one leaves it as it was
+-- a taker after payloads, of which a refused one leaves it unchanged
 abbrev pub taken_all : Taking → List (List ℕ) → Taking
 taken_all t payloads = fold (λ (was : Taking) payload. result_unwrap_or (taken was payload) was) t payloads
 
--- a taker from which its first k rows were taken away
+-- a taker from which its first k rows were removed
 abbrev pub shed : ℕ → Taking → Taking
 shed k t = record t { rows = drop k t.rows; away = t.away + k }
 
--- what a taker without its first k rows answers where the whole one answers this
+-- the result of a taker without its first k rows, where this is the result of the whole one
 abbrev pub shed_in : ℕ → Result Taking TakeFault → Result Taking TakeFault
 shed_in k (Ok t) = Ok (shed k t)
 shed_in k (Err fault) = Err fault

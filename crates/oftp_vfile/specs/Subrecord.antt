@@ -39,7 +39,7 @@ payload_of subs = flat_map spelled subs
 abbrev pub octets_of : List Subrecord → List ℕ
 octets_of subs = flat_map (λ s. s.octets) subs
 
--- each has at most the 63 octets that a count can tell
+-- each has at most the 63 octets that a header can count
 abbrev pub AreShort : List Subrecord → Type 0
 AreShort [] = Unit {0}
 AreShort (s ∷ ss) = (length s.octets < 64) × AreShort ss

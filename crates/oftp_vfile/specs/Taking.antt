@@ -1,4 +1,4 @@
--- A taker: what it holds, what it refuses, and what it took.
+-- A taker: its state, what it refuses, and what it took.
 use Rattle.std.specs.Prelude.{◌≡◌, ◌≢◌, ℕ, Bool, true, false, Option, Some, None, List, [], ◌∷◌, ◌++◌, ◌+◌, ◌/◌, ◌<◌, ◌≤◌, length, map, nat_lt, ◌==◌, ◌&&◌, ◌||◌, not, if◌then◌else◌}
 use Rattle.std.specs.List.{flat_map}
 use Rattle.oftp_vfile.specs.declared.format.TheConstants.{BLOCK, MOST_ROWS}
@@ -13,8 +13,8 @@ use Rattle.oftp_vfile.specs.Growth.{stream_rows, stream_tail}
 use Rattle.oftp_vfile.specs.Subrecord.{Subrecord, header, payload_of, octets_of, has_end, has_compression, count_in, AreShort}
 use Rattle.oftp_vfile.specs.Carries.{Carried, Carries, stage_of}
 
--- what a taker holds: the file and its limit, what was kept of it before, how many rows were taken away, the rows and the open
--- tail that it has, the octets that it took, and whether a subrecord came and ended
+-- the state of a taker: the file and its limit, what is kept of it from before, how many rows were removed, the rows and the open tail that
+-- it has, the octets that it took, and whether a subrecord was received and ended
 pub record Taking : Type 0 where
   pub format : Format
   pub longest : ℕ
@@ -52,7 +52,7 @@ is_ended Fresh = false
 is_ended Open = false
 is_ended Ended = true
 
--- what a taker holds after one more subrecord
+-- a taker after one more subrecord
 abbrev pub added : Taking → Subrecord → Taking
 added t s =
     let octets = t.tail ++ s.octets in
@@ -63,7 +63,7 @@ added t s =
       stage = if s.ends then Ended else Open;
     }
 
--- what a taker holds after these subrecords
+-- a taker after these subrecords
 abbrev pub added_all : Taking → List Subrecord → Taking
 added_all t [] = t
 added_all t (s ∷ ss) = added_all (added t s) ss
@@ -72,19 +72,19 @@ added_all t (s ∷ ss) = added_all (added t s) ss
 abbrev pub new_rows : Taking → Bool → ℕ → ℕ
 new_rows t ends n = if is_stream t.format then (length t.tail + n) / BLOCK else if ends then 1 else 0
 
--- whether the file passes its limit of octets, or of 1,000,000 rows, by a subrecord of n octets
+-- whether the file exceeds its limit of octets, or 1,000,000 rows, with a subrecord of n octets
 abbrev pub is_too_big : Taking → Bool → ℕ → Bool
 is_too_big t ends n =
     nat_lt t.limit (t.kept_units + t.units + n) || nat_lt MOST_ROWS (t.kept_rows + t.away + length t.rows + new_rows t ends n)
 
--- whether a record, so far of n octets, breaks the rule on its length
+-- whether a record that has n octets so far breaks the rule on its length
 abbrev pub is_wrong_size : Format → ℕ → ℕ → Bool → Bool
 is_wrong_size Fixed longest n ends = nat_lt longest n || (ends && not (n == longest))
 is_wrong_size Variable longest n ends = nat_lt longest n
 is_wrong_size Unstructured longest n ends = false
 is_wrong_size Text longest n ends = false
 
--- the fault of a subrecord with this header where so many octets stand behind it. The order decides where two faults fit.
+-- The fault of a subrecord with this header and `room` octets after it. Where several apply, the order decides.
 abbrev pub fault_at : Taking → ℕ → ℕ → Option TakeFault
 fault_at t h room =
     if is_stream t.format && is_ended t.stage then Some AfterEnd
@@ -99,16 +99,16 @@ abbrev pub fault_in : Taking → List ℕ → Option TakeFault
 fault_in t [] = None
 fault_in t (h ∷ rest) = fault_at t h (length rest)
 
--- a subrecord that a taker takes
+-- a subrecord that a taker accepts
 abbrev pub IsAllowed : Taking → Subrecord → Type 0
 IsAllowed t s = (length s.octets < 64) × (fault_at t (header s) (length s.octets) ≡ None)
 
--- subrecords that a taker takes, one after another
+-- subrecords that a taker accepts, one after another
 abbrev pub AreAllowed : Taking → List Subrecord → Type 0
 AreAllowed t [] = Unit {0}
 AreAllowed t (s ∷ ss) = IsAllowed t s × AreAllowed (added t s) ss
 
--- the front of a payload, up to a rest, was taken
+-- the first part of a payload, up to `rest`, was taken
 pub record Walked (old new : Taking) (payload rest : List ℕ) : Type 0 where
   pub subs : List Subrecord
   pub spelling : payload ≡ payload_of subs ++ rest
@@ -122,7 +122,7 @@ pub record FirstFault (t : Taking) (payload : List ℕ) (f : TakeFault) : Type 0
   pub walked : Walked t before payload rest
   pub faulty : fault_in before rest ≡ Some f
 
--- what a taker holds of the subrecords that came, where these rows were taken away
+-- the state of a taker after these subrecords, where these rows were removed
 pub record HasTaken (t : Taking) (gone : List (List ℕ)) (ss : List Subrecord) : Type 0 where
   pub carried : Carried t.format t.longest ss (gone ++ t.rows) t.tail
   pub away : t.away ≡ length gone
@@ -131,7 +131,7 @@ pub record HasTaken (t : Taking) (gone : List (List ℕ)) (ss : List Subrecord) 
   pub octets : ss ≢ [] → t.kept_units + t.units ≤ t.limit
   pub few : t.kept_rows + (length gone + length t.rows) ≤ MOST_ROWS
 
--- a taker took these payloads, and these rows were taken away from it
+-- a taker took these payloads, and these rows were removed from it
 pub record Took (t : Taking) (gone payloads : List (List ℕ)) : Type 0 where
   pub subs : List (List Subrecord)
   pub spelling : payloads ≡ map payload_of subs
@@ -147,7 +147,7 @@ pub record CarriesWithin (t : Taking) (payloads : List (List ℕ)) : Type 0 wher
   pub octets : stage ≢ Fresh → t.kept_units + length (octets_in rows ++ tail) ≤ t.limit
   pub few : t.kept_rows + length rows ≤ MOST_ROWS
 
--- what a payload never changes in a taker
+-- the parts of a taker that no payload changes
 pub record IsSameFile (s t : Taking) : Type 0 where
   pub format : t.format ≡ s.format
   pub longest : t.longest ≡ s.longest

@@ -5,7 +5,7 @@ use Rattle.oftp_vfile.specs.declared.format.TheConstants.{BLOCK, LONGEST_RECORD}
 use Rattle.oftp_vfile.specs.declared.format.Format.{Format}
 use Rattle.oftp_vfile.specs.declared.format.Format.TheVariants.{Fixed, Variable, Unstructured, Text}
 
--- whether a file is one stream of octets, and no list of records (RFC 5024, section 1.5.3)
+-- whether a file is one stream of octets, and not a list of records (RFC 5024, section 1.5.3)
 abbrev pub is_stream : Format → Bool
 is_stream Fixed = false
 is_stream Variable = false
@@ -24,8 +24,8 @@ units_in rows = length (octets_in rows)
 abbrev pub records_in : Format → List (List ℕ) → ℕ
 records_in format rows = if is_stream format then 0 else length rows
 
--- how many of these rows, wholly sent, count where a transfer is taken up: all records, and full blocks alone of a stream (RFC
--- 5024, section 1.5.4)
+-- how many of these rows, wholly sent, count towards the mark: all records, but only full blocks of a stream (RFC 5024, section
+-- 1.5.4)
 abbrev pub whole_count : Format → List (List ℕ) → ℕ
 whole_count format rows = if is_stream format then count_by (λ (r : List ℕ). length r == BLOCK) rows else length rows
 
@@ -37,25 +37,25 @@ IsLongest Variable longest = (0 < longest) × (longest ≤ LONGEST_RECORD)
 IsLongest Unstructured longest = longest ≡ 0
 IsLongest Text longest = longest ≡ 0
 
--- rows of this size each, the last of which may be shorter and isn't empty
+-- blocks of this size, the last of which may be shorter but isn't empty
 abbrev pub AreBlocks : ℕ → List (List ℕ) → Type 0
 AreBlocks size [] = Unit {0}
 AreBlocks size (r ∷ []) = (0 < length r) × (length r ≤ size)
 AreBlocks size (r ∷ q ∷ rs) = (length r ≡ size) × AreBlocks size (q ∷ rs)
 
--- the rows of a virtual file: records of exactly the longest length in F and of at most that in V (RFC 5024, section 1.5.3),
--- and in U and T the octets in rows of 1024, the last of which may be shorter (RFC 5024, section 1.5.4)
+-- the rows of a virtual file: records of exactly the longest length in F and of at most that in V (RFC 5024, section 1.5.3), and in U and T
+-- blocks of 1024 octets, the last of which may be shorter (RFC 5024, section 1.5.4)
 abbrev pub AreRows : Format → ℕ → List (List ℕ) → Type 0
 AreRows Fixed longest rows = All (λ (r : List ℕ). length r ≡ longest) rows
 AreRows Variable longest rows = All (λ (r : List ℕ). length r ≤ longest) rows
 AreRows Unstructured longest rows = AreBlocks BLOCK rows
 AreRows Text longest rows = AreBlocks BLOCK rows
 
--- the rows of a file that is closed: an open part that isn't empty is the last row
+-- the rows of a file that is closed: the open part is the last row, unless it is empty
 abbrev pub closed : List (List ℕ) → List ℕ → List (List ℕ)
 closed rows [] = rows
 closed rows (x ∷ xs) = rows ++ (x ∷ xs) ∷ []
 
--- these rows begin a list
+-- these rows are the first of a list
 abbrev pub BeginsWith : List (List ℕ) → List (List ℕ) → Type 0
 BeginsWith all first = (more : List (List ℕ)) × (all ≡ first ++ more)

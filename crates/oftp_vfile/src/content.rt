@@ -1,10 +1,9 @@
-//! Rows of a virtual file.
+//! The rows of virtual files.
 ghost use Rattle.std.specs.Prelude.{◌≡◌, ◌==◌, ℕ, List, length};
 
 use std::marker::Model;
 
-/// A row of a virtual file: a record (F, V), or a block of octets (U, T). Contracts see it as the
-/// list of its octets.
+/// A row of a virtual file: a record (formats F and V), or a block of octets (U and T). Contracts see it as the list of its octets.
 #[derive(Drop)]
 pub struct Row {
     octets: Vec<u8>,
@@ -17,7 +16,7 @@ impl Model for Row {
 }
 
 impl Row {
-    /// A row of these octets. It takes no memory.
+    /// A row with these octets. It allocates nothing.
     pub fn new(octets: Vec<u8>) -> Row
         ensures { result ≡ octets.items }
     {
@@ -31,21 +30,21 @@ impl Row {
         self.octets.as_slice()
     }
 
-    /// The octets themselves, without a copy.
+    /// The octets, without a copy.
     pub fn into_octets(self) -> Vec<u8>
         ensures { result.items ≡ self }
     {
         self.octets
     }
 
-    /// How many octets.
+    /// The number of octets.
     pub fn len(&self) -> usize
         ensures { result ≡ length self.now }
     {
         self.octets.len()
     }
 
-    /// Whether it is a record of no octet.
+    /// Whether it has no octet.
     pub fn is_empty(&self) -> bool
         ensures { result ≡ (length self.now == 0) }
     {
@@ -53,7 +52,7 @@ impl Row {
     }
 }
 
-/// Rows in order, as a virtual file has them. Contracts see the list of lists of octets.
+/// The rows of a virtual file, in order. Contracts see them as a list of lists of octets.
 #[derive(Drop)]
 pub struct Rows {
     rows: Vec<Row>,
@@ -66,28 +65,28 @@ impl Model for Rows {
 }
 
 impl Rows {
-    /// These rows. It takes no memory.
+    /// These rows. It allocates nothing.
     pub fn new(rows: Vec<Row>) -> Rows
         ensures { result ≡ rows.items }
     {
         Rows { rows }
     }
 
-    /// The rows, lent.
+    /// The rows as a borrowed slice.
     pub fn as_slice(&self) -> &[Row]
         ensures { result.now ≡ self.now }
     {
         self.rows.as_slice()
     }
 
-    /// The rows themselves, without a copy.
+    /// The rows, without a copy.
     pub fn into_vec(self) -> Vec<Row>
         ensures { result.items ≡ self }
     {
         self.rows
     }
 
-    /// How many rows.
+    /// The number of rows.
     pub fn len(&self) -> usize
         ensures { result ≡ length self.now }
     {

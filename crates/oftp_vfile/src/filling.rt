@@ -1,4 +1,4 @@
-//! Rows in, payloads out.
+//! Making payloads from the rows of a file.
 ghost use Rattle.std.specs.Prelude.{◌≡◌, ◌↔◌, ◌+◌, ◌<◌, ◌≤◌, ◌++◌, ◌∷◌, [], ℕ, List, length, take, slice_index_or, true, false, All, IsTrue};
 ghost use Rattle.oftp_vfile.specs.declared.format.TheConstants.{MOST_ROWS};
 ghost use Rattle.oftp_vfile.specs.VirtualFile.{is_stream, whole_count};
@@ -11,15 +11,15 @@ use crate::format::{BLOCK, Filled, Format};
 use crate::packing::{End, Place, pack_records, pack_stream};
 use std::marker::Model;
 
-/// Makes payloads of rows, by the buffer filling rules (RFC 5024, section 7.3). It holds no row and
-/// takes no memory: each call is lent rows and writes from these straight into the buffer.
+/// Makes payloads from rows, by the buffer filling rules (RFC 5024, section 7.3). It holds no row and allocates nothing: each call borrows
+/// rows and writes from them into the buffer.
 #[derive(Drop)]
 pub struct Filler {
     format: Format,
     row: usize,
-    // How many octets of the row are sent.
+    // How many octets of the row were sent.
     offset: usize,
-    // Whether the end of a stream is sent.
+    // Whether the end of a stream was sent.
     done: bool,
     mark: usize,
 }
@@ -41,7 +41,7 @@ impl Model for Filler {
     ghost invariant = { λ f. f.mark ≤ f.row };
 }
 
-// How many octets the shortest further row needs.
+// How many octets the subrecord of the shortest further row needs.
 fn least_need(format: Format) -> usize
     ensures { result ≡ needs (least format) }
 {
@@ -51,8 +51,7 @@ fn least_need(format: Format) -> usize
     }
 }
 
-// How many of these rows, wholly sent, count where a transfer is taken up: full blocks alone of a
-// stream.
+// How many of these rows, wholly sent, count towards the mark: in a stream only full blocks.
 fn whole_count(format: Format, rows: &[Row]) -> usize
     ensures value { result ≡ whole_count format rows.now }
     ensures most { result ≤ length rows.now }
@@ -65,8 +64,7 @@ fn whole_count(format: Format, rows: &[Row]) -> usize
 }
 
 impl Filler {
-    /// A filler that begins at a row of its file: 0, or the row where a broken transfer is taken
-    /// up. It takes no memory.
+    /// A filler that begins at row `from` of its file: 0, or the row from which a broken transfer is continued. It allocates nothing.
     pub fn new(format: Format, from: usize) -> Filler
         ensures value { result ≡ new_filling format from }
         ensures sent { (size : ℕ) (rows : List (List ℕ)) → Sent result size from rows [] }
@@ -87,24 +85,22 @@ impl Filler {
         self.format
     }
 
-    /// The row from which on rows are to be lent.
+    /// The row from which the next call borrows rows.
     pub fn row(&self) -> usize
         ensures { result ≡ self.now.row }
     {
         self.row
     }
 
-    /// How many rows of the file, from its start on, count as wholly sent: full blocks alone of a
-    /// stream, so never a last, shorter one. From there a transfer that breaks can be taken up
-    /// (RFC 5024, section 1.5.4).
+    /// How many rows of the file, from its first one on, count as wholly sent. In a stream these are only full blocks, so never a last,
+    /// shorter one. A transfer that breaks can be continued from there (RFC 5024, section 1.5.4).
     pub fn mark(&self) -> usize
         ensures { result ≡ self.now.mark }
     {
         self.mark
     }
 
-    /// Whether it may be lent these rows from its row on: its place is in the first of them, where
-    /// it is in the middle of a row.
+    /// Whether the filler may borrow these rows, from its row on. In the middle of a row, that row has to be the first of them.
     pub fn is_in(&self, rows: &[Row]) -> bool
         ensures { IsTrue result ↔ IsInRows self.now rows.now }
     {
@@ -114,36 +110,31 @@ impl Filler {
         }
     }
 
-    /// Writes the next payload into `out`: what is to follow the `D` of a DATA command (RFC 5024,
-    /// sections 5.3.6 and 7.3).
+    /// Writes the next payload into `out`: the octets after the `D` of a DATA command (RFC 5024, sections 5.3.6 and 7.3).
     ///
-    /// It is lent the rows from `row()` on, few or many, and told whether they reach the end. It
-    /// asks of its caller that
+    /// It borrows rows from `row()` on, any number of them. `last` says whether they reach the end of the file. The caller makes sure that
     ///
-    /// - `out` has room for at least 2 octets,
-    /// - no lent row lies beyond the 1,000,000 that a file may have,
-    /// - where it is in the middle of a row, this row is lent, with all its octets; at the start of
-    ///   one, none need be,
-    /// - no lent row of a stream is empty.
+    /// - `out` has at least 2 octets,
+    /// - no row lies beyond the 1,000,000 that a file may have,
+    /// - in the middle of a row, this row is given, with all its octets; at the start of a row, none need be given,
+    /// - no row of a stream is empty.
     ///
-    /// `More` asks for more rows: the payload isn't full, and rows are to come. `Done` says that
-    /// nothing is left. Both leave the filler as it was; what `out` then holds is left open. It
-    /// takes no memory.
+    /// `More` asks for more rows: the payload isn't full, and further rows follow. `Done` says that nothing is left. Both leave the filler
+    /// unchanged, and the content of `out` unspecified. It allocates nothing.
     pub fn next_buffer(&mut self, rows: &[Row], last: bool, out: &mut [u8]) -> Filled
         requires room { 2 ≤ length out.old }
         requires few { self.old.row + length rows.now ≤ MOST_ROWS }
         requires place { IsInRows self.old rows.now }
         requires some { is_stream self.old.format ≡ true → All (λ r. 0 < length r) rows.now }
 
-        // A payload is the first of those of what is left, wherever the lent rows end.
+        // A payload is the first one of what is left, wherever the given rows end.
         ensures buffer { IfBuffer result (λ n. (n ≤ length out.old)
             × IsFirstPayload (length out.old) self.old self.new rows.now last (take n out.new)) }
 
-        // More comes exactly where a subrecord of a further row could fit, Done exactly where
-        // nothing is left.
+        // `More` is returned exactly where a subrecord of a further row could fit, and `Done` exactly where nothing is left.
         ensures fills { FillsNext (length out.old) self.old self.new rows.now last result }
 
-        // What was made so far, and all, where the lent rows are those of a whole file.
+        // The payloads so far, and all of them, if the given rows are those of a whole file.
         ensures sent { (from : ℕ) (file payloads : List (List ℕ))
             → Sent self.old (length out.old) from file payloads
             → AreLent self.old from file rows.now last
@@ -161,7 +152,7 @@ impl Filler {
         }
     }
 
-    // Goes on to a place in the lent rows.
+    // Moves on to a place in the given rows.
     fn advance(&mut self, rows: &[Row], place: Place)
         requires row { place.row ≤ length rows.now }
         requires few { self.old.row + length rows.now ≤ MOST_ROWS }

@@ -1,4 +1,4 @@
-//! Formats, limits and faults.
+//! Formats, limits and errors.
 ghost use Rattle.std.specs.Prelude.{◌≡◌, ◌↔◌, IsTrue};
 ghost use Rattle.oftp_vfile.specs.VirtualFile.{IsLongest, is_stream};
 ghost use Rattle.oftp_vfile.specs.declared.format.LocalFault.TheVariants.{Memory as NoLocalMemory};
@@ -8,13 +8,13 @@ use std::alloc::{AllocError, AllocFailed};
 use std::error::Error;
 use std::fmt;
 
-/// How many octets a row of a stream has, the last row aside (RFC 5024, section 1.5.4).
+/// The number of octets of a block, which is a row of a stream other than the last (RFC 5024, section 1.5.4).
 pub const BLOCK: usize = 1024;
 
-/// How many rows a file has at most.
+/// The most rows of a file.
 pub const MOST_ROWS: usize = 1_000_000;
 
-/// How many octets the longest record of a file has at most.
+/// The greatest length of a record, in octets.
 pub const LONGEST_RECORD: u32 = 16_384;
 
 /// The format of a virtual file (RFC 5024, section 1.5.3).
@@ -22,16 +22,16 @@ pub const LONGEST_RECORD: u32 = 16_384;
 pub enum Format {
     /// F: records of one length.
     Fixed,
-    /// V: records of at most one length.
+    /// V: records of any length up to the longest.
     Variable,
     /// U: a stream of octets.
     Unstructured,
-    /// T: a text, which travels as a stream of octets, as U does.
+    /// T: a text, which is sent as a stream of octets, like U.
     Text,
 }
 
 impl Format {
-    /// Whether a file is one stream of octets (U, T), and no list of records (F, V).
+    /// Whether a file is one stream of octets (U, T) and not a list of records (F, V).
     pub fn is_stream(self) -> bool
         ensures { result ≡ is_stream self }
     {
@@ -41,8 +41,7 @@ impl Format {
         }
     }
 
-    /// Whether a file may have this longest record, in octets: 1 to 16,384 in F and V, 0 in U and
-    /// T, which have no records.
+    /// Whether a file may have this longest record, in octets: 1 to 16,384 in F and V, and 0 in U and T, which have no records.
     pub fn allows_longest(self, longest: u32) -> bool
         ensures { IsTrue result ↔ IsLongest self longest }
     {
@@ -53,40 +52,40 @@ impl Format {
     }
 }
 
-/// How far a record, or a stream, was taken.
+/// How far a record, or a stream, was received.
 #[derive(Clone, Copy, Debug, PartialEq, Eq, Hash)]
 pub enum Stage {
-    /// No subrecord came.
+    /// No subrecord was received.
     Fresh,
-    /// The last subrecord has no end flag.
+    /// The last subrecord doesn't have the end flag.
     Open,
     /// The last subrecord has the end flag.
     Ended,
 }
 
-/// How much a station keeps.
+/// The limits of a station.
 #[derive(Clone, Copy, Debug, PartialEq, Eq, Hash)]
 pub struct Limits {
-    /// Files in each of the two file tables.
+    /// The most files in each of the two file tables.
     pub files: u64,
-    /// Octets of a file.
+    /// The most octets of a file.
     pub octets: u64,
 }
 
 /// Why a taker refuses a payload.
 #[derive(Clone, Copy, Debug, PartialEq, Eq, Hash)]
 pub enum TakeFault {
-    /// A subrecord passes the end of its payload.
+    /// A subrecord extends past the end of its payload.
     Cut,
     /// A subrecord has the compression flag, which wasn't agreed.
     Compressed,
-    /// A record passes the longest length, or a record of F ends with another length.
+    /// A record exceeds the longest length, or a record of F ends with another length.
     RecordSize,
-    /// A subrecord comes after the end flag of a stream.
+    /// A subrecord follows the end flag of a stream.
     AfterEnd,
-    /// The file passes its limit of octets, or of 1,000,000 rows.
+    /// The file exceeds its limit of octets, or 1,000,000 rows.
     TooBig,
-    /// A growth was refused.
+    /// Out of memory.
     Memory,
 }
 
@@ -126,23 +125,23 @@ impl<T: Drop> From<AllocFailed<T>> for TakeFault {
     }
 }
 
-/// What became of a buffer that a filler was to fill.
+/// The result of filling a buffer.
 #[derive(Clone, Copy, Debug, PartialEq, Eq, Hash)]
 pub enum Filled {
-    /// So many octets of it are the next payload.
+    /// This number of octets of the buffer is the next payload.
     Buffer(usize),
     /// Nothing is left to send.
     Done,
-    /// The payload isn't full at the end of the lent rows, and more rows are to come: lend more.
+    /// The payload isn't full at the end of the given rows, and further rows follow: the caller has to give more of them.
     More,
 }
 
 /// Why a file isn't read from its local form, or written in it.
 #[derive(Clone, Copy, Debug, PartialEq, Eq, Hash)]
 pub enum LocalFault {
-    /// The content is no local form of the format.
+    /// The content isn't the local form of a file of this format.
     NotLocal,
-    /// A growth was refused.
+    /// Out of memory.
     Memory,
 }
 

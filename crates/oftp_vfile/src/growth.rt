@@ -1,4 +1,4 @@
-//! Rows and an open tail, as they grow.
+//! Rows and an open tail, and how they grow.
 ghost use Rattle.std.specs.Prelude.{◌≡◌, ◌+◌, ◌<◌, ◌≤◌, ◌++◌, ◌∷◌, [], ℕ, List, length, take, drop, OnOk, OnErr, vec_len, vec_capacity, false, if◌then◌else◌};
 ghost use Rattle.oftp_vfile.specs.Growth.{HasGrown, stream_rows, stream_tail};
 
@@ -7,8 +7,7 @@ use crate::format::BLOCK;
 use std::alloc::{AllocError, Global};
 use std::mem;
 
-// Puts octets behind the tail. Where it has no room for them, it gets room for `size` octets at
-// once.
+// Appends octets to the tail. If it hasn't the capacity, `size` octets are allocated at once.
 fn append(tail: &mut Vec<u8>, part: &[u8], size: usize) -> Result<(), AllocError>
     ensures ok { OnOk result (tail.new.items ≡ tail.old.items ++ part.now) }
     ensures room { OnOk result (vec_capacity tail.old < vec_len tail.old + length part.now
@@ -21,7 +20,7 @@ fn append(tail: &mut Vec<u8>, part: &[u8], size: usize) -> Result<(), AllocError
     tail.extend_from_slice(part)
 }
 
-// Makes the tail a row, without a copy. An `Err` changes nothing.
+// Makes the tail a row, without a copy. An error changes nothing.
 fn close(alloc: Global, rows: &mut Vec<Row>, tail: &mut Vec<u8>) -> Result<(), AllocError>
     ensures rows { OnOk result (rows.new.items ≡ rows.old.items ++ tail.old.items ∷ []) }
     ensures tail { OnOk result (tail.new.items ≡ []) }
@@ -38,8 +37,7 @@ fn close(alloc: Global, rows: &mut Vec<Row>, tail: &mut Vec<u8>) -> Result<(), A
     }
 }
 
-// Takes octets of a stream, and makes a block a row where it is full. After an `Err` the rows and
-// the tail may have grown.
+// Appends octets of a stream, and makes a full block a row. After an error the rows and the tail may have grown.
 fn grow_stream(
     alloc: Global,
     rows: &mut Vec<Row>,
@@ -68,7 +66,7 @@ fn grow_stream(
     Ok(())
 }
 
-/// Goes back to so many rows and so long a tail, where all that came since stands behind them.
+/// Goes back to `row_count` rows and a tail of `tail_len` octets, which are the beginning of what is there.
 pub fn back_to(rows: &mut Vec<Row>, tail: &mut Vec<u8>, row_count: usize, tail_len: usize)
     ensures { (old : List (List ℕ)) → (front : List ℕ)
         → HasGrown old front rows.old.items tail.old.items
@@ -82,8 +80,11 @@ pub fn back_to(rows: &mut Vec<Row>, tail: &mut Vec<u8>, row_count: usize, tail_l
     tail.truncate(tail_len);
 }
 
-/// Takes a part of a record, and makes the record a row where it ends. Room is made for `size`
-/// octets of it at once. An `Err` changes nothing.
+/// Appends a part of a record, and makes the record a row where it ends. `size` octets are allocated for it at once.
+///
+/// # Errors
+///
+/// Out of memory. Nothing has changed.
 pub fn add_to_record(
     alloc: Global,
     rows: &mut Vec<Row>,
@@ -115,8 +116,11 @@ pub fn add_to_record(
     }
 }
 
-/// Takes octets of a stream, and makes a block a row where it is full. The octets, and those of the tail, are fewer than a block. An `Err`
-/// changes nothing.
+/// Appends octets of a stream, and makes a full block a row. The octets, and those of the tail, are fewer than a block.
+///
+/// # Errors
+///
+/// Out of memory. Nothing has changed.
 pub fn add_to_stream(
     alloc: Global,
     rows: &mut Vec<Row>,

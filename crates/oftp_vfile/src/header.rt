@@ -8,13 +8,13 @@ const END: u8 = 0x80;
 // The flag of compression.
 const COMPRESSION: u8 = 0x40;
 
-// The bits of the count.
+// The bits of the number of octets.
 const COUNT: u8 = 0x3f;
 
-/// The most octets that a subrecord has.
+/// The most octets of a subrecord.
 pub const MOST_COUNT: usize = 63;
 
-/// The header of a subrecord that isn't compressed, of fewer than 64 octets.
+/// The header of an uncompressed subrecord of fewer than 64 octets.
 pub fn header_octet(ends: bool, count: usize) -> u8
     requires { count < 64 }
     ensures { result ≡ header_octet ends count }

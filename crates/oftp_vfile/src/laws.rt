@@ -1,4 +1,4 @@
-//! Laws of the definitions, as contracts of functions that do nothing.
+//! Theorems about the definitions, as contracts of functions that do nothing.
 ghost use Rattle.oftp_vfile.specs.Laws.{CarriedBegins, ClosedIsFile, CountsAreFile, FillFits, FillIsOne, FillIsTaken, FillIsWhole, LendsRows, MarkIsSent, MoreAreFew, OneFault, OneFile, OneReading, PartBegins, PartCloses, RowsFrom, ShedTaken, TookIsWithin, WhollySent};
 
 /// There is one list of payloads that follows the filling rule.
@@ -6,7 +6,7 @@ pub fn fill_is_one()
     ensures { FillIsOne }
 {}
 
-/// The payloads that follow the filling rule aren't empty, and have at most the size given.
+/// The payloads that follow the filling rule aren't empty, and have at most the given size.
 pub fn fill_fits()
     ensures { FillFits }
 {}
@@ -16,7 +16,7 @@ pub fn fill_is_whole()
     ensures { FillIsWhole }
 {}
 
-/// Payloads carry one thing only.
+/// Payloads carry only one list of rows.
 pub fn one_reading()
     ensures { OneReading }
 {}
@@ -36,22 +36,22 @@ pub fn mark_is_sent()
     ensures { MarkIsSent }
 {}
 
-/// The rows of a file from one on are rows of a file.
+/// The rows of a file from a row on are rows of a file.
 pub fn rows_from()
     ensures { RowsFrom }
 {}
 
-/// Rows from the filler's row on are lent as it asks.
+/// Rows from the filler's row on are such as it may borrow.
 pub fn lends_rows()
     ensures { LendsRows }
 {}
 
-/// More rows are asked for only where fewer were lent than the payload has octets.
+/// More rows are asked for only where fewer were given than the payload has octets.
 pub fn more_are_few()
     ensures { MoreAreFew }
 {}
 
-/// What a taker took carries its rows within the limits.
+/// The payloads that a taker took carry its rows within the limits.
 pub fn took_is_within()
     ensures { TookIsWithin }
 {}
@@ -61,27 +61,27 @@ pub fn counts_are_file()
     ensures { CountsAreFile }
 {}
 
-/// What closed payloads carry are the rows of a file.
+/// The rows that closed payloads carry are those of a file.
 pub fn closed_is_file()
     ensures { ClosedIsFile }
 {}
 
-/// A payload has one first fault only.
+/// A payload has only one first fault.
 pub fn one_fault()
     ensures { OneFault }
 {}
 
-/// A content is the local form of one file only.
+/// A content is the local form of only one file.
 pub fn one_file()
     ensures { OneFile }
 {}
 
-/// What a part of a file's payloads carries, cut anywhere, begins its rows.
+/// The rows that a part of a file's payloads carries, cut off anywhere, are a beginning of its rows.
 pub fn part_begins()
     ensures { PartBegins }
 {}
 
-/// What the first payloads of a file carry begins its rows.
+/// The rows that the first payloads of a file carry are a beginning of its rows.
 pub fn carried_begins()
     ensures { CarriedBegins }
 {}
@@ -91,7 +91,7 @@ pub fn part_closes()
     ensures { PartCloses }
 {}
 
-/// A taker from which rows were taken away takes and refuses what the whole one does.
+/// A taker from which rows were removed accepts and refuses what the whole one does.
 pub fn shed_taken()
     ensures { ShedTaken }
 {}

@@ -1,4 +1,4 @@
-//! The local form of files: what an operator hands in and fetches.
+//! The local form of files, in which an operator submits and fetches them.
 ghost use Rattle.std.specs.Prelude.{◌≡◌, ◌<◌, ◌≤◌, ◌↔◌, ◌++◌, ℕ, List, length, IsTrue, IfSome, IfNone, IfOk, IfErr};
 ghost use Rattle.oftp_vfile.specs.VirtualFile.{octets_in, AreBlocks, AreRows, IsLongest};
 ghost use Rattle.oftp_vfile.specs.LocalForm.{IsFirstRecord, IsLocal, digit_of, digits_of, local_of};
@@ -7,29 +7,29 @@ use crate::content::{Row, Rows};
 use crate::format::{BLOCK, Format, LocalFault};
 use std::alloc::{AllocError, Global};
 
-// How many digits tell the length of a record of V.
+// The number of digits of the length of a record in V.
 const DIGITS: usize = 5;
 
 /// A virtual file, whole (RFC 5024, section 1.5).
 #[derive(Drop)]
 pub struct VFile {
-    /// How its rows are made up.
+    /// The format of its records.
     pub format: Format,
-    /// The length of each record (F) or of the longest that may come (V), in octets; 0 in U and T.
+    /// The length of each record (F) or of the longest one that is allowed (V), in octets; 0 in U and T.
     pub longest: u32,
-    /// Its records (F, V), or its octets in rows of 1,024, the last of which may be shorter (U, T).
+    /// Its records (F, V), or its blocks of 1,024 octets, the last of which may be shorter (U, T).
     pub rows: Rows,
 }
 
 impl VFile {
-    /// Reads a file from its local form. It asks for a longest record that the format allows
-    /// (`Format::allows_longest`).
+    /// Reads a file from its local form. The format has to allow the longest record (`Format::allows_longest`).
     ///
-    /// F: the records one after another. V: each record after five decimal digits of its length. U
-    /// and T: the octets.
+    /// F: the records one after another. V: each record after five decimal digits of its length. U and T: the octets.
     ///
-    /// `NotLocal` comes exactly where the content is no local form of this format, `Memory` where a
-    /// growth is refused.
+    /// # Errors
+    ///
+    /// - [`LocalFault::NotLocal`] exactly where the content isn't the local form of a file of this format.
+    /// - [`LocalFault::Memory`]: out of memory.
     pub fn from_local(
         alloc: Global,
         format: Format,
@@ -41,7 +41,7 @@ impl VFile {
             (f ≡ record { format = format; longest = longest; rows = f.rows })
             × IsLocal format longest content.now f.rows) }
 
-        // Each local form is read, as the file that it stands for.
+        // Each local form is read as the file that it represents.
         ensures read { (rows : List (List ℕ)) → IsLocal format longest content.now rows
             → IfOk result (λ f. f.rows ≡ rows) × IfErr result (λ e. e ≡ LocalFault.Memory) }
         ensures not_local { ((rows : List (List ℕ)) → IsLocal format longest content.now rows → ⊥)
@@ -63,9 +63,12 @@ impl VFile {
         })
     }
 
-    /// Writes a file in its local form, which `from_local` reads back as this file. It asks that
-    /// the fields make a virtual file: a longest record that the format allows, and rows of its
-    /// sizes. The one fault is `Memory`.
+    /// Writes a file in its local form, which `from_local` reads back as this file. The fields have to make a virtual file: a longest
+    /// record that the format allows, and rows that fit it.
+    ///
+    /// # Errors
+    ///
+    /// [`LocalFault::Memory`]: out of memory.
     pub fn to_local(&self, alloc: Global) -> Result<Vec<u8>, LocalFault>
         requires longest { IsLongest self.now.format self.now.longest }
         requires rows { AreRows self.now.format self.now.longest self.now.rows }
@@ -83,7 +86,7 @@ impl VFile {
     }
 }
 
-// Whether the content is the local form of a file. It takes no memory.
+// Whether the content is the local form of a file. It allocates nothing.
 fn is_local(format: Format, longest: usize, content: &[u8]) -> bool
     requires { IsLongest format longest }
     ensures yes { IsTrue result → (rows : List (List ℕ)) × IsLocal format longest content.now rows }
@@ -114,7 +117,7 @@ fn are_records(longest: usize, content: &[u8]) -> bool
     true
 }
 
-// The records of V that the content has, one after another.
+// Reads the records of V in the content.
 fn read_records(alloc: Global, longest: usize, content: &[u8]) -> Result<Vec<Row>, LocalFault>
     requires { longest < 100000 }
     ensures ok { IfOk result (λ v. IsLocal Format.Variable longest content.now v.items) }
@@ -133,7 +136,7 @@ fn read_records(alloc: Global, longest: usize, content: &[u8]) -> Result<Vec<Row
     Ok(rows)
 }
 
-// The content in rows of this size, the last of which may be shorter.
+// The content in blocks of `size` octets, the last of which may be shorter.
 fn read_blocks(alloc: Global, size: usize, content: &[u8]) -> Result<Vec<Row>, AllocError>
     requires { 0 < size }
     ensures { IfOk result (λ v. AreBlocks size v.items × (octets_in v.items ≡ content.now)) }
@@ -148,7 +151,7 @@ fn read_blocks(alloc: Global, size: usize, content: &[u8]) -> Result<Vec<Row>, A
     Ok(rows)
 }
 
-// The first record of V that the content has, and what stands behind it.
+// The first record of V in the content, and the octets after it.
 fn first_record(longest: usize, content: &[u8]) -> Option<(&[u8], &[u8])>
     requires { longest < 100000 }
     ensures found { IfSome result (λ p. IsFirstRecord longest content.now p.0.now p.1.now) }
@@ -166,7 +169,7 @@ fn first_record(longest: usize, content: &[u8]) -> Option<(&[u8], &[u8])>
     Some(behind.split_at(length))
 }
 
-// The number that five decimal digits spell, where they are digits.
+// The number that five decimal digits stand for, if they are digits.
 fn number(digits: &[u8]) -> Option<usize>
     requires { length digits.now ≡ 5 }
     ensures found { IfSome result (λ n. (n < 100000) × (digits_of n ≡ digits.now)) }
@@ -182,7 +185,7 @@ fn number(digits: &[u8]) -> Option<usize>
     Some(number)
 }
 
-// A decimal digit of a number, which stands at this power of ten.
+// The decimal digit of a number at this power of ten.
 fn digit(number: usize, place: usize) -> u8
     requires { 0 < place }
     ensures { result ≡ digit_of number place }

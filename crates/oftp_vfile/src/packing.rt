@@ -1,4 +1,4 @@
-//! Subrecords, written one after another.
+//! Writing subrecords.
 ghost use Rattle.std.specs.Prelude.{◌≡◌, ◌+◌, ◌-◌, ◌<◌, ◌≤◌, ◌++◌, ◌∷◌, [], ◌⊎◌, ℕ, List, length, take, drop, min, slice_index_or, if◌then◌else◌, IfSome, IfNone, true, false, ◌&&◌, All};
 ghost use Rattle.oftp_vfile.specs.Subrecord.{Subrecord, spelled, payload_of};
 ghost use Rattle.oftp_vfile.specs.Fill.{needs, Packs, IsFull};
@@ -21,15 +21,14 @@ fn put(out: &mut [u8], at: usize, ends: bool, part: &[u8])
     out[at + 1..at + 1 + count].copy_from_slice(part);
 }
 
-/// A place in lent rows: a row, and how many of its octets stand before.
+/// A place in the given rows: a row, and the number of its octets before the place.
 #[derive(Clone, Copy)]
 pub struct Place {
     pub row: usize,
     pub offset: usize,
 }
 
-// Writes octets from rows, one row after another, as long as there is room. Answers how many, and
-// where it stopped.
+// Writes octets of rows, one row after another, as long as there is room. It returns how many, and where it stopped.
 fn gather(rows: &[Row], from: Place, out: &mut [u8]) -> (usize, Place)
     requires row { from.row ≤ length rows.now }
     requires offset { 0 < from.offset → from.offset < length (slice_index_or rows.now from.row []) }
@@ -59,7 +58,7 @@ fn gather(rows: &[Row], from: Place, out: &mut [u8]) -> (usize, Place)
     (at, Place { row, offset })
 }
 
-// How many octets the next subrecord of a record needs, of which these are left.
+// How many octets the next subrecord of a record needs, if these octets of it are left.
 fn needed(octets: &[u8]) -> usize
     ensures { result ≡ needs octets.now }
 {
@@ -69,9 +68,8 @@ fn needed(octets: &[u8]) -> usize
     }
 }
 
-/// Writes subrecords of records, the first from an offset on, until nothing fits any more or the
-/// rows end. Answers how many octets were written, and what comes next. The offset is 0, or lies in
-/// the first row.
+/// Writes subrecords of records, the first one from an offset on, until no further one fits or the rows end. It returns how many octets
+/// were written, and the next place. The offset is 0, or within the first row.
 pub fn pack_records(rows: &[Row], offset: usize, out: &mut [u8]) -> (usize, Place)
     requires { 0 < offset → offset < length (slice_index_or rows.now 0 []) }
     ensures room { result.0 ≤ length out.old }
@@ -112,7 +110,7 @@ pub fn pack_records(rows: &[Row], offset: usize, out: &mut [u8]) -> (usize, Plac
     (at, place)
 }
 
-// A subrecord of a stream, and what comes next.
+// A subrecord of a stream that was written, and the next place.
 #[derive(Clone, Copy)]
 struct Written {
     count: usize,
@@ -120,8 +118,8 @@ struct Written {
     next: Place,
 }
 
-// Writes the next subrecord of a stream. `None` comes where it needs more octets than the rows
-// have, and they aren't the last.
+// Writes the next subrecord of a stream. It returns `None` where the subrecord needs more octets than the rows have, and they aren't the
+// last.
 fn put_from(rows: &[Row], from: Place, last: bool, out: &mut [u8], at: usize) -> Option<Written>
     requires row { from.row ≤ length rows.now }
     requires offset { 0 < from.offset → from.offset < length (slice_index_or rows.now from.row []) }
@@ -158,19 +156,19 @@ fn put_from(rows: &[Row], from: Place, last: bool, out: &mut [u8], at: usize) ->
     Some(Written { count, ends, next })
 }
 
-/// Where a payload of a stream ends.
+/// Why a payload of a stream ends.
 #[derive(Clone, Copy, PartialEq, Eq)]
 pub enum End {
-    /// Nothing fits any more.
+    /// No further subrecord fits.
     Full,
     /// The stream is at its end.
     Ended,
-    /// The rows ended first.
+    /// The given rows ended before.
     Short,
 }
 
-/// Writes subrecords of a stream, from an offset of the first row on. The offset is 0, or lies in
-/// that row; no row is empty, and `out` has room for 2 octets.
+/// Writes subrecords of a stream, from an offset of the first row on. The offset is 0, or within that row. No row is empty, and `out` has
+/// at least 2 octets.
 pub fn pack_stream(rows: &[Row], offset: usize, last: bool, out: &mut [u8]) -> (usize, Place, End)
     requires offset { 0 < offset → offset < length (slice_index_or rows.now 0 []) }
     requires some { All (λ r. 0 < length r) rows.now }

@@ -1,4 +1,4 @@
-//! Payloads in, rows out.
+//! Making the rows of a file from payloads.
 ghost use Rattle.std.specs.Prelude.{◌≡◌, ◌+◌, ◌<◌, ◌≤◌, ◌^◌, ◌++◌, ◌∷◌, [], ◌⊎◌, ℕ, List, length, Ok, Err, OnOk, OnErr, IfOk, IfErr, false, Some};
 ghost use Rattle.oftp_vfile.specs.Subrecord.{Subrecord};
 ghost use Rattle.oftp_vfile.specs.Carries.{is_open};
@@ -14,22 +14,21 @@ use std::alloc::{AllocError, Global};
 use std::marker::Model;
 use std::mem;
 
-/// Takes payloads, and makes rows of their subrecords (RFC 5024, section 7.2).
+/// Takes payloads, and makes rows from their subrecords (RFC 5024, section 7.2).
 ///
-/// It holds the rows that were finished since they were last taken away, and the open tail behind
-/// them. An octet is copied once, into the tail, except while a record of V grows; a finished
-/// record or block is handed on as it is.
+/// It holds the rows that were finished since they were last removed, and the open tail after them. An octet is copied once, into the tail,
+/// except while a record of V grows. A finished record or block is returned without a copy.
 #[derive(Drop)]
 pub struct Taker {
     alloc: Global,
     format: Format,
     longest: usize,
-    // How many octets the file may have.
+    // The limit of the file, in octets.
     limit: u64,
-    // The rows and octets of the file that earlier transfers brought.
+    // How many rows and octets of the file are kept from earlier transfers.
     kept_rows: u64,
     kept_units: u64,
-    // How many rows were taken away.
+    // How many rows were removed.
     away: u64,
     rows: Vec<Row>,
     tail: Vec<u8>,
@@ -73,7 +72,7 @@ fn is_ended(stage: Stage) -> bool
     }
 }
 
-// Whether a record, so far of this size, breaks the rule on its length.
+// Whether a record that has this many octets so far breaks the rule on its length.
 fn is_wrong_size(format: Format, longest: usize, size: usize, ends: bool) -> bool
     ensures { result ≡ is_wrong_size format longest size ends }
 {
@@ -85,12 +84,10 @@ fn is_wrong_size(format: Format, longest: usize, size: usize, ends: bool) -> boo
 }
 
 impl Taker {
-    /// A taker of a file: its longest record in octets (0 in U and T), how many of its rows and
-    /// octets are kept from earlier transfers, and the limits of the station, of which it reads
-    /// `octets`. It takes no memory.
+    /// A taker of a file, with its longest record in octets (0 in U and T), the numbers of rows and octets that are kept from earlier
+    /// transfers, and the limits of the station, of which it uses `octets`. It allocates nothing.
     ///
-    /// It asks of its caller that at most 1,000,000 rows are kept, and that the octets that are kept
-    /// and those of the limit make less than 2^63: so every count that it tells fits.
+    /// At most 1,000,000 rows are kept, and the sum of the kept octets and the limit is below 2^63, so that every count fits.
     pub fn new(
         alloc: Global,
         format: Format,
@@ -119,17 +116,18 @@ impl Taker {
         }
     }
 
-    /// Takes the next payload: what follows the `D` of a DATA command (RFC 5024, section 5.3.6). It
-    /// may be empty.
+    /// Takes the next payload: the octets after the `D` of a DATA command (RFC 5024, section 5.3.6). It may be empty.
     ///
-    /// The first faulty subrecord decides the fault. Where two fit, `AfterEnd` comes before
-    /// `Compressed`, then `Cut`, `TooBig` and `RecordSize`. An `Err` leaves the taker as it was.
+    /// # Errors
+    ///
+    /// That of the first faulty subrecord. Where several apply, it is the first of `AfterEnd`, `Compressed`, `Cut`, `TooBig` and
+    /// `RecordSize`. `Memory` means out of memory. The taker is unchanged.
     pub fn take(&mut self, payload: &[u8]) -> Result<(), TakeFault>
-        // What is taken carries rows within the limits, after the payloads before.
+        // A payload that is taken carries rows within the limits, after the payloads before.
         ensures took { (gone payloads : List (List ℕ)) → Took self.old gone payloads
             → OnOk result (Took self.new gone (payloads ++ payload.now ∷ [])) }
 
-        // What carries rows within the limits is taken, unless a growth is refused.
+        // A payload that carries rows within the limits is taken, unless memory runs out.
         ensures only { (gone payloads : List (List ℕ)) → Took self.old gone payloads
             → CarriesWithin self.old (payloads ++ payload.now ∷ [])
             → IfErr result (λ f. f ≡ TakeFault.Memory) }
@@ -137,7 +135,7 @@ impl Taker {
             (f ≡ TakeFault.Memory) ⊎ FirstFault self.old payload.now f) }
         ensures same_file { IsSameFile self.old self.new }
 
-        // What the taker is afterwards, and what it answers, follow from what it was.
+        // The taker afterwards, and the result, follow from the taker before.
         ensures value { OnOk result (taken self.old payload.now ≡ Ok self.new) }
         ensures refused { IfErr result (λ f.
             (f ≡ TakeFault.Memory) ⊎ (taken self.old payload.now ≡ Err f)) }
@@ -159,15 +157,14 @@ impl Taker {
         }
     }
 
-    /// The rows that were finished since they were last taken away: records, or full blocks of
-    /// 1,024 octets.
+    /// The rows that were finished since they were last removed: records, or full blocks of 1,024 octets.
     pub fn whole_rows(&self) -> &[Row]
         ensures { result.now ≡ self.now.rows }
     {
         self.rows.as_slice()
     }
 
-    /// Takes the finished rows away, and changes nothing else. It takes no memory.
+    /// Removes and returns the finished rows, and changes nothing else. It allocates nothing.
     pub fn take_rows(&mut self) -> Vec<Row>
         ensures rows { result.items ≡ self.old.rows }
         ensures rest { self.new
@@ -179,15 +176,14 @@ impl Taker {
         mem::replace(&mut self.rows, Vec::new(self.alloc))
     }
 
-    /// The octets that came behind the last finished row.
+    /// The octets after the last finished row.
     pub fn open_tail(&self) -> &[u8]
         ensures { result.now ≡ self.now.tail }
     {
         self.tail.as_slice()
     }
 
-    /// Whether a subrecord came, and the last one has no end flag: the record, or the stream, goes
-    /// on.
+    /// Whether the last subrecord doesn't have the end flag, so that its record, or the stream, goes on.
     pub fn is_open(&self) -> bool
         ensures { result ≡ is_open self.now.stage }
     {
@@ -197,8 +193,7 @@ impl Taker {
         }
     }
 
-    /// The record count and the unit count of the whole file so far, kept rows included, as an EFID
-    /// tells them (RFC 5024, section 5.3.8).
+    /// The numbers of records and of octets of the whole file so far, kept rows included, as EFID has them (RFC 5024, section 5.3.8).
     pub fn counts(&self) -> (u64, u64)
         ensures { result ≡ counts_of self.now }
     {
@@ -210,11 +205,14 @@ impl Taker {
         (records, self.kept_units + self.units)
     }
 
-    /// The finished rows that weren't taken away and, where it isn't empty, the open tail as the
-    /// last: the rows with which a file ends, whose last block may be shorter. It copies no octet.
+    /// The finished rows that weren't removed and, unless it is empty, the open tail as the last one: the rows with which a file ends,
+    /// whose last block may be shorter. It copies no octet.
     ///
-    /// Ask `is_open` first: a record or a stream that goes on would be closed too early. The one
-    /// error is a want of memory for one more row, and it gives the rows up.
+    /// A caller checks `is_open` first: a record or a stream that goes on would be closed too early.
+    ///
+    /// # Errors
+    ///
+    /// Out of memory for one more row. The rows are lost.
     pub fn close(self) -> Result<Rows, AllocError>
         ensures rows { IfOk result (λ rows. rows ≡ closed self.rows self.tail) }
     {
@@ -225,7 +223,7 @@ impl Taker {
         Ok(Rows::new(rows))
     }
 
-    // Takes one subrecord after another, up to the first that is faulty.
+    // Takes one subrecord after another, up to the first faulty one.
     fn walk(&mut self, payload: &[u8]) -> Result<(), TakeFault>
         ensures ok { OnOk result (Walked self.old self.new payload.now []) }
         ensures err { IfErr result (λ f. (rest : List ℕ) × Walked self.old self.new payload.now rest
@@ -243,7 +241,7 @@ impl Taker {
         Ok(())
     }
 
-    // The fault of a subrecord with this header, behind which `room` octets stand.
+    // The fault of a subrecord with this header, which is followed by `room` octets.
     fn fault_at(&self, header: u8, room: usize) -> Option<TakeFault>
         ensures { result ≡ fault_at self.now header room }
     {
@@ -267,7 +265,7 @@ impl Taker {
         None
     }
 
-    // Whether the file passes one of its limits by a subrecord of `count` octets.
+    // Whether the file exceeds a limit with a further subrecord of `count` octets.
     fn is_too_big(&self, ends: bool, count: usize) -> bool
         requires { count < 64 }
         ensures { result ≡ is_too_big self.now ends count }
@@ -284,7 +282,7 @@ impl Taker {
                 > MOST_ROWS as u64
     }
 
-    // Takes a subrecord that has no fault. An `Err` changes nothing.
+    // Takes a subrecord that has no fault. An error changes nothing.
     fn add(&mut self, ends: bool, part: &[u8]) -> Result<(), TakeFault>
         requires short { length part.now < 64 }
         requires allowed { is_too_big self.old ends (length part.now) ≡ false }
@@ -304,8 +302,8 @@ impl Taker {
         Ok(())
     }
 
-    // For how many octets of a record room is made at once: for all of it where its length is
-    // known, else for twice what came, so that a short record keeps little more than it has.
+    // How many octets of a record are allocated at once: all of it where its length is known, and else twice what was received, so that a
+    // short record holds little more than it has.
     fn record_size(&self, ends: bool) -> usize {
         match self.format {
             Format::Fixed => self.longest,

@@ -1,5 +1,5 @@
--- What spells a command is read as it, kind by kind: the fields of its table follow one another, no octets spell two values, and
--- octets that spell one have no fault.
+-- The encoding of a command is read as that command, kind by kind: the fields of its table follow one another, no octets encode two values,
+-- and an encoding has no error.
 use Rattle.std.proofs.Common.{◌≡◌, ℕ, ◌<◌, ◌^◌, Bool, true, false, List, [], ◌∷◌, length, Ok, refl, sym, ap, subst, ◌∙◌, arith, rules}
 use Rattle.std.specs.Prelude.{codes, Option, Result}
 use Rattle.std.specs.Str.{bytes_eq}
@@ -29,7 +29,7 @@ use Rattle.oftp_wire.proofs.Exact.{Exact, only}
 use Rattle.oftp_wire.proofs.EachKind.{IsKind, ssrm_exact, ssid_exact, sfid_exact, sfpa_exact, sfna_exact, data_exact, cdt_exact, efid_exact, efpa_exact, efna_exact, esid_exact, eerp_exact, nerp_exact, single_exact}
 use Rattle.oftp_wire.proofs.Spelled.{Contiguous, no_fault, each_same, EachSame}
 
--- ---- letters say one value
+-- ---- letters encode one value
 
 flag_back : (b : Bool) → bytes_eq (flag_octets b) (codes "Y") ≡ b
 flag_back true = refl
@@ -38,7 +38,7 @@ flag_back false = refl
 flag_one : (a b : Bool) → flag_octets a ≡ flag_octets b → a ≡ b
 flag_one a b e = sym (flag_back a) ∙ ap (λ w. bytes_eq w (codes "Y")) e ∙ flag_back b
 
--- the value that a letter says, found again
+-- the value that a letter encodes, found again
 mode_back : (m : Mode) → mode_of (mode_octets m) ≡ m
 mode_back modes.Send = refl
 mode_back modes.Receive = refl
@@ -64,14 +64,14 @@ recorded_back (Variable n) = refl
 recorded_back Unstructured = refl
 recorded_back Text = refl
 
--- a length that is spelled is the length
+-- a length is read as it was encoded
 length_is : (n m : ℕ) (w : List ℕ) → (m < 10 ^ n) × (w ≡ decimal n m) → number w ≡ m
 length_is n m w h = ap number h.1 ∙ number-decimal n m h.0
 
 -- ---- every kind
 
--- a command, whose table may hang on what it holds, is read where its octets are exactly read, the faults are those of its table,
--- and no two commands with the same fields have these octets
+-- A command, whose table may depend on its fields, is read if its octets are exactly read, the errors are those of its table, and no two
+-- commands with the same fields have these octets.
 again_in : {S : Type 0} {T : S → Table S} {r : Result S WireFault} {fault : Option WireFault} {o : List ℕ}
     → Exact r fault (λ s. IsSpelled (T s) s o)
     → ((s : S) → Contiguous 0 (T s).rows (T s).end)
@@ -83,13 +83,13 @@ again_in {S} {T} {r} {fault} {o} exact parts table same s is h =
       one : (s t : S) → IsSpelled (T s) s o → IsSpelled (T t) t o → s ≡ t
       one s t p q = same s t (each_same (T t).rows s t o (subst (λ (x : Table S). EachSays x.rows s o) (table s t p q) p.fields) q.fields)
 
--- the same of a kind that has one table
+-- the same for a kind that has one table
 again_of : {S : Type 0} {table : Table S} {r : Result S WireFault} {o : List ℕ}
     → Exact r (fault_in table o) (λ s. IsSpelled table s o) → Contiguous 0 table.rows table.end
     → ((s t : S) → EachSame table.rows s t → s ≡ t) → (s : S) → IsSpelled table s o → r ≡ Ok s
 again_of {S} {table} exact parts same s h = again_in {T = λ s. table} exact (λ s. parts) (λ s t p q. refl) same s refl h
 
--- ---- SSRM, CDT, CD and RTR, which hold nothing
+-- ---- SSRM, CDT, CD and RTR, which have no fields
 
 pub ssrm_parts : Contiguous 0 ssrm_table.rows ssrm_table.end
 ssrm_parts = search rules
@@ -176,14 +176,14 @@ sfid_same recorded n s t (_, (a, (_, (b, (c, (d, (e, (f, (letter, (longest, (g, 
     let made : sfid_fields s ≡ sfid_fields t = cc in
     made
 
--- what the letter of the format and the length field say
+-- what the letter of the format and the length field encode
 sfid_says : (s : Sfid) (o : List ℕ) → IsSpelled (sfid_table_of s) s o
     → (part 106 1 o ≡ format_octets s.layout) × (number (part 162 3 o) ≡ length s.description)
 sfid_says s o h =
     let (_, (_, (_, (_, (_, (_, (_, (_, (letter, (_, (_, (_, (_, (_, (_, (_, (_, (_, (count, _))))))))))))))))))) = h.fields in
     (letter.1, length_is 3 (length s.description) (part 162 3 o) count)
 
--- the table of octets that spell an SFID
+-- the table of octets that encode an SFID
 sfid_table_is : (s : Sfid) (o : List ℕ) → IsSpelled (sfid_table_of s) s o
     → sfid_table (has_records (format_of (part 106 1 o))) (number (part 162 3 o)) ≡ sfid_table_of s
 sfid_table_is s o h =

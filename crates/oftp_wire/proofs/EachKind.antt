@@ -1,4 +1,4 @@
--- What each kind's reader gives is what its table says.
+-- The result of each kind's reader is what its table encodes.
 use Rattle.std.proofs.Common.{◌≡◌, ℕ, ◌+◌, ◌-◌, ◌<◌, ◌≤◌, ◌^◌, List, [], ◌∷◌, length, refl, sym, ap, subst, arith, ◌∙◌}
 use Rattle.std.specs.Prelude.{codes}
 use Rattle.std.specs.Str.{IsUtf8}
@@ -19,37 +19,37 @@ use Rattle.oftp_wire.proofs.Spelled.{ends_well}
 abbrev pub IsKind : List ℕ → List ℕ → Type 0
 IsKind w o = IsFine (OneOf 1 (w ∷ [])) 0 o
 
--- the facts of fields, one behind the other
+-- the facts of fields, one after the other
 infixr 5 ◌&◌
 abbrev ◌&◌ : {A B : Type 0} → A → B → A × B
 a & b = (a, b)
 
--- octets that spell a table spell one that is equal to it
+-- octets that encode a table encode one equal to it
 table_is : {S : Type 0} {t u : Table S} {s : S} {o : List ℕ} → t ≡ u → IsSpelled u s o → IsSpelled t s o
 table_is {S} {t} {u} {s} {o} e h = subst (λ (x : Table S). IsSpelled x s o) (sym e) h
 
 -- ---- texts
 
--- a text whose octets are counted in a field before it
+-- a text with its length in a field before it
 record IsText (count at : ℕ) (o : List ℕ) : Type 0 where
   len : length (part at (number (part count 3 o)) o) ≡ number (part count 3 o)
   short : number (part count 3 o) ≤ 999
 
--- a text without fault, behind a length without fault
+-- a text without error, after a length without error
 text_from : {count at : ℕ} {o : List ℕ} → IsFine (Digits 3) count o → IsFine (Utf8 (number (part count 3 o))) at o → IsText count at o
 text_from {count} {at} {o} counted fine = record {
   len = length-part at (number (part count 3 o)) o (found fine).within;
   short = omega (arith, (count_ok counted).0);
 }
 
--- a text that ends a command, behind its length
+-- a text that ends a command, after its length
 record IsLastText (at : ℕ) (o text : List ℕ) : Type 0 where
   len : length text ≡ number (part at 3 o)
   counted : (length text < 10 ^ 3) × (part at 3 o ≡ decimal 3 (length text))
   says : ((length text ≡ number (part at 3 o)) × (number (part at 3 o) ≤ 999) × IsUtf8 text) × (part (at + 3) (number (part at 3 o)) o ≡ text)
   whole : length o ≡ at + 3 + number (part at 3 o)
 
--- the faults of such a text
+-- the errors of such a text
 abbrev last_text_fault : ℕ → List ℕ → Option WireFault
 last_text_fault at o =
     let n = number (part at 3 o) in

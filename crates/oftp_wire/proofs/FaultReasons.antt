@@ -1,4 +1,4 @@
--- Each fault of a field has a reason for the ESID that answers it.
+-- Each error of a field has a reason for the ESID that answers it.
 use Rattle.std.proofs.Common.{ℕ, ◌+◌, Bool, true, false, cond, ltb, List, length, Option, Some, None, IsSome, refl}
 use Rattle.oftp_wire.specs.declared.fault.WireFault.{WireFault}
 use Rattle.oftp_wire.specs.declared.fault.WireFault.TheVariants.{WrongLength}
@@ -6,16 +6,16 @@ use Rattle.oftp_wire.specs.Octets.{part}
 use Rattle.oftp_wire.specs.Form.{Form, Name, Digits, OneOf, DigitsIf, Reserved, Return, Any, Utf8, size, allows, complaint, fault_of}
 use Rattle.oftp_wire.specs.Reasons.{reason_of}
 
--- a fault, if there is one, has a reason
+-- an error, if there is one, has a reason
 abbrev pub Answered : Option WireFault → Type 0
 Answered None = Unit {0}
 Answered (Some e) = IsSome (reason_of e)
 
--- the same as a record, so that a proof finds the fault that it speaks of
+-- the same as a record, so that a proof finds its error
 pub record IsAnswered (fault : Option WireFault) : Type 0 where
   pub answered : Answered fault
 
--- a bad content has a reason
+-- an invalid value has a reason
 complaint_answered : (form : Form) (at : ℕ) → IsSome (reason_of (complaint form at))
 complaint_answered (Name n) at = refl
 complaint_answered (Digits n) at = refl
@@ -31,7 +31,7 @@ either_answered : (b : Bool) (x y : Option WireFault) → IsAnswered x → IsAns
 either_answered true x y p q = p
 either_answered false x y p q = q
 
--- no fault
+-- no error
 none_answered : IsAnswered None
 none_answered = record { answered = tt }
 
@@ -39,7 +39,7 @@ none_answered = record { answered = tt }
 length_answered : IsAnswered (Some WrongLength)
 length_answered = record { answered = refl }
 
--- the fault of a field has a reason
+-- the error of a field has a reason
 pub field_answered : (form : Form) (at : ℕ) (o : List ℕ) → IsAnswered (fault_of form at o)
 unfolding fault_of
 field_answered form at o =

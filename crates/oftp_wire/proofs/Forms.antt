@@ -1,4 +1,4 @@
--- What each form allows is what its values are spelled with.
+-- What each form allows is the encoding of its values.
 use Rattle.std.proofs.Common.{◌≡◌, ℕ, zero, suc, ◌+◌, ◌-◌, ◌*◌, ◌/◌, ◌%◌, ◌^◌, ◌<◌, ◌≤◌, Bool, true, false, ◌&&◌, ◌||◌, cond, eqb, ltb, leb, List, [], ◌∷◌, ◌++◌, length, get_or, take, drop, Some, None, refl, sym, ap, subst, ◌∙◌, arith, inl, inr}
 use Rattle.std.specs.Prelude.{◌⊎◌, codes}
 use Rattle.std.specs.List.{list_all, list_any, prefix_len}
@@ -22,24 +22,24 @@ use Rattle.oftp_wire.specs.declared.command.Format.TheVariants.{Fixed, Variable,
 use Rattle.oftp_wire.proofs.Numbers.{digit_at}
 use Rattle.oftp_wire.proofs.Scans.{value_allowed}
 
--- ---- a field without fault
+-- ---- a field without error
 
--- the field at an offset has no fault; a record, so that lemmas find form and offset
+-- the field at an offset has no error; a record, so that lemmas find form and offset
 pub record IsFine (form : Form) (at : ℕ) (o : List ℕ) : Type 0 where
   pub fine : fault_of form at o ≡ None
 
--- where neither test gives a fault, the one is false and the other true
+-- if neither test gives an error, the one is false and the other true
 none_parts : (b d : Bool) (e f : WireFault) → cond b (Some e) (cond d None (Some f)) ≡ None → (b ≡ false) × (d ≡ true)
 none_parts true d e f h = absurd cc
 none_parts false true e f h = (refl, refl)
 none_parts false false e f h = absurd cc
 
--- what is known of a field without fault
+-- what is known of a field without error
 pub record Found (form : Form) (at : ℕ) (o : List ℕ) : Type 0 where
   pub within : at + size form ≤ length o
   pub allowed : allows form (part at (size form) o) ≡ true
 
--- a field without fault is within the octets and has an allowed content
+-- a field without error is within the octets and has an allowed value
 pub found : {form : Form} {at : ℕ} {o : List ℕ} → IsFine form at o → Found form at o
 unfolding fault_of
 found {form} {at} {o} h =
@@ -57,7 +57,7 @@ length-part at n o h = omega (arith, length-take n (drop at o), length-drop at o
 
 -- ---- names
 
--- where each octet is a space, the octets are spaces
+-- if each octet is a space, the octets are spaces
 all_spaces : (w : List ℕ) → list_all (λ c. eqb c 32) w ≡ true → w ≡ spaces (length w)
 all_spaces [] h = refl
 all_spaces (c ∷ cs) h =
@@ -70,7 +70,7 @@ spaces_all : (n : ℕ) → list_all (λ c. eqb c 32) (spaces n) ≡ true
 spaces_all zero = refl
 spaces_all (suc n) = spaces_all n
 
--- what is padded is its value, padded
+-- padded octets are their value, padded
 pub padded_is : (w : List ℕ) → is_padded w ≡ true → w ≡ padded (length w) (value_of w)
 padded_is w h =
     let k = prefix_len is_allowed w in
@@ -84,7 +84,7 @@ unfolding is_allowed
 front_spaces zero = refl
 front_spaces (suc m) = refl
 
--- as many allowed octets stand first in a padded value as it has
+-- a padded value begins with as many allowed octets as it has
 prefix_len-padded : (v : List ℕ) (m : ℕ) → list_all is_allowed v ≡ true → prefix_len is_allowed (v ++ spaces m) ≡ length v
 prefix_len-padded [] m h = front_spaces m
 prefix_len-padded (c ∷ cs) m h =
@@ -115,7 +115,7 @@ length-decimal (suc n) v = omega (arith, length-append (decimal n (v / 10)) ((48
 digit_of : (d : ℕ) → d < 10 → is_digit (48 + d) ≡ true
 digit_of d h = and_from (leb 48 (48 + d)) (leb (48 + d) 57) (le-leb 48 (48 + d) (omega arith)) (le-leb (48 + d) 57 (omega arith))
 
--- a number is spelled in digits
+-- a number is encoded in digits
 pub decimal_digits : (n v : ℕ) → list_all is_digit (decimal n v) ≡ true
 unfolding decimal
 decimal_digits zero v = refl
@@ -123,7 +123,7 @@ decimal_digits (suc n) v =
     list_all-append is_digit (decimal n (v / 10)) ((48 + v % 10) ∷ [])
     ∙ and_from (list_all is_digit (decimal n (v / 10))) (is_digit (48 + v % 10) && true) (decimal_digits n (v / 10)) (and_from (is_digit (48 + v % 10)) true (digit_of (v % 10) (omega arith)) refl)
 
--- one digit more
+-- one more digit
 number_push : (w : List ℕ) (c : ℕ) → number (w ++ c ∷ []) ≡ number w * 10 + (c - 48)
 number_push w c = fold-append (λ n d. n * 10 + (d - 48)) 0 w (c ∷ [])
 
@@ -166,9 +166,9 @@ number_is (suc n) w len h =
       small = omega (arith, ih.small);
     }
 
--- ---- what a fine field says
+-- ---- what a field without error encodes
 
--- a field X(n) without fault says its value
+-- a field X(n) without error encodes its value
 pub name_ok : {n at : ℕ} {o : List ℕ} → IsFine (Name n) at o → IsName n (value_of (part at n o)) × (part at n o ≡ padded n (value_of (part at n o)))
 name_ok {n} {at} {o} h =
     let f = found h in
@@ -176,11 +176,11 @@ name_ok {n} {at} {o} h =
     let len : length w ≡ n = length-part at n o f.within in
     ((omega (arith, len, length-take (prefix_len is_allowed w) w), value_allowed w), padded_is w f.allowed ∙ ap (λ (k : ℕ). padded k (value_of w)) len)
 
--- a field 9(n) without fault says its digits
+-- a field 9(n) without error encodes its digits
 pub digits_ok : {n at : ℕ} {o : List ℕ} → IsFine (Digits n) at o → IsDigits n (part at n o) × (part at n o ≡ part at n o)
 digits_ok {n} {at} {o} h = let f = found h in ((length-part at n o f.within, f.allowed), refl)
 
--- a field 9(n) without fault says its number
+-- a field 9(n) without error encodes its number
 pub count_ok : {n at : ℕ} {o : List ℕ} → IsFine (Digits n) at o → (number (part at n o) < 10 ^ n) × (part at n o ≡ decimal n (number (part at n o)))
 count_ok {n} {at} {o} h =
     let f = found h in
@@ -191,19 +191,19 @@ count_ok {n} {at} {o} h =
 pub length_ok : {n at : ℕ} {o : List ℕ} (m : ℕ) → IsFine (Digits n) at o → number (part at n o) ≡ m → (m < 10 ^ n) × (part at n o ≡ decimal n m)
 length_ok {n} {at} {o} m h e = subst (λ (x : ℕ). (x < 10 ^ n) × (part at n o ≡ decimal n x)) e (count_ok h)
 
--- fixed octets without fault are these octets
+-- fixed octets without error are these octets
 pub word_ok : {v : List ℕ} {n at : ℕ} {o : List ℕ} → IsFine (OneOf n (v ∷ [])) at o → Unit {0} × (part at n o ≡ v)
 word_ok {v} {n} {at} {o} h =
     let f = found h in
     (tt, elim (or_cases (bytes_eq (part at n o) v) false f.allowed) [ inl e ↦ (bytes_eq-Decides (part at n o) v).0 e | inr e ↦ absurd cc ])
 
--- a carriage return without fault is 0D or 8D
+-- a carriage return without error is 0D or 8D
 pub return_ok : {at : ℕ} {o : List ℕ} → IsFine Return at o → Unit {0} × ((part at 1 o ≡ 13 ∷ []) ⊎ (part at 1 o ≡ 141 ∷ []))
 return_ok {at} {o} h =
     let w = part at 1 o in
     (tt, elim (or_cases (bytes_eq w (13 ∷ [])) (bytes_eq w (141 ∷ [])) (found h).allowed) [ inl e ↦ inl ((bytes_eq-Decides w (13 ∷ [])).0 e) | inr e ↦ inr ((bytes_eq-Decides w (141 ∷ [])).0 e) ])
 
--- a text without fault is in its range
+-- a text without error is in its range
 pub text_ok : {n at : ℕ} {o : List ℕ} → n ≤ 999 → IsFine (Utf8 n) at o → ((length (part at n o) ≡ n) × (n ≤ 999) × IsUtf8 (part at n o)) × (part at n o ≡ part at n o)
 text_ok {n} {at} {o} le h = let f = found h in ((length-part at n o f.within, le, IsUtf8-from_is_utf8 (part at n o) f.allowed), refl)
 
@@ -213,7 +213,7 @@ text_ok {n} {at} {o} le h = let f = found h in ((length-part at n o f.within, le
 among : (w v : List ℕ) (vs : List (List ℕ)) → list_any (bytes_eq w) (v ∷ vs) ≡ true → (w ≡ v) ⊎ (list_any (bytes_eq w) vs ≡ true)
 among w v vs h = elim (or_cases (bytes_eq w v) (list_any (bytes_eq w) vs) h) [ inl e ↦ inl ((bytes_eq-Decides w v).0 e) | inr e ↦ inr e ]
 
--- octets say the value f of one of some words
+-- octets encode the value f, which is one of some words
 abbrev IsChoice : (List ℕ → List ℕ) → List (List ℕ) → ℕ → List ℕ → Type 0
 IsChoice f ws n w = ((length (f w) ≡ n) × (list_any (bytes_eq (f w)) ws ≡ true)) × (w ≡ f w)
 
@@ -227,19 +227,19 @@ chosen : (P : List ℕ → Type 0) (ws : List (List ℕ)) (w : List ℕ) → lis
 chosen P [] w h each = absurd cc
 chosen P (v ∷ vs) w h each = elim (among w v vs h) [ inl e ↦ subst P (sym e) each.0 | inr e ↦ chosen P vs w e each.1 ]
 
--- a flag without fault says Y or N
+-- a flag without error is Y or N
 pub flag_ok : {at : ℕ} {o : List ℕ} → IsFine flag_form at o → IsChoice (λ w. flag_octets (bytes_eq w (codes "Y"))) flag_words 1 (part at 1 o)
 flag_ok {at} {o} h =
     chosen (IsChoice (λ w. flag_octets (bytes_eq w (codes "Y"))) flag_words 1) flag_words (part at 1 o) (found h).allowed
     (((refl, refl), refl), (((refl, refl), refl), tt))
 
--- a mode without fault says its letter
+-- a mode without error is its letter
 pub mode_ok : {at : ℕ} {o : List ℕ} → IsFine mode_form at o → IsChoice (λ w. mode_octets (mode_of w)) mode_words 1 (part at 1 o)
 mode_ok {at} {o} h =
     chosen (IsChoice (λ w. mode_octets (mode_of w)) mode_words 1) mode_words (part at 1 o) (found h).allowed
     (((refl, refl), refl), (((refl, refl), refl), (((refl, refl), refl), tt)))
 
--- a format without fault says its letter
+-- a format without error is its letter
 pub format_ok : {at : ℕ} {o : List ℕ} (n : ℕ) → IsFine format_form at o → IsChoice (λ w. format_octets (layout_from (format_of w) n)) format_words 1 (part at 1 o)
 format_ok {at} {o} n h =
     chosen (IsChoice (λ w. format_octets (layout_from (format_of w) n)) format_words 1) format_words (part at 1 o) (found h).allowed
@@ -252,7 +252,7 @@ recorded_is Variable n = refl
 recorded_is Unstructured n = refl
 recorded_is Text n = refl
 
--- octets say the longest record of a format
+-- octets encode the longest record of a format
 pub record IsLongest (f : Format) (w : List ℕ) : Type 0 where
   pub small : longest_of (layout_from f (number w)) < 10 ^ 5
   pub zero_unless : has_records f ≡ false → longest_of (layout_from f (number w)) ≡ 0
@@ -265,7 +265,7 @@ longest_by Variable w lt e h = record { small = lt; zero_unless = λ u. absurd c
 longest_by Unstructured w lt e h = record { small = omega arith; zero_unless = λ u. refl; says = e ∙ ap (decimal 5) (eqb-true (number w) 0 h) }
 longest_by Text w lt e h = record { small = omega arith; zero_unless = λ u. refl; says = e ∙ ap (decimal 5) (eqb-true (number w) 0 h) }
 
--- a longest record without fault says its number
+-- a longest record without error is its number
 pub longest_ok : {at : ℕ} {o : List ℕ} (f : Format) → IsFine (DigitsIf (has_records f) 5) at o → IsLongest f (part at 5 o)
 longest_ok {at} {o} f h =
     let w = part at 5 o in

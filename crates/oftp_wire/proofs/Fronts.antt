@@ -1,4 +1,4 @@
--- What stands at the front of octets, in the words of `Front`, and that a stream is read in one way.
+-- The beginning of octets, in the words of `Front`, and that a stream is read in one way.
 use Rattle.std.proofs.Common.{◌≡◌, ℕ, ◌+◌, ◌-◌, ◌*◌, ◌/◌, ◌%◌, ◌<◌, ◌≤◌, List, [], ◌∷◌, ◌++◌, length, take, drop, None, Some, refl, sym, ap, subst, ◌∙◌, append_assoc, arith, Bool, true, false, cond, ltb, ◌||◌, ◌==◌, length-append, length-drop, inl, inr, zero, suc}
 use Rattle.std.specs.Borrow.{Bor}
 use Rattle.std.specs.Prelude.{Option, is_some}
@@ -46,7 +46,7 @@ one_front_by limit (c ∷ cs) (d ∷ ds) r q e f g nor noq =
 pub one_front : (limit : ℕ) (stream : List ℕ) (cs ds : List (List ℕ)) (r q : List ℕ) → Front limit stream cs r → Front limit stream ds q → (cs ≡ ds) × (r ≡ q)
 one_front limit stream cs ds r q f g = one_front_by limit cs ds r q (sym f.whole ∙ g.whole) f.each g.each f.last g.last
 
--- the length that a header says
+-- the length in a header
 said : (n : ℕ) → n / 65536 * 65536 + n / 256 % 256 * 256 + n % 256 ≡ n
 said n = omega arith
 
@@ -57,7 +57,7 @@ header_again a b c n small_b small_c e =
     let z : n % 256 ≡ c = omega arith in
     cc
 
--- a frame at the front of these octets has the length that they say, and is there
+-- if these octets begin with a frame, it has the length that they encode, and is whole
 framed : (a b c : ℕ) (rest m more : List ℕ) → 16 ∷ a ∷ b ∷ c ∷ rest ≡ frame m ++ more → (a * 65536 + b * 256 + c ≡ length m + 4) × (length m ≤ length rest)
 framed a b c rest m more e =
     let n = length m + 4 in
@@ -115,7 +115,7 @@ front_finds_by false limit first rest is small = (
   ap (λ (b : Bool). cond b (length_fault limit rest) (Some BadHeader)) is,
 )
 
--- what stands at the front of octets, in the words of `Front`
+-- the beginning of octets, in the words of `Front`
 pub front_finds : (limit : ℕ) (s : List ℕ) → All (λ c. c < 256) s → Finds limit s (len_of (front limit s))
 unfolding front
 front_finds limit [] small = (λ m more c e. let h : ⊥ = cc in h, refl)
@@ -124,7 +124,7 @@ front_finds limit (first ∷ rest) small = front_finds_by (first == 16) limit fi
 front_frame_by : (b p : Bool) (n : ℕ) → b ≡ false → p ≡ false → cond b (Bad BadLength) (cond p Waits (Whole n)) ≡ Whole n
 front_frame_by b p n out far = ap (λ (x : Bool). cond x (Bad BadLength) (cond p Waits (Whole n))) out ∙ ap (λ (x : Bool). cond x Waits (Whole n)) far
 
--- a frame that stands at the front is found there
+-- a frame at the beginning is found
 pub front_frame : (limit : ℕ) (m more : List ℕ) → IsCommand limit m → front limit (frame m ++ more) ≡ Whole (length m + 4)
 unfolding front sized
 front_frame limit m more small =
@@ -140,7 +140,7 @@ front_rest_by limit r (Whole n) none cut = absurd (none (command_in n r) (drop n
 front_rest_by limit r Waits none cut = ap head_of (sym cut.1)
 front_rest_by limit r (Bad fault) none cut = ap head_of (sym cut.1)
 
--- at the front of a rest with no whole frame stands its fault, or it waits
+-- a rest without a whole frame begins with its error, or it waits
 pub front_rest : (limit : ℕ) (r : List ℕ) → All (λ c. c < 256) r → NoFrame limit r → front limit r ≡ head_of (rest_fault limit r)
 front_rest limit r small none = front_rest_by limit r (front limit r) none (front_finds limit r small)
 
@@ -203,12 +203,12 @@ rest_more_by true limit first t more f is e =
     (subst (λ (x : ℕ). NoFrame limit (x ∷ (t ++ more))) (sym (eqb-true first 16 is)) h.0, h.1)
 rest_more_by false limit first t more f is e = (λ m after c found. let same : first ≡ 16 = cc in eqb-false first 16 is same, e)
 
--- a rest that stands for a fault does so with more behind it
+-- a rest with an error has it with more octets after it
 pub rest_more : (limit : ℕ) (s more : List ℕ) (f : FrameFault) → rest_fault limit s ≡ Some f → IsRest limit (s ++ more) (Some f)
 rest_more limit [] more f e = absurd (let h : ⊥ = cc in h)
 rest_more limit (first ∷ t) more f e = rest_more_by (first == 16) limit first t more f refl e
 
--- a stream of which the first pieces end in a fault
+-- a stream whose first pieces end in an error
 pub reads_early : (limit n : ℕ) (pieces : List (Bor (List ℕ))) (cs : List (List ℕ)) (rest : List ℕ) (fault : Option FrameFault)
     → joined (take n pieces) ≡ flat_map frame cs ++ rest → AllByRecursion (IsCommand limit) cs → IsRest limit rest fault → is_some fault ≡ true → Reads limit (joined pieces) cs fault
 reads_early limit n pieces cs rest None whole each last is = absurd (false≢true is)

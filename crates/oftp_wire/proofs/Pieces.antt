@@ -18,11 +18,11 @@ padded_len p w n e h = rw e (sym (length-padded n w.now (rw e at h)))
 pub decimal_len : (p : Piece) (v n : ℕ) → p ≡ pieces.Decimal v n → n ≡ length (octets_of p)
 decimal_len p v n e = rw e (sym (length-decimal n v))
 
--- no octet changes nothing
+-- an empty write changes nothing
 pub put_none : (at : ℕ) (o : List ℕ) → put at [] o ≡ o
 put_none at o = rw add-zero (take-append-drop at o)
 
--- one octet more
+-- one more octet
 pub put_push : (at : ℕ) (w : List ℕ) (c : ℕ) (o : List ℕ) → at + length w < length o → set (put at w o) (at + length w) c ≡ put at (w ++ c ∷ []) o
 put_push at w c o h =
     let k = at + length w in
@@ -76,7 +76,7 @@ put_digit at (suc n) v o new pos room h =
     ∙ ap (λ (j : ℕ). set (put at w o) j (48 + v % 10)) k
     ∙ put_push at w (48 + v % 10) o (omega (arith, length-decimal n (v / 10)))
 
--- no digit changes nothing
+-- no digits change nothing
 pub put_no_digit : (at n v : ℕ) (o : List ℕ) → n ≤ 0 → o ≡ put at (decimal n v) o
 unfolding decimal
 put_no_digit at zero v o h = sym (put_none at o)
@@ -88,11 +88,11 @@ put_no_digit at (suc n) v o h = absurd (omega arith)
 pub spelling_more : (ps : List Piece) (i : ℕ) (d : Piece) → i < length ps → spelling (take (i + 1) ps) ≡ spelling (take i ps) ++ octets_of (get_or ps i d)
 spelling_more ps i d h = ap spelling (take_more ps i d h) ∙ sym (flat_map_more octets_of [] (take i ps) (get_or ps i d))
 
--- the next piece is within the spelling
+-- the next piece is within the encoding
 pub within : (ps : List Piece) (i : ℕ) (d : Piece) → i < length ps → length (spelling (take i ps)) + length (octets_of (get_or ps i d)) ≤ length (spelling ps)
 within ps i d h = length-flat_map-take octets_of ps i d h
 
--- the next piece is written behind those before it
+-- the next piece is written after those before it
 pub spelling_step : (ps : List Piece) (i : ℕ) (d : Piece) (at : ℕ) (out new old : List ℕ) → i < length ps → at ≡ length (spelling (take i ps))
     → out ≡ spelling (take i ps) ++ drop at old → length (spelling ps) ≤ length old
     → new ≡ put at (octets_of (get_or ps i d)) out → new ≡ spelling (take (i + 1) ps) ++ drop (at + length (octets_of (get_or ps i d))) old
@@ -100,6 +100,6 @@ spelling_step ps i d at out new old h n e room w =
     w ∙ put_more at (spelling (take i ps)) (octets_of (get_or ps i d)) out old e (sym n) (omega (arith, within ps i d h))
     ∙ ap (λ (x : List ℕ). x ++ drop (at + length (octets_of (get_or ps i d))) old) (sym (spelling_more ps i d h))
 
--- what is read past the end
+-- a read past the end
 abbrev pub no_piece : Piece
 no_piece = pieces.Octets (record { ref_ptr = (0, 0); now = [] })

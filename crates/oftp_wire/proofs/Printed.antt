@@ -11,7 +11,7 @@ use Rattle.oftp_wire.specs.Messages.{printable, shown_text}
 abbrev pub printed : List ℕ → List ℕ
 printed cs = flat_map (λ c. encode_utf8 (printable c)) cs
 
--- one character more is taken from the text
+-- one more character is taken from the text
 pub taken_more : (cs : List ℕ) (c : ℕ) (rest next text : List ℕ) → rest ≡ encode_utf8 c ++ next → encode_utf8_all cs ++ rest ≡ text → encode_utf8_all (cs ++ c ∷ []) ++ next ≡ text
 taken_more cs c rest next text step so_far =
     ap (λ (x : List ℕ). x ++ next) (encodes-append cs (c ∷ []) ∙ ap (λ (x : List ℕ). encode_utf8_all cs ++ x) (append-nil (encode_utf8 c)))
@@ -19,7 +19,7 @@ taken_more cs c rest next text step so_far =
     ∙ ap (λ (x : List ℕ). encode_utf8_all cs ++ x) (sym step)
     ∙ so_far
 
--- one character more is printed
+-- one more character is printed
 pub printed_more : (cs : List ℕ) (c d : ℕ) → d ≡ printable c → printed cs ++ encode_utf8 d ≡ printed (cs ++ c ∷ [])
 printed_more cs c d e = ap (λ (x : ℕ). printed cs ++ encode_utf8 x) e ∙ flat_map_more (λ x. encode_utf8 (printable x)) [] cs c
 

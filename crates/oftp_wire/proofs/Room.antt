@@ -1,4 +1,4 @@
--- How many octets a canonical spelling has.
+-- The length of a canonical encoding.
 use Rattle.std.proofs.Common.{◌≡◌, ℕ, ◌≤◌, false, List, ◌∷◌, length, ap, append-nil, arith}
 use Rattle.std.specs.Prelude.{codes}
 use Rattle.oftp_wire.specs.declared.command.Command.{Command}
@@ -35,7 +35,7 @@ canon_short (commands.Nerp s) h e =
     omega (arith, length-table (nerp_table (length s.text)) s (nerp_parts (length s.text)) h, count)
 canon_short commands.Rtr h e = omega (arith, length-table (single_table (codes "P")) tt (single_parts 80) h)
 
--- a spelling begins with its kind's letter
+-- an encoding begins with its kind's letter
 pub canon_some : (c : Command) → 1 ≤ length (Canon c)
 canon_some commands.Ssrm = omega arith
 canon_some (commands.Ssid s) = omega arith

@@ -7,30 +7,30 @@ use Rattle.std.proofs.lemmas.Bool.{eqb-true, leb-true, and_parts, or_cases}
 use Rattle.std.proofs.lemmas.Str.{IsUtf8-from_is_utf8, is_utf8-from_IsUtf8, IsUtf8-from_ascii}
 use Rattle.oftp_wire.specs.Octets.{is_allowed, is_digit, IsName, IsDigits}
 
--- one octet more
+-- one more octet
 front_step : (p : ℕ → Bool) (c : ℕ) (cs : List ℕ) (b : Bool) → p c ≡ b → list_all p (take (prefix_len p cs) cs) ≡ true → list_all p (take (prefix_len p (c ∷ cs)) (c ∷ cs)) ≡ true
 front_step p c cs true e h = rw (e, one-add, e) h
 front_step p c cs false e h = rw e refl
 
--- the front passes the test
+-- the beginning passes the test
 front_passes : (p : ℕ → Bool) (w : List ℕ) → list_all p (take (prefix_len p w) w) ≡ true
 front_passes p [] = refl
 front_passes p (c ∷ cs) = front_step p c cs (p c) refl (front_passes p cs)
 
--- the value has allowed characters alone
+-- the value has only allowed characters
 pub value_allowed : (w : List ℕ) → list_all is_allowed (take (prefix_len is_allowed w) w) ≡ true
 value_allowed w = front_passes is_allowed w
 
--- by what the test says
+-- by the result of the test
 not_by : (w : List ℕ) (b : Bool) → is_utf8 w ≡ b → (IsUtf8 w → ⊥) → is_utf8 w ≡ false
 not_by w true e h = absurd (h (IsUtf8-from_is_utf8 w e))
 not_by w false e h = e
 
--- the test says no where octets aren't UTF-8
+-- the test fails if octets aren't UTF-8
 pub not_utf8 : (w : List ℕ) → (IsUtf8 w → ⊥) → is_utf8 w ≡ false
 not_utf8 w h = not_by w (is_utf8 w) refl h
 
--- what the test says, either way
+-- the result of the test, either way
 pub ruleset utf8_test = (is_utf8-from_IsUtf8, not_utf8)
 
 -- ---- names and digits are text
@@ -63,7 +63,7 @@ each_small p small [] h (suc i) = omega arith
 each_small p small (c ∷ cs) h zero = small c (and_parts (p c) (list_all p cs) h).0
 each_small p small (c ∷ cs) h (suc i) = each_small p small cs (and_parts (p c) (list_all p cs) h).1 i
 
--- what is UTF-8 isn't refused as a text
+-- UTF-8 isn't refused as a text
 pub is_text : {T E A : Type 0} (P : T → Type 0) (Q : E → Type 0) (r : Result T E) → MatchResult r P (λ e. (A → ⊥) × Q e) → A → IsOk r
 is_text P Q (Ok x) h a = refl
 is_text P Q (Err e) h a = absurd (h.0 a)

@@ -1,4 +1,4 @@
--- What holds of every table: a spelling has no fault, says one command, and the canonical one is a spelling.
+-- What holds of every table: an encoding has no error and is of one command, and the canonical octets are an encoding.
 use Rattle.std.proofs.Common.{◌≡◌, ℕ, ◌+◌, ◌≤◌, Bool, true, false, ◌||◌, eqb, List, [], ◌∷◌, length, drop, None, refl, sym, ap, subst, ◌∙◌, arith, inl, inr}
 use Rattle.std.specs.List.{list_all}
 use Rattle.std.proofs.lemmas.Bool.{eq-eqb, and_from}
@@ -15,14 +15,14 @@ abbrev pub Contiguous : {S : Type 0} → ℕ → List (Row S) → ℕ → Type 0
 Contiguous k [] end = k ≡ end
 Contiguous k (r ∷ rs) end = (at_of r ≡ k) × Contiguous (k + size (form_of r)) rs end
 
--- rows end behind their beginning
+-- rows end after their beginning
 contiguous_le : {S : Type 0} (k : ℕ) (rows : List (Row S)) (end : ℕ) → Contiguous k rows end → k ≤ end
 contiguous_le k [] end h = omega arith
 contiguous_le k (r ∷ rs) end h = let ih = contiguous_le (k + size (form_of r)) rs end h.1 in omega arith
 
--- ---- a spelling has no fault
+-- ---- an encoding has no error
 
--- octets that say a value are allowed
+-- octets that encode a value are allowed
 says_allowed : {S : Type 0} (r : Row S) (s : S) (w : List ℕ) → Fits r s → Says r s w → allows (form_of r) w ≡ true
 says_allowed (word k v) s w f e = rw (e, (bytes_eq-Decides v v).1 refl) refl
 says_allowed (name k n a) s w f e = rw e (is_padded-padded n (a s) f.1)
@@ -39,7 +39,7 @@ says_allowed (return k) s w f e = elim e [ inl x ↦ rw x refl | inr x ↦ rw x 
 says_allowed (payload k n a) s w f e = refl
 says_allowed (text k n a) s w f e = rw e (is_utf8-from_IsUtf8 (a s) f.2)
 
--- octets of a table's length have no fault at its end
+-- octets of a table's length have no error at its end
 pub ends_well : (end : ℕ) (o : List ℕ) → length o ≡ end → end_fault end o ≡ None
 unfolding end_fault
 ends_well end o e = rw (eq-eqb (length o) end e) refl
@@ -52,11 +52,11 @@ no_fault_from k (r ∷ rs) end s o h e says =
     let fine : fault_of (form_of r) (at_of r) o ≡ None = fine_from (form_of r) (at_of r) o (omega (arith, h.0)) (says_allowed r s (part (at_of r) (size (form_of r)) o) says.0.0 says.0.1) in
     rw fine (no_fault_from (k + size (form_of r)) rs end s o h.1 e says.1)
 
--- a spelling has no fault
+-- an encoding has no error
 pub no_fault : {S : Type 0} (t : Table S) (s : S) (o : List ℕ) → Contiguous 0 t.rows t.end → IsSpelled t s o → fault_in t o ≡ None
 no_fault t s o h e = no_fault_from 0 t.rows t.end s o h e.whole e.fields
 
--- ---- a spelling says one command
+-- ---- an encoding is of one command
 
 -- two commands have the same value of a row
 abbrev pub SameAt : {S : Type 0} → Row S → S → S → Type 0
@@ -71,7 +71,7 @@ SameAt (return k) s t = Unit {0}
 SameAt (payload k n f) s t = f s ≡ f t
 SameAt (text k n f) s t = f s ≡ f t
 
--- octets say one value
+-- octets encode one value
 same_at : {S : Type 0} (r : Row S) (s t : S) (w : List ℕ) → Fits r s → Says r s w → Fits r t → Says r t w → SameAt r s t
 same_at (word k w) s t o f e g d = tt
 same_at (name k n a) s t o f e g d = sym (value_of-padded n (a s) f.1) ∙ ap value_of (sym e ∙ d) ∙ value_of-padded n (a t) g.1
@@ -89,12 +89,12 @@ abbrev pub EachSame : {S : Type 0} → List (Row S) → S → S → Type 0
 EachSame [] s t = Unit {0}
 EachSame (r ∷ rs) s t = SameAt r s t × EachSame rs s t
 
--- octets say one value of each row
+-- octets encode one value of each row
 pub each_same : {S : Type 0} (rows : List (Row S)) (s t : S) (o : List ℕ) → EachSays rows s o → EachSays rows t o → EachSame rows s t
 each_same [] s t o f g = tt
 each_same (r ∷ rs) s t o f g = (same_at r s t (part (at_of r) (size (form_of r)) o) f.0.0 f.0.1 g.0.0 g.0.1, each_same rs s t o f.1 g.1)
 
--- ---- the canonical spelling is one
+-- ---- the canonical encoding is one
 
 -- a field's canonical octets fill it
 length-spelled : {S : Type 0} (r : Row S) (s : S) → Fits r s → length (spelled r s) ≡ size (form_of r)
@@ -109,7 +109,7 @@ length-spelled (return k) s f = refl
 length-spelled (payload k n a) s f = f
 length-spelled (text k n a) s f = f.0
 
--- a field's canonical octets say its value
+-- a field's canonical octets encode its value
 spelled_says : {S : Type 0} (r : Row S) (s : S) → Says r s (spelled r s)
 spelled_says (word k w) s = refl
 spelled_says (name k n a) s = refl
@@ -139,7 +139,7 @@ canon_says k (r ∷ rs) end s o h f e =
     let rest : drop (k + n) o ≡ canon_of rs s = sym (drop-drop n k o) ∙ ap (drop n) e ∙ drop_at (spelled r s) (canon_of rs s) n len in
     ((f.0, subst (Says r s) (sym here) (spelled_says r s)), canon_says (k + n) rs end s o h.1 f.1 rest)
 
--- the canonical octets are a spelling
+-- the canonical octets are an encoding
 pub canon_spelled : {S : Type 0} (t : Table S) (s : S) → Contiguous 0 t.rows t.end → EachFits t.rows s → IsSpelled t s (canon_of t.rows s)
 canon_spelled t s h f = record {
   whole = omega (arith, length-canon 0 t.rows t.end s h f);

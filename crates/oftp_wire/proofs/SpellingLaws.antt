@@ -1,4 +1,4 @@
--- The laws of Spelling.
+-- The properties of Spelling.
 use Rattle.std.proofs.Common.{◌≡◌, ℕ, List, length, Option, Some, None, Result, Ok, Err, refl, sym, ap, ◌∙◌}
 use Rattle.std.specs.Prelude.{◌↔◌, codes}
 use Rattle.oftp_wire.specs.declared.fault.WireFault.{WireFault}
@@ -12,7 +12,7 @@ use Rattle.oftp_wire.specs.Kinds.{command_of}
 use Rattle.oftp_wire.proofs.Exact.{none_some}
 use Rattle.oftp_wire.proofs.Whole.{exact_at, command_again}
 
--- the canonical octets of a command spell it
+-- the canonical octets of a command encode it
 pub canon_spells : (x : Command) → IsFit x → Spells x (Canon x)
 canon_spells commands.Ssrm h = canon_spelled ssrm_table tt ssrm_parts h
 canon_spells (commands.Ssid s) h = canon_spelled ssid_table s ssid_parts h
@@ -38,27 +38,27 @@ done x = Ok x
 done_is : (x y : Command) → done x ≡ done y → x ≡ y
 done_is x y e = cc
 
--- no octets spell two commands
+-- no octets encode two commands
 pub one_command : (x y : Command) (o : List ℕ) → Spells x o → Spells y o → x ≡ y
 one_command x y o h k = done_is x y (sym (command_again x o h) ∙ command_again y o k)
 
--- what is spelled has no fault
+-- an encoding has no error
 pub spells_free : (x : Command) (o : List ℕ) → Spells x o → Fault o ≡ None
 spells_free x o h = (exact_at (Ok x) o (command_again x o h)).0
 
--- what is read is what is spelled
+-- a command is read from its encoding
 pub reads_spelled : (x : Command) (o : List ℕ) → (command_of o ≡ Ok x) ↔ Spells x o
 reads_spelled x o = (λ e. (exact_at (Ok x) o e).1, command_again x o)
 
--- equal faults
+-- equal errors
 some_is : (e f : WireFault) → ◌≡◌ {A = Option WireFault} (Some e) (Some f) → e ≡ f
 some_is e f h = cc
 
--- where there is a fault, it is answered
+-- if there is an error, it is returned
 refused_by : (r : Result Command WireFault) (o : List ℕ) (e : WireFault) → command_of o ≡ r → Fault o ≡ Some e → command_of o ≡ Err e
 refused_by (Ok x) o e h k = absurd (none_some e (sym (exact_at (Ok x) o h).0 ∙ k))
 refused_by (Err f) o e h k = h ∙ ap Err (some_is f e (sym (exact_at (Err f) o h).0 ∙ k))
 
--- a fault that is answered is the first of Spelling
+-- an error that is returned is the first of Spelling
 pub refuses_fault : (e : WireFault) (o : List ℕ) → (command_of o ≡ Err e) ↔ (Fault o ≡ Some e)
 refuses_fault e o = (λ h. (exact_at (Err e) o h).0, refused_by (command_of o) o e refl)

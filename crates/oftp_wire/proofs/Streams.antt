@@ -1,4 +1,4 @@
--- What stands at the front of octets, what more octets change of it, and what `next` tells.
+-- The beginning of octets, how more octets change it, and the result of `next`.
 use Rattle.std.proofs.Common.{◌≡◌, ℕ, ◌+◌, ◌-◌, ◌*◌, ◌<◌, ◌≤◌, List, [], ◌∷◌, ◌++◌, length, take, drop, Option, None, Some, Ok, Err, refl, sym, ap, ◌∙◌, arith, subst, add-one, length-append, length-drop, Bool, true, false, cond, ltb, ◌||◌, ◌==◌}
 use Rattle.std.proofs.lemmas.List.{drop-drop, take_rest, length-take-le}
 use Rattle.std.proofs.lemmas.Bool.{ltb-false, le-ltb, or_parts}
@@ -7,7 +7,7 @@ use Rattle.oftp_wire.specs.declared.frame_fault.FrameFault.TheVariants.{BadHeade
 use Rattle.oftp_wire.specs.Header.{frame, IsCommand}
 use Rattle.oftp_wire.specs.Stream.{Head, Whole, Waits, Bad, Stream, front, sized, len_of, past, with_fault, next_of, next_at, left_of, left_at, command_in, IsWithin, Finds}
 
--- what a length that was found says of the front
+-- what a length that was found says of the beginning
 pub whole_from : (h : Head) (n : ℕ) → Ok (Some n) ≡ len_of h → h ≡ Whole n
 whole_from (Whole m) n e = let same : n ≡ m = cc in ap Whole (sym same)
 whole_from Waits n e = absurd (let h : ⊥ = cc in h)
@@ -17,11 +17,11 @@ pub none_from : (o : Option FrameFault) → ((x : FrameFault) → o ≡ Some x �
 none_from None h = refl
 none_from (Some x) h = absurd (h x refl)
 
--- what the code hands out
+-- the slice that the code returns
 command_at : (octets : List ℕ) (begin n : ℕ) → take (begin + n - (begin + 4)) (drop (begin + 4) octets) ≡ command_in n (drop begin octets)
 command_at octets begin n = rw (drop-drop 4 begin octets) (ap (λ (k : ℕ). take k (drop (begin + 4) octets)) {y = n - 4} (omega arith))
 
--- `next` hands out m and leaves after
+-- `next` returns m and leaves `after`
 pub record HandsOut (before after : Stream) (m : List ℕ) : Type 0 where
   pub left : after ≡ left_of before before.told
   pub value : Ok (Some m) ≡ next_of before before.told
@@ -51,7 +51,7 @@ hands_out s octets seen begin n limit room capacity told view none same found cu
       parts = parts.3 ∙ ap (λ (k : ℕ). frame m ++ drop k rest) (sym long);
     }))
 
--- what is told of octets stays so whatever comes behind them, but for waiting
+-- what is read of octets is the same whatever follows them, except waiting
 abbrev pub IsTold : Head → Type 0
 IsTold (Whole n) = Unit {0}
 IsTold Waits = ⊥
@@ -77,7 +77,7 @@ choice_at : (b : Bool) (x y z : Head) → IsTold (cond b x z) → (IsTold x → 
 choice_at true x y z told h = h told
 choice_at false x y z told h = refl
 
--- what is told of octets is told of them with more behind
+-- what is read of octets is read of them with more after
 pub front_more : (limit : ℕ) (s more : List ℕ) → IsTold (front limit s) → front limit (s ++ more) ≡ front limit s
 unfolding front
 front_more limit [] more h = absurd h
@@ -109,7 +109,7 @@ front_within limit [] = tt
 front_within limit (first ∷ rest) = choice_both (first == 16) (sized limit rest) (Bad BadHeader) (length (first ∷ rest))
     (subst (λ (k : ℕ). IsWithin k (sized limit rest)) (add-one (length rest)) (sized_within limit rest)) tt
 
--- what an answer of `next` tells
+-- what a result of `next` says
 
 some_at : (s : Stream) (h : Head) (x : List ℕ) → next_at s h ≡ Ok (Some x) → (n : ℕ) × (h ≡ Whole n) × (command_in n s.rest ≡ x) × (left_at s h ≡ past s n)
 some_at s (Whole n) x e = (n, refl, cc, refl)
@@ -145,7 +145,7 @@ next_err s x told e =
     let h = err_at s (front s.limit s.rest) x (sym (ap (next_of s) told) ∙ e) in
     (h.0, ap (left_of s) told ∙ h.1)
 
--- a frame that is gone makes the rest shorter
+-- removing a frame makes the rest shorter
 pub past_shorter : (s : Stream) (n : ℕ) → front s.limit s.rest ≡ Whole n → length (past s n).rest < length s.rest
 past_shorter s n whole =
     let within : IsWithin (length s.rest) (Whole n) = subst (IsWithin (length s.rest)) whole (front_within s.limit s.rest) in

@@ -1,4 +1,4 @@
--- What is read is the command that is spelled, or the first fault.
+-- The result of reading is the command that is encoded, or the first error.
 use Rattle.std.proofs.Common.{◌≡◌, ℕ, Bool, true, false, cond, eqb, List, [], ◌∷◌, Result, Ok, Err, Option, Some, None, refl, sym, subst, arith, MatchResult}
 use Rattle.std.specs.Prelude.{IfOk, IfErr, IsSome}
 use Rattle.std.proofs.lemmas.Bool.{eqb-true}
@@ -17,7 +17,7 @@ use Rattle.oftp_wire.proofs.Exact.{Exact, named}
 use Rattle.oftp_wire.proofs.EachKind.{IsKind, ssrm_exact, ssid_exact, sfid_exact, sfpa_exact, sfna_exact, data_exact, cdt_exact, efid_exact, efpa_exact, efna_exact, esid_exact, eerp_exact, nerp_exact, single_exact}
 use Rattle.oftp_wire.proofs.Again.{ssrm_again, ssid_again, sfid_again, sfpa_again, sfna_again, data_again, cdt_again, efid_again, efpa_again, efna_again, esid_again, eerp_again, nerp_again, single_again}
 
--- the first octet names the kind
+-- the first octet decides on the kind
 kind_is : (c k : ℕ) (cs : List ℕ) → c ≡ k → IsKind (k ∷ []) (c ∷ cs)
 kind_is c k cs e = record { fine = fine_from (OneOf 1 ((k ∷ []) ∷ [])) 0 (c ∷ cs) (omega arith) (rw (e, (bytes_eq-Decides (k ∷ []) (k ∷ [])).1 refl) refl) }
 
@@ -59,11 +59,11 @@ unfolding command_of Fault
 command_exact [] = record { met = (refl, refl) }
 command_exact (c ∷ cs) = letter_exact c cs
 
--- the letter that a spelling begins with
+-- the letter with which an encoding begins
 pub begins : (k : ℕ) (c : ℕ) (cs : List ℕ) → part 0 1 (c ∷ cs) ≡ k ∷ [] → c ≡ k
 begins k c cs e = cc
 
--- what spells a command of the kind with this letter is read as it
+-- an encoding of a command of the kind with this letter is read as it
 reads_as : {S : Type 0} {P : List ℕ → Type 0} (k : ℕ) (read : List ℕ → Result S WireFault) (make : S → Command) (s : S)
     → ((cs : List ℕ) → by_letter k (k ∷ cs) ≡ (read (k ∷ cs) >>= λ x. Ok (make x)))
     → ((o : List ℕ) → IsKind (k ∷ []) o → P o → read o ≡ Ok s)
@@ -75,7 +75,7 @@ reads_as {S} {P} k read make s by again (c ∷ cs) h first =
     let g : P (k ∷ cs) = subst (λ (d : ℕ). P (d ∷ cs)) e h in
     rw (e, by cs, again (k ∷ cs) (kind_is k k cs refl) g) refl
 
--- what spells a command is read as it
+-- an encoding of a command is read as it
 pub command_again : (x : Command) (o : List ℕ) → Spells x o → command_of o ≡ Ok x
 unfolding by_letter
 command_again commands.Ssrm o h = reads_as 73 ssrm_of (λ s. commands.Ssrm) tt (λ cs. refl) (λ q kind. ssrm_again q kind tt) o h (λ q g. g.fields.0.1)
@@ -94,31 +94,31 @@ command_again (commands.Eerp s) o h = reads_as 69 eerp_of commands.Eerp s (λ cs
 command_again (commands.Nerp s) o h = reads_as 78 nerp_of commands.Nerp s (λ cs. refl) (λ q kind. nerp_again q kind s) o h (λ q g. g.fields.0.1)
 command_again commands.Rtr o h = reads_as 80 single_of (λ s. commands.Rtr) tt (λ cs. refl) (λ q kind. single_again 80 q kind tt) o h (λ q g. g.fields.0.1)
 
--- what is exact tells of each answer
+-- what is exact says of each result
 pub exact_at : (r : Result Command WireFault) (o : List ℕ) → command_of o ≡ r
     → MatchResult r (λ x. (Fault o ≡ None) × Spells x o) (λ e. (Fault o ≡ Some e) × IsSome (reason_of e))
 exact_at r o h =
     subst (λ (q : Result Command WireFault). MatchResult q (λ x. (Fault o ≡ None) × Spells x o) (λ e. (Fault o ≡ Some e) × IsSome (reason_of e)))
     h (command_exact o).met
 
--- what was read is spelled so
+-- the octets encode what was read
 found_by : (r : Result Command WireFault) (o : List ℕ)
     → MatchResult r (λ x. (Fault o ≡ None) × Spells x o) (λ e. (Fault o ≡ Some e) × IsSome (reason_of e)) → IfOk r (λ x. Spells x o)
 found_by (Ok x) o h = h.1
 found_by (Err e) o h = tt
 
--- what was refused has the first fault from the left, which an ESID can answer
+-- the error is the first one from the left, which an ESID can answer
 refused_by : (r : Result Command WireFault) (o : List ℕ)
     → MatchResult r (λ x. (Fault o ≡ None) × Spells x o) (λ e. (Fault o ≡ Some e) × IsSome (reason_of e))
     → IfErr r (λ e. Fault o ≡ Some e) × IfErr r (λ e. IsSome (reason_of e))
 refused_by (Ok x) o h = (tt, tt)
 refused_by (Err e) o h = h
 
--- what is read is spelled so
+-- the octets encode what is read
 pub found_is : (r : Result Command WireFault) (o : List ℕ) → r ≡ command_of o → IfOk r (λ x. Spells x o)
 found_is r o e = found_by r o (exact_at r o (sym e))
 
--- the reader's fault is the first from the left, and one that an ESID can answer
+-- the reader's error is the first from the left, and one that an ESID can answer
 pub fault_is : (r : Result Command WireFault) (o : List ℕ) → r ≡ command_of o
     → IfErr r (λ f. Fault o ≡ Some f) × IfErr r (λ f. IsSome (reason_of f))
 fault_is r o e = refused_by r o (exact_at r o (sym e))

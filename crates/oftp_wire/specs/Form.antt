@@ -1,4 +1,4 @@
--- The forms of fields (RFC 5024, section 5.3): how long one is, which octets it allows, and the fault where it has others.
+-- The forms of fields (RFC 5024, section 5.3): the length, the octets that are allowed, and the fault of others.
 use Rattle.std.specs.Prelude.{ℕ, ◌+◌, Bool, true, ◌&&◌, ◌||◌, List, [], ◌∷◌, length, nat_lt, ◌==◌, if◌then◌else◌, Option, Some, None}
 use Rattle.std.specs.List.{list_all, list_any}
 use Rattle.std.specs.Str.{is_utf8, bytes_eq}
@@ -17,7 +17,7 @@ pub data Form : Type 0 where
   Any : ℕ → Form  -- any n octets, kept
   Utf8 : ℕ → Form  -- n octets of UTF-8
 
--- how many octets a field has
+-- the length of a field
 abbrev pub size : Form → ℕ
 size (Name n) = n
 size (Digits n) = n
@@ -28,7 +28,7 @@ size Return = 1
 size (Any n) = n
 size (Utf8 n) = n
 
--- whether octets are a field of the form
+-- whether octets are a field of this form
 abbrev pub allows : Form → List ℕ → Bool
 allows (Name n) w = is_padded w
 allows (Digits n) w = list_all is_digit w
@@ -39,7 +39,7 @@ allows Return w = bytes_eq w (13 ∷ []) || bytes_eq w (141 ∷ [])
 allows (Any n) w = true
 allows (Utf8 n) w = is_utf8 w
 
--- the fault of a field whose octets are none of the form
+-- the fault of a field whose octets aren't of this form
 abbrev pub complaint : Form → ℕ → WireFault
 complaint (Name n) at = BadField at
 complaint (Digits n) at = BadField at
@@ -50,10 +50,10 @@ complaint Return at = BadField at
 complaint (Any n) at = BadField at
 complaint (Utf8 n) at = BadText
 
--- what is wrong with the field at an offset, if anything is: it passes the end, or its content is bad
+-- the fault of the field at an offset, if it has one: it extends past the end, or its value is invalid
 unfoldable pub fault_of : Form → ℕ → List ℕ → Option WireFault
 fault_of form at o = if nat_lt (length o) (at + size form) then Some WrongLength else (if allows form (part at (size form) o) then None else Some (complaint form at))
 
--- what is wrong where the last field ends, if anything is: octets are left over
+-- the fault after the last field, if there is one: octets are left
 unfoldable pub end_fault : ℕ → List ℕ → Option WireFault
 end_fault end o = if length o == end then None else Some WrongLength

@@ -1,5 +1,5 @@
--- Each kind of command, read from left to right. `command_of` is what `parse` answers; by the law `one_spelling` it reads what
--- octets spell, and refuses the others by their first fault.
+-- Each kind of command, read from left to right. `command_of` is the result of `parse`; by the theorem `one_spelling` it reads what octets
+-- encode, and refuses all others with their first fault.
 use Rattle.std.specs.Prelude.{ℕ, ◌+◌, List, [], ◌∷◌, codes, Result, Ok, Err, ◌==◌, if◌then◌else◌}
 use Rattle.oftp_wire.specs.declared.fault.WireFault.{WireFault}
 use Rattle.oftp_wire.specs.declared.command.Esid.{Esid}
@@ -197,7 +197,7 @@ nerp_of o = do
   end ← ends_at (131 + n + 4) o
   Ok (record { dataset = dataset; date = date; time = time; destination = destination; originator = originator; creator = creator; reason = reason; text = text })
 
--- the command of the kind that a letter names
+-- the command of the kind with this letter
 unfoldable pub by_letter : ℕ → List ℕ → Result Command WireFault
 by_letter c o =
     if c == letter (codes "I") then (ssrm_of o >>= λ x. Ok commands.Ssrm) else (
@@ -217,7 +217,7 @@ by_letter c o =
     if c == letter (codes "P") then (single_of o >>= λ x. Ok commands.Rtr) else (
     Err UnknownCommand)))))))))))))))
 
--- the command that octets are
+-- the command in these octets
 unfoldable pub command_of : List ℕ → Result Command WireFault
 command_of [] = Err UnknownCommand
 command_of (c ∷ cs) = by_letter c (c ∷ cs)

@@ -1,4 +1,4 @@
--- What an operator reads.
+-- The texts that an operator reads.
 use Rattle.std.specs.Prelude.{ℕ, List, [], ◌∷◌, ◌++◌, length, codes, encode_utf8, if◌then◌else◌}
 use Rattle.std.specs.List.{flat_map}
 use Rattle.std.specs.Char.{is_control}
@@ -15,7 +15,7 @@ use Rattle.oftp_wire.specs.declared.command.Command.{Command}
 use Rattle.oftp_wire.specs.declared.command.Command.TheVariants as commands
 use Rattle.oftp_wire.specs.Reasons.{two_digits, start_reason, start_text, end_reason, end_text, session_reason, session_text}
 
--- what is wrong with octets
+-- the text of a fault
 abbrev pub fault_text : WireFault → List ℕ
 fault_text UnknownCommand = codes "no command begins so"
 fault_text WrongLength = codes "the command has the wrong length"
@@ -68,7 +68,7 @@ eerp_text s = codes "EERP " ++ (file_text s.dataset s.date s.time ++ (codes " to
 abbrev pub nerp_text : Nerp → List ℕ
 nerp_text s = codes "NERP " ++ (file_text s.dataset s.date s.time ++ (codes " to " ++ (s.destination ++ (codes ", reason " ++ (two_digits s.reason ++ text_after_colon s.text)))))
 
--- a command: its kind, and what tells it from others of the kind; never the password
+-- a command: its kind, and the fields that distinguish it from others of the kind, but never the password
 abbrev pub command_text : Command → List ℕ
 command_text commands.Ssrm = codes "SSRM"
 command_text (commands.Ssid s) = codes "SSID from " ++ s.code

@@ -1,4 +1,4 @@
--- What a field's octets may be, and how a value is spelled (RFC 5024, section 5.3).
+-- The octets of a field, and how a value is encoded (RFC 5024, section 5.3).
 use Rattle.std.specs.Prelude.{◌≡◌, ℕ, zero, suc, ◌+◌, ◌-◌, ◌*◌, ◌/◌, ◌%◌, ◌≤◌, Bool, true, ◌&&◌, ◌||◌, List, [], ◌∷◌, ◌++◌, length, take, drop, replicate, nat_le, ◌==◌, fold}
 use Rattle.std.specs.List.{list_all, prefix_len, take_while}
 
@@ -31,7 +31,7 @@ padded n v = v ++ spaces (n - length v)
 abbrev pub value_of : List ℕ → List ℕ
 value_of w = take_while is_allowed w
 
--- whether spaces alone stand behind the allowed octets at the front
+-- whether only spaces follow the allowed octets at the beginning
 abbrev pub is_padded : List ℕ → Bool
 is_padded w = list_all (λ c. c == 32) (drop (prefix_len is_allowed w) w)
 

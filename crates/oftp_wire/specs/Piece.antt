@@ -1,4 +1,4 @@
--- The parts that a spelling is made of. No public clause speaks of them.
+-- The pieces of an encoding. No public clause cites them.
 use Rattle.std.specs.Prelude.{ℕ, ◌≤◌, List, length, Result}
 use Rattle.std.specs.List.{flat_map}
 use Rattle.oftp_wire.specs.declared.fault.WireFault.{WireFault}
@@ -8,7 +8,7 @@ use Rattle.oftp_wire.specs.Octets.{padded, decimal, spaces}
 use Rattle.oftp_wire.specs.Row.{Table, canon_of}
 use Rattle.oftp_wire.specs.Spelling.{IsWritten}
 
--- the octets of a part
+-- the octets of a piece
 abbrev pub octets_of : Piece → List ℕ
 octets_of (pieces.Octets w) = w.now
 octets_of (pieces.Padded w n) = padded n w.now
@@ -22,7 +22,7 @@ IsRight (pieces.Padded w n) = length w.now ≤ n
 IsRight (pieces.Decimal v n) = Unit {0}
 IsRight (pieces.Spaces n) = Unit {0}
 
--- the octets of parts, one after the other
+-- the octets of pieces, one after the other
 abbrev pub spelling : List Piece → List ℕ
 spelling ps = flat_map octets_of ps
 

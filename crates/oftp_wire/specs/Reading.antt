@@ -1,4 +1,4 @@
--- Reading one field after the other: the value, or the fault. The kinds' readers are made of it, and with them `command_of`.
+-- Reading one field after the other: the value, or the fault. The readers of the kinds and `command_of` are made of these.
 use Rattle.std.specs.Prelude.{ℕ, ◌+◌, ◌-◌, Bool, List, [], ◌∷◌, length, codes, Option, Some, None, Result, Ok, Err}
 use Rattle.std.specs.Str.{bytes_eq}
 use Rattle.oftp_wire.specs.declared.fault.WireFault.{WireFault}
@@ -11,7 +11,7 @@ use Rattle.oftp_wire.specs.Octets.{part, value_of, number}
 use Rattle.oftp_wire.specs.Tables.{flag_words, mode_words, mode_of, format_words, format_of, has_records, zero16}
 use Rattle.oftp_wire.specs.Form.{Form, Name, Digits, OneOf, DigitsIf, Any, Utf8, fault_of, end_fault}
 
--- what follows a value; a fault ends the reading
+-- what follows a value; after a fault nothing is read
 infixl 10 ◌>>=◌
 abbrev pub ◌>>=◌ : {A B : Type 0} → Result A WireFault → (A → Result B WireFault) → Result B WireFault
 (Ok x) >>= f = f x
@@ -40,7 +40,7 @@ format_form = OneOf 1 format_words
 abbrev pub zero16_form : Form
 zero16_form = OneOf 2 (zero16 ∷ [])
 
--- what SSRM says
+-- the text of SSRM
 abbrev pub ready_form : Form
 ready_form = OneOf 17 (codes "ODETTE FTP READY " ∷ [])
 
@@ -62,11 +62,11 @@ count_at n at o = unless (fault_of (Digits n) at o) (number (part at n o))
 unfoldable pub text_at : ℕ → ℕ → List ℕ → Result (List ℕ) WireFault
 text_at n at o = unless (fault_of (Utf8 n) at o) (part at n o)
 
--- no octet stands behind the last field
+-- no octet follows the last field
 unfoldable pub ends_at : ℕ → List ℕ → Result (Unit {0}) WireFault
 ends_at at o = unless (end_fault at o) tt
 
--- a text behind its length field, which ends the command
+-- a text after its length field, as the last field of a command
 unfoldable pub last_text_at : ℕ → List ℕ → Result (List ℕ) WireFault
 last_text_at at o = do
   n ← count_at 3 at o
@@ -74,7 +74,7 @@ last_text_at at o = do
   end ← ends_at (at + 3 + n) o
   Ok text
 
--- a field whose content isn't kept
+-- a field whose value isn't used
 unfoldable pub skipped_at : Form → ℕ → List ℕ → Result (Unit {0}) WireFault
 skipped_at form at o = unless (fault_of form at o) tt
 
@@ -82,11 +82,11 @@ skipped_at form at o = unless (fault_of form at o) tt
 unfoldable pub flag_at : ℕ → List ℕ → Result Bool WireFault
 flag_at at o = unless (fault_of flag_form at o) (bytes_eq (part at 1 o) (codes "Y"))
 
--- the mode that a letter names
+-- the mode with a letter
 unfoldable pub mode_at : ℕ → List ℕ → Result Mode WireFault
 mode_at at o = unless (fault_of mode_form at o) (mode_of (part at 1 o))
 
--- the format that a letter names
+-- the format with a letter
 unfoldable pub format_at : ℕ → List ℕ → Result Format WireFault
 format_at at o = unless (fault_of format_form at o) (format_of (part at 1 o))
 

@@ -21,7 +21,7 @@ start_number DuplicateFile = 13
 start_number FileDirectionRefused = 14
 start_number Unspecified = 99
 
--- the reason of SFNA that has a number, if one has
+-- the reason of SFNA with a number, if there is one
 abbrev pub start_reason : ℕ → Option StartReason
 start_reason n = find (λ r. start_number r == n) (InvalidFilename ∷ InvalidDestination ∷ InvalidOrigin ∷ MaximumRecordLengthNotSupported
     ∷ FileSizeTooBig ∷ DuplicateFile ∷ FileDirectionRefused ∷ Unspecified ∷ [])
@@ -31,7 +31,7 @@ abbrev pub end_number : EndReason → ℕ
 end_number InvalidRecordCount = 10
 end_number InvalidByteCount = 11
 
--- the reason of EFNA that has a number, if one has
+-- the reason of EFNA with a number, if there is one
 abbrev pub end_reason : ℕ → Option EndReason
 end_reason n = find (λ r. end_number r == n) (InvalidRecordCount ∷ InvalidByteCount ∷ [])
 
@@ -48,12 +48,12 @@ session_number ResourcesNotAvailable = 8
 session_number ModeIncompatible = 10
 session_number AuthenticationIncompatible = 12
 
--- the reason of ESID that has a number, if one has
+-- the reason of ESID with a number, if there is one
 abbrev pub session_reason : ℕ → Option SessionReason
 session_reason n = find (λ r. session_number r == n) (Normal ∷ CommandNotRecognised ∷ ProtocolViolation ∷ UserCodeNotKnown ∷ InvalidPassword
     ∷ InvalidData ∷ BufferSizeError ∷ ResourcesNotAvailable ∷ ModeIncompatible ∷ AuthenticationIncompatible ∷ [])
 
--- the reason of the ESID that answers octets at fault; none answers a slice that was too short to write in
+-- the reason of the ESID that answers faulty octets; there is none for a slice that was too short to write to
 abbrev pub reason_of : WireFault → Option SessionReason
 reason_of UnknownCommand = Some CommandNotRecognised
 reason_of WrongLength = Some BufferSizeError
@@ -65,7 +65,7 @@ reason_of NoRoom = None
 abbrev pub two_digits : ℕ → List ℕ
 two_digits n = decimal (n / 10) ++ decimal (n % 10)
 
--- what a reason of SFNA says behind its number
+-- the words after the number of a reason of SFNA
 abbrev pub start_phrase : StartReason → List ℕ
 start_phrase InvalidFilename = codes " invalid filename"
 start_phrase InvalidDestination = codes " invalid destination"
@@ -80,7 +80,7 @@ start_phrase Unspecified = codes " unspecified"
 unfoldable pub start_text : StartReason → List ℕ
 start_text r = two_digits (start_number r) ++ start_phrase r
 
--- what a reason of EFNA says behind its number
+-- the words after the number of a reason of EFNA
 abbrev pub end_phrase : EndReason → List ℕ
 end_phrase InvalidRecordCount = codes " invalid record count"
 end_phrase InvalidByteCount = codes " invalid byte count"
@@ -89,7 +89,7 @@ end_phrase InvalidByteCount = codes " invalid byte count"
 unfoldable pub end_text : EndReason → List ℕ
 end_text r = two_digits (end_number r) ++ end_phrase r
 
--- what a reason of ESID says behind its number
+-- the words after the number of a reason of ESID
 abbrev pub session_phrase : SessionReason → List ℕ
 session_phrase Normal = codes " normal"
 session_phrase CommandNotRecognised = codes " command not recognised"

@@ -1,4 +1,4 @@
--- The table of a kind: each field's offset, its form, and the part of the command that it says.
+-- The table of a kind: each field's offset, its form, and the part of the command that it encodes.
 use Rattle.std.specs.Prelude.{◌≡◌, ℕ, ◌^◌, ◌<◌, ◌≤◌, ◌⊎◌, Bool, true, false, List, [], ◌∷◌, ◌++◌, length, Option, Some, None}
 use Rattle.std.specs.List.{list_any}
 use Rattle.std.specs.Str.{IsUtf8, bytes_eq}
@@ -6,7 +6,7 @@ use Rattle.oftp_wire.specs.declared.fault.WireFault.{WireFault}
 use Rattle.oftp_wire.specs.Octets.{part, padded, decimal, spaces, IsName, IsDigits}
 use Rattle.oftp_wire.specs.Form.{Form, Name, Digits, OneOf, DigitsIf, Any, Reserved, Return, Utf8, size, fault_of, end_fault}
 
--- a field of the commands of S: its offset, its length and what of the command it says
+-- a field of the commands of S: its offset, its length and the part of the command that it encodes
 pub data Row (S : Type 0) : Type 0 where
   word : ℕ → List ℕ → Row S  -- these octets
   name : ℕ → ℕ → (S → List ℕ) → Row S  -- X(n)
@@ -75,7 +75,7 @@ Fits (return k) s = Unit {0}
 Fits (payload k n f) s = length (f s) ≡ n
 Fits (text k n f) s = (length (f s) ≡ n) × (n ≤ 999) × IsUtf8 (f s)
 
--- the octets of the field say the value
+-- the octets of the field encode the value
 abbrev pub Says : {S : Type 0} → Row S → S → List ℕ → Type 0
 Says (reserved k n) s w = Unit {0}
 Says (return k) s w = (w ≡ 13 ∷ []) ⊎ (w ≡ 141 ∷ [])
@@ -88,17 +88,17 @@ Says (longest k b n f) s w = w ≡ decimal n (f s)
 Says (payload k n f) s w = w ≡ f s
 Says (text k n f) s w = w ≡ f s
 
--- a kind's fields from left to right, and how many octets it has
+-- a kind's fields from left to right, and its length in octets
 pub record Table (S : Type 0) : Type 0 where
   pub rows : List (Row S)
   pub end : ℕ
 
--- the slice of octets at each field's offset says the field's value, which is in its range
+-- the slice of octets at each field's offset encodes the field's value, which is in its range
 abbrev pub EachSays : {S : Type 0} → List (Row S) → S → List ℕ → Type 0
 EachSays [] s o = Unit {0}
 EachSays (r ∷ rs) s o = (Fits r s × Says r s (part (at_of r) (size (form_of r)) o)) × EachSays rs s o
 
--- each field is what the slice at its offset says, and no octet is left over
+-- each field is encoded by the slice at its offset, and no octet is left
 pub record IsSpelled {S : Type 0} (t : Table S) (s : S) (o : List ℕ) : Type 0 where
   pub whole : length o ≡ t.end
   pub fields : EachSays t.rows s o
@@ -108,7 +108,7 @@ abbrev pub EachFits : {S : Type 0} → List (Row S) → S → Type 0
 EachFits [] s = Unit {0}
 EachFits (r ∷ rs) s = Fits r s × EachFits rs s
 
--- the canonical spelling: the fields' canonical octets one after the other
+-- the canonical encoding: the canonical octets of the fields, one after the other
 abbrev pub canon_of : {S : Type 0} → List (Row S) → S → List ℕ
 canon_of [] s = []
 canon_of (r ∷ rs) s = spelled r s ++ canon_of rs s
@@ -123,6 +123,6 @@ abbrev pub first_fault : {S : Type 0} → List (Row S) → ℕ → List ℕ → 
 first_fault [] end o = end_fault end o
 first_fault (r ∷ rs) end o = or_else (fault_of (form_of r) (at_of r) o) (first_fault rs end o)
 
--- the first fault of octets that are to be of a table
+-- the first fault of octets by a table
 abbrev pub fault_in : {S : Type 0} → Table S → List ℕ → Option WireFault
 fault_in t o = first_fault t.rows t.end o

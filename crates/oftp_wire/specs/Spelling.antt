@@ -1,4 +1,4 @@
--- Spelling: which octets are which command, which of them are canonical, and what is wrong with others (RFC 5024, section 5.3).
+-- Spelling: which octets encode which command, which of them are canonical, and what is wrong with others (RFC 5024, section 5.3).
 use Rattle.std.specs.Prelude.{◌≡◌, ℕ, Bool, true, false, ◌-◌, ◌<◌, drop, ◌++◌, Result, Ok, Err, ◌==◌, if◌then◌else◌, List, [], ◌∷◌, length, codes, Option, Some}
 use Rattle.oftp_wire.specs.declared.fault.WireFault.{WireFault}
 use Rattle.oftp_wire.specs.declared.fault.WireFault.TheVariants.{UnknownCommand, NoRoom}
@@ -18,7 +18,7 @@ use Rattle.oftp_wire.specs.Octets.{letter, part, number}
 use Rattle.oftp_wire.specs.Row.{Table, IsSpelled, EachFits, canon_of, fault_in}
 use Rattle.oftp_wire.specs.Tables.{ssrm_table, ssid_table, sfid_table, sfpa_table, sfna_table, data_table, cdt_table, efid_table, efpa_table, efna_table, esid_table, eerp_table, nerp_table, single_table, sfid_table_of, format_of, has_records}
 
--- what `say` says of the table of a command's kind and of what the command holds; a text is as long as the command has it
+-- `say` of the table of a command's kind and of the command's fields; a text has the length that the command has
 abbrev pub of_table {ℓ} : {R : Type ℓ} → Command → ((S : Type 0) → Table S → S → R) → R
 of_table commands.Ssrm say = say (Unit {0}) ssrm_table tt
 of_table (commands.Ssid s) say = say Ssid ssid_table s
@@ -36,7 +36,7 @@ of_table (commands.Eerp s) say = say Eerp eerp_table s
 of_table (commands.Nerp s) say = say Nerp (nerp_table (length s.text)) s
 of_table commands.Rtr say = say (Unit {0}) (single_table (codes "P")) tt
 
--- the octets spell the command: each field is the slice at its offset, and there are no more octets than the kind has
+-- the octets encode the command: each field is the slice at its offset, and there are no more octets than the kind has
 abbrev pub Spells : Command → List ℕ → Type 0
 Spells c o = of_table c (λ S t s. IsSpelled t s o)
 
@@ -44,7 +44,7 @@ Spells c o = of_table c (λ S t s. IsSpelled t s o)
 abbrev pub IsFit : Command → Type 0
 IsFit c = of_table c (λ S t s. EachFits t.rows s)
 
--- the canonical spelling: values padded with spaces, leading zeros, reserved fields as spaces, carriage return as 0D
+-- the canonical encoding: values padded with spaces, leading zeros, reserved fields as spaces, carriage return as 0D
 abbrev pub Canon : Command → List ℕ
 Canon c = of_table c (λ S t s. canon_of t.rows s)
 
@@ -68,12 +68,12 @@ fault_by c o =
     if c == letter (codes "P") then fault_in (single_table (codes "P")) o else (
     Some UnknownCommand)))))))))))))))
 
--- the first fault of octets from the left, if there is one; a text is as long as the length field before it says
+-- the first fault of octets from the left, if there is one; a text has the length that the length field before it says
 unfoldable pub Fault : List ℕ → Option WireFault
 Fault [] = Some UnknownCommand
 Fault (c ∷ cs) = fault_by c (c ∷ cs)
 
--- the octets stand at the front and the rest is as it was, or there is no room and nothing changed
+-- the octets are written at the beginning and the rest is unchanged, or there is no room and nothing changed
 abbrev pub IsWritten : Result ℕ WireFault → List ℕ → List ℕ → List ℕ → Type 0
 IsWritten (Ok n) w old new = (n ≡ length w) × (new ≡ w ++ drop n old)
 IsWritten (Err e) w old new = (e ≡ NoRoom) × (length old < length w) × (new ≡ old)

@@ -1,4 +1,4 @@
--- A stream of frames, RFC 5024, section 8: what stands at its front, and what the whole of it is.
+-- A stream of frames (RFC 5024, section 8): the frame at its beginning, and the stream as a whole.
 use Rattle.std.specs.Prelude.{◌≡◌, ⊤, ℕ, ◌+◌, ◌-◌, ◌≤◌, nat_lt, ◌==◌, ◌||◌, if◌then◌else◌, List, [], ◌∷◌, ◌++◌, length, take, drop, map, Option, Some, None, option_copied, Result, Ok, Err}
 use Rattle.std.specs.Borrow.{Bor}
 use Rattle.std.specs.Global.{Vec}
@@ -7,13 +7,13 @@ use Rattle.oftp_wire.specs.declared.frame_fault.FrameFault.{FrameFault}
 use Rattle.oftp_wire.specs.declared.frame_fault.FrameFault.TheVariants.{BadHeader, BadLength}
 use Rattle.oftp_wire.specs.Header.{frame, length_in, IsCommand}
 
--- what stands at the front of octets: a whole frame of so many octets, less than one, or what begins none
+-- the beginning of octets: a whole frame of n octets, a part of one, or no frame
 pub data Head : Type 0 where
   Whole : ℕ → Head
   Waits : Head
   Bad : FrameFault → Head
 
--- what stands at the front of the octet 10 (hexadecimal) and these octets
+-- the beginning of the octet 10 (hexadecimal) with these octets
 unfoldable pub sized : ℕ → List ℕ → Head
 sized limit [] = Waits
 sized limit (a ∷ []) = Waits
@@ -22,24 +22,24 @@ sized limit (a ∷ b ∷ c ∷ rest) =
     let n = length_in a b c in
     if nat_lt n 5 || nat_lt limit n then Bad BadLength else (if nat_lt (length rest + 4) n then Waits else Whole n)
 
--- what stands at the front of octets, where no frame has more than limit octets
+-- the beginning of octets, where no frame has more than `limit` octets
 unfoldable pub front : ℕ → List ℕ → Head
 front limit [] = Waits
 front limit (first ∷ rest) = if first == 16 then sized limit rest else Bad BadHeader
 
--- the length of the frame at the front
+-- the length of the first frame
 abbrev pub len_of : Head → Result (Option ℕ) FrameFault
 len_of (Whole n) = Ok (Some n)
 len_of Waits = Ok None
 len_of (Bad fault) = Err fault
 
--- a whole frame has its header and a command, and is there
+-- a whole frame has a header and a command, and is within the octets
 abbrev pub IsWithin : ℕ → Head → Type 0
 IsWithin count (Whole n) = (5 ≤ n) × (n ≤ count)
 IsWithin count Waits = ⊤
 IsWithin count (Bad fault) = ⊤
 
--- a stream that is being cut
+-- a stream that is being split
 pub record Stream : Type 0 where
   pub limit : ℕ  -- the greatest length of a frame
   pub rest : List ℕ  -- the octets that were fed and not handed out
@@ -47,11 +47,11 @@ pub record Stream : Type 0 where
   pub room : ℕ  -- up to how many octets memory was taken beforehand
   pub capacity : ℕ  -- for how many octets there is memory
 
--- the stream once n octets of it are gone
+-- the stream after its next n octets
 abbrev pub past : Stream → ℕ → Stream
 past s n = record s { rest = drop n s.rest }
 
--- the stream once a fault was told
+-- the stream after an error was returned
 abbrev pub with_fault : Stream → FrameFault → Stream
 with_fault s fault = record s { told = Some fault }
 
@@ -59,24 +59,24 @@ with_fault s fault = record s { told = Some fault }
 abbrev pub command_in : ℕ → List ℕ → List ℕ
 command_in n octets = take (n - 4) (drop 4 octets)
 
--- what `next` answers where that stands at the front
+-- the result of `next`, by the beginning of the stream
 abbrev pub next_at : Stream → Head → Result (Option (List ℕ)) FrameFault
 next_at s (Whole n) = Ok (Some (command_in n s.rest))
 next_at s Waits = Ok None
 next_at s (Bad fault) = Err fault
 
--- what `next` leaves where that stands at the front
+-- the stream after `next`, by its beginning
 abbrev pub left_at : Stream → Head → Stream
 left_at s (Whole n) = past s n
 left_at s Waits = s
 left_at s (Bad fault) = with_fault s fault
 
--- what `next` answers, where this fault was told
+-- the result of `next`, where this error was returned before
 abbrev pub next_of : Stream → Option FrameFault → Result (Option (List ℕ)) FrameFault
 next_of s None = next_at s (front s.limit s.rest)
 next_of s (Some fault) = Err fault
 
--- what `next` leaves, where this fault was told
+-- the stream after `next`, where this error was returned before
 abbrev pub left_of : Stream → Option FrameFault → Stream
 left_of s None = left_at s (front s.limit s.rest)
 left_of s (Some fault) = s
@@ -86,11 +86,11 @@ abbrev pub shown : Result (Option (Bor (List ℕ))) FrameFault → Result (Optio
 shown (Ok found) = Ok (option_copied found)
 shown (Err fault) = Err fault
 
--- no whole frame stands at the front
+-- the octets don't begin with a whole frame
 abbrev pub NoFrame : ℕ → List ℕ → Type 0
 NoFrame limit s = (m more : List ℕ) → IsCommand limit m → s ≡ frame m ++ more → ⊥
 
--- the fault of the length in the octet 10 (hexadecimal) and these octets
+-- the error of the length in the octet 10 (hexadecimal) with these octets
 abbrev pub length_fault : ℕ → List ℕ → Option FrameFault
 length_fault limit [] = None
 length_fault limit (a ∷ []) = None
@@ -99,32 +99,32 @@ length_fault limit (a ∷ b ∷ c ∷ rest) =
     let n = length_in a b c in
     if nat_lt n 5 || nat_lt limit n then Some BadLength else None
 
--- the fault that octets stand for, at whose front is no whole frame
+-- the error of octets that don't begin with a whole frame
 abbrev pub rest_fault : ℕ → List ℕ → Option FrameFault
 rest_fault limit [] = None
 rest_fault limit (first ∷ rest) = if first == 16 then length_fault limit rest else Some BadHeader
 
--- a whole frame stands at the front, and m is its command
+-- the octets begin with a whole frame, and m is its command
 abbrev pub BeginsWith : ℕ → List ℕ → List ℕ → Type 0
 BeginsWith limit s m = IsCommand limit m × (s ≡ frame m ++ drop (length m + 4) s)
 
--- no whole frame stands at the front, and the octets stand for this fault, or for none
+-- the octets don't begin with a whole frame, and have this error, or none
 abbrev pub IsRest : ℕ → List ℕ → Option FrameFault → Type 0
 IsRest limit s fault = NoFrame limit s × (rest_fault limit s ≡ fault)
 
--- the stream is the frames of these commands, and then a rest with no whole frame at its front
+-- the stream is the frames of these commands, and then a rest that doesn't begin with a whole frame
 pub record Front (limit : ℕ) (stream : List ℕ) (commands : List (List ℕ)) (rest : List ℕ) : Type 0 where
   pub whole : stream ≡ flat_map frame commands ++ rest
   pub each : AllByRecursion (IsCommand limit) commands
   pub last : NoFrame limit rest
 
--- what is found at the front of octets, in the words of `Front`
+-- what is found at the beginning of octets, in the words of `Front`
 abbrev pub Finds : ℕ → List ℕ → Result (Option ℕ) FrameFault → Type 0
 Finds limit s (Ok (Some n)) = (5 ≤ n) × (n ≤ length s) × IsCommand limit (command_in n s) × (s ≡ frame (command_in n s) ++ drop n s)
 Finds limit s (Ok None) = IsRest limit s None
 Finds limit s (Err fault) = IsRest limit s (Some fault)
 
--- what stands at the front of a rest that stands for this fault
+-- the beginning of a rest with this error
 abbrev pub head_of : Option FrameFault → Head
 head_of None = Waits
 head_of (Some fault) = Bad fault
@@ -133,11 +133,11 @@ head_of (Some fault) = Bad fault
 abbrev pub copied : List (Vec ℕ) → List (List ℕ)
 copied commands = map (λ c. c.items) commands
 
--- the whole stream of pieces
+-- the whole stream in these pieces
 abbrev pub joined : List (Bor (List ℕ)) → List ℕ
 joined pieces = flat_map (λ p. p.now) pieces
 
--- what was read of a stream: it is the frames of these commands, and then a rest that stands for this fault, or for none
+-- what was read of a stream: it is the frames of these commands, and then a rest with this error, or with none
 pub record Reads (limit : ℕ) (stream : List ℕ) (commands : List (List ℕ)) (fault : Option FrameFault) : Type 0 where
   pub rest : List ℕ
   pub front : Front limit stream commands rest

@@ -19,7 +19,7 @@ use Rattle.oftp_wire.specs.declared.command.Layout.{Layout}
 use Rattle.oftp_wire.specs.declared.command.Layout.TheVariants.{Fixed, Variable, Unstructured, Text}
 use Rattle.oftp_wire.specs.Row.{word, name, digits, count, choice, longest, reserved, return, payload, text, Table}
 
--- ---- the words of fields that take few values
+-- ---- the values of fields that have few
 
 -- Y or N
 abbrev pub flag_words : List (List ℕ)
@@ -210,7 +210,7 @@ esid_table n = record {
   end = 6 + n + 1;
 }
 
--- a letter alone: CD and RTR (RFC 5024, sections 5.3.12 and 5.3.15)
+-- only a letter: CD and RTR (RFC 5024, sections 5.3.12 and 5.3.15)
 abbrev pub single_table : List ℕ → Table (Unit {0})
 single_table w = record {
   rows = word 0 w ∷ [];
@@ -234,7 +234,7 @@ eerp_table = record {
   end = 110;
 }
 
--- NERP with n octets of text (RFC 5024, section 5.3.14); its places and its reserved octets are this station's profile
+-- NERP with n octets of text (RFC 5024, section 5.3.14); its offsets and reserved octets are those of this station's profile
 abbrev pub nerp_table : ℕ → Table Nerp
 nerp_table n = record {
   rows = word 0 (codes "N")

@@ -2,39 +2,39 @@
 
 use crate::field::{Count, Digits, Octets, Text, X};
 
-/// SSID, start session: who a station is, and what it can do (RFC 5024, section 5.3.2).
+/// SSID, start session: the code of a station, and what it offers (RFC 5024, section 5.3.2).
 #[derive(Drop, PartialEq)]
 pub struct Ssid<'a> {
     /// The protocol level, 5 for OFTP 2.
     pub level: Count<1>,
-    /// The identification code of the station that sends it.
+    /// The Identification Code of the sender.
     pub code: X<'a, 25>,
-    /// The password of the station that sends it.
+    /// The password of the sender.
     pub password: X<'a, 8>,
-    /// The data exchange buffer's size, in octets.
+    /// The Data Exchange Buffer size, in octets.
     pub buffer: Count<5>,
-    /// Whether the station sends files, receives them, or both.
+    /// Whether the station sends files, receives files, or both.
     pub mode: Mode,
-    /// Whether buffers may be compressed.
+    /// Whether Data Exchange Buffers may be compressed.
     pub compression: bool,
-    /// Whether broken transfers may be taken up again.
+    /// Whether broken transfers may be continued.
     pub restart: bool,
     /// Whether special logic is used.
     pub special_logic: bool,
-    /// The credit, in DATA commands.
+    /// The Credit, in DATA commands.
     pub credit: Count<3>,
-    /// Whether secure authentication is asked for.
+    /// Whether secure authentication is required.
     pub authentication: bool,
-    /// Octets that the stations agree on.
+    /// User data, as the stations agree.
     pub user: X<'a, 8>,
 }
 
-/// What a station does with virtual files.
+/// The direction in which a station transfers files.
 #[derive(Clone, Copy, Debug, PartialEq, Eq)]
 pub enum Mode {
-    /// `S`: it sends files alone.
+    /// `S`: it only sends files.
     Send,
-    /// `R`: it receives files alone.
+    /// `R`: it only receives files.
     Receive,
     /// `B`: it does both.
     Both,
@@ -49,19 +49,19 @@ pub struct Sfid<'a> {
     pub date: Digits<'a, 8>,
     /// The time stamp, HHMMSScccc.
     pub time: Digits<'a, 10>,
-    /// Octets that the stations agree on.
+    /// User data, as the stations agree.
     pub user: X<'a, 8>,
-    /// The identification code of the station that the file is for.
+    /// The Identification Code of the station that the file is for.
     pub destination: X<'a, 25>,
-    /// The identification code of the station that the file comes from.
+    /// The Identification Code of the station that the file comes from.
     pub originator: X<'a, 25>,
-    /// The format, with the longest record where it has records.
+    /// The format, with the longest record in formats that have records.
     pub layout: Layout,
-    /// The size of what is sent, in blocks of 1024 octets.
+    /// The size of the data that is sent, in blocks of 1,024 octets.
     pub size: Count<13>,
-    /// The size before security and compression, in blocks of 1024 octets.
+    /// The size before security and compression, in blocks of 1,024 octets.
     pub original_size: Count<13>,
-    /// Where the transfer would begin: in records, or without records in blocks of 1024 octets.
+    /// The Restart position: in records, or in blocks of 1,024 octets in formats without records.
     pub restart: Count<17>,
     /// The security level: 0 for none, 1 for encrypted, 2 for signed, 3 for both.
     pub security: Count<2>,
@@ -71,9 +71,9 @@ pub struct Sfid<'a> {
     pub compression: Count<1>,
     /// The envelope, 0 for none.
     pub enveloping: Count<1>,
-    /// Whether the end response is to be signed.
+    /// Whether a signed End-to-End Response is requested.
     pub signed_response: bool,
-    /// A description for people.
+    /// The description, as text for an operator.
     pub description: Text<'a>,
 }
 
@@ -86,38 +86,38 @@ pub(crate) enum Format {
     Text,
 }
 
-/// How a virtual file is divided, and its longest record in octets.
+/// The format of a virtual file, with its longest record in octets.
 #[derive(Clone, Copy, Debug, PartialEq, Eq)]
 pub enum Layout {
     /// `F`: records of one length.
     Fixed(Count<5>),
-    /// `V`: records of any length up to this one.
+    /// `V`: records of at most this length.
     Variable(Count<5>),
-    /// `U`: octets.
+    /// `U`: a stream of octets.
     Unstructured,
     /// `T`: lines of text.
     Text,
 }
 
-/// SFPA, start file positive answer: the file is taken (RFC 5024, section 5.3.4).
+/// SFPA, start file positive answer: the file is accepted (RFC 5024, section 5.3.4).
 #[derive(Clone, Copy, Debug, PartialEq, Eq)]
 pub struct Sfpa {
-    /// The restart position from which the speaker is to send, counted as in SFID.
+    /// The Restart position from which the speaker has to send, counted as in SFID.
     pub restart: Count<17>,
 }
 
-/// SFNA, start file negative answer: the file isn't taken (RFC 5024, section 5.3.5).
+/// SFNA, start file negative answer: the file isn't accepted (RFC 5024, section 5.3.5).
 #[derive(Debug, Drop, PartialEq)]
 pub struct Sfna<'a> {
-    /// The reason's number: `StartReason` has those in use.
+    /// The reason code. `StartReason` lists those in use.
     pub reason: Count<2>,
     /// Whether the speaker may offer the file again.
     pub retry: bool,
-    /// The reason in words.
+    /// The reason text.
     pub text: Text<'a>,
 }
 
-/// EFID, end file: what was sent (RFC 5024, section 5.3.8).
+/// EFID, end file: the counts of the file (RFC 5024, section 5.3.8).
 #[derive(Clone, Copy, Debug, PartialEq, Eq)]
 pub struct Efid {
     /// How many records the file has, 0 in formats without records.
@@ -126,32 +126,32 @@ pub struct Efid {
     pub units: Count<17>,
 }
 
-/// EFPA, end file positive answer: the listener has the file (RFC 5024, section 5.3.9).
+/// EFPA, end file positive answer: the listener has the whole file (RFC 5024, section 5.3.9).
 #[derive(Clone, Copy, Debug, PartialEq, Eq)]
 pub struct Efpa {
     /// Whether the listener asks to be the speaker.
     pub change_direction: bool,
 }
 
-/// EFNA, end file negative answer: the listener doesn't have the file (RFC 5024, section 5.3.10).
+/// EFNA, end file negative answer: the listener doesn't have the whole file (RFC 5024, section 5.3.10).
 #[derive(Debug, Drop, PartialEq)]
 pub struct Efna<'a> {
-    /// The reason's number: `EndReason` has those in use.
+    /// The reason code. `EndReason` lists those in use.
     pub reason: Count<2>,
-    /// The reason in words.
+    /// The reason text.
     pub text: Text<'a>,
 }
 
 /// ESID, end session (RFC 5024, section 5.3.11).
 #[derive(Debug, Drop, PartialEq)]
 pub struct Esid<'a> {
-    /// The reason's number: `SessionReason` has those in use.
+    /// The reason code. `SessionReason` lists those in use.
     pub reason: Count<2>,
-    /// The reason in words.
+    /// The reason text.
     pub text: Text<'a>,
 }
 
-/// EERP, end to end response: the destination has the file (RFC 5024, section 5.3.13).
+/// EERP, End-to-End Response: the file was delivered (RFC 5024, section 5.3.13).
 #[derive(Debug, Drop, PartialEq)]
 pub struct Eerp<'a> {
     /// The dataset name of the file.
@@ -160,16 +160,16 @@ pub struct Eerp<'a> {
     pub date: Digits<'a, 8>,
     /// The time stamp of the file, HHMMSScccc.
     pub time: Digits<'a, 10>,
-    /// Octets that the stations agree on.
+    /// User data, as the stations agree.
     pub user: X<'a, 8>,
-    /// The identification code of the station that the response is for, the file's originator.
+    /// The Identification Code of the station that the response is for, which is the file's originator.
     pub destination: X<'a, 25>,
-    /// The identification code of the station that the response comes from, the file's destination.
+    /// The Identification Code of the station that the response comes from, which is the file's destination.
     pub originator: X<'a, 25>,
 }
 
-/// NERP, negative end response: the file won't reach its destination (RFC 5024, section 5.3.14). Its places and its reserved octets
-/// are this station's profile.
+/// NERP, Negative End Response: the file won't be delivered (RFC 5024, section 5.3.14). The offsets of its fields and its reserved octets
+/// are those of this station's profile.
 #[derive(Debug, Drop, PartialEq)]
 pub struct Nerp<'a> {
     /// The dataset name of the file.
@@ -178,19 +178,19 @@ pub struct Nerp<'a> {
     pub date: Digits<'a, 8>,
     /// The time stamp of the file, HHMMSScccc.
     pub time: Digits<'a, 10>,
-    /// The identification code of the station that the response is for, the file's originator.
+    /// The Identification Code of the station that the response is for, which is the file's originator.
     pub destination: X<'a, 25>,
-    /// The identification code of the station that the response comes from, the file's destination.
+    /// The Identification Code of the station that the response comes from, which is the file's destination.
     pub originator: X<'a, 25>,
-    /// The identification code of the station that made the response.
+    /// The Identification Code of the station that created the response.
     pub creator: X<'a, 25>,
-    /// The reason's number.
+    /// The reason code.
     pub reason: Count<2>,
-    /// The reason in words.
+    /// The reason text.
     pub text: Text<'a>,
 }
 
-/// A command. Its texts are slices of the octets that it was read from.
+/// A command. Its texts are borrowed from the octets that it was parsed from.
 #[derive(Debug, Drop, PartialEq)]
 pub enum Command<'a> {
     /// The responder is ready (RFC 5024, section 5.3.1).
@@ -199,28 +199,28 @@ pub enum Command<'a> {
     Ssid(Ssid<'a>),
     /// A virtual file is offered.
     Sfid(Sfid<'a>),
-    /// The file is taken.
+    /// The file is accepted.
     Sfpa(Sfpa),
-    /// The file isn't taken.
+    /// The file isn't accepted.
     Sfna(Sfna<'a>),
-    /// A data exchange buffer, without its command octet (RFC 5024, section 5.3.6).
+    /// The contents of a Data Exchange Buffer, without its command octet (RFC 5024, section 5.3.6).
     Data(Octets<'a>),
-    /// The credit is full again (RFC 5024, section 5.3.7).
+    /// The Credit is renewed (RFC 5024, section 5.3.7).
     Cdt,
     /// The file ends.
     Efid(Efid),
-    /// The listener has the file.
+    /// The listener has the whole file.
     Efpa(Efpa),
-    /// The listener doesn't have the file.
+    /// The listener doesn't have the whole file.
     Efna(Efna<'a>),
     /// The session ends.
     Esid(Esid<'a>),
     /// The listener becomes the speaker (RFC 5024, section 5.3.12).
     Cd,
-    /// The destination has the file.
+    /// The file was delivered.
     Eerp(Eerp<'a>),
-    /// The file won't reach its destination.
+    /// The file won't be delivered.
     Nerp(Nerp<'a>),
-    /// The response was filed (RFC 5024, section 5.3.15).
+    /// The response was stored (RFC 5024, section 5.3.15).
     Rtr,
 }

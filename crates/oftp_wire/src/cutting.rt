@@ -1,4 +1,4 @@
-//! A whole stream, cut into commands.
+//! Splitting a whole stream into commands.
 
 ghost use Rattle.std.specs.Prelude.{◌≡◌, ◌≤◌, ◌++◌, IfOk, OnOk, None};
 ghost use Rattle.std.specs.List.{flat_map, AllByRecursion};
@@ -9,16 +9,16 @@ use crate::deframer::Deframer;
 use crate::frame_fault::FrameFault;
 use std::alloc::{AllocError, Global};
 
-/// What was read of a stream: copies of its commands, and the fault that stands behind them.
+/// The commands of a stream, copied, and the error after them.
 #[derive(Drop)]
 pub struct CutStream {
     /// The commands, without their headers.
     pub commands: Vec<Vec<u8>>,
-    /// The fault behind the last command, or `None` where the rest is a frame that isn't whole, or nothing.
+    /// The error after the last command, or `None` where the rest is empty or a frame that isn't whole.
     pub fault: Option<FrameFault>,
 }
 
-/// Copies the commands that are whole, and answers the fault that stands behind them.
+/// Copies the commands that are whole, and returns the error after them.
 fn drain(
     alloc: Global,
     deframer: &mut Deframer,
@@ -42,8 +42,12 @@ fn drain(
     }
 }
 
-/// Cuts the stream that comes in these pieces into its commands, of frames of at most `limit` octets, which must be 5 to 100003. What
-/// is answered hangs on the stream alone, and not on how it is cut. The only error is that memory ran out. RFC 5024, section 8.
+/// Splits the stream that these pieces make up into its commands. Their frames have at most `limit` octets, which must be 5 to 100,003. The
+/// result depends only on the stream, and not on the pieces (RFC 5024, section 8).
+///
+/// # Errors
+///
+/// Out of memory.
 pub fn cut(alloc: Global, limit: usize, pieces: &[&[u8]]) -> Result<CutStream, AllocError>
     requires low { 5 ≤ limit }
     requires high { limit ≤ 100003 }

@@ -1,4 +1,4 @@
-//! The stream, cut into commands however it comes.
+//! Splitting a stream that arrives in pieces into commands.
 
 ghost use Rattle.std.specs.Prelude.{◌≡◌, ◌+◌, ◌-◌, ◌*◌, ◌<◌, ◌≤◌, ◌++◌, [], length, drop, max, Some, None, Ok, Err, OnOk, OnErr, IfOk, IfErr, IfSome, IfNone};
 ghost use Rattle.std.specs.Vec.{vec_len, vec_capacity};
@@ -9,10 +9,9 @@ use crate::headers::HEADER_LEN;
 use std::alloc::Global;
 use std::marker::Model;
 
-/// Takes a stream in pieces, however these are cut, and hands out its commands. RFC 5024, section 8.
+/// Takes a stream in pieces of any length, and returns its commands (RFC 5024, section 8).
 ///
-/// It keeps the octets in one buffer, and a command is a slice of it: octets that were handed out are given up only by a later
-/// `feed`.
+/// It keeps the octets in one buffer, and a command is a slice of it. Octets that were returned are dropped by a later `feed`.
 #[derive(Drop)]
 pub struct Deframer {
     limit: usize,
@@ -37,12 +36,12 @@ impl Model for Deframer {
       capacity = vec_capacity d.buffer;
     } };
 
-    // The capacity is twice the room, since `make_room` asks for twice what is needed.
+    // The capacity is twice the room, because `make_room` allocates twice what is needed.
     ghost invariant = { λ d. (5 ≤ d.limit) × (d.limit ≤ 100003) × (d.begin ≤ length d.buffer.items)
         × (2 * d.room ≤ vec_capacity d.buffer) };
 }
 
-/// The length of the whole frame at the front, or `None` where more octets are needed.
+/// The length of the whole frame at the beginning, or `None` where more octets are needed.
 #[tactic(auto, unfolding(crate::specs::Stream::front, crate::specs::Stream::sized))]
 fn frame_len(rest: &[u8], limit: usize) -> Result<Option<usize>, FrameFault>
     ensures value { result ≡ len_of (front limit rest.now) }
@@ -65,7 +64,7 @@ fn frame_len(rest: &[u8], limit: usize) -> Result<Option<usize>, FrameFault>
     }
 }
 
-/// Takes octets away from the front. The capacity stays.
+/// Removes the first `count` octets. The capacity stays.
 fn drop_front(buffer: &mut Vec<u8>, count: usize)
     requires { count ≤ length buffer.old.items }
     ensures items { buffer.new.items ≡ drop count buffer.old.items }
@@ -76,8 +75,8 @@ fn drop_front(buffer: &mut Vec<u8>, count: usize)
     buffer.truncate(len);
 }
 
-/// Makes the capacity twice what the buffer holds with `count` octets more, or leaves it where it is more, so that each growth,
-/// and each move of the octets to the front, is followed by as many octets that need neither.
+/// Allocates twice what the buffer would hold with `count` more octets, unless it has more already. So each allocation, and each move of
+/// the octets to the beginning, is followed by as many octets that need neither.
 fn make_room(buffer: &mut Vec<u8>, count: usize) -> Result<(), FrameFault>
     ensures items { buffer.new.items ≡ buffer.old.items }
     ensures ok { OnOk result
@@ -92,7 +91,7 @@ fn make_room(buffer: &mut Vec<u8>, count: usize) -> Result<(), FrameFault>
     Ok(())
 }
 
-/// Puts octets behind those of the buffer, which has the capacity for them and keeps it.
+/// Appends octets to the buffer, which has the capacity for them.
 fn append(buffer: &mut Vec<u8>, piece: &[u8])
     requires { vec_len buffer.old + length piece.now ≤ vec_capacity buffer.old }
     ensures items { buffer.new.items ≡ buffer.old.items ++ piece.now }
@@ -108,8 +107,8 @@ impl Deframer {
     ghost use Rattle.std.specs.Io.BufRead.{Rests};
     ghost use Rattle.oftp_wire.specs.contracts.deframer.Deframer.{the_row};
 
-    /// A deframer that was fed nothing, and has taken no memory. `limit` is the greatest length of a frame in octets, its header
-    /// counted. It must be 5 to 100003, the greatest of RFC 5024, section 8.
+    /// A deframer without octets. It allocates nothing. `limit` is the greatest length of a frame in octets, with its header. It must be 5
+    /// to 100,003, the greatest of RFC 5024, section 8.
     pub fn new(alloc: Global, limit: usize) -> Deframer
         requires low { 5 ≤ limit }
         requires high { limit ≤ 100003 }
@@ -124,8 +123,12 @@ impl Deframer {
         }
     }
 
-    /// The same with memory taken beforehand, twice `room` octets: `feed` doesn't answer `Memory` while the octets that are fed and
-    /// not handed out are at most `room`. `limit` must be 5 to 100003. The only fault is `Memory`.
+    /// A deframer that has allocated twice `room` octets. `feed` doesn't return `Memory` while the octets that were fed and not returned
+    /// are at most `room`. `limit` must be 5 to 100,003.
+    ///
+    /// # Errors
+    ///
+    /// [`FrameFault::Memory`].
     pub fn with_room(alloc: Global, limit: usize, room: usize) -> Result<Deframer, FrameFault>
         requires low { 5 ≤ limit }
         requires high { limit ≤ 100003 }
@@ -143,23 +146,29 @@ impl Deframer {
         })
     }
 
-    /// Up to how many octets, fed and not handed out, `feed` doesn't answer `Memory`: the `room` of `with_room`, else 0.
+    /// The number of octets, fed and not returned, up to which `feed` doesn't return `Memory`: the `room` of `with_room`, or else 0.
     pub fn room(&self) -> usize
         ensures { result ≡ self.now.room }
     {
         self.room
     }
 
-    /// For how many octets the deframer has taken memory: never more than twice the most that it held, or twice its `room`.
+    /// The number of octets that the deframer has allocated: at most twice the greatest number that it held, or twice its `room`.
     pub fn capacity(&self) -> usize
         ensures { result ≡ self.now.capacity }
     {
         self.buffer.capacity()
     }
 
-    /// Takes the next piece of the stream. The fault is the one that `next` answered before, or `Memory`, which comes only where
-    /// more than `room` octets would be held; both leave the deframer as it was. It takes no more memory than for twice the octets
-    /// that it then holds. Over a whole stream the work is linear in its octets, however they are cut.
+    /// Appends the next piece of the stream. It allocates at most twice the octets that it then holds. Over a whole stream its time is
+    /// linear in the octets, however long the pieces are; no clause says this.
+    ///
+    /// # Errors
+    ///
+    /// - The error that `next` returned before, if it did.
+    /// - [`FrameFault::Memory`], only where more than `room` octets would be held.
+    ///
+    /// The deframer is unchanged.
     pub fn feed(&mut self, piece: &[u8]) -> Result<(), FrameFault>
         ensures ok { OnOk result
             (self.new ≡ record self.old { rest = self.old.rest ++ piece.now; capacity = self.new.capacity }) }
@@ -183,8 +192,12 @@ impl Deframer {
         Ok(())
     }
 
-    /// Hands out the next whole command without its header, or `None` where the next frame isn't whole. It takes no memory. The
-    /// fault is `BadHeader` or `BadLength`, and both calls answer it from then on. RFC 5024, section 8.
+    /// Returns the next whole command without its header, or `None` where the next frame isn't whole. It allocates nothing (RFC 5024,
+    /// section 8).
+    ///
+    /// # Errors
+    ///
+    /// [`FrameFault::BadHeader`] or [`FrameFault::BadLength`]. From then on `feed` and `next` both return it.
     pub fn next(&mut self) -> Result<Option<&[u8]>, FrameFault>
         ensures value { shown result ≡ next_of self.old self.old.told }
         ensures* after { sem 𝓛 (Rests the_row self.entry

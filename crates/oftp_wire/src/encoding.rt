@@ -1,4 +1,4 @@
-//! Commands as octets. The octets of each kind are a list of pieces, a piece for a field.
+//! Encoding commands. The octets of each kind are a list of pieces, one for each field.
 
 ghost use Rattle.std.specs.Prelude.{◌≡◌, ◌<◌, ◌≤◌, ◌^◌, length, true, false};
 ghost use Rattle.std.specs.List.{list_any};
@@ -17,7 +17,7 @@ use crate::field::{Count, Digits, Octets, Text, X};
 use crate::piece::{Piece, write};
 
 impl<'a, const N: usize> X<'a, N> {
-    /// The field: the value, and spaces behind it.
+    /// The field: the value, then spaces.
     pub(crate) fn piece(&self) -> Piece<'a>
         ensures right { IsRight result }
         ensures octets { octets_of result ≡ padded N self.now }
@@ -122,7 +122,7 @@ fn longest_piece(layout: Layout) -> Piece<'static>
     }
 }
 
-/// Writes SSID.
+/// Encodes SSID.
 fn put_ssid(out: &mut [u8], s: &Ssid) -> Result<usize, WireFault>
     ensures written { Writes ssid_table s.now result out.old out.new }
     ensures fit { EachFits ssid_table.rows s.now }
@@ -148,7 +148,7 @@ fn put_ssid(out: &mut [u8], s: &Ssid) -> Result<usize, WireFault>
     )
 }
 
-/// Writes SFID.
+/// Encodes SFID.
 fn put_sfid(out: &mut [u8], s: &Sfid) -> Result<usize, WireFault>
     ensures written { Writes (sfid_table_of s.now) s.now result out.old out.new }
     ensures fit { EachFits (sfid_table_of s.now).rows s.now }
@@ -180,7 +180,7 @@ fn put_sfid(out: &mut [u8], s: &Sfid) -> Result<usize, WireFault>
     )
 }
 
-/// Writes SFPA.
+/// Encodes SFPA.
 fn put_sfpa(out: &mut [u8], s: &Sfpa) -> Result<usize, WireFault>
     ensures written { Writes sfpa_table s.now result out.old out.new }
     ensures fit { EachFits sfpa_table.rows s.now }
@@ -188,7 +188,7 @@ fn put_sfpa(out: &mut [u8], s: &Sfpa) -> Result<usize, WireFault>
     write(out, &[Piece::Octets(b"2"), s.restart.piece()])
 }
 
-/// Writes SFNA.
+/// Encodes SFNA.
 fn put_sfna(out: &mut [u8], s: &Sfna) -> Result<usize, WireFault>
     ensures written { Writes (sfna_table (length s.now.text)) s.now result out.old out.new }
     ensures fit { EachFits (sfna_table (length s.now.text)).rows s.now }
@@ -205,7 +205,7 @@ fn put_sfna(out: &mut [u8], s: &Sfna) -> Result<usize, WireFault>
     )
 }
 
-/// Writes DATA.
+/// Encodes DATA.
 fn put_data(out: &mut [u8], s: &Octets) -> Result<usize, WireFault>
     ensures written { Writes (data_table (length s.now)) s.now result out.old out.new }
     ensures fit { EachFits (data_table (length s.now)).rows s.now }
@@ -213,7 +213,7 @@ fn put_data(out: &mut [u8], s: &Octets) -> Result<usize, WireFault>
     write(out, &[Piece::Octets(b"D"), Piece::Octets(s.octets)])
 }
 
-/// Writes EFID.
+/// Encodes EFID.
 fn put_efid(out: &mut [u8], s: &Efid) -> Result<usize, WireFault>
     ensures written { Writes efid_table s.now result out.old out.new }
     ensures fit { EachFits efid_table.rows s.now }
@@ -224,7 +224,7 @@ fn put_efid(out: &mut [u8], s: &Efid) -> Result<usize, WireFault>
     )
 }
 
-/// Writes EFPA.
+/// Encodes EFPA.
 fn put_efpa(out: &mut [u8], s: &Efpa) -> Result<usize, WireFault>
     ensures written { Writes efpa_table s.now result out.old out.new }
     ensures fit { EachFits efpa_table.rows s.now }
@@ -232,7 +232,7 @@ fn put_efpa(out: &mut [u8], s: &Efpa) -> Result<usize, WireFault>
     write(out, &[Piece::Octets(b"4"), flag_piece(s.change_direction)])
 }
 
-/// Writes EFNA.
+/// Encodes EFNA.
 fn put_efna(out: &mut [u8], s: &Efna) -> Result<usize, WireFault>
     ensures written { Writes (efna_table (length s.now.text)) s.now result out.old out.new }
     ensures fit { EachFits (efna_table (length s.now.text)).rows s.now }
@@ -248,7 +248,7 @@ fn put_efna(out: &mut [u8], s: &Efna) -> Result<usize, WireFault>
     )
 }
 
-/// Writes ESID.
+/// Encodes ESID.
 fn put_esid(out: &mut [u8], s: &Esid) -> Result<usize, WireFault>
     ensures written { Writes (esid_table (length s.now.text)) s.now result out.old out.new }
     ensures fit { EachFits (esid_table (length s.now.text)).rows s.now }
@@ -265,7 +265,7 @@ fn put_esid(out: &mut [u8], s: &Esid) -> Result<usize, WireFault>
     )
 }
 
-/// Writes EERP.
+/// Encodes EERP.
 fn put_eerp(out: &mut [u8], s: &Eerp) -> Result<usize, WireFault>
     ensures written { Writes eerp_table s.now result out.old out.new }
     ensures fit { EachFits eerp_table.rows s.now }
@@ -287,7 +287,7 @@ fn put_eerp(out: &mut [u8], s: &Eerp) -> Result<usize, WireFault>
     )
 }
 
-/// Writes NERP.
+/// Encodes NERP.
 fn put_nerp(out: &mut [u8], s: &Nerp) -> Result<usize, WireFault>
     ensures written { Writes (nerp_table (length s.now.text)) s.now result out.old out.new }
     ensures fit { EachFits (nerp_table (length s.now.text)).rows s.now }
@@ -312,16 +312,17 @@ fn put_nerp(out: &mut [u8], s: &Nerp) -> Result<usize, WireFault>
     )
 }
 
-/// Writes the canonical spelling of a command at the front of a slice, and answers how many octets it
-/// has (RFC 5024, section 5.3).
+/// Writes the canonical encoding of a command to the beginning of a slice, and returns its length in octets (RFC 5024, section 5.3).
 ///
-/// Values are padded with spaces, numbers have leading zeros, reserved fields are spaces and a
-/// carriage return is 0D. The one fault is `NoRoom`, where the slice is shorter than the spelling, and
-/// then the slice is unchanged. It takes no memory.
+/// Values are padded with spaces, numbers have leading zeros, reserved fields are spaces and a carriage return is 0D. It allocates nothing.
+///
+/// # Errors
+///
+/// [`WireFault::NoRoom`] where the slice is shorter than the encoding. The slice is unchanged.
 pub fn encode(command: &Command, out: &mut [u8]) -> Result<usize, WireFault>
-    // The canonical octets stand at the front, or there is no room for them and nothing changed.
+    // The canonical octets are written, or there is no room for them and nothing changed.
     ensures written { IsWritten result (Canon command.now) out.old out.new }
-    // Each field is in its range, so `parse` reads the octets as this very command.
+    // Each field is in its range, so `parse` reads the octets as this command.
     ensures fit { IsFit command.now }
 {
     match command {

@@ -1,4 +1,4 @@
-//! Why octets are no command, and why a command isn't written.
+//! Why octets aren't a command, and why a command isn't encoded.
 
 ghost use Rattle.std.specs.Prelude.{Some};
 ghost use Rattle.oftp_wire.specs.Messages.{fault_text};
@@ -6,18 +6,18 @@ ghost use Rattle.oftp_wire.specs.Messages.{fault_text};
 use std::error::Error;
 use std::fmt;
 
-/// Why octets are no command, or why a command isn't written.
+/// Why octets aren't a command, or why a command isn't encoded.
 #[derive(Clone, Copy, Debug, PartialEq, Eq)]
 pub enum WireFault {
     /// No command begins with the first octet, or there is no octet.
     UnknownCommand,
-    /// A field passes the end, or octets are left over after the last field.
+    /// A field extends past the end, or octets are left after the last field.
     WrongLength,
-    /// The field at this offset, in octets from 0, has a bad content.
+    /// The field at this offset, in octets from 0, has an invalid value.
     BadField(usize),
     /// A text isn't UTF-8.
     BadText,
-    /// The slice to write in is shorter than the spelling.
+    /// The slice to write to is shorter than the encoding.
     NoRoom,
 }
 

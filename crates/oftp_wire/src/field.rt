@@ -1,4 +1,4 @@
-//! The fields of commands, which keep their ranges (RFC 5024, section 5.3).
+//! The fields of commands, each within its range (RFC 5024, section 5.3).
 
 ghost use Rattle.std.specs.Prelude.{◌≡◌, ◌<◌, ◌≤◌, ◌^◌, length, IfSome, IfNone};
 ghost use Rattle.std.specs.Str.{IsUtf8};
@@ -7,8 +7,7 @@ ghost use Rattle.oftp_wire.specs.Octets.{IsName, IsDigits};
 use crate::scan::{all_allowed, all_digits};
 use std::marker::Model;
 
-/// A value of a field X(N): 0 to N characters, of `0` to `9`, `A` to `Z`, `/`, `-`, `.`, `&`, `(` and
-/// `)`.
+/// A value of a field X(N): 0 to N characters, of `0` to `9`, `A` to `Z`, `/`, `-`, `.`, `&`, `(` and `)`.
 #[derive(Drop)]
 pub struct X<'a, const N: usize> {
     pub(crate) text: &'a [u8],
@@ -52,7 +51,7 @@ impl<'a, const N: usize> X<'a, N> {
         }
     }
 
-    /// The characters, without the spaces that fill the field.
+    /// The characters, without the padding.
     pub fn octets(&self) -> &'a [u8]
         ensures value { result.now ≡ self.now }
         ensures name { IsName N self.now }
@@ -60,14 +59,14 @@ impl<'a, const N: usize> X<'a, N> {
         self.text
     }
 
-    /// The characters as a text.
+    /// The characters as a `str`.
     pub fn text(&self) -> &'a str
         ensures { result.now ≡ self.now }
     {
         str::from_utf8(self.text).unwrap()
     }
 
-    /// The same value again.
+    /// A copy of the value.
     pub fn again(&self) -> X<'a, N>
         ensures { result ≡ self.now }
     {
@@ -127,14 +126,14 @@ impl<'a, const N: usize> Digits<'a, N> {
         self.text
     }
 
-    /// The digits as a text.
+    /// The digits as a `str`.
     pub fn text(&self) -> &'a str
         ensures { result.now ≡ self.now }
     {
         str::from_utf8(self.text).unwrap()
     }
 
-    /// The same value again.
+    /// A copy of the value.
     pub fn again(&self) -> Digits<'a, N>
         ensures { result ≡ self.now }
     {
@@ -229,12 +228,12 @@ impl<'a> Text<'a> {
         ensures short { length self.now ≤ 999 }
         ensures utf8 { IsUtf8 self.now }
     {
-        // Its contract has what each text is: UTF-8.
+        // The contract of `as_bytes` says that each text is UTF-8.
         let _octets = self.text.as_bytes();
         self.text
     }
 
-    /// The same text again.
+    /// A copy of the text.
     pub fn again(&self) -> Text<'a>
         ensures { result ≡ self.now }
     {
@@ -285,7 +284,7 @@ impl<'a> Octets<'a> {
         self.octets
     }
 
-    /// The same octets again.
+    /// A copy of the octets.
     pub fn again(&self) -> Octets<'a>
         ensures { result ≡ self.now }
     {

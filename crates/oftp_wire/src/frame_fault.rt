@@ -1,4 +1,4 @@
-//! Why a stream can't be cut into commands.
+//! Why a stream can't be split into commands.
 
 ghost use Rattle.std.specs.Prelude.{◌≡◌, Some};
 ghost use Rattle.oftp_wire.specs.declared.frame_fault.FrameFault.TheVariants.{Memory};
@@ -8,14 +8,14 @@ use std::alloc::AllocError;
 use std::error::Error;
 use std::fmt;
 
-/// Why a stream can't be cut into commands. RFC 5024, section 8.
+/// Why a stream can't be split into commands (RFC 5024, section 8).
 #[derive(Clone, Copy, Debug, PartialEq, Eq)]
 pub enum FrameFault {
-    /// A frame begins with another octet than 10, in hexadecimal.
+    /// A frame doesn't begin with the octet 10 (hexadecimal).
     BadHeader,
     /// The length of a frame is below 5 or above the limit.
     BadLength,
-    /// Memory ran out.
+    /// Out of memory.
     Memory,
 }
 

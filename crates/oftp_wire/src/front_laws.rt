@@ -1,10 +1,11 @@
-//! What holds of streams.
+//! A theorem about streams.
 
 ghost use Rattle.std.specs.Prelude.{◌≡◌, ◌+◌, ◌<◌, ◌≤◌, ◌++◌, ℕ, List, length, All};
 ghost use Rattle.oftp_wire.specs.Header.{frame, IsCommand};
 ghost use Rattle.oftp_wire.specs.Stream.{Whole, front, head_of, NoFrame, rest_fault, Front};
 
-/// Every stream of octets is read in one way, and `front` finds at its front what this reading has there.
+/// Every stream of octets is read in one way, and `front` finds the first frame of this reading. The function does nothing; its contract is
+/// the theorem.
 pub fn one_front()
     ensures one { (limit : ℕ) (stream : List ℕ) (xs ys : List (List ℕ)) (r q : List ℕ)
         → Front limit stream xs r → Front limit stream ys q → (xs ≡ ys) × (r ≡ q) }

@@ -1,4 +1,4 @@
-//! Commands and their values in an operator's words.
+//! Commands and their values as an operator reads them.
 
 ghost use Rattle.std.specs.Prelude.{◌≡◌, Some};
 ghost use Rattle.std.specs.Fmt.{DisplaysOnOk, decimal};
@@ -33,7 +33,7 @@ impl<const N: usize> fmt::Display for Count<N> {
     }
 }
 
-/// Writes `?` for each control character, so that a partner's text disturbs no terminal and no log.
+/// Writes `?` for each control character, so that a partner's text can't disturb a terminal or a log.
 impl fmt::Display for Text<'_> {
     ghost output = { λ t. Some (shown_text t) };
 
@@ -92,7 +92,7 @@ fn write_session_reason<W: fmt::Write>(f: &mut fmt::Formatter<W>, number: Count<
     }
 }
 
-/// The kind, and what tells the command from others of its kind; never the password.
+/// The kind, and the fields that distinguish the command from others of its kind, but never the password.
 impl fmt::Display for Command<'_> {
     ghost output = { λ c. Some (command_text c) };
 
@@ -189,7 +189,7 @@ impl fmt::Debug for Octets<'_> {
     }
 }
 
-/// The fields, but for the password: a password goes into no log.
+/// All fields but the password, which must not be logged.
 impl fmt::Debug for Ssid<'_> {
     fn fmt<W: fmt::Write>(&self, f: &mut fmt::Formatter<W>) -> fmt::Result {
         f.debug_struct("Ssid")

@@ -1,5 +1,4 @@
-//! Octets as commands. Each field stands at a fixed offset, and the fields are read from left to right,
-//! so that the first fault is met first.
+//! Parsing commands. The fields are at fixed offsets and are read from left to right, so that the first fault is found first.
 
 ghost use Rattle.std.specs.Prelude.{◌≡◌, ◌+◌, Some, List, ℕ, IfOk, IfErr, IsSome};
 ghost use Rattle.oftp_wire.specs.Spelling.{Spells, IsFit, Canon, Fault};
@@ -16,7 +15,7 @@ use crate::read::{
     ready_at, reserved_at, rest_at, return_at, text_at, zero_at,
 };
 
-/// SSRM, which has no field of its own.
+/// SSRM, which has no field with a value.
 #[tactic(auto, unfolding(crate::specs::Kinds::ssrm_of))]
 fn ssrm(frame: &[u8]) -> Result<(), WireFault>
     ensures { result ≡ ssrm_of frame.now }
@@ -137,7 +136,7 @@ fn data(frame: &[u8]) -> Result<Octets<'_>, WireFault>
     Ok(octets)
 }
 
-/// CDT, which has no field of its own.
+/// CDT, which has no field with a value.
 #[tactic(auto, unfolding(crate::specs::Kinds::cdt_of))]
 fn cdt(frame: &[u8]) -> Result<(), WireFault>
     ensures { result ≡ cdt_of frame.now }
@@ -192,7 +191,7 @@ fn esid(frame: &[u8]) -> Result<Esid<'_>, WireFault>
     Ok(Esid { reason, text })
 }
 
-/// CD or RTR, which are a letter alone.
+/// CD or RTR, which are only a letter.
 #[tactic(auto, unfolding(crate::specs::Kinds::single_of))]
 fn single(frame: &[u8]) -> Result<(), WireFault>
     ensures { result ≡ single_of frame.now }
@@ -257,7 +256,7 @@ fn nerp(frame: &[u8]) -> Result<Nerp<'_>, WireFault>
     })
 }
 
-/// The command of the kind that a letter names.
+/// The command of the kind with this letter.
 #[tactic(auto, unfolding(crate::specs::Kinds::by_letter))]
 fn by_letter(letter: u8, frame: &[u8]) -> Result<Command<'_>, WireFault>
     ensures { result ≡ by_letter letter frame.now }
@@ -294,7 +293,7 @@ fn by_letter(letter: u8, frame: &[u8]) -> Result<Command<'_>, WireFault>
     }
 }
 
-/// The command that the octets are.
+/// The command in the octets.
 #[tactic(auto, unfolding(crate::specs::Kinds::command_of))]
 fn command(frame: &[u8]) -> Result<Command<'_>, WireFault>
     ensures { result ≡ command_of frame.now }
@@ -305,23 +304,26 @@ fn command(frame: &[u8]) -> Result<Command<'_>, WireFault>
     }
 }
 
-/// The command that the octets of a frame, without the stream header, spell (RFC 5024, section 5.3).
+/// Parses the octets of a frame, without the stream header (RFC 5024, section 5.3).
 ///
-/// Either carriage return and any reserved octets are taken. The fault is the first that is met from
-/// left to right: `UnknownCommand`, `WrongLength`, `BadField` or `BadText`, and never `NoRoom`. It takes
-/// no memory, and the command's texts are slices of the frame.
+/// Either carriage return and any reserved octets are accepted. It allocates nothing, and the command's texts are slices of the frame.
+///
+/// # Errors
+///
+/// The first fault from left to right: [`WireFault::UnknownCommand`], [`WireFault::WrongLength`], [`WireFault::BadField`] or
+/// [`WireFault::BadText`], and never [`WireFault::NoRoom`].
 pub fn parse(frame: &[u8]) -> Result<Command<'_>, WireFault>
-    // `command_of` computes it; by the law `one_spelling` it is the same as the clauses below.
+    // `command_of` computes the result. By the theorem `one_spelling` it says the same as the clauses below.
     ensures value { result ≡ command_of frame.now }
-    // What is read is spelled so.
+    // The octets encode the command that was read.
     ensures found { IfOk result (λ c. Spells c frame.now) }
-    // What is spelled so is read.
+    // A command that the octets encode is read.
     ensures only { (c : Command) → Spells c frame.now → result ≡ Ok c }
-    // What is written canonically is read again.
+    // A command that was encoded canonically is read back.
     ensures again { (c : Command) → IsFit c → frame.now ≡ Canon c → result ≡ Ok c }
-    // The fault is the first from the left.
+    // The error is the first fault from the left.
     ensures fault { IfErr result (λ e. Fault frame.now ≡ Some e) }
-    // An ESID can answer it.
+    // There is a reason for the ESID that answers it.
     ensures reason { IfErr result (λ e. IsSome (reason_of e)) }
 {
     command(frame)

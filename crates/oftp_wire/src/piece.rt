@@ -1,4 +1,4 @@
-//! The parts that a spelling is made of, and how they are written.
+//! The pieces of an encoding, and how they are written.
 
 ghost use Rattle.std.specs.Prelude.{◌≡◌, ℕ, ◌+◌, ◌-◌, ◌≤◌, ◌<◌, ◌^◌, ◌↔◌, length, IsTrue};
 ghost use Rattle.oftp_wire.specs.Octets.{spaces, decimal, put};
@@ -8,12 +8,12 @@ ghost use Rattle.oftp_wire.specs.Spelling.{IsWritten};
 
 use crate::fault::WireFault;
 
-/// A part of a spelling.
+/// A piece of an encoding.
 #[derive(Clone, Copy)]
 pub(crate) enum Piece<'a> {
     /// These octets.
     Octets(&'a [u8]),
-    /// A value, and spaces up to this many octets.
+    /// A value, padded with spaces to this many octets.
     Padded(&'a [u8], usize),
     /// A number in this many digits.
     Decimal(u64, usize),
@@ -21,7 +21,7 @@ pub(crate) enum Piece<'a> {
     Spaces(usize),
 }
 
-/// Writes octets at a place.
+/// Writes octets at an offset.
 fn put_octets(out: &mut [u8], at: usize, octets: &[u8])
     requires { at + length octets.now ≤ length out.old }
     ensures { out.new ≡ put at octets.now out.old }
@@ -29,7 +29,7 @@ fn put_octets(out: &mut [u8], at: usize, octets: &[u8])
     out[at..at + octets.len()].copy_from_slice(octets);
 }
 
-/// Writes spaces at a place.
+/// Writes spaces at an offset.
 fn put_spaces(out: &mut [u8], at: usize, count: usize)
     requires { at + count ≤ length out.old }
     ensures { out.new ≡ put at (spaces count) out.old }
@@ -37,7 +37,7 @@ fn put_spaces(out: &mut [u8], at: usize, count: usize)
     out[at..at + count].fill(b' ');
 }
 
-/// Writes a number in digits at a place.
+/// Writes a number in digits at an offset.
 fn put_decimal(out: &mut [u8], at: usize, count: usize, value: u64)
     requires { at + count ≤ length out.old }
     ensures { out.new ≡ put at (decimal count value) out.old }
@@ -49,7 +49,7 @@ fn put_decimal(out: &mut [u8], at: usize, count: usize, value: u64)
 }
 
 impl Piece<'_> {
-    /// How many octets it has.
+    /// The number of its octets.
     fn len(&self) -> usize
         requires { IsRight self.now }
         ensures { result ≡ length (octets_of self.now) }
@@ -62,7 +62,7 @@ impl Piece<'_> {
         }
     }
 
-    /// Writes it at a place.
+    /// Writes it at an offset.
     fn put(&self, out: &mut [u8], at: usize)
         requires right { IsRight self.now }
         requires room { at + length (octets_of self.now) ≤ length out.old }
@@ -80,7 +80,7 @@ impl Piece<'_> {
     }
 }
 
-/// Whether the pieces have room.
+/// Whether the pieces fit into this many octets.
 fn has_room(pieces: &[Piece], room: usize) -> bool
     requires { AllByRecursion IsRight pieces.now }
     ensures { IsTrue result ↔ (length (spelling pieces.now) ≤ room) }
@@ -96,7 +96,7 @@ fn has_room(pieces: &[Piece], room: usize) -> bool
     true
 }
 
-/// Writes the pieces one after the other, and answers how many octets they have.
+/// Writes the pieces one after the other, and returns how many octets they have.
 pub(crate) fn write(out: &mut [u8], pieces: &[Piece]) -> Result<usize, WireFault>
     requires { AllByRecursion IsRight pieces.now }
     ensures { IsWritten result (spelling pieces.now) out.old out.new }

@@ -1,4 +1,4 @@
-//! The readers of fields: each has a field's offset, and answers its value or the fault.
+//! The readers of fields. Each gets the offset of a field, and returns its value or the fault.
 
 ghost use Rattle.std.specs.Prelude.{◌≡◌, ℕ, ◌+◌, ◌*◌, ◌^◌, ◌<◌, ◌≤◌, ◌==◌, length, true, false, [], ◌∷◌, Some, None, IfOk, IfErr};
 ghost use Rattle.std.specs.List.{list_all};
@@ -66,7 +66,7 @@ pub(crate) fn count_at<const N: usize>(frame: &[u8], at: usize) -> Result<Count<
     })
 }
 
-/// A text of as many octets as the field before it says.
+/// A text of the length in the field before it.
 #[tactic(auto, using(crate::proofs::Scans::utf8_test), unfolding(crate::specs::Reading::text_at, crate::specs::Form::fault_of))]
 pub(crate) fn text_at(frame: &[u8], at: usize, len: Count<3>) -> Result<Text<'_>, WireFault>
     requires { at < 2 ^ 62 }
@@ -79,7 +79,7 @@ pub(crate) fn text_at(frame: &[u8], at: usize, len: Count<3>) -> Result<Text<'_>
     }
 }
 
-/// A text behind its length field, which ends the command.
+/// A text after its length field, as the last field of a command.
 #[tactic(auto, unfolding(crate::specs::Reading::last_text_at))]
 pub(crate) fn last_text_at(frame: &[u8], at: usize) -> Result<Text<'_>, WireFault>
     requires { at < 2 ^ 61 }
@@ -91,7 +91,7 @@ pub(crate) fn last_text_at(frame: &[u8], at: usize) -> Result<Text<'_>, WireFaul
     Ok(text)
 }
 
-/// A reserved field, whose octets may be any.
+/// A reserved field, with any octets.
 #[tactic(auto, unfolding(crate::specs::Reading::skipped_at, crate::specs::Form::fault_of))]
 pub(crate) fn reserved_at(frame: &[u8], at: usize, len: usize) -> Result<(), WireFault>
     requires { at + len < 2 ^ 63 }
@@ -113,7 +113,7 @@ pub(crate) fn return_at(frame: &[u8], at: usize) -> Result<(), WireFault>
     }
 }
 
-/// The end of the command: no octet is left over.
+/// The end of the command: no octet is left.
 #[tactic(auto, unfolding(crate::specs::Reading::ends_at, crate::specs::Form::end_fault))]
 pub(crate) fn ends_at(frame: &[u8], at: usize) -> Result<(), WireFault>
     ensures { result ≡ ends_at at frame.now }
@@ -124,7 +124,7 @@ pub(crate) fn ends_at(frame: &[u8], at: usize) -> Result<(), WireFault>
     Ok(())
 }
 
-/// A length of two octets, that of a hash or a signature, which is to be 0.
+/// A length of two octets, of a hash or a signature, which must be 0.
 #[tactic(auto, unfolding(crate::specs::Reading::skipped_at, crate::specs::Form::fault_of))]
 pub(crate) fn zero_at(frame: &[u8], at: usize) -> Result<(), WireFault>
     requires { at < 2 ^ 62 }
@@ -194,7 +194,7 @@ pub(crate) fn layout_at(frame: &[u8], at: usize, format: Format) -> Result<Layou
     }
 }
 
-/// What SSRM says.
+/// The text of SSRM.
 #[tactic(auto, unfolding(crate::specs::Reading::skipped_at, crate::specs::Form::fault_of))]
 pub(crate) fn ready_at(frame: &[u8], at: usize) -> Result<(), WireFault>
     requires { at < 2 ^ 62 }

@@ -1,4 +1,4 @@
-//! The reasons that stations give for a refusal or an end.
+//! The reasons of SFNA, EFNA and ESID.
 
 ghost use Rattle.std.specs.Prelude.{◌≡◌, ◌≢◌, IfSome, IfNone, Some};
 ghost use Rattle.std.specs.Fmt.{DisplaysOnOk};
@@ -11,19 +11,19 @@ use std::fmt;
 /// Why a station refuses a virtual file: the reasons of SFNA (RFC 5024, section 5.3.5).
 #[derive(Clone, Copy, Debug, PartialEq, Eq)]
 pub enum StartReason {
-    /// 01: the dataset name is none that the station takes.
+    /// 01: the dataset name isn't one that the station accepts.
     InvalidFilename,
     /// 02: the station neither is nor reaches the destination.
     InvalidDestination,
-    /// 03: the station takes no files of the originator.
+    /// 03: the station doesn't accept files of the originator.
     InvalidOrigin,
     /// 05: the longest record is above the station's limit, or 0.
     MaximumRecordLengthNotSupported,
-    /// 06: the file is larger than the station takes.
+    /// 06: the file is larger than the station accepts.
     FileSizeTooBig,
     /// 13: the station has the file already.
     DuplicateFile,
-    /// 14: the station takes no files in this direction.
+    /// 14: the station doesn't accept files in this direction.
     FileDirectionRefused,
     /// 99: none of the others.
     Unspecified,
@@ -32,9 +32,9 @@ pub enum StartReason {
 /// Why a station refuses the end of a virtual file: the reasons of EFNA (RFC 5024, section 5.3.10).
 #[derive(Clone, Copy, Debug, PartialEq, Eq)]
 pub enum EndReason {
-    /// 10: EFID has another number of records than came.
+    /// 10: EFID has another number of records than were received.
     InvalidRecordCount,
-    /// 11: EFID has another number of octets than came.
+    /// 11: EFID has another number of octets than were received.
     InvalidByteCount,
 }
 
@@ -43,23 +43,23 @@ pub enum EndReason {
 pub enum SessionReason {
     /// 00: there is nothing more to do.
     Normal,
-    /// 01: no command begins with the octet that came.
+    /// 01: no command begins with the octet that was received.
     CommandNotRecognised,
-    /// 02: the command isn't allowed now, or a frame is at fault.
+    /// 02: the command isn't allowed now, or a frame is faulty.
     ProtocolViolation,
-    /// 03: the station knows no partner of this identification code.
+    /// 03: the station has no partner with this Identification Code.
     UserCodeNotKnown,
     /// 04: the password isn't the partner's.
     InvalidPassword,
-    /// 06: a field has a bad content.
+    /// 06: a field has an invalid value.
     InvalidData,
-    /// 07: the command has more or fewer octets than its kind.
+    /// 07: the command is longer or shorter than its kind allows.
     BufferSizeError,
-    /// 08: the station has no memory or no room left.
+    /// 08: the station has no memory or no space left.
     ResourcesNotAvailable,
-    /// 10: the stations agree on no mode, or lack what the other needs.
+    /// 10: the stations agree on no mode, or one lacks what the other needs.
     ModeIncompatible,
-    /// 12: one station asks for secure authentication, the other doesn't.
+    /// 12: one station requires secure authentication, the other doesn't.
     AuthenticationIncompatible,
 }
 
@@ -80,7 +80,7 @@ impl StartReason {
         })
     }
 
-    /// The reason of a number, or `None` where the number is of no listed reason.
+    /// The reason with a number, or `None` where no listed reason has it.
     pub fn from_number(number: Count<2>) -> Option<StartReason>
         ensures value { result ≡ start_reason number }
         ensures listed { IfSome result (λ r. start_number r ≡ number) }
@@ -99,7 +99,7 @@ impl StartReason {
         }
     }
 
-    /// What an operator reads behind the number.
+    /// The words that an operator reads after the number.
     fn phrase(self) -> &'static str
         ensures { result.now ≡ start_phrase self }
     {
@@ -129,7 +129,7 @@ impl EndReason {
         })
     }
 
-    /// The reason of a number, or `None` where the number is of no listed reason.
+    /// The reason with a number, or `None` where no listed reason has it.
     pub fn from_number(number: Count<2>) -> Option<EndReason>
         ensures value { result ≡ end_reason number }
         ensures listed { IfSome result (λ r. end_number r ≡ number) }
@@ -142,7 +142,7 @@ impl EndReason {
         }
     }
 
-    /// What an operator reads behind the number.
+    /// The words that an operator reads after the number.
     fn phrase(self) -> &'static str
         ensures { result.now ≡ end_phrase self }
     {
@@ -172,7 +172,7 @@ impl SessionReason {
         })
     }
 
-    /// The reason of a number, or `None` where the number is of no listed reason.
+    /// The reason with a number, or `None` where no listed reason has it.
     pub fn from_number(number: Count<2>) -> Option<SessionReason>
         ensures value { result ≡ session_reason number }
         ensures listed { IfSome result (λ r. session_number r ≡ number) }
@@ -193,7 +193,7 @@ impl SessionReason {
         }
     }
 
-    /// What an operator reads behind the number.
+    /// The words that an operator reads after the number.
     fn phrase(self) -> &'static str
         ensures { result.now ≡ session_phrase self }
     {
@@ -215,8 +215,7 @@ impl SessionReason {
 }
 
 impl WireFault {
-    /// The reason of the ESID that answers octets at fault, or `None` for `NoRoom`, which `parse`
-    /// never gives.
+    /// The reason of the ESID that answers faulty octets, or `None` for `NoRoom`, which `parse` never returns.
     pub fn reason(self) -> Option<SessionReason>
         ensures { result ≡ reason_of self }
     {

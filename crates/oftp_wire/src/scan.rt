@@ -1,4 +1,4 @@
-//! What the octets of a field are.
+//! Checks and values of a field's octets.
 
 ghost use Rattle.std.specs.Prelude.{◌≡◌, ℕ, ◌+◌, ◌*◌, ◌^◌, ◌<◌, ◌≤◌, ◌==◌, length, take, drop, true, false, IfOk, IfErr, MatchResult, IfSome, IfNone};
 ghost use Rattle.std.specs.List.{list_all, prefix_len};
@@ -7,7 +7,7 @@ ghost use Rattle.oftp_wire.specs.Octets.{part, is_allowed, is_digit, is_padded, 
 
 use crate::fault::WireFault;
 
-/// Whether a character may stand in a field X(n).
+/// Whether a character is allowed in a field X(n).
 #[tactic(auto, unfolding(crate::specs::Octets::is_allowed))]
 pub(crate) fn is_allowed(c: u8) -> bool
     ensures { result ≡ is_allowed c }
@@ -15,7 +15,7 @@ pub(crate) fn is_allowed(c: u8) -> bool
     matches!(c, b'0'..=b'9' | b'A'..=b'Z' | b'/' | b'-' | b'.' | b'&' | b'(' | b')')
 }
 
-/// The octets of a field, or `WrongLength` where it passes the end.
+/// The octets of a field, or `WrongLength` where it extends past the end.
 pub(crate) fn part_of(frame: &[u8], at: usize, len: usize) -> Result<&[u8], WireFault>
     requires { at + len < 2 ^ 63 }
     ensures value { IfOk result (λ w. w.now ≡ part at len frame.now) }
@@ -28,7 +28,7 @@ pub(crate) fn part_of(frame: &[u8], at: usize, len: usize) -> Result<&[u8], Wire
     Ok(&frame[at..at + len])
 }
 
-/// How many allowed characters stand first.
+/// The number of allowed characters at the beginning.
 fn front_len(field: &[u8]) -> usize
     ensures value { result ≡ prefix_len is_allowed field.now }
     ensures within { result ≤ length field.now }
@@ -36,28 +36,28 @@ fn front_len(field: &[u8]) -> usize
     field.iter().take_while(|c| is_allowed(**c)).count()
 }
 
-/// Whether each character may stand in a field X(n).
+/// Whether each character is allowed in a field X(n).
 pub(crate) fn all_allowed(text: &[u8]) -> bool
     ensures { result ≡ list_all is_allowed text.now }
 {
     text.iter().all(|c| is_allowed(*c))
 }
 
-/// Whether there are spaces alone.
+/// Whether all octets are spaces.
 fn all_spaces(field: &[u8]) -> bool
     ensures { result ≡ list_all (λ c. c == 32) field.now }
 {
     field.iter().all(|c| *c == b' ')
 }
 
-/// Whether there are digits alone.
+/// Whether all octets are digits.
 pub(crate) fn all_digits(field: &[u8]) -> bool
     ensures { result ≡ list_all is_digit field.now }
 {
     field.iter().all(|c| c.is_ascii_digit())
 }
 
-/// The value of a padded field, or `None` where something else than spaces stands behind it.
+/// The value of a padded field, or `None` where anything but spaces follows it.
 #[tactic(auto, using(crate::proofs::Scans::value_allowed))]
 pub(crate) fn value_of(field: &[u8]) -> Option<&[u8]>
     ensures none { IfNone result (is_padded field.now ≡ false) }

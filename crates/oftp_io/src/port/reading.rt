@@ -1,4 +1,4 @@
-//! The reading through a port.
+//! Reading through a port.
 
 ghost use Rattle.std.specs.Prelude.{◌<◌, length};
 ghost use Rattle.oftp_io.specs.Ports.{Reads};
@@ -7,8 +7,8 @@ use super::Port;
 use std::io::Read;
 
 impl<R: Read> Port<R> {
-    /// Reads the next octets into the beginning of a piece, which must have room for one, and answers how many came: none only at the
-    /// end. `None` is answered where the reader told a fault: no octet of it is counted then.
+    /// Reads the next octets into the beginning of a slice, which must not be empty, and returns how many were read. 0 means the end of the
+    /// input. `None` means that the reader returned an error, and no octet is counted.
     pub fn read(&mut self, piece: &mut [u8]) -> Option<usize>
         requires { 0 < length piece.old }
         ensures { Reads R.remaining self.old self.new piece.new result }

@@ -1,4 +1,4 @@
-//! The writing through a port.
+//! Writing through a port.
 
 ghost use Rattle.std.specs.Prelude.{◌<◌, length};
 ghost use Rattle.oftp_io.specs.Ports.{Sent, Writes};
@@ -7,7 +7,7 @@ use super::Port;
 use std::io::Write;
 
 impl<W: Write> Port<W> {
-    // Writes octets of the piece, and answers how many the writer took, or `None` where it told a fault.
+    // Writes octets of a slice, and returns how many the writer took, or `None` where it returned an error.
     fn write(&mut self, piece: &[u8]) -> Option<usize>
         requires { 0 < length piece.now }
         ensures { Writes W.contents self.old self.new piece.now result }
@@ -28,7 +28,7 @@ impl<W: Write> Port<W> {
         }
     }
 
-    /// Writes octets, and answers whether the writer took all of them. Where it didn't, it told a fault, and has a beginning of them.
+    /// Writes octets, and returns whether the writer took all of them. If it didn't, it returned an error and has a beginning of them.
     pub fn send(&mut self, octets: &[u8]) -> bool
         ensures { Sent W.contents self.old self.new octets.now result }
     {

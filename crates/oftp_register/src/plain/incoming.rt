@@ -1,4 +1,4 @@
-//! Incoming files, kept in memory.
+//! Incoming files in memory.
 
 ghost use Rattle.std.specs.Prelude.{◌≡◌, ◌↔◌, ◌+◌, ◌≤◌, ℕ, [], ◌++◌, length, None, Ok, IfOk, IsTrue};
 ghost use Rattle.oftp_register.specs.Register.{Issued, Incoming, same_identity};
@@ -19,7 +19,7 @@ use oftp_vfile::{Format, MOST_ROWS, Row, Rows};
 use oftp_wire::Text;
 use std::alloc::{AllocError, Global};
 
-/// What is known of a file before its rows.
+/// The fields of a file besides its rows.
 #[derive(Drop)]
 pub struct Header {
     pub identity: Identity,
@@ -60,7 +60,7 @@ impl Header {
     }
 }
 
-// The partner is ready to receive after a response.
+// Records that the response was sent.
 fn send(response: &mut IssuedResponse) -> Result<(), OfficeFault>
     ensures { let was = issued_of response.old in CarriesOut issued_of (sent_as was was.dispatch) response.old response.new result }
 {
@@ -74,7 +74,7 @@ fn send(response: &mut IssuedResponse) -> Result<(), OfficeFault>
 }
 
 impl IncomingFile {
-    // A file that begins.
+    // A new file without rows.
     pub(crate) fn new(alloc: Global, header: Header) -> IncomingFile
         ensures { incoming_of result ≡ beginning_of header }
     {
@@ -89,7 +89,7 @@ impl IncomingFile {
         }
     }
 
-    // Whether, open, it may go on in a format with so many of its rows.
+    // Whether the first `count` rows of an open file fit this format.
     fn may_go_on(&self, format: Format, longest: u32, count: u64) -> bool
         ensures { IsTrue result ↔ MayGoOn format longest count (incoming_of self.now) }
     {
@@ -101,7 +101,7 @@ impl IncomingFile {
         }
     }
 
-    // Whether it has another identity, or may go on so.
+    // Whether it has another identity, or may go on like this.
     #[tactic(auto, unfolding(crate::specs::Soundness::MayStart))]
     pub(crate) fn may_start(
         &self,
@@ -115,7 +115,7 @@ impl IncomingFile {
         !self.identity.is(identity) || self.may_go_on(format, longest, count)
     }
 
-    // Whether, open, it may be followed by these rows.
+    // Whether these rows may be appended, if it is open.
     pub(crate) fn takes(&self, rows: &Rows) -> bool
         ensures { IsTrue result ↔ IfOpen self.now.state (GoesOn rows.now (incoming_of self.now)) }
     {
@@ -127,7 +127,7 @@ impl IncomingFile {
         }
     }
 
-    // Whether, open, it may be ended by these rows.
+    // Whether these may be its last rows, if it is open.
     pub(crate) fn ends_by(&self, rows: &Rows) -> bool
         ensures { IsTrue result ↔ IfOpen self.now.state (Ends rows.now (incoming_of self.now)) }
     {
@@ -145,7 +145,7 @@ impl IncomingFile {
         self.rows.len() <= MOST_ROWS && rows.len() <= MOST_ROWS - self.rows.len()
     }
 
-    // An open file goes on after so many of its rows.
+    // An open file goes on after its first `count` rows.
     pub(crate) fn go_on(&mut self, header: Header, count: u64) -> Result<(), OfficeFault>
         ensures { let file = incoming_of self.old in
             CarriesOut incoming_of (gone_on (beginning_of header) count file file.state) self.old self.new result }
@@ -172,7 +172,7 @@ impl IncomingFile {
         Ok(())
     }
 
-    // Rows are kept.
+    // Appends rows.
     pub(crate) fn keep(&mut self, rows: Rows) -> Result<(), OfficeFault>
         ensures { CarriesOut incoming_of (kept rows (incoming_of self.old)) self.old self.new result }
     {
@@ -182,7 +182,7 @@ impl IncomingFile {
         }
     }
 
-    // The last rows are kept.
+    // Appends the last rows.
     pub(crate) fn close(&mut self, rows: Rows) -> Result<(), OfficeFault>
         ensures { CarriesOut incoming_of (closed rows (incoming_of self.old)) self.old self.new result }
     {
@@ -191,7 +191,7 @@ impl IncomingFile {
         Ok(())
     }
 
-    // The rows are given up.
+    // Deletes the rows.
     pub(crate) fn give_up(&mut self) -> Result<(), OfficeFault>
         ensures { CarriesOut incoming_of (given_up (incoming_of self.old)) self.old self.new result }
     {
@@ -204,7 +204,7 @@ impl IncomingFile {
         }
     }
 
-    // A response is issued.
+    // Issues a response.
     pub(crate) fn issue(&mut self, response: IssuedResponse) -> Result<(), OfficeFault>
         ensures { CarriesOut incoming_of (issued (issued_of response) (incoming_of self.old)) self.old self.new result }
     {
@@ -217,7 +217,7 @@ impl IncomingFile {
         }
     }
 
-    // The response was sent.
+    // Records that the response was sent.
     pub(crate) fn send(&mut self) -> Result<(), OfficeFault>
         ensures { CarriesOut incoming_of (sent (incoming_of self.old)) self.old self.new result }
     {
@@ -227,7 +227,7 @@ impl IncomingFile {
         }
     }
 
-    // It without its rows.
+    // The entry of the file, without its rows.
     pub(crate) fn entry(&self, alloc: Global, no: u64) -> Result<IncomingEntry, AllocError>
         requires { IsSoundIncoming (incoming_of self.now) }
         ensures value { IfOk result (λ entry. entry ≡ incoming_entry no (incoming_of self.now)) }
@@ -249,7 +249,7 @@ impl IncomingFile {
         })
     }
 
-    // Its response with its number, if one was issued.
+    // The entry of its response, if one was issued.
     pub(crate) fn issued(&self, alloc: Global, no: u64) -> Result<Option<IssuedEntry>, AllocError>
         ensures { IfOk result (λ entry. entry ≡ issued_entry no (incoming_of self.now)) }
     {
@@ -263,7 +263,7 @@ impl IncomingFile {
         }
     }
 
-    // Whether its response is to be sent to a partner.
+    // Whether its response is due to this partner.
     pub(crate) fn is_due_to(&self, partner: &Name<25>) -> bool
         ensures { result ≡ is_due_to partner.now (incoming_of self.now) }
     {

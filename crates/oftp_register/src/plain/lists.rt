@@ -27,7 +27,7 @@ use oftp_vfile::{Format, Limits, Row, Rows};
 use oftp_wire::{Count, Text};
 use std::alloc::{AllocError, Global};
 
-/// Lists that keep a register.
+/// The lists of a register.
 #[derive(Drop)]
 pub struct Lists {
     pub alloc: Global,
@@ -37,7 +37,7 @@ pub struct Lists {
     pub received: Vec<ReceivedResponse>,
 }
 
-// The place in a list of so many entries of the entry with this number, if there is one.
+// The index of the entry with this number in a list of `len` entries, if there is one.
 fn place_of(no: u64, len: usize) -> Option<usize>
     ensures { IsPlace no len result }
 {
@@ -60,7 +60,7 @@ fn place_out(files: &[OutgoingFile], identity: &Identity) -> Option<usize>
     files.iter().position(|file| file.identity.is(identity))
 }
 
-// So many rows at most, from one on.
+// At most `most` rows, from row `from` on.
 fn part_of(rows: &[Row], from: u64, most: u64) -> &[Row]
     ensures { result.now ≡ take most (drop from rows.now) }
 {
@@ -68,7 +68,7 @@ fn part_of(rows: &[Row], from: u64, most: u64) -> &[Row]
     &rest[..rest.len().min(most as usize)]
 }
 
-// The rows again.
+// A copy of the rows.
 fn copy_of(alloc: Global, rows: &[Row]) -> Result<Rows, AllocError>
     ensures { IfOk result (λ copy. copy ≡ rows.now) }
 {
@@ -99,7 +99,7 @@ fn is_answered(responses: &[ReceivedResponse], kind: ResponseKind, identity: &Id
     responses.iter().any(|response| response.kind == kind && response.identity.is(identity))
 }
 
-// Whether the file of this identity, if it is there, may go on in this format after so many rows.
+// Whether the file with this identity, if there is one, may go on in this format after its first `count` rows.
 fn can_start(
     files: &[IncomingFile],
     identity: &Identity,
@@ -128,14 +128,14 @@ impl Lists {
         }
     }
 
-    // Whether such a response came.
+    // Whether a response of this kind was received for this file.
     pub(crate) fn is_received(&self, kind: ResponseKind, identity: &Identity) -> bool
         ensures { result ≡ has_received (register_in self.now) kind identity.now }
     {
         is_answered(&self.received, kind, identity)
     }
 
-    // A file with this header is to be sent.
+    // Adds a file with this header, which is to be sent.
     fn add_outgoing(&mut self, header: Header, rows: Rows) -> Result<(), OfficeFault>
         ensures { CarriesOut register_in (submitted (register_in self.old) (to_send header rows)) self.old self.new result }
     {
@@ -149,7 +149,7 @@ impl Lists {
         Ok(())
     }
 
-    // A file with this header begins to come, or goes on.
+    // Starts an incoming file with this header, or goes on with it.
     fn take_up(&mut self, header: Header, count: u64) -> Result<(), OfficeFault>
         ensures { CarriesOut register_in (started (register_in self.old) (beginning_of header) count) self.old self.new result }
     {
@@ -172,7 +172,7 @@ impl Lists {
         Ok(())
     }
 
-    // Rows of a file are kept.
+    // Appends rows to a file.
     fn keep(&mut self, no: u64, rows: Rows) -> Result<(), OfficeFault>
         ensures { CarriesOut register_in (on_incoming (kept rows) no (register_in self.old)) self.old self.new result }
     {
@@ -182,7 +182,7 @@ impl Lists {
         }
     }
 
-    // The last rows of a file are kept.
+    // Appends the last rows to a file.
     fn close(&mut self, no: u64, rows: Rows) -> Result<(), OfficeFault>
         ensures { CarriesOut register_in (on_incoming (closed rows) no (register_in self.old)) self.old self.new result }
     {
@@ -192,7 +192,7 @@ impl Lists {
         }
     }
 
-    // The rows of a file are given up.
+    // Deletes the rows of a file.
     fn give_up(&mut self, no: u64) -> Result<(), OfficeFault>
         ensures { CarriesOut register_in (on_incoming given_up no (register_in self.old)) self.old self.new result }
     {
@@ -202,7 +202,7 @@ impl Lists {
         }
     }
 
-    // This response comes.
+    // Adds a received response.
     fn add_received(&mut self, response: ReceivedResponse) -> Result<(), OfficeFault>
         ensures { CarriesOut register_in (filed (register_in self.old) (received_of response)) self.old self.new result }
     {
@@ -215,7 +215,7 @@ impl Lists {
         Ok(())
     }
 
-    // This response is issued.
+    // Issues a response.
     fn answer(&mut self, no: u64, response: IssuedResponse) -> Result<(), OfficeFault>
         ensures { CarriesOut register_in (on_incoming (issued (issued_of response)) no (register_in self.old)) self.old self.new result }
     {
@@ -225,7 +225,7 @@ impl Lists {
         }
     }
 
-    // So many rows of a file are covered by credit.
+    // Sets the mark of a file.
     fn mark(&mut self, no: u64, rows: u64) -> Result<(), OfficeFault>
         ensures { CarriesOut register_in (on_outgoing (marked rows) no (register_in self.old)) self.old self.new result }
     {
@@ -235,7 +235,7 @@ impl Lists {
         }
     }
 
-    // The end of a file is about to be sent.
+    // Records that the end of a file is sent next.
     fn begin_closing(&mut self, no: u64) -> Result<(), OfficeFault>
         ensures { CarriesOut register_in (on_outgoing closing no (register_in self.old)) self.old self.new result }
     {
@@ -245,7 +245,7 @@ impl Lists {
         }
     }
 
-    // The partner has a file.
+    // Records that the partner has a file.
     fn hand_over(&mut self, no: u64) -> Result<(), OfficeFault>
         ensures { CarriesOut register_in (on_outgoing handed no (register_in self.old)) self.old self.new result }
     {
@@ -255,7 +255,7 @@ impl Lists {
         }
     }
 
-    // The partner doesn't take a file.
+    // Records that the partner refuses a file.
     fn refuse(&mut self, no: u64, reason: Count<2>) -> Result<(), OfficeFault>
         ensures { CarriesOut register_in (on_outgoing (refused reason) no (register_in self.old)) self.old self.new result }
     {
@@ -265,7 +265,7 @@ impl Lists {
         }
     }
 
-    // A file is to be sent again.
+    // Records that a file is sent again.
     fn reopen(&mut self, no: u64) -> Result<(), OfficeFault>
         ensures { CarriesOut register_in (on_outgoing reopened no (register_in self.old)) self.old self.new result }
     {
@@ -275,7 +275,7 @@ impl Lists {
         }
     }
 
-    // The response to a file was sent.
+    // Records that the response to a file was sent.
     fn send(&mut self, no: u64) -> Result<(), OfficeFault>
         ensures { CarriesOut register_in (on_incoming sent no (register_in self.old)) self.old self.new result }
     {
@@ -285,7 +285,7 @@ impl Lists {
         }
     }
 
-    // Whether the file with this number, if it is there and open, may be followed by these rows.
+    // Whether these rows may be appended to the file with this number, if there is one and it is open.
     fn may_keep(&self, no: u64, rows: &Rows) -> bool
         ensures { IsTrue result ↔ AtNumber (λ file. IfOpen file.state (GoesOn rows.now file)) no (register_in self.now).incoming }
     {
@@ -295,7 +295,7 @@ impl Lists {
         }
     }
 
-    // Whether the file with this number, if it is there and open, may be ended by these rows.
+    // Whether these may be the last rows of the file with this number, if there is one and it is open.
     fn may_close(&self, no: u64, rows: &Rows) -> bool
         ensures { IsTrue result ↔ AtNumber (λ file. IfOpen file.state (Ends rows.now file)) no (register_in self.now).incoming }
     {
@@ -346,7 +346,7 @@ impl Lists {
         }
     }
 
-    // A file is to be sent.
+    // Submits a file.
     #[tactic(auto, unfolding(crate::specs::Changes::apply))]
     fn submit(
         &mut self,
@@ -362,7 +362,7 @@ impl Lists {
         self.add_outgoing(header, rows)
     }
 
-    // A file begins to come, or goes on.
+    // Starts an incoming file, or goes on with it.
     #[tactic(auto, unfolding(crate::specs::Changes::apply))]
     fn start(
         &mut self,
@@ -378,7 +378,7 @@ impl Lists {
         self.take_up(header, count)
     }
 
-    // A response comes.
+    // Adds a received response.
     #[tactic(auto, unfolding(crate::specs::Changes::apply))]
     fn file(
         &mut self,
@@ -394,7 +394,7 @@ impl Lists {
         self.add_received(response)
     }
 
-    // A response is issued.
+    // Issues a response.
     #[tactic(auto, unfolding(crate::specs::Changes::apply))]
     fn issue(
         &mut self,
@@ -409,7 +409,7 @@ impl Lists {
         self.answer(no, response)
     }
 
-    // CarriesOut a change.
+    // Makes a change.
     #[tactic(auto, unfolding(crate::specs::Changes::apply))]
     fn make(&mut self, change: Change<'_>) -> Result<(), OfficeFault>
         ensures { CarriesOut register_in (apply (register_in self.old) change.entry) self.old self.new result }
@@ -454,7 +454,7 @@ impl Lists {
         }
     }
 
-    // CarriesOut a change that is fit.
+    // Makes a change that is fit.
     pub(crate) fn commit(&mut self, change: Change<'_>) -> Result<(), OfficeFault>
         requires sound { IsSound (register_in self.old) }
         requires fit { IsFit (register_in self.old) change }
@@ -464,7 +464,7 @@ impl Lists {
         self.make(change)
     }
 
-    // The incoming file at a place.
+    // The incoming file at an index.
     fn incoming_at(&self, place: usize) -> Result<Option<IncomingEntry>, AllocError>
         requires sound { IsSound (register_in self.now) }
         requires within { place < vec_len self.now.incoming }
@@ -475,7 +475,7 @@ impl Lists {
         Ok(Some(entry))
     }
 
-    // The outgoing file at a place.
+    // The outgoing file at an index.
     fn outgoing_at(&self, place: usize) -> Result<Option<OutgoingEntry>, AllocError>
         requires sound { IsSound (register_in self.now) }
         requires within { place < vec_len self.now.outgoing }
@@ -486,7 +486,7 @@ impl Lists {
         Ok(Some(entry))
     }
 
-    // The incoming file of an identity.
+    // The incoming file with this identity.
     pub(crate) fn look_in(&self, identity: &Identity) -> Result<Option<IncomingEntry>, AllocError>
         requires { IsSound (register_in self.now) }
         ensures value { IfOk result (λ found. found ≡ look_in (register_in self.now) identity.now) }
@@ -498,7 +498,7 @@ impl Lists {
         }
     }
 
-    // The outgoing file of an identity.
+    // The outgoing file with this identity.
     pub(crate) fn look_out(&self, identity: &Identity) -> Result<Option<OutgoingEntry>, AllocError>
         requires { IsSound (register_in self.now) }
         ensures value { IfOk result (λ found. found ≡ look_out (register_in self.now) identity.now) }
@@ -599,7 +599,7 @@ impl Lists {
         }
     }
 
-    // The rows of a file, lent.
+    // The rows of a file, borrowed.
     fn file_rows(&self, side: Side, no: u64) -> &[Row]
         ensures { result.now ≡ file_rows (register_in self.now) side no }
     {
@@ -615,7 +615,7 @@ impl Lists {
         }
     }
 
-    // The rows of a file from one on.
+    // At most `most` rows of a file, from row `from` on.
     pub(crate) fn rows_of(
         &self,
         side: Side,
@@ -646,7 +646,7 @@ impl Lists {
         }
     }
 
-    // How many octets the rows of a file have.
+    // The number of octets of a file.
     pub(crate) fn units_of(&self, side: Side, no: u64) -> u64
         requires { IsSound (register_in self.now) }
         ensures value { result ≡ units_of (register_in self.now) side no }
@@ -695,7 +695,7 @@ impl Lists {
         Ok(entries)
     }
 
-    // All responses that came.
+    // All received responses.
     pub(crate) fn list_received(&self) -> Result<Vec<ReceivedEntry>, AllocError>
         ensures { IfOk result (λ entries. entries.items ≡ list_received (register_in self.now)) }
     {

@@ -1,4 +1,4 @@
-//! Outgoing files, kept in memory.
+//! Outgoing files in memory.
 
 ghost use Rattle.std.specs.Prelude.{◌≡◌, ℕ, IfOk};
 ghost use Rattle.oftp_register.specs.Register.{Outgoing};
@@ -46,7 +46,7 @@ impl OutgoingFile {
         }
     }
 
-    // A response comes, perhaps to this file.
+    // Sets its state after a received response, if that answers this file.
     pub(crate) fn settle(&mut self, kind: ResponseKind, identity: &Identity)
         ensures { outgoing_of self.new ≡ settled kind identity.now (outgoing_of self.old) }
     {
@@ -61,7 +61,7 @@ impl OutgoingFile {
         }
     }
 
-    // So many rows are covered by credit.
+    // Sets the mark.
     pub(crate) fn mark(&mut self, rows: u64) -> Result<(), OfficeFault>
         ensures { CarriesOut outgoing_of (marked rows (outgoing_of self.old)) self.old self.new result }
     {
@@ -74,7 +74,7 @@ impl OutgoingFile {
         }
     }
 
-    // The end is about to be sent.
+    // Records that the end is sent next.
     pub(crate) fn close(&mut self) -> Result<(), OfficeFault>
         ensures { CarriesOut outgoing_of (closing (outgoing_of self.old)) self.old self.new result }
     {
@@ -87,7 +87,7 @@ impl OutgoingFile {
         }
     }
 
-    // The partner has it.
+    // Records that the partner has it.
     pub(crate) fn hand_over(&mut self) -> Result<(), OfficeFault>
         ensures { CarriesOut outgoing_of (handed (outgoing_of self.old)) self.old self.new result }
     {
@@ -100,7 +100,7 @@ impl OutgoingFile {
         }
     }
 
-    // The partner doesn't take it.
+    // Records that the partner refuses it.
     pub(crate) fn refuse(&mut self, reason: Count<2>) -> Result<(), OfficeFault>
         ensures { CarriesOut outgoing_of (refused reason (outgoing_of self.old)) self.old self.new result }
     {
@@ -113,7 +113,7 @@ impl OutgoingFile {
         }
     }
 
-    // It is to be sent again.
+    // Records that it is sent again.
     pub(crate) fn reopen(&mut self) -> Result<(), OfficeFault>
         ensures { CarriesOut outgoing_of (reopened (outgoing_of self.old)) self.old self.new result }
     {
@@ -127,7 +127,7 @@ impl OutgoingFile {
         }
     }
 
-    // It without its rows.
+    // The entry of the file, without its rows.
     pub(crate) fn entry(&self, alloc: Global, no: u64) -> Result<OutgoingEntry, AllocError>
         requires { IsSoundOutgoing (outgoing_of self.now) }
         ensures value { IfOk result (λ entry. entry ≡ outgoing_entry no (outgoing_of self.now)) }
@@ -145,7 +145,7 @@ impl OutgoingFile {
         })
     }
 
-    // Whether it is to be sent to a partner, or its end was sent and the answer is awaited.
+    // Whether it is for this partner and is waiting or closing.
     pub(crate) fn is_on_its_way_to(&self, partner: &Name<25>) -> bool
         ensures { result ≡ is_on_its_way_to partner.now (outgoing_of self.now) }
     {

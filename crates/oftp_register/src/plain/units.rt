@@ -1,4 +1,4 @@
-//! The octets of rows.
+//! The number of octets of rows.
 
 ghost use Rattle.std.specs.Prelude.{◌≡◌, ◌<◌, ◌≤◌, ◌^◌, ℕ, List, length};
 ghost use Rattle.oftp_vfile.specs.VirtualFile.{units_in};
@@ -8,7 +8,7 @@ ghost use Rattle.oftp_register.specs.declared.fit.TheConstants.{MOST_UNITS};
 
 use oftp_vfile::{BLOCK, Format, Row};
 
-// How many octets rows have.
+// The number of octets of these rows.
 fn count_units(rows: &[Row]) -> u64
     requires { units_in rows.now < 2 ^ 64 }
     ensures { result ≡ units_in rows.now }
@@ -20,7 +20,7 @@ fn count_units(rows: &[Row]) -> u64
     units
 }
 
-// How many octets rows have of which all but the last are full blocks.
+// The number of octets of rows that are all full blocks but the last.
 fn count_blocks(rows: &[Row]) -> u64
     requires few { length rows.now ≤ MOST_ROWS }
     requires small { units_in rows.now ≤ MOST_UNITS }
@@ -32,7 +32,7 @@ fn count_blocks(rows: &[Row]) -> u64
     }
 }
 
-// How many octets the rows of a file have that fit its format.
+// The number of octets of rows that fit this format.
 pub(crate) fn units_told(format: Format, longest: u32, rows: &[Row]) -> u64
     requires few { length rows.now ≤ MOST_ROWS }
     requires small { units_in rows.now ≤ MOST_UNITS }

@@ -1,4 +1,4 @@
-//! The change of a register in the database, whichever it is.
+//! The commit of any change of the register to the database.
 
 ghost use Rattle.std.specs.Prelude.{◌≡◌, false};
 ghost use Rattle.sqlite.specs.Held.{state};
@@ -11,12 +11,15 @@ use super::responses::{file, issue, send};
 use oftp_register::{Change, OfficeFault};
 use sqlite::{Alter, Connection};
 
-/// Makes a change of the register, in one transaction. No file has a number from 2^63 on.
+/// Commits one change of the register, in one transaction. A change that names a file by a number of 2^63 or more is refused.
 ///
 /// # Errors
 ///
-/// [`OfficeFault::Refused`] for the first cause that fits, after look-ups alone. [`OfficeFault::Memory`] where a growth was refused or
-/// no number is left, and else [`OfficeFault::Store`]. The register is then as it was where the connection is open.
+/// - [`OfficeFault::Refused`] with the first cause that applies. Only look-ups were made.
+/// - [`OfficeFault::Memory`]: out of memory, or no number is left.
+/// - [`OfficeFault::Store`]: any other error of the database.
+///
+/// After an error the register is unchanged if the connection is still open.
 pub(crate) fn commit_change<S: Alter>(
     means: Means,
     conn: &mut Connection<S>,

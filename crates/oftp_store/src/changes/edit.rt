@@ -1,13 +1,13 @@
-//! The edits of which the transactions of an office are made.
+//! The edits that make up a transaction.
 
 use oftp_register::{Identity, Name, OutgoingState, ResponseKind, Side};
 use oftp_vfile::{Format, Rows};
 use oftp_wire::{Count, Text};
 
-/// What is made of an entry.
+/// What an edit does to an entry.
 #[derive(Drop)]
 pub(crate) enum Deed<'a> {
-    /// It is a new file without rows: an incoming one is open, an outgoing one waits.
+    /// Adds a file without rows. An incoming file is then open, an outgoing file waits.
     AddFile {
         side: Side,
         identity: &'a Identity,
@@ -15,38 +15,38 @@ pub(crate) enum Deed<'a> {
         longest: u32,
         description: &'a Text<'a>,
     },
-    /// It is an incoming file, and has this header from now on.
+    /// Replaces the header of an incoming file.
     SetHeader {
         format: Format,
         longest: u32,
         description: &'a Text<'a>,
     },
-    /// It is an incoming file, and is whole.
+    /// Marks an incoming file as whole.
     SetWhole,
-    /// It is an outgoing file, and has this mark and this state.
+    /// Sets the mark and the state of an outgoing file.
     SetOutgoing {
         mark: u32,
         state: OutgoingState,
     },
-    /// It is a file that has so many rows, and gets more.
+    /// Appends rows to a file that has `from` rows.
     AddRows {
         side: Side,
         from: u32,
         rows: &'a Rows,
     },
-    /// It is an incoming file, and keeps so many of its rows at most.
+    /// Keeps the first `count` rows of an incoming file at most.
     CutRows {
         count: u32,
     },
-    /// It is an incoming file without response, and gets one that is due.
+    /// Adds a response, which is due, to an incoming file that has none.
     AddIssued {
         kind: ResponseKind,
         reason: Count<2>,
         text: &'a Text<'a>,
     },
-    /// It is an incoming file with a response, which was sent.
+    /// Marks the response to an incoming file as sent.
     SetSent,
-    /// It is a new response that came.
+    /// Adds a response that was received.
     AddReceived {
         kind: ResponseKind,
         identity: &'a Identity,
@@ -56,11 +56,11 @@ pub(crate) enum Deed<'a> {
     },
 }
 
-/// What is made of the entry with a number.
+/// One edit of one entry.
 #[derive(Drop)]
 pub(crate) struct Edit<'a> {
-    /// The number.
+    /// The number of the entry, from 1 on.
     pub no: u64,
-    /// What is made of it.
+    /// What is done to it.
     pub deed: Deed<'a>,
 }

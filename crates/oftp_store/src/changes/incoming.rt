@@ -19,7 +19,7 @@ use oftp_vfile::{Format, Rows};
 use oftp_wire::Text;
 use sqlite::{Alter, Connection};
 
-// Whether a file may go on after so many of its rows.
+// Whether a file is open and has at least `count` rows, so that it may go on after them.
 fn goes_on(progress: &IncomingProgress, count: u64) -> bool
     ensures { result ≡ goes_on progress.now count }
 {
@@ -29,7 +29,7 @@ fn goes_on(progress: &IncomingProgress, count: u64) -> bool
     }
 }
 
-/// Begins a file that comes, or goes on with one after so many of its rows.
+/// Starts an incoming file, or goes on with an open one after its first `count` rows.
 pub(crate) fn start<S: Alter>(
     means: Means,
     conn: &mut Connection<S>,
@@ -79,7 +79,7 @@ pub(crate) fn start<S: Alter>(
     }
 }
 
-// Whether more of a file is awaited.
+// Whether the file is still incomplete.
 fn is_open(state: &IncomingState) -> bool
     ensures { result ≡ is_open state.now }
 {
@@ -89,7 +89,7 @@ fn is_open(state: &IncomingState) -> bool
     }
 }
 
-// The file with a number, of which more is awaited.
+// Finds the open incoming file with this number.
 fn open_file<S: Alter>(
     means: Means,
     conn: &mut Connection<S>,
@@ -106,7 +106,7 @@ fn open_file<S: Alter>(
     Ok(file)
 }
 
-// More rows of a file behind those that are here.
+// The edit that appends rows to those that the file has.
 fn more<'x>(no: u64, file: &IncomingProgress, rows: &'x Rows) -> Edit<'x>
     ensures { result ≡ more no file.now.rows rows.entry }
 {
@@ -118,7 +118,7 @@ fn more<'x>(no: u64, file: &IncomingProgress, rows: &'x Rows) -> Edit<'x>
     Edit { no, deed }
 }
 
-/// Keeps more rows of an open file.
+/// Appends rows to an open file.
 pub(crate) fn keep<S: Alter>(
     means: Means,
     conn: &mut Connection<S>,
@@ -132,7 +132,7 @@ pub(crate) fn keep<S: Alter>(
     make_edits(conn, &[more(no, &file, rows)])
 }
 
-/// Keeps the last rows of an open file, which is whole then.
+/// Appends the last rows to an open file and marks it as whole.
 pub(crate) fn close<S: Alter>(
     means: Means,
     conn: &mut Connection<S>,
@@ -147,7 +147,7 @@ pub(crate) fn close<S: Alter>(
     make_edits(conn, &[more(no, &file, rows), Edit { no, deed: whole }])
 }
 
-/// Gives up the rows of an open file.
+/// Deletes all rows of an open file.
 pub(crate) fn give_up<S: Alter>(
     means: Means,
     conn: &mut Connection<S>,

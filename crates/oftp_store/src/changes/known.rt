@@ -1,4 +1,4 @@
-//! What is here of the file that a change names by its number, and whether that allows the change.
+//! The file that a change names by its number, and whether its state allows the change.
 
 ghost use Rattle.std.specs.Prelude.{◌≡◌, IfErr, IfOk, OnOk, false, true};
 ghost use Rattle.sqlite.specs.Held.{state};
@@ -10,7 +10,7 @@ use crate::queries::progress::Progress;
 use oftp_register::{Cause, OfficeFault};
 use sqlite::{Alter, Connection};
 
-/// What a change asks of the file that it names.
+/// Finds what a change needs to know of the file with this number. It refuses the change as `Unknown` where there is no such file.
 pub(crate) fn known<P: Progress, S: Alter>(
     means: Means,
     conn: &mut Connection<S>,
@@ -30,7 +30,7 @@ pub(crate) fn known<P: Progress, S: Alter>(
     }
 }
 
-/// The refusal of a change that the state of its file doesn't allow.
+/// Refuses a change that the state of its file doesn't allow.
 pub(crate) fn allowed(is_allowed: bool) -> Result<(), OfficeFault>
     ensures ok { OnOk result (is_allowed ≡ true) }
     ensures err { IfErr result (λ fault. (is_allowed ≡ false) × (fault ≡ OfficeFault.Refused Cause.State)) }

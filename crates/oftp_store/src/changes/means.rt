@@ -1,9 +1,9 @@
-//! What a change of the register is made with.
+//! What the change of a register needs besides the connection.
 
 use oftp_vfile::Limits;
 use std::alloc::Global;
 
-/// Memory, and how much the register may hold.
+/// The allocator, and the limits of the register.
 #[derive(Clone, Copy, Drop)]
 pub(crate) struct Means {
     pub alloc: Global,

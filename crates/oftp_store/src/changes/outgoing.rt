@@ -18,7 +18,7 @@ use oftp_vfile::{Format, Rows};
 use oftp_wire::{Count, Text};
 use sqlite::{Alter, Connection};
 
-/// Adds a file that goes, with its rows.
+/// Adds an outgoing file with all its rows.
 pub(crate) fn submit<S: Alter>(
     means: Means,
     conn: &mut Connection<S>,
@@ -52,7 +52,7 @@ pub(crate) fn submit<S: Alter>(
     }
 }
 
-// Whether the file is to be sent.
+// Whether the file is waiting to be sent.
 fn is_waiting(state: &OutgoingState) -> bool
     ensures { result ≡ is_waiting state.now }
 {
@@ -62,7 +62,7 @@ fn is_waiting(state: &OutgoingState) -> bool
     }
 }
 
-// Whether its end was sent, and the answer is awaited.
+// Whether the end of the file was sent and its answer is still missing.
 fn is_closing(state: &OutgoingState) -> bool
     ensures { result ≡ is_closing state.now }
 {
@@ -72,21 +72,21 @@ fn is_closing(state: &OutgoingState) -> bool
     }
 }
 
-// Whether the partner may still refuse it: it is to be sent, or its end was sent.
+// Whether the partner may still refuse the file: it is waiting, or its end was sent.
 fn is_on_its_way(state: &OutgoingState) -> bool
     ensures { result ≡ (is_waiting state.now || is_closing state.now) }
 {
     is_waiting(state) || is_closing(state)
 }
 
-// Whether credit may cover so many rows of a file: it is to be sent, and has as many.
+// Whether the file is waiting and has at least `rows` rows, so that these may be marked.
 fn may_be_covered(file: &OutgoingProgress, rows: u64) -> bool
     ensures { result ≡ (is_waiting file.now.state && nat_le rows file.now.rows) }
 {
     is_waiting(&file.state) && rows <= u64::from(file.rows)
 }
 
-// Mark and state of a file.
+// The edit that sets mark and state of a file.
 fn outgoing_edit(no: u64, mark: u32, state: OutgoingState) -> Edit<'static>
     ensures { result ≡ outgoing_edit no mark state }
 {
@@ -94,7 +94,7 @@ fn outgoing_edit(no: u64, mark: u32, state: OutgoingState) -> Edit<'static>
     Edit { no, deed }
 }
 
-/// Has so many rows of a waiting file covered by credit.
+/// Sets the mark of a waiting file: `rows` rows are known to be kept by the partner.
 pub(crate) fn mark<S: Alter>(
     means: Means,
     conn: &mut Connection<S>,
@@ -110,7 +110,7 @@ pub(crate) fn mark<S: Alter>(
     make_edits(conn, &[edit])
 }
 
-/// Has the end of a waiting file sent next.
+/// Puts a waiting file into the state in which its end is sent next.
 pub(crate) fn begin_closing<S: Alter>(
     means: Means,
     conn: &mut Connection<S>,
@@ -125,7 +125,7 @@ pub(crate) fn begin_closing<S: Alter>(
     make_edits(conn, &[edit])
 }
 
-/// Sets a file handed over whose end was sent.
+/// Marks a file whose end was sent as handed over.
 pub(crate) fn hand_over<S: Alter>(
     means: Means,
     conn: &mut Connection<S>,
@@ -140,7 +140,7 @@ pub(crate) fn hand_over<S: Alter>(
     make_edits(conn, &[edit])
 }
 
-/// Sets a file refused that waits, or whose end was sent.
+/// Marks a file as refused that is waiting, or whose end was sent.
 pub(crate) fn refuse<S: Alter>(
     means: Means,
     conn: &mut Connection<S>,
@@ -156,7 +156,7 @@ pub(crate) fn refuse<S: Alter>(
     make_edits(conn, &[edit])
 }
 
-/// Has a file whose end was sent wait again, from its first row on.
+/// Reopens a file whose end was sent: it waits again, with mark 0.
 pub(crate) fn reopen<S: Alter>(
     means: Means,
     conn: &mut Connection<S>,

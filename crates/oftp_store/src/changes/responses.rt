@@ -19,7 +19,7 @@ use oftp_register::{
 use oftp_wire::{Count, Text};
 use sqlite::{Alter, Connection};
 
-// Where a response leaves the file that it settles.
+// The state of an outgoing file after its response.
 fn answered_as(kind: ResponseKind) -> OutgoingState
     ensures { result ≡ answered_as kind }
 {
@@ -29,7 +29,7 @@ fn answered_as(kind: ResponseKind) -> OutgoingState
     }
 }
 
-/// Files a response that came, and settles the file that it answers.
+/// Adds a response that was received, and sets the state of the file that it answers.
 pub(crate) fn file<'x, S: Alter>(
     means: Means,
     conn: &mut Connection<S>,
@@ -74,7 +74,7 @@ pub(crate) fn file<'x, S: Alter>(
     }
 }
 
-// Whether a file may be answered: it is whole and wasn't.
+// Whether a file is whole and has no response yet.
 fn is_answerable(progress: &ResponseProgress) -> bool
     ensures { result ≡ is_answerable progress.now }
 {
@@ -84,7 +84,7 @@ fn is_answerable(progress: &ResponseProgress) -> bool
     }
 }
 
-// Whether the response of a file is due.
+// Whether a file has a response that wasn't sent.
 fn is_sendable(progress: &ResponseProgress) -> bool
     ensures { result ≡ is_sendable progress.now }
 {
@@ -95,7 +95,7 @@ fn is_sendable(progress: &ResponseProgress) -> bool
     }
 }
 
-/// Issues the response to a whole incoming file.
+/// Adds the response to an incoming file that is whole.
 pub(crate) fn issue<S: Alter>(
     means: Means,
     conn: &mut Connection<S>,
@@ -113,7 +113,7 @@ pub(crate) fn issue<S: Alter>(
     make_edits(conn, &[Edit { no, deed }])
 }
 
-/// Sets the response to an incoming file sent.
+/// Marks the response to an incoming file as sent.
 pub(crate) fn send<S: Alter>(
     means: Means,
     conn: &mut Connection<S>,

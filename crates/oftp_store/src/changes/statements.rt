@@ -1,4 +1,4 @@
-//! The statements of the changes, each in a transaction. A number is below 2^63.
+//! The SQL statements of the changes. Each runs in a transaction, with a number below 2^63.
 
 ghost use Rattle.std.specs.Prelude.{◌≡◌, ◌+◌, ◌<◌, ◌^◌, [], ◌∷◌, length};
 ghost use Rattle.sqlite.specs.Values.{bound};
@@ -17,7 +17,7 @@ use oftp_wire::{Count, Text};
 use sqlite::types::ValueRef;
 use sqlite::{Alter, Error, Transaction, params};
 
-// What a statement came to, however many rows it changed.
+// The outcome of a statement, without the number of rows that it changed.
 fn done(count: Result<usize, Error>) -> Result<(), Error>
     ensures { result ≡ uncounted count }
 {
@@ -27,7 +27,7 @@ fn done(count: Result<usize, Error>) -> Result<(), Error>
     }
 }
 
-// The two digits of a reason.
+// The two decimal digits of a reason code.
 fn two_digits(reason: Count<2>) -> ArrayVec<u8, 2>
     ensures digits { result.items ≡ decimal 2 reason }
     ensures small { reason < 100 }
@@ -39,7 +39,7 @@ fn two_digits(reason: Count<2>) -> ArrayVec<u8, 2>
     digits
 }
 
-// The reason of a refused file, and nothing for another.
+// The reason of a refused file as the database stores it, and an empty text for any other file.
 fn refusal_text(state: OutgoingState) -> ArrayVec<u8, 2>
     ensures text { result.items ≡ refusal_text state }
     ensures small { HasRefusal state }
@@ -50,7 +50,7 @@ fn refusal_text(state: OutgoingState) -> ArrayVec<u8, 2>
     }
 }
 
-// The reason of a negative response, and nothing for another.
+// The reason of a Negative End Response as the database stores it, and an empty text for an End-to-End Response.
 fn reason_text(kind: ResponseKind, reason: Count<2>) -> ArrayVec<u8, 2>
     ensures text { result.items ≡ reason_text kind reason }
     ensures small { reason < 100 }
@@ -62,7 +62,7 @@ fn reason_text(kind: ResponseKind, reason: Count<2>) -> ArrayVec<u8, 2>
     }
 }
 
-// The state of an outgoing file as the tables have it.
+// The state of an outgoing file as the database stores it.
 fn state_text(state: &OutgoingState) -> &'static str
     ensures { result.now ≡ out_state_text state.now }
 {
@@ -76,7 +76,7 @@ fn state_text(state: &OutgoingState) -> &'static str
     }
 }
 
-// The format as the tables have it.
+// The format as the database stores it.
 fn format_text(format: Format) -> &'static str
     ensures { result.now ≡ format_text format }
 {
@@ -88,7 +88,7 @@ fn format_text(format: Format) -> &'static str
     }
 }
 
-// The kind of response as the tables have it.
+// The kind of response as the database stores it.
 fn kind_text(kind: ResponseKind) -> &'static str
     ensures { result.now ≡ kind_text kind }
 {
@@ -98,7 +98,7 @@ fn kind_text(kind: ResponseKind) -> &'static str
     }
 }
 
-/// Sets mark and state of an outgoing file.
+/// Sets the mark and the state of an outgoing file.
 pub(crate) fn set_outgoing<S: Alter>(
     tx: &mut Transaction<'_, S>,
     no: u64,
@@ -121,7 +121,7 @@ pub(crate) fn set_outgoing<S: Alter>(
     ))
 }
 
-/// Sets the header of an incoming file, but for its identity.
+/// Sets the header of an incoming file, except its identity.
 pub(crate) fn set_header<S: Alter>(
     tx: &mut Transaction<'_, S>,
     no: u64,
@@ -139,7 +139,7 @@ pub(crate) fn set_header<S: Alter>(
     ))
 }
 
-/// Sets an incoming file whole.
+/// Marks an incoming file as whole.
 pub(crate) fn set_whole<S: Alter>(tx: &mut Transaction<'_, S>, no: u64) -> Result<(), Error>
     requires { no < 2 ^ 63 }
     ensures same_reference { tx.new.conn.ghost_name ≡ tx.old.conn.ghost_name }
@@ -151,7 +151,7 @@ pub(crate) fn set_whole<S: Alter>(tx: &mut Transaction<'_, S>, no: u64) -> Resul
     ))
 }
 
-/// Sets the response to an incoming file sent.
+/// Marks the response to an incoming file as sent.
 pub(crate) fn set_sent<S: Alter>(tx: &mut Transaction<'_, S>, no: u64) -> Result<(), Error>
     requires { no < 2 ^ 63 }
     ensures same_reference { tx.new.conn.ghost_name ≡ tx.old.conn.ghost_name }
@@ -163,7 +163,7 @@ pub(crate) fn set_sent<S: Alter>(tx: &mut Transaction<'_, S>, no: u64) -> Result
     ))
 }
 
-// The values of the columns that both tables of files have.
+// The parameters of the columns that the tables of incoming and outgoing files share.
 fn header_values<'x>(
     no: u64,
     identity: &'x Identity,
@@ -187,7 +187,7 @@ fn header_values<'x>(
     ]
 }
 
-// The text that adds a file of a side.
+// The SQL that adds a file.
 fn add_file_text(side: Side) -> &'static str
     ensures { result.now ≡ add_file_text side }
 {
@@ -201,7 +201,7 @@ fn add_file_text(side: Side) -> &'static str
     }
 }
 
-/// Adds a file without rows: an incoming one is open, an outgoing one waits.
+/// Adds a file without rows. An incoming file is then open, an outgoing file waits.
 pub(crate) fn add_file<'x, S: Alter>(
     tx: &mut Transaction<'_, S>,
     side: Side,
@@ -221,7 +221,7 @@ pub(crate) fn add_file<'x, S: Alter>(
     ))
 }
 
-/// Adds the response to an incoming file, which is due.
+/// Adds a response, which is due, to an incoming file.
 pub(crate) fn add_issued<S: Alter>(
     tx: &mut Transaction<'_, S>,
     no: u64,
@@ -245,7 +245,7 @@ pub(crate) fn add_issued<S: Alter>(
     ))
 }
 
-// Adds a response that came, without its note.
+// Adds a received response without its note.
 fn add_noteless<S: Alter>(
     tx: &mut Transaction<'_, S>,
     no: u64,
@@ -273,7 +273,7 @@ fn add_noteless<S: Alter>(
     ))
 }
 
-// Adds the note of a negative response.
+// Adds the note of a received Negative End Response.
 fn add_note<'x, S: Alter>(
     tx: &mut Transaction<'_, S>,
     no: u64,
@@ -294,7 +294,7 @@ fn add_note<'x, S: Alter>(
     ))
 }
 
-/// Takes the rows of an incoming file away, from a position on.
+/// Deletes the rows of an incoming file from position `count` on.
 pub(crate) fn cut_rows<S: Alter>(
     tx: &mut Transaction<'_, S>,
     no: u64,
@@ -310,7 +310,7 @@ pub(crate) fn cut_rows<S: Alter>(
     ))
 }
 
-// The text that adds a row to a file of a side.
+// The SQL that adds a row to a file.
 fn add_row_text(side: Side) -> &'static str
     ensures { result.now ≡ add_row_text side }
 {
@@ -320,7 +320,7 @@ fn add_row_text(side: Side) -> &'static str
     }
 }
 
-/// Adds rows to a file, behind those that it has.
+/// Appends rows to a file that has `from` rows.
 pub(crate) fn add_rows<S: Alter>(
     tx: &mut Transaction<'_, S>,
     side: Side,
@@ -342,7 +342,7 @@ pub(crate) fn add_rows<S: Alter>(
     Ok(())
 }
 
-/// Adds a response that came. An end response has no creator and no text.
+/// Adds a received response. An End-to-End Response has neither creator nor text.
 pub(crate) fn add_received<S: Alter>(
     tx: &mut Transaction<'_, S>,
     no: u64,

@@ -1,4 +1,4 @@
-//! The transaction of a change.
+//! The transaction that makes a change.
 
 ghost use Rattle.std.specs.Prelude.{◌≡◌, ◌↔◌, IsTrue, false};
 ghost use Rattle.oftp_tables.specs.Statements.{Performs};
@@ -15,7 +15,7 @@ use oftp_register::OfficeFault;
 use oftp_tables::office_fault_of;
 use sqlite::{Alter, Connection, Error, Transaction};
 
-// Whether the database can hold what an edit makes.
+// Whether the database can store what an edit writes.
 fn is_storable(edit: &Edit<'_>) -> bool
     ensures { IsTrue result ↔ IsStorable edit.now }
 {
@@ -26,7 +26,7 @@ fn is_storable(edit: &Edit<'_>) -> bool
     edit.no < FIRST_FAR && has_room
 }
 
-// Makes an edit, which the database can hold.
+// Executes one edit that the database can store.
 fn perform<S: Alter>(tx: &mut Transaction<'_, S>, edit: &Edit<'_>) -> Result<(), Error>
     requires { IsStorable edit.now }
     ensures same_reference { tx.new.conn.ghost_name ≡ tx.old.conn.ghost_name }
@@ -62,7 +62,7 @@ fn perform<S: Alter>(tx: &mut Transaction<'_, S>, edit: &Edit<'_>) -> Result<(),
     }
 }
 
-/// Makes edits in turn, in one transaction, and tells a fault of the office. Edits that the database can't hold are one too.
+/// Executes edits in order, in one transaction. Edits that the database can't store return [`OfficeFault::Store`], and nothing is done.
 pub(crate) fn make_edits<S: Alter>(
     conn: &mut Connection<S>,
     edits: &[Edit<'_>],

@@ -1,4 +1,4 @@
-//! The law of an office, over a SQLite database.
+//! The implementation of `Office` for [`SqlOffice`].
 
 ghost use Rattle.std.specs.Prelude.{◌≡◌, ◌||◌, ◌^◌, nat_le, nat_lt};
 ghost use Rattle.sqlite.specs.Held.{state};
@@ -20,7 +20,7 @@ use oftp_register::{
 use oftp_vfile::{Limits, MOST_ROWS, Rows};
 use sqlite::Alter;
 
-// Counts a fault.
+// Counts an error of the store or out of memory. A refusal isn't counted.
 fn counted<T>(faults: &mut u64, found: Result<T, OfficeFault>) -> Result<T, OfficeFault>
     ensures same { result ≡ found }
     ensures counts { Counts faults.old faults.new found }
@@ -39,7 +39,8 @@ fn counted<T>(faults: &mut u64, found: Result<T, OfficeFault>) -> Result<T, Offi
     }
 }
 
-// Whether a file with a number has no row from one on in any register: the store can't hold the number, or so many rows.
+// Whether no register can have a row from `from` on of the file `no`: the number is too large for the store, or `from` exceeds the rows
+// that a file may have.
 fn is_past(no: u64, from: u64) -> bool
     ensures { result ≡ (nat_le (2 ^ 63) no || nat_lt MOST_ROWS from) }
 {

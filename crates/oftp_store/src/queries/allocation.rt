@@ -1,4 +1,4 @@
-//! Where the file of an identity is, or where it goes.
+//! Whether there is a file of an identity, and else the number of a new one.
 
 ghost use Rattle.std.specs.Prelude.{◌≡◌, ◌+◌, ◌≤◌, ◌<◌, ◌^◌, ⊤, nat_le, if◌then◌else◌, Ok, Err, IfOk, IfErr};
 ghost use Rattle.sqlite.specs.Held.{state};
@@ -15,29 +15,29 @@ use oftp_vfile::Limits;
 use sqlite::{Alter, Connection};
 use std::alloc::Global;
 
-/// Where the file of an identity is, or where it goes.
+/// Whether there is a file of an identity, and else the number of a new one.
 #[derive(Drop)]
 pub(crate) enum Allocation {
-    /// It has this number.
+    /// There is one, with this number.
     Existing(u64),
-    /// There is none, and a new one gets this number.
+    /// There is none. A new one gets this number.
     New(u64),
-    /// There is none, and the table has as many files as it may.
+    /// There is none, and the table has as many files as the limits allow.
     Full,
 }
 
-/// What is here of a file that comes.
+/// What a start finds of an incoming file.
 #[derive(Drop)]
 pub(crate) enum IncomingAllocation {
-    /// It has this number, and has come so far.
+    /// There is one, with this number and this progress.
     Known { no: u64, progress: IncomingProgress },
-    /// Nothing, and it gets this number.
+    /// There is none. A new one gets this number.
     New(u64),
-    /// Nothing, and the table has as many files as it may.
+    /// There is none, and the table has as many files as the limits allow.
     Full,
 }
 
-// Where a new file goes in a table with so many.
+// The allocation of a new file in a table with `last` files.
 fn allocation_after(limits: Limits, last: u64) -> Result<Allocation, OfficeFault>
     ensures allocation { IfOk result (λ allocation. allocation ≡ allocation_after limits last) }
     ensures small { IfOk result HasSmallNumber }
@@ -49,11 +49,11 @@ fn allocation_after(limits: Limits, last: u64) -> Result<Allocation, OfficeFault
     Ok(Allocation::New(number_after(last)?))
 }
 
-/// Where the file of an identity is, or where it goes.
+/// Whether there is a file of an identity, and else the number of a new one.
 ///
 /// # Errors
 ///
-/// [`OfficeFault::Memory`] where no number is left, and the faults of a look-up.
+/// [`OfficeFault::Memory`] also where no number is left, and the errors of a look-up.
 pub(crate) fn find_allocation<S: Alter>(
     conn: &mut Connection<S>,
     limits: Limits,
@@ -71,11 +71,11 @@ pub(crate) fn find_allocation<S: Alter>(
     allocation_after(limits, last)
 }
 
-/// What is here of the file of an identity that comes.
+/// What a start finds of the incoming file of an identity.
 ///
 /// # Errors
 ///
-/// [`OfficeFault::Memory`] where no number is left, and the faults of a look-up.
+/// [`OfficeFault::Memory`] also where no number is left, and the errors of a look-up.
 pub(crate) fn find_incoming_allocation<S: Alter>(
     alloc: Global,
     conn: &mut Connection<S>,

@@ -1,4 +1,4 @@
-//! What the tables have of an entry in one row, by its number.
+//! Queries for the one row that a table has of an entry, by the entry's number.
 
 ghost use Rattle.std.specs.Prelude.{◌≡◌, ◌<◌, ◌^◌, ℕ, List, Option, IfOk, IfErr, IfSome};
 ghost use Rattle.sqlite.specs.declared.types.Value.{Value};
@@ -15,25 +15,25 @@ use oftp_tables::number;
 use sqlite::{Alter, Connection, Row, params};
 use std::alloc::Global;
 
-/// What a table has of an entry in one row, which the entry's number finds.
+/// A value that a table stores in one row, under the number of its entry.
 pub(crate) trait ByNumber: Sized {
-    // what a row tells
+    // the value that a row is read as
     ghost told: { List Value → Self };
 
-    // the columns of one
+    // the columns of a value
     ghost values: { Self → List Value };
 
-    // what holds of one whatever the register
+    // what holds of a value that was read, whatever the register
     ghost is_within: { Self → Type 0 };
 
-    // what one tells of the entry of a register with a number
+    // what is read, compared with the entry with a number in a register
     ghost is_found: { Register → ℕ → Option Self → Type 0 };
 
-    /// The text that asks for the row with a number.
+    /// The SQL that selects the row with a number.
     fn query() -> &'static str
         ensures { FindsByNumber result.now told is_found };
 
-    /// What a row tells. A row that is none of the table's, whatever the entry, is a fault of the store.
+    /// Reads the value from a row. A row that no entry could have is an error of the store.
     fn from_row(alloc: Global, row: &Row) -> Result<Self, OfficeFault>
         ensures told { IfOk result (λ x. x ≡ told row.now) }
         ensures fits { IfOk result (λ x. TellsValues (values x) 0 row.now) }
@@ -41,7 +41,7 @@ pub(crate) trait ByNumber: Sized {
         ensures fails { IfErr result IsFailure };
 }
 
-/// What the table has of the entry with a number, if there is one.
+/// The value of the entry with a number, if there is one.
 pub(crate) fn find<T: ByNumber, S: Alter>(
     alloc: Global,
     conn: &mut Connection<S>,

@@ -1,4 +1,4 @@
-//! Files by identity, and the next file to a partner.
+//! Files by identity, and the next file for a partner.
 
 ghost use Rattle.std.specs.Prelude.{◌≡◌, ◌<◌, ◌^◌, IfOk, IfSome};
 ghost use Rattle.sqlite.specs.Held.{state};
@@ -13,7 +13,7 @@ use oftp_register::{Identity, IncomingEntry, Name, OfficeFault, OutgoingEntry, S
 use sqlite::{Alter, Connection};
 use std::alloc::Global;
 
-/// The incoming file of an identity.
+/// The incoming file with this identity.
 pub(crate) fn look_in<S: Alter>(
     alloc: Global,
     conn: &mut Connection<S>,
@@ -29,7 +29,7 @@ pub(crate) fn look_in<S: Alter>(
     }
 }
 
-/// The outgoing file of an identity.
+/// The outgoing file with this identity.
 pub(crate) fn look_out<S: Alter>(
     alloc: Global,
     conn: &mut Connection<S>,
@@ -45,7 +45,7 @@ pub(crate) fn look_out<S: Alter>(
     }
 }
 
-/// The first file to a partner that is waiting or closing, above a number.
+/// The first file for a partner that is waiting or closing, with a number above `tried`.
 pub(crate) fn next_file<S: Alter>(
     alloc: Global,
     conn: &mut Connection<S>,

@@ -1,4 +1,4 @@
-//! The entries of files, by number.
+//! Entries of files, by number.
 
 ghost use Rattle.std.specs.Prelude.{◌≡◌, ◌<◌, ◌^◌, IfOk, IfSome};
 ghost use Rattle.sqlite.specs.Held.{state};
@@ -42,7 +42,7 @@ pub(crate) fn find_incoming_file<S: Alter>(
     }))
 }
 
-/// The outgoing file with a number. A mark above its rows is a fault of the store.
+/// The outgoing file with a number. A mark that exceeds its rows is an error of the store.
 pub(crate) fn find_outgoing_file<S: Alter>(
     alloc: Global,
     conn: &mut Connection<S>,

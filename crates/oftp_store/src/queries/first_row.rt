@@ -1,4 +1,4 @@
-//! The first row of an answer.
+//! Queries of which only the first row is used.
 
 ghost use Rattle.std.specs.Prelude.{◌≡◌, ◌<◌, ◌^◌, IfOk, IfSome};
 ghost use Rattle.sqlite.specs.Held.{state};
@@ -14,7 +14,7 @@ use oftp_tables::{ask, no_at};
 use sqlite::types::ValueRef;
 use sqlite::{Alter, Connection, Row};
 
-/// The first row that a SELECT over the office's tables answers, if there is one.
+/// The first row of a query over the office's tables, if there is one.
 pub(crate) fn first_row<S: Alter>(
     conn: &mut Connection<S>,
     sql: &str,
@@ -28,8 +28,7 @@ pub(crate) fn first_row<S: Alter>(
     Ok(rows.into_iter().next())
 }
 
-/// The number in the first row that such a SELECT answers, if there is one. A value that is no number of an entry is a fault of the
-/// store.
+/// The number in the first row of such a query, if there is one. A value that isn't the number of an entry is an error of the store.
 pub(crate) fn first_number<S: Alter>(
     conn: &mut Connection<S>,
     sql: &str,

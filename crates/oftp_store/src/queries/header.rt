@@ -1,4 +1,4 @@
-//! The headers of files: what their tables have of them, without their rows.
+//! The headers of files, which is what their tables hold besides the rows.
 
 ghost use Rattle.std.specs.Prelude.{◌≡◌, ◌<◌, ◌^◌, ℕ, IfOk, IfSome, IfErr, IsSome};
 ghost use Rattle.oftp_register.specs.declared.entry.OutgoingState.{OutgoingState};
@@ -15,7 +15,7 @@ use oftp_vfile::Format;
 use sqlite::Row;
 use std::alloc::Global;
 
-/// What both tables of files have of one.
+/// The columns that the tables of incoming and of outgoing files share.
 #[derive(Drop)]
 pub(crate) struct FileHeader {
     pub identity: Identity,
@@ -39,7 +39,7 @@ pub(crate) struct OutgoingHeader {
     pub state: OutgoingState,
 }
 
-// What the first columns of a row tell. Columns that are those of neither table, whatever the file, are a fault of the store.
+// Reads these columns from the first columns of a row. Values that no file could have are an error of the store.
 fn file_header_in(alloc: Global, row: &Row) -> Result<FileHeader, OfficeFault>
     ensures told { IfOk result (λ header. header ≡ file_header_in row.now) }
     ensures fits { IfOk result (λ header. TellsValues (file_values header) 0 row.now) }
@@ -61,7 +61,7 @@ fn file_header_in(alloc: Global, row: &Row) -> Result<FileHeader, OfficeFault>
     })
 }
 
-// The mark and the state of an outgoing file that a row tells.
+// Reads the mark and the state of an outgoing file from a row.
 fn mark_and_state_in(row: &Row) -> Option<(u32, OutgoingState)>
     ensures told { IfSome result (λ shown. (shown.0 ≡ (outgoing_header_in row.now).mark) × (shown.1 ≡ (outgoing_header_in row.now).state)) }
     ensures fits { IfSome result (λ shown. TellsValues (mark_and_state_values shown.0 shown.1) 8 row.now) }

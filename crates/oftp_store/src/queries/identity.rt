@@ -1,4 +1,4 @@
-//! Files and responses by identity.
+//! Files and received responses by identity.
 
 ghost use Rattle.std.specs.Prelude.{◌≡◌, ◌<◌, ◌^◌, IfOk, IfSome};
 ghost use Rattle.sqlite.specs.Held.{state};
@@ -14,7 +14,7 @@ use oftp_register::{Identity, OfficeFault, ResponseKind, Side};
 use sqlite::types::ValueRef;
 use sqlite::{Alter, Connection};
 
-// The text that asks for the number of an identity.
+// The SQL that selects the number of the file of an identity.
 fn file_number_text(side: Side) -> &'static str
     ensures { result.now ≡ file_number_text side }
 {
@@ -26,7 +26,7 @@ fn file_number_text(side: Side) -> &'static str
     }
 }
 
-// The text that asks for a response of this kind.
+// The SQL that selects the responses of a kind to the file of an identity.
 fn has_filed_text(kind: ResponseKind) -> &'static str
     ensures { result.now ≡ has_filed_text kind }
 {
@@ -38,7 +38,7 @@ fn has_filed_text(kind: ResponseKind) -> &'static str
     }
 }
 
-// The values of the columns of an identity.
+// The parameters of an identity.
 fn identity_values(identity: &Identity) -> [ValueRef<'_>; 5]
     ensures { bound result ≡ identity_values identity.now }
 {
@@ -51,7 +51,7 @@ fn identity_values(identity: &Identity) -> [ValueRef<'_>; 5]
     ]
 }
 
-/// The number of the file of an identity.
+/// The number of the file with this identity.
 pub(crate) fn file_number<S: Alter>(
     conn: &mut Connection<S>,
     side: Side,
@@ -64,7 +64,7 @@ pub(crate) fn file_number<S: Alter>(
     first_number(conn, file_number_text(side), &identity_values(identity))
 }
 
-/// Whether a response of this kind came for the file of an identity.
+/// Whether a response of this kind was received for the file with this identity.
 pub(crate) fn has_filed<S: Alter>(
     conn: &mut Connection<S>,
     kind: ResponseKind,

@@ -1,4 +1,4 @@
-//! The responses to incoming files as they are handed out.
+//! The responses to incoming files, as an office returns them.
 
 ghost use Rattle.std.specs.Prelude.{◌≡◌, ◌<◌, ◌^◌};
 ghost use Rattle.sqlite.specs.Held.{state};
@@ -11,7 +11,7 @@ use oftp_register::{IssuedEntry, IssuedResponse, OfficeFault};
 use sqlite::{Alter, Connection};
 use std::alloc::Global;
 
-/// The response to the incoming file with a number, with what names the file. A response without a file is a fault of the store.
+/// The response to the incoming file with a number, with the file's identity. A response without a file is an error of the store.
 pub(crate) fn find_issued<S: Alter>(
     alloc: Global,
     conn: &mut Connection<S>,

@@ -1,4 +1,4 @@
-//! The last number of a table.
+//! The last number in a table.
 
 ghost use Rattle.std.specs.Prelude.{◌≡◌, ◌+◌, ◌≤◌, ◌<◌, ◌^◌, nat_le, Ok, Err, IfOk};
 ghost use Rattle.sqlite.specs.Held.{state};
@@ -13,18 +13,18 @@ use crate::numbers::FIRST_FAR;
 use oftp_register::{OfficeFault, Side};
 use sqlite::{Alter, Connection};
 
-/// A table whose entries have numbers from 1 on, without gaps.
+/// A table whose entries are numbered from 1 on without gaps.
 #[derive(Clone, Copy, Debug, Drop, PartialEq, Eq)]
 pub(crate) enum Table {
-    /// The files that come from partners.
+    /// The incoming files.
     IncomingFiles,
-    /// The files that go to partners.
+    /// The outgoing files.
     OutgoingFiles,
-    /// The responses that came.
+    /// The received responses.
     ReceivedResponses,
 }
 
-// The text that asks for the last number of a table.
+// The SQL that selects the last number in a table.
 fn last_text(table: Table) -> &'static str
     ensures { result.now ≡ last_text table }
 {
@@ -35,7 +35,7 @@ fn last_text(table: Table) -> &'static str
     }
 }
 
-/// The last number of a table, which is how many entries it has.
+/// The last number in a table, which is how many entries it has. It is 0 in an empty table.
 pub(crate) fn last_number<S: Alter>(
     conn: &mut Connection<S>,
     table: Table,
@@ -48,7 +48,7 @@ pub(crate) fn last_number<S: Alter>(
     Ok(last.unwrap_or(0))
 }
 
-/// The table of the files of a side.
+/// The table of the incoming or of the outgoing files.
 pub(crate) fn table_of(side: Side) -> Table
     ensures is { result ≡ table_of side }
     ensures full { (r : Register) → files_full r side ≡ nat_le r.limits.files (entries_in r result) }
@@ -59,7 +59,7 @@ pub(crate) fn table_of(side: Side) -> Table
     }
 }
 
-/// Whether a table of files has so many, or more.
+/// Whether a table of files has `most` entries or more.
 pub(crate) fn is_full<S: Alter>(
     conn: &mut Connection<S>,
     side: Side,
@@ -72,7 +72,7 @@ pub(crate) fn is_full<S: Alter>(
     Ok(last >= most)
 }
 
-/// The number after this one. Where the database can hold none, this counts as a growth that was refused.
+/// The number after this one. [`OfficeFault::Memory`] where the database can't store it.
 pub(crate) fn number_after(last: u64) -> Result<u64, OfficeFault>
     ensures made { last + 1 < 2 ^ 63 → result ≡ Ok (last + 1) }
     ensures full { 2 ^ 63 ≤ last + 1 → result ≡ Err OfficeFault.Memory }
@@ -84,11 +84,11 @@ pub(crate) fn number_after(last: u64) -> Result<u64, OfficeFault>
     }
 }
 
-/// The number that the next entry of a table gets.
+/// The number of the next entry of a table.
 ///
 /// # Errors
 ///
-/// [`OfficeFault::Memory`] where no number is left, and the faults of a look-up.
+/// [`OfficeFault::Memory`] also where no number is left, and the errors of a look-up.
 pub(crate) fn new_number<S: Alter>(
     conn: &mut Connection<S>,
     table: Table,

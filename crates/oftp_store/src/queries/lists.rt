@@ -1,4 +1,4 @@
-//! All files and responses, in order of number. One entry is read at a time.
+//! Lists of all files and of all responses, in order of their numbers. Each entry is read by a query of its own.
 
 ghost use Rattle.std.specs.Prelude.{◌≡◌, ◌+◌, ◌<◌, ◌^◌, ◌++◌, List, length, slice_get, OnOk, IfErr};
 ghost use Rattle.sqlite.specs.Held.{state};
@@ -17,15 +17,15 @@ use oftp_register::{IncomingEntry, IssuedEntry, OfficeFault, OutgoingEntry, Rece
 use sqlite::{Alter, Connection};
 use std::alloc::Global;
 
-/// Entries of one kind, which have numbers from 1 on, without gaps.
+/// A kind of entry, numbered from 1 on without gaps.
 pub(crate) trait Listed: Sized {
     ghost entries: { Register → List Self };
 
-    /// The table that has an entry for each of them.
+    /// The table with one row for each entry.
     fn table() -> Table
         ensures { (r : Register) → entries_in r result ≡ length (entries r) };
 
-    /// The entry that has so many before it, if there is one.
+    /// The entry after the first `before` ones, if there is one.
     fn find_after<S: Alter>(
         alloc: Global,
         conn: &mut Connection<S>,
@@ -101,7 +101,7 @@ pub(crate) fn list<E: Listed + Drop, S: Alter>(
     Ok(entries)
 }
 
-// One response more, if there is one.
+// Appends an entry, if there is one.
 fn add_if_any(entries: &mut Vec<IssuedEntry>, found: Option<IssuedEntry>) -> Result<(), OfficeFault>
     ensures added { OnOk result (entries.new.items ≡ entries.old.items ++ listed found) }
     ensures fails { IfErr result IsFailure }

@@ -1,4 +1,4 @@
-//! The next item to a partner.
+//! What is sent next to a partner: a file or a response.
 
 ghost use Rattle.std.specs.Prelude.{◌≡◌, ◌≤◌, ◌<◌, ◌+◌, ◌^◌, IfOk, IfSome};
 ghost use Rattle.sqlite.specs.Held.{state};
@@ -14,7 +14,7 @@ use oftp_register::{Cursor, IssuedEntry, Item, Name, OfficeFault};
 use sqlite::{Alter, Connection};
 use std::alloc::Global;
 
-// The number where the database can hold it, and else the greatest that it holds: no entry has a greater one.
+// The number itself where the database can store it, and else the greatest that it can store. No entry has a greater number.
 fn within_store(tried: u64) -> u64
     ensures small { result < 2 ^ 63 }
     ensures same { tried < 2 ^ 63 → result ≡ tried }
@@ -23,7 +23,7 @@ fn within_store(tried: u64) -> u64
     tried.min(FIRST_FAR - 1)
 }
 
-/// The first response that is due to a partner, above a number.
+/// The first response that is due to a partner, with a number above `tried`.
 pub(crate) fn next_response<S: Alter>(
     alloc: Global,
     conn: &mut Connection<S>,
@@ -40,7 +40,7 @@ pub(crate) fn next_response<S: Alter>(
     }
 }
 
-/// What a session sends next to a partner: a response before a file.
+/// What a session sends next to a partner. A response goes before a file.
 pub(crate) fn next_item<S: Alter>(
     alloc: Global,
     conn: &mut Connection<S>,

@@ -1,4 +1,4 @@
-//! What is sent next to a partner.
+//! The number of what is sent next to a partner.
 
 ghost use Rattle.std.specs.Prelude.{◌≡◌, ◌<◌, ◌^◌, IfOk, IfSome};
 ghost use Rattle.sqlite.specs.Held.{state};
@@ -12,16 +12,16 @@ use oftp_tables::number;
 use sqlite::types::ValueRef;
 use sqlite::{Alter, Connection};
 
-/// What is sent to a partner.
+/// A kind of item that is sent to a partner.
 #[derive(Clone, Copy, Debug, Drop, PartialEq, Eq)]
 pub(crate) enum Sendable {
     /// A file that is waiting or closing.
     File,
-    /// A response that is due. It has the number of its file.
+    /// A response that is due. Its number is that of its file.
     Response,
 }
 
-// The text that asks for the number of the next one.
+// The SQL that selects the number of the next item.
 fn next_text(what: Sendable) -> &'static str
     ensures { result.now ≡ next_text what }
 {
@@ -33,7 +33,7 @@ fn next_text(what: Sendable) -> &'static str
     }
 }
 
-/// The number of the first that is sent to a partner, above a number.
+/// The number of the first item for a partner, above `tried`.
 pub(crate) fn next_number<S: Alter>(
     conn: &mut Connection<S>,
     what: Sendable,

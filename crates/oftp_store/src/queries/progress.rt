@@ -1,4 +1,4 @@
-//! What changes ask of the file with a number.
+//! What a change needs to know of the file with a number.
 
 ghost use Rattle.std.specs.Prelude.{◌≤◌, ◌<◌, ◌^◌, ℕ, ⊤, Option, None, IfOk, IfSome};
 ghost use Rattle.sqlite.specs.Tree.{Trees};
@@ -18,15 +18,15 @@ use oftp_register::{Dispatch, IncomingState, IssuedResponse, OfficeFault, Outgoi
 use sqlite::{Alter, Connection};
 use std::alloc::Global;
 
-/// What changes ask of the file with a number.
+/// What a change needs to know of the file with a number.
 pub(crate) trait Progress: Sized {
-    // what is told of the file of a register with a number
+    // what is read, compared with the file with a number in a register
     ghost told: { Register → ℕ → Option Self → Type 0 };
 
     // what holds of it whatever the register
     ghost is_within: { Self → Type 0 };
 
-    /// That of the file with a number, if there is one.
+    /// Reads it for the file with a number, if there is one.
     fn find<S: Alter>(
         alloc: Global,
         conn: &mut Connection<S>,
@@ -40,15 +40,15 @@ pub(crate) trait Progress: Sized {
     ghost beyond: { (r : Register) (db : Trees) (n : ℕ) → Tables r db → 2 ^ 63 ≤ n → told r n None };
 }
 
-/// How far an incoming file has come.
+/// What a change needs to know of an incoming file.
 #[derive(Drop)]
 pub(crate) struct IncomingProgress {
     pub state: IncomingState,
-    /// How many rows are here.
+    /// How many rows were received.
     pub rows: u32,
 }
 
-/// How far an outgoing file has come.
+/// What a change needs to know of an outgoing file.
 #[derive(Drop)]
 pub(crate) struct OutgoingProgress {
     pub mark: u32,
@@ -57,7 +57,7 @@ pub(crate) struct OutgoingProgress {
     pub rows: u32,
 }
 
-/// Whether an incoming file is whole, and whether its response was sent, if one was issued.
+/// The state of an incoming file, and whether its response was sent, if one was issued.
 #[derive(Drop)]
 pub(crate) struct ResponseProgress {
     pub state: IncomingState,

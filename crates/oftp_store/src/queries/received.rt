@@ -1,4 +1,4 @@
-//! The responses that came, by number.
+//! The received responses, by number.
 
 ghost use Rattle.std.specs.Prelude.{◌≡◌, ◌<◌, ◌^◌, [], ⊤, IfOk, IfErr};
 ghost use Rattle.sqlite.specs.Held.{state};
@@ -17,7 +17,7 @@ use oftp_wire::{Count, Text, X};
 use sqlite::{Alter, Connection, Row};
 use std::alloc::Global;
 
-/// A response that came without its texts.
+/// A received response without its texts.
 #[derive(Drop)]
 pub(crate) struct ReceivedHeader {
     pub kind: ResponseKind,
@@ -25,7 +25,7 @@ pub(crate) struct ReceivedHeader {
     pub reason: Count<2>,
 }
 
-/// The texts of a response that came.
+/// The texts of a received response.
 #[derive(Drop)]
 pub(crate) struct ReceivedNote {
     pub creator: Name<25>,
@@ -57,7 +57,7 @@ impl ByNumber for ReceivedHeader {
     }
 }
 
-// The texts of a negative response: the other kind has none.
+// The texts of a Negative End Response. An End-to-End Response has none.
 impl ByNumber for ReceivedNote {
     ghost told = { received_note_in };
 
@@ -78,7 +78,7 @@ impl ByNumber for ReceivedNote {
     }
 }
 
-// No texts.
+// The texts of an End-to-End Response, which are empty.
 fn empty_note(alloc: Global) -> Result<ReceivedNote, OfficeFault>
     ensures told { IfOk result (λ note. note ≡ record { creator = []; text = [] }) }
     ensures fails { IfErr result IsFailure }
@@ -92,7 +92,7 @@ fn empty_note(alloc: Global) -> Result<ReceivedNote, OfficeFault>
     })
 }
 
-// A response with its number and texts.
+// The entry of a received response.
 fn entry_of(no: u64, header: ReceivedHeader, note: ReceivedNote) -> ReceivedEntry
     ensures { result ≡ received_entry_of no header note }
 {
@@ -108,7 +108,7 @@ fn entry_of(no: u64, header: ReceivedHeader, note: ReceivedNote) -> ReceivedEntr
     }
 }
 
-/// The response that came with a number. A negative one without its texts is a fault of the store.
+/// The received response with a number. A Negative End Response without its texts is an error of the store.
 pub(crate) fn find_received<S: Alter>(
     alloc: Global,
     conn: &mut Connection<S>,

@@ -1,4 +1,4 @@
-//! The responses to incoming files, as their table has them.
+//! The responses to incoming files, as their table stores them.
 
 ghost use Rattle.std.specs.Prelude.{◌≡◌, ◌↔◌, [], IsTrue};
 ghost use Rattle.oftp_register.specs.Soundness.{IsResponse, IsSound};
@@ -11,7 +11,7 @@ use oftp_wire::{Count, Text};
 use sqlite::Row;
 use std::alloc::Global;
 
-// Whether a response gives what it may: an end response neither a reason nor a text.
+// Whether the fields fit the kind of the response. An End-to-End Response has neither reason nor text.
 fn is_fit(kind: ResponseKind, reason: Count<2>, text: &Note) -> bool
     ensures { IsTrue result ↔ IsResponse kind reason [] text.now }
 {

@@ -1,4 +1,4 @@
-//! What a response that comes finds.
+//! What a received response refers to.
 
 ghost use Rattle.std.specs.Prelude.{◌≡◌};
 ghost use Rattle.sqlite.specs.Held.{state};
@@ -13,26 +13,26 @@ use oftp_register::{Identity, OfficeFault, OutgoingState, ResponseKind, Side};
 use sqlite::{Alter, Connection};
 use std::alloc::Global;
 
-/// An outgoing file that a response settles.
+/// An outgoing file whose state a response sets.
 #[derive(Drop)]
 pub(crate) struct SettledFile {
     pub no: u64,
-    /// How many of its rows are covered by credit.
+    /// How many of its rows were acknowledged by CDT.
     pub mark: u32,
 }
 
-/// How a response that comes is filed.
+/// How a received response is stored.
 #[derive(Drop)]
 pub(crate) enum ResponseMatch {
-    /// One of its kind came before.
+    /// A response of this kind was received before.
     Duplicate,
-    /// It gets this number, and settles no file.
+    /// It gets this number. No file is awaiting it.
     Unmatched(u64),
-    /// It gets this number, and settles a file.
+    /// It gets this number, and sets the state of a file.
     Matched { no: u64, file: SettledFile },
 }
 
-// Whether the end of a file was sent and no response came.
+// Whether the end of a file was sent and no response was received.
 fn is_awaiting(state: &OutgoingState) -> bool
     ensures { result ≡ is_awaiting state.now }
 {
@@ -42,7 +42,7 @@ fn is_awaiting(state: &OutgoingState) -> bool
     }
 }
 
-/// The outgoing file of an identity that a response settles.
+/// The outgoing file with this identity, if it awaits a response.
 pub(crate) fn find_settled_file<S: Alter>(
     alloc: Global,
     conn: &mut Connection<S>,
@@ -64,11 +64,11 @@ pub(crate) fn find_settled_file<S: Alter>(
     }))
 }
 
-/// How a response to the file of an identity is filed.
+/// How a received response to the file with this identity is stored.
 ///
 /// # Errors
 ///
-/// [`OfficeFault::Memory`] where no number is left, and the faults of a look-up.
+/// [`OfficeFault::Memory`] also where no number is left, and the errors of a look-up.
 pub(crate) fn find_response_match<S: Alter>(
     alloc: Global,
     conn: &mut Connection<S>,

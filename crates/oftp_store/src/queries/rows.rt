@@ -18,7 +18,7 @@ use oftp_vfile::{MOST_ROWS, Rows};
 use sqlite::{Alter, Connection, Row, params};
 use std::alloc::Global;
 
-// The text that asks for the last row of a file.
+// The SQL that selects the position of the last row of a file.
 fn last_row_text(side: Side) -> &'static str
     ensures { result.now ≡ last_row_text side }
 {
@@ -28,7 +28,7 @@ fn last_row_text(side: Side) -> &'static str
     }
 }
 
-// The text that asks for rows of a file from a position on.
+// The SQL that selects some rows of a file from a position on.
 fn some_rows_text(side: Side) -> &'static str
     ensures { result.now ≡ some_rows_text side }
 {
@@ -40,7 +40,7 @@ fn some_rows_text(side: Side) -> &'static str
     }
 }
 
-// How many rows there are up to this last one, which tells its position, if there is one.
+// The number of rows of a file, from the position of its last row, if there is one.
 fn count_to(last: Option<Row>) -> Result<u32, OfficeFault>
     ensures told { IfOk result (TellsCount last) }
     ensures few { IfOk result (λ count. count ≤ MOST_ROWS) }
@@ -55,7 +55,7 @@ fn count_to(last: Option<Row>) -> Result<u32, OfficeFault>
     }
 }
 
-/// How many rows the file with a number has, 0 where there is none.
+/// The number of rows of the file with this number, or 0 where there is no such file.
 pub(crate) fn count_rows<S: Alter>(
     conn: &mut Connection<S>,
     side: Side,
@@ -70,7 +70,7 @@ pub(crate) fn count_rows<S: Alter>(
     count_to(last)
 }
 
-// The bodies that an answer tells.
+// The contents of the rows that a query returned.
 fn bodies_told(alloc: Global, rows: &[Row]) -> Result<Vec<oftp_vfile::Row>, OfficeFault>
     ensures told { IfOk result (λ out. out.items ≡ map (λ row. bytes (column row 0)) rows.now) }
     ensures fails { IfErr result IsFailure }
@@ -83,7 +83,7 @@ fn bodies_told(alloc: Global, rows: &[Row]) -> Result<Vec<oftp_vfile::Row>, Offi
     Ok(out)
 }
 
-/// Rows of the file with a number, from a position on, and so many at most.
+/// At most `most` rows of the file with this number, from position `from` on.
 pub(crate) fn find_rows<S: Alter>(
     alloc: Global,
     conn: &mut Connection<S>,
@@ -100,8 +100,8 @@ pub(crate) fn find_rows<S: Alter>(
     bodies_told(alloc, rows.as_slice())
 }
 
-/// Rows of the file with a number as an office hands them out: from one on, and so many at most. More rows than were asked for, or
-/// than a file may have, are a fault of the store.
+/// Rows of a file as an office returns them: at most `most`, from position `from` on. More rows than were asked for, or than a file may
+/// have, are an error of the store.
 pub(crate) fn rows_of<S: Alter>(
     alloc: Global,
     conn: &mut Connection<S>,

@@ -1,4 +1,4 @@
-//! How many octets the rows of files have.
+//! The number of octets of a file.
 
 ghost use Rattle.std.specs.Prelude.{◌≡◌, ◌≤◌, ◌<◌, ◌+◌, ◌*◌, ◌^◌, length, IfOk, IfErr, IfSome};
 ghost use Rattle.sqlite.specs.Held.{state};
@@ -19,10 +19,10 @@ use oftp_vfile::{BLOCK, Format, Row};
 use sqlite::{Alter, Connection};
 use std::alloc::Global;
 
-// How many rows are held at a time.
+// The number of rows that are read at a time.
 const PAGE: u32 = 64;
 
-// The octets of some rows more. More than a file may have are a fault of the store.
+// Adds the octets of some rows. More than a file may have are an error of the store.
 fn add_units(units: u64, rows: &[Row]) -> Result<u64, OfficeFault>
     requires { units ≤ MOST_UNITS }
     ensures told { IfOk result (λ sum. sum ≡ units + units_in rows.now) }
@@ -39,7 +39,7 @@ fn add_units(units: u64, rows: &[Row]) -> Result<u64, OfficeFault>
     Ok(sum)
 }
 
-// How many octets the rows of the file with a number have, each of which is read, by pages.
+// The number of octets of a file. Each row is read, in pages.
 fn count_octets<S: Alter>(
     alloc: Global,
     conn: &mut Connection<S>,
@@ -60,7 +60,7 @@ fn count_octets<S: Alter>(
     Ok(units)
 }
 
-// How many octets the records of the file with a number have, each of this length. None of them is read.
+// The number of octets of a file whose records all have `longest` octets. No row is read, only counted.
 fn count_records<S: Alter>(
     conn: &mut Connection<S>,
     side: Side,
@@ -77,7 +77,7 @@ fn count_records<S: Alter>(
     Ok(u64::from(count) * u64::from(longest))
 }
 
-// How many octets the rows of the file with a number have, of which all but the last are full blocks. The last alone is read.
+// The number of octets of a file whose blocks are all full but the last. Only the last one is read.
 fn count_blocks<S: Alter>(
     alloc: Global,
     conn: &mut Connection<S>,
@@ -95,7 +95,7 @@ fn count_blocks<S: Alter>(
     add_units(u64::from(full) * BLOCK as u64, last.as_slice())
 }
 
-// How many octets the rows of the file with a number have, which fit this format and this longest record.
+// The number of octets of a file whose rows fit this format and longest record.
 fn count_in_format<S: Alter>(
     alloc: Global,
     conn: &mut Connection<S>,
@@ -117,7 +117,7 @@ fn count_in_format<S: Alter>(
     }
 }
 
-// The format and the longest record of the file with a number, if there is one.
+// The format and the longest record of the file with this number, if there is one.
 fn find_format<S: Alter>(
     alloc: Global,
     conn: &mut Connection<S>,
@@ -141,8 +141,8 @@ fn find_format<S: Alter>(
     }
 }
 
-/// How many octets the rows of the file with a number have, 0 where there is none. In F no row is read, in U and T the last one, and
-/// in V each, by pages.
+/// The number of octets of the file with this number, or 0 where there is no such file. In format F no row is read, in U and T the last
+/// one, and in V each, in pages.
 pub(crate) fn count_units<S: Alter>(
     alloc: Global,
     conn: &mut Connection<S>,

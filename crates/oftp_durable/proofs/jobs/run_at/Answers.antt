@@ -9,7 +9,7 @@ use Rattle.oftp_store.specs.Shown.{database_of, limits_of, shown}
 use Rattle.oftp_durable.specs.Lists.{ListLeaves}
 use Rattle.oftp_durable.proofs.jobs.run_at.Goals as goal
 
--- the fault that `?` hands on
+-- the error that `?` passes on
 handed_on : {X Y E IsKept : Type 0} (fault other : E) (r : Result X E) → IsErrAnd r (λ x. x ≡ fault) → (it : Result Y E) → it ≡ Err fault
     → (it ≡ Err other) ↔ ¬ IsKept → (r ≡ Err other) ↔ ¬ IsKept
 handed_on {X} {Y} {E} fault other r h it was files =

@@ -19,7 +19,7 @@ returns-in-Ok-clause-migrated g c clean r db is holds stands =
     let read = is_read _ _ (c.in_ok-conn.ensures.opened early) (c.in_ok-conn.ensures.found early).holds in
     is_at_first _ _ read r (subst (IsFirstOf r) (sym (read.holds db holds)) stands))
 
--- a database that has the content of a register's store has the office's tables
+-- a database with the content of a register's store has the office's tables
 has_office : (r : Register) (d : Database) → IsContentOf d.trees r → IsDatabase d → HasOffice d
 has_office r d content sound = record {
   schema = same_schema d.schema d.trees content.store sound;
