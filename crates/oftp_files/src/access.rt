@@ -4,34 +4,34 @@ use std::fs::{File, Metadata, OpenOptions, Permissions};
 use std::io::{self, ErrorKind};
 use std::os::unix::fs::{MetadataExt, OpenOptionsExt, PermissionsExt, fchown};
 
-/// The mode of a file that nobody else may read or write.
+/// Mode bits: only the owner may read and write.
 const PRIVATE: u32 = 0o600;
 
-/// The bits of a mode that say who may read, write and run a file. The others would have it run as its owner or its group.
+/// The permission bits of a mode, without setuid, setgid and sticky.
 const ANYONE: u32 = 0o777;
 
-/// The bits that say so of all who aren't its owner or in its group.
+/// The permission bits for others.
 const OTHERS: u32 = 0o007;
 
-/// The bits that say so of its group.
+/// The permission bits for the group.
 const GROUP: u32 = 0o070;
 
-/// Makes a file where there is none, to be written from its beginning on. Nobody else may read or write it, whatever the umask is.
+/// Creates an empty file for writing. Only its owner may read or write it, whatever the umask is.
 ///
 /// # Errors
-/// The file can't be made. Where something bears the name, a link that leads nowhere too, it stays, and the error says so.
+/// The file can't be created. If the path exists already, even as a dangling link, it is left alone and the error is `AlreadyExists`.
 pub fn make_private(rt: &HostRuntime, path: &str) -> io::Result<File> {
     let file = OpenOptions::new()
         .append(true)
         .create_new(true)
         .mode(PRIVATE)
         .open(rt, path)?;
-    // The umask may have taken away what its owner may do.
+    // The umask may have removed permissions of the owner.
     file.set_permissions(Permissions::from_mode(PRIVATE))?;
     Ok(file)
 }
 
-/// Who may do what with a file, and whose it is.
+/// The permissions and the owner of a file.
 #[derive(Clone, Copy)]
 pub struct Access {
     mode: u32,
@@ -46,7 +46,7 @@ struct Owner {
 }
 
 impl Access {
-    /// That of a file of this mode, which belongs to whoever makes it.
+    /// The permissions of a new file with this mode, which belongs to its creator.
     pub fn of_mode(mode: u32) -> Access {
         Access {
             mode: mode & ANYONE,
@@ -54,7 +54,7 @@ impl Access {
         }
     }
 
-    /// That of a file which is there.
+    /// The permissions and the owner of an existing file.
     pub fn of_file(about: &Metadata) -> Access {
         Access {
             mode: about.mode() & ANYONE,
@@ -65,11 +65,11 @@ impl Access {
         }
     }
 
-    /// Gives it to a file, as far as this process may. Where it may not give the group, the group that the file has may do no more than
-    /// anyone.
+    /// Sets the permissions and the owner of a file, as far as this process may. If it may not set the group, the group gets the
+    /// permissions of others.
     ///
     /// # Errors
-    /// Any of the machine's, but not that this process may not give away a file. The file may have part of the access then.
+    /// Any error of the system, except that this process may not change the owner or group. The file may have part of the access then.
     pub fn give_to(self, file: &File) -> io::Result<()> {
         let mut mode = self.mode;
         if let Some(owner) = self.owner {
@@ -82,7 +82,7 @@ impl Access {
     }
 }
 
-/// Whether an owner or a group was given. A process may give few, and within a namespace of users not each is known.
+/// Whether the owner or group was set. A process may set few of them, and a user namespace doesn't map all of them.
 fn is_given(outcome: io::Result<()>) -> io::Result<bool> {
     match outcome {
         Ok(()) => Ok(true),

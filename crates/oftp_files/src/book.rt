@@ -1,4 +1,4 @@
-//! The partner book that a line names.
+//! The partner book that a command line names.
 
 use crate::files::file_fault;
 use oftp_command_line::Fault;
@@ -7,16 +7,16 @@ use std::alloc::Global;
 use std::fs::{self, OpenFile};
 use std::rt::Files;
 
-/// The book of a file.
+/// Reads a partner book from a file.
 ///
 /// # Errors
-/// [`Fault::File`] where the file can't be read; those of [`book_of`].
+/// [`Fault::File`] if the file can't be read; those of [`book_of`].
 pub fn read_book<R: Files + AllocGlobal>(rt: &R, path: &str) -> Result<Book, Fault> {
     let octets = fs::read(rt, path).map_err(|error| file_fault(&error))?;
     book_of(rt.alloc(), octets.as_slice())
 }
 
-/// The octets of a book's file, and the book that they are.
+/// Reads a partner book from a file, and returns the file's octets with it.
 ///
 /// # Errors
 /// Those of [`read_book`].
@@ -26,10 +26,10 @@ pub fn read_book_octets(rt: &HostRuntime, path: &str) -> Result<(Vec<u8>, Book),
     Ok((octets, book))
 }
 
-/// The book that the octets of a file are.
+/// Parses a partner book.
 ///
 /// # Errors
-/// [`Fault::Book`] where they are no book, with what is wrong in it; [`Fault::MEMORY`].
+/// [`Fault::Book`] if the octets aren't a valid book, with the reason; [`Fault::MEMORY`].
 pub fn book_of(alloc: Global, octets: &[u8]) -> Result<Book, Fault> {
     let Ok(text) = str::from_utf8(octets) else {
         return Err(Fault::Book(BookFault::NotToml));
@@ -37,7 +37,7 @@ pub fn book_of(alloc: Global, octets: &[u8]) -> Result<Book, Fault> {
     partners::read(alloc, text).map_err(book_fault)
 }
 
-/// Want of memory is no fault of the book.
+/// The error for a book that wasn't read. Out of memory isn't an error of the book.
 fn book_fault(fault: BookFault) -> Fault {
     match fault {
         BookFault::Memory => Fault::MEMORY,

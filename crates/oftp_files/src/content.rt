@@ -1,4 +1,4 @@
-//! The content that is handed in, as far as it has to be held to be judged.
+//! Reads the content that is submitted, as far as it is needed to judge it.
 
 use crate::files::{file_fault, open_input};
 use crate::limits::LIMITS;
@@ -7,20 +7,21 @@ use oftp_vfile::{Format, MOST_ROWS};
 use std::fs::{File, Metadata};
 use std::io::Read;
 
-/// How many octets the local form of a file that is kept has at most: the file's, and five digits for each of its records.
+/// The greatest local form of a file within the limits, in octets: its content, and five digits for each record.
 const MOST_CONTENT: u64 = LIMITS.octets + 5 * MOST_ROWS as u64;
 
-/// How many digits tell the length of a record of V.
+/// The number of digits of a record's length in format V.
 const DIGITS: u32 = 5;
 
-/// How many octets are read at once behind what is held.
+/// How many octets are read at once after the part that is kept in memory.
 const PIECE: usize = 4_096;
 
-/// The content of a file. More than any file that is kept may have is held no further than that shows, and so that it's a file of its format
-/// where the whole is one: in F records as many octets too long, in V up to the end of a record. A device is judged by what is held of it.
+/// Reads the content of a file. If it is longer than any file within the limits, only a beginning is kept, which shows that. The beginning
+/// is valid in its format if the whole file is: in format F it leaves the same remainder of a record, and in format V it ends where a
+/// record ends. A device is judged by this beginning alone.
 ///
 /// # Errors
-/// [`Fault::File`] where the file can't be read, or is a folder; [`Fault::MEMORY`].
+/// [`Fault::File`] if the file can't be read, or is a folder; [`Fault::MEMORY`].
 pub fn read_content(rt: &HostRuntime, submit: &Submit<'_>) -> Result<Vec<u8>, Fault> {
     let file = open_input(rt, submit.file)?;
     let about = file.metadata().map_err(|error| file_fault(&error))?;
@@ -32,7 +33,7 @@ pub fn read_content(rt: &HostRuntime, submit: &Submit<'_>) -> Result<Vec<u8>, Fa
     }
 }
 
-/// How many octets of the content are held, at most.
+/// How many octets of the content are read into memory, at most.
 fn most_of(submit: &Submit<'_>, about: &Metadata) -> u64 {
     let longest = u64::from(submit.longest);
     let behind = match submit.format {
@@ -43,8 +44,8 @@ fn most_of(submit: &Submit<'_>, about: &Metadata) -> u64 {
     (MOST_CONTENT + 1).saturating_add(behind)
 }
 
-/// How many octets behind those that are too many leave as many over as the whole, in records of one length. What has no length is taken
-/// for whole records, and records of no length leave nothing.
+/// How many octets to read beyond the first that is too many, so that the beginning leaves the same remainder as the whole file, in records
+/// of one length. A device is taken to have whole records. For records of length 0 the result is 0.
 fn left_over(longest: u64, about: &Metadata) -> u64 {
     if longest == 0 {
         return 0;
@@ -58,7 +59,7 @@ fn left_over(longest: u64, about: &Metadata) -> u64 {
     length.saturating_sub(first) % longest
 }
 
-/// The first octets of a file, at most so many.
+/// Reads the first octets of a file, at most `most`.
 fn read_up_to(rt: &HostRuntime, file: &File, most: u64) -> Result<Vec<u8>, Fault> {
     let mut octets = Vec::new(rt.alloc());
     let mut beginning = Read::take(file, most);
@@ -68,7 +69,7 @@ fn read_up_to(rt: &HostRuntime, file: &File, most: u64) -> Result<Vec<u8>, Fault
     }
 }
 
-/// Cuts what is held of records of V that are too long: where a record ends, or behind the first octet of one where the rest is no records.
+/// Cuts a beginning in format V that is too long: where a record ends, or one octet after that if the rest of the file isn't whole records.
 fn cut_records(
     longest: u32,
     mut octets: Vec<u8>,
@@ -87,20 +88,20 @@ fn cut_records(
     Ok(octets)
 }
 
-/// Records of V as their octets come: five digits of a length, and so many octets.
+/// A parser of records in format V: five digits of a length, then that many octets.
 #[derive(Drop)]
 struct Records {
     longest: u32,
-    /// How many digits of a length came, and the number that they spell.
+    /// The number of digits of the current length so far, and their value.
     digits: u32,
     length: u32,
-    /// How many octets of the record are to come.
+    /// How many octets of the record are still missing.
     left: u32,
     is_faulty: bool,
 }
 
 impl Records {
-    /// Records of which nothing came.
+    /// A parser that has seen nothing.
     fn new(longest: u32) -> Records {
         Records {
             longest,
@@ -111,12 +112,12 @@ impl Records {
         }
     }
 
-    /// Whether what came is whole records.
+    /// Whether all octets so far are whole records.
     fn are_whole(&self) -> bool {
         !self.is_faulty && self.left == 0 && self.digits == 0
     }
 
-    /// Takes the first octets, and answers where the first record ends behind which they are too many, if octets follow there.
+    /// Parses the first octets. Returns the first end of a record beyond the limit, if more octets follow it.
     fn end_behind(&mut self, octets: &[u8]) -> Option<usize> {
         let mut end = None;
         for (at, octet) in octets.iter().enumerate() {
@@ -128,7 +129,7 @@ impl Records {
         end
     }
 
-    /// Takes what a file still has, up to its first fault, and answers whether all is whole records.
+    /// Parses the rest of a file, up to its first fault. Returns whether all octets are whole records.
     fn go_on(&mut self, file: &File) -> Result<bool, Fault> {
         let mut file = file;
         let mut piece = [0; PIECE];
@@ -142,14 +143,14 @@ impl Records {
         Ok(self.are_whole())
     }
 
-    /// Takes octets.
+    /// Parses octets.
     fn take_all(&mut self, octets: &[u8]) {
         for octet in octets {
             self.take(*octet);
         }
     }
 
-    /// Takes an octet.
+    /// Parses an octet.
     fn take(&mut self, octet: u8) {
         if self.left > 0 {
             self.left -= 1;
@@ -160,7 +161,7 @@ impl Records {
         }
     }
 
-    /// Takes a digit of a length.
+    /// Parses a digit of a length.
     fn take_digit(&mut self, digit: u8) {
         let value = u32::from(digit.saturating_sub(b'0'));
         self.length = self.length.saturating_mul(10).saturating_add(value);

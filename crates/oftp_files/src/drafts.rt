@@ -1,4 +1,4 @@
-//! Drafts: files that are written beside the name which they are to bear.
+//! Drafts: temporary files, which are written beside their later name.
 
 use crate::access::make_private;
 use crate::files::{are_of_one_file, file_fault};
@@ -9,22 +9,22 @@ use std::io;
 use std::os::unix::fs::MetadataExt;
 use std::path::{Path, PathBuf};
 
-/// How the name of each draft begins. A number follows that nobody guesses.
+/// The prefix of a draft's name. A random number follows.
 const PREFIX: &str = ".oftp_station_";
 
-/// How many drafts are begun, where others take each for one that a kill left.
+/// How many drafts are tried, if other processes remove each as if a killed process had left it.
 const MOST_TRIES: u32 = 100;
 
-/// A file that is written beside its place. It is locked as long as it is open, so others know that it's still written.
+/// A temporary file beside its later name. It is locked while it is open, which shows other processes that it is in use.
 #[derive(Drop)]
 pub struct Draft {
-    /// The file.
+    /// The open file.
     pub file: File,
-    /// Where it is.
+    /// Its path.
     pub path: PathBuf,
 }
 
-/// An empty draft beside a path, which nobody else may read. Drafts there that a kill left are removed.
+/// Creates an empty draft beside a path, which only its owner may read. Drafts there that killed processes left are removed.
 pub(super) fn new_draft(rt: &HostRuntime, beside: Path<'_>) -> Result<Draft, Fault> {
     sweep(rt, folder_of(beside));
     for _ in 0..MOST_TRIES {
@@ -38,7 +38,8 @@ pub(super) fn new_draft(rt: &HostRuntime, beside: Path<'_>) -> Result<Draft, Fau
     Err(Fault::File)
 }
 
-/// The mode that a file has which anything makes beside a path: by the umask, or by what the folder says. An empty draft shows it.
+/// The mode that a new file beside a path gets, by the umask or the folder's default. It is read from an empty file that is created and
+/// removed.
 pub(super) fn usual_mode(rt: &HostRuntime, beside: Path<'_>) -> Result<u32, Fault> {
     let path = draft_path(rt, beside)?;
     let empty = File::create_new(rt, path.as_str()).map_err(|error| file_fault(&error))?;
@@ -58,7 +59,7 @@ pub(super) fn folder_of<'a>(path: Path<'a>) -> &'a str {
     }
 }
 
-/// A path for a draft beside a path.
+/// A random path for a draft beside a path.
 fn draft_path(rt: &HostRuntime, beside: Path<'_>) -> Result<PathBuf, Fault> {
     let number = drawn(rt).map_err(|error| file_fault(&error))?;
     let name = format!(in rt.alloc(); "{}{number}", PREFIX).map_err(|_| Fault::MEMORY)?;
@@ -67,17 +68,17 @@ fn draft_path(rt: &HostRuntime, beside: Path<'_>) -> Result<PathBuf, Fault> {
         .map_err(|_| Fault::MEMORY)
 }
 
-/// A number that nobody guesses, so that nobody can bear each name before.
+/// A random number, so that nobody can take the names beforehand.
 fn drawn(rt: &HostRuntime) -> io::Result<u64> {
     Ok(RandomState::new(rt)?.hash_one(&0u8))
 }
 
-/// Locks a file, and answers whether no other program had it locked. Where files can't be locked, none has.
+/// Locks a file. Returns whether no other process has it locked. If files can't be locked, no process has.
 fn is_free(file: &File) -> bool {
     !matches!(file.try_lock(), Err(TryLockError::WouldBlock))
 }
 
-/// Whether a file bears a name itself.
+/// Whether a path names this file itself, without following links.
 fn bears(rt: &HostRuntime, file: &File, path: &str) -> bool {
     match (file.metadata(), fs::symlink_metadata(rt, path)) {
         (Ok(about), Ok(named)) => are_of_one_file(&about, &named),
@@ -85,7 +86,7 @@ fn bears(rt: &HostRuntime, file: &File, path: &str) -> bool {
     }
 }
 
-/// Removes the drafts in a folder that no process writes any more. What can't be found or removed stays.
+/// Removes the drafts in a folder that no process writes. Those that can't be found or removed stay.
 fn sweep(rt: &HostRuntime, folder: &str) {
     let Ok(entries) = fs::read_dir(rt, folder) else {
         return;
@@ -99,7 +100,7 @@ fn sweep(rt: &HostRuntime, folder: &str) {
     }
 }
 
-/// Whether a draft may bear this name.
+/// Whether a name may be a draft's.
 fn is_draft(name: &str) -> bool {
     match name.strip_prefix(PREFIX) {
         Some(number) => number.parse::<u64>().is_ok(),
@@ -107,9 +108,9 @@ fn is_draft(name: &str) -> bool {
     }
 }
 
-/// Removes a draft that no process has locked, and before it the log of one that is a database's copy.
+/// Removes a draft that no process has locked. If it is a copy of a database, its log is removed first.
 fn remove_left(rt: &HostRuntime, path: &str) {
-    // What a link leads to isn't opened, nor a device or a pipe.
+    // Links aren't followed, and devices and pipes aren't opened.
     if !is_file(rt, path) {
         return;
     }
@@ -122,7 +123,7 @@ fn remove_left(rt: &HostRuntime, path: &str) {
     }
 }
 
-/// The path of the log of a draft that is a database's copy.
+/// The path of the write-ahead log of a draft that is a copy of a database.
 ///
 /// # Errors
 /// [`Fault::MEMORY`].
@@ -130,14 +131,14 @@ pub fn log_of(rt: &HostRuntime, path: &str) -> Result<String, Fault> {
     format!(in rt.alloc(); "{path}-wal").map_err(|_| Fault::MEMORY)
 }
 
-/// Removes the log of a draft, where there is one.
+/// Removes the write-ahead log of a draft, if there is one.
 pub fn remove_log(rt: &HostRuntime, path: &str) {
     if let Ok(log) = log_of(rt, path) {
         let _ = fs::remove_file(rt, log.as_str());
     }
 }
 
-/// Whether a regular file bears a name.
+/// Whether a path is a regular file, without following links.
 fn is_file(rt: &HostRuntime, path: &str) -> bool {
     match fs::symlink_metadata(rt, path) {
         Ok(named) => named.is_file(),

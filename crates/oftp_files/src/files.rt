@@ -1,4 +1,4 @@
-//! The files that a line names.
+//! The files that a command line names.
 
 use crate::drafts::folder_of;
 use oftp_command_line::Fault;
@@ -8,10 +8,10 @@ use std::os::unix::fs::MetadataExt;
 use std::path::Path;
 use std::rt::Files;
 
-/// What stands behind a database's name in those of the files beside it: its log, those that sqlite3 makes, and the socket of its station.
+/// The endings of the files beside a database: its log, those that sqlite3 makes, and the socket of its station.
 const BESIDE: [&str; 4] = ["-wal", "-shm", "-journal", "-station"];
 
-/// Want of memory is no fault of the file.
+/// The error for a failed file operation. Out of memory isn't an error of the file.
 pub fn file_fault(error: &io::Error) -> Fault {
     if error.kind() == ErrorKind::OutOfMemory {
         Fault::MEMORY
@@ -20,10 +20,10 @@ pub fn file_fault(error: &io::Error) -> Fault {
     }
 }
 
-/// A file to be read, which is no folder.
+/// Opens a file for reading, which isn't a folder.
 ///
 /// # Errors
-/// [`Fault::File`] where it can't be opened, or is a folder; [`Fault::MEMORY`].
+/// [`Fault::File`] if it can't be opened, or is a folder; [`Fault::MEMORY`].
 pub fn open_input<R: Files>(rt: &R, path: &str) -> Result<R::File, Fault> {
     let file = fs::open(rt, path).map_err(|error| file_fault(&error))?;
     let about = file.metadata().map_err(|error| file_fault(&error))?;
@@ -33,15 +33,15 @@ pub fn open_input<R: Files>(rt: &R, path: &str) -> Result<R::File, Fault> {
     Ok(file)
 }
 
-/// Whether these are of one file, by whatever names it was found.
+/// Whether two files are the same, whatever their names are.
 pub fn are_of_one_file(one: &Metadata, other: &Metadata) -> bool {
     one.dev() == other.dev() && one.ino() == other.ino()
 }
 
-/// Whether this is of the file at a path. Where there is none it isn't.
+/// Whether a path leads to this file. If nothing is there, it doesn't.
 ///
 /// # Errors
-/// [`Fault::File`] where it can't be found out what is there; [`Fault::MEMORY`].
+/// [`Fault::File`] if the path can't be examined; [`Fault::MEMORY`].
 pub fn is_at<R: Files>(rt: &R, about: &Metadata, path: &str) -> Result<bool, Fault> {
     match fs::metadata(rt, path) {
         Ok(other) => Ok(are_of_one_file(about, &other)),
@@ -50,10 +50,10 @@ pub fn is_at<R: Files>(rt: &R, about: &Metadata, path: &str) -> Result<bool, Fau
     }
 }
 
-/// Whether this is of a database's own files: the database, or the log beside it.
+/// Whether this file is the database, or the log beside it.
 ///
 /// # Errors
-/// [`Fault::File`] where the database isn't there, or it can't be found out what its files are; [`Fault::MEMORY`].
+/// [`Fault::File`] if the database doesn't exist, or a path can't be examined; [`Fault::MEMORY`].
 pub fn is_of_database<R: Files + AllocGlobal>(
     rt: &R,
     about: &Metadata,
@@ -64,7 +64,7 @@ pub fn is_of_database<R: Files + AllocGlobal>(
     Ok(is_at(rt, about, real.as_str())? || is_at(rt, about, log.as_str())?)
 }
 
-/// Whether a path is the name of a file beside a database, of one that may come to be there, too.
+/// Whether a path has the name of a file beside a database, even if that file doesn't exist yet.
 pub(super) fn is_beside_database(
     rt: &HostRuntime,
     path: Path<'_>,
@@ -82,7 +82,7 @@ pub(super) fn is_beside_database(
     })
 }
 
-/// Whether a name is that of a database with what stands behind it in those of the files beside it.
+/// Whether a name is the database's name with the ending of a file beside it.
 fn is_behind(name: &str, own: &str) -> bool {
     match name.strip_prefix(own) {
         Some(ending) => BESIDE.contains(&ending),

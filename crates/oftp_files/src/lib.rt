@@ -1,4 +1,4 @@
-//! The program's files: those that it reads, those that it makes so that nobody sees half of one, and traces.
+//! The program's files: those that it reads, those that it replaces atomically, and traces.
 #![tactic(auto)]
 
 mod access;

@@ -1,8 +1,8 @@
-//! How much the program keeps.
+//! The limits of the program.
 
 use oftp_vfile::Limits;
 
-/// How much a register may hold: so many files, and so many octets in each.
+/// The limits of a register: the number of files, and the octets of each.
 pub const LIMITS: Limits = Limits {
     files: 1_000_000,
     octets: 67_108_864,

@@ -1,4 +1,4 @@
-//! A file that is made: no half of it ever bears its name, and what bore the name before is there until it is whole.
+//! Files that are replaced atomically: until the new file is whole, its path has the old one.
 
 use crate::access::Access;
 use crate::drafts::{Draft, folder_of, new_draft, usual_mode};
@@ -8,40 +8,40 @@ use std::fs::{self, File, OpenOptions};
 use std::io::{self, ErrorKind};
 use std::path::PathBuf;
 
-/// Where a file goes.
+/// Where output is written.
 #[derive(Drop)]
 pub enum Place {
-    /// To what can't be replaced, as a device or a pipe.
+    /// To something that can't be replaced, such as a device or a pipe.
     Device(File),
-    /// To a name.
+    /// To a path.
     Name(Name),
 }
 
-/// A name that a file is to bear.
+/// A path that a new file is to get.
 #[derive(Drop)]
 pub struct Name {
     path: PathBuf,
-    // That of the file which bears it now, or else what a new one has.
+    // That of the present file, or the usual one of a new file.
     access: Access,
 }
 
 impl Name {
-    /// The name's path.
+    /// Its path.
     pub fn path(&self) -> &str {
         self.path.as_str()
     }
 
-    /// The same name, whose new file is to be had as this says.
+    /// The same path, with other permissions and another owner for the new file.
     pub fn with_access(self, access: Access) -> Name {
         let Name { path, access: _ } = self;
         Name { path, access }
     }
 }
 
-/// The place of a path where a file may be written: no folder, and no file of the database.
+/// Examines a path to which output is to be written. It may not be a folder or a file of the database.
 ///
 /// # Errors
-/// [`Fault::File`] where nothing may be written there, with nothing made; [`Fault::MEMORY`].
+/// [`Fault::File`] if nothing may be written there, and nothing is created; [`Fault::MEMORY`].
 pub fn place_of(rt: &HostRuntime, path: &str, database: &str) -> Result<Place, Fault> {
     match OpenOptions::new().write(true).open(rt, path) {
         Ok(file) => place_of_file(rt, file, path, database),
@@ -50,8 +50,8 @@ pub fn place_of(rt: &HostRuntime, path: &str, database: &str) -> Result<Place, F
     }
 }
 
-/// The place of a name that no file bears. A link that leads nowhere isn't replaced, and a name that a file beside the database may come to
-/// have isn't given.
+/// The place of a path that doesn't exist. It is refused if it is a dangling link, or the name of a file that may appear beside the
+/// database.
 fn new_place(rt: &HostRuntime, path: &str, database: &str) -> Result<Place, Fault> {
     match fs::symlink_metadata(rt, path) {
         Ok(_) => return Err(Fault::File),
@@ -66,7 +66,7 @@ fn new_place(rt: &HostRuntime, path: &str, database: &str) -> Result<Place, Faul
     Ok(Place::Name(Name { path, access }))
 }
 
-/// The place of a file that is there. Where links led to it, it is replaced and they stay.
+/// The place of an existing file. If the path leads over links, its target is replaced and the links stay.
 fn place_of_file(rt: &HostRuntime, file: File, path: &str, database: &str) -> Result<Place, Fault> {
     let about = file.metadata().map_err(|error| file_fault(&error))?;
     if !about.is_file() {
@@ -80,19 +80,19 @@ fn place_of_file(rt: &HostRuntime, file: File, path: &str, database: &str) -> Re
     Ok(Place::Name(Name { path, access }))
 }
 
-/// An empty draft beside the file that it is to be. Until it is that, nobody else may read it.
+/// Creates an empty draft beside a path. Only its owner may read it until it is settled.
 ///
 /// # Errors
-/// [`Fault::File`] where none can be made; [`Fault::MEMORY`].
+/// [`Fault::File`] if none can be created; [`Fault::MEMORY`].
 pub fn draft_of(rt: &HostRuntime, name: &Name) -> Result<Draft, Fault> {
     new_draft(rt, name.path.as_path())
 }
 
-/// A draft that was written takes its name, and the disk has both before this returns; one that wasn't is removed.
+/// Gives a written draft its name, and syncs the file and its folder. A draft whose writing failed is removed.
 ///
 /// # Errors
-/// The fault of the writing; or [`Fault::File`] where the draft can't be synced or take the name, and it is removed then. Where only the
-/// folder can't be synced, the file has its name already.
+/// The error of the writing; or [`Fault::File`] if the draft can't be synced or renamed. The draft is removed then. If only the folder
+/// can't be synced, the file has its name already.
 pub fn settle(
     rt: &HostRuntime,
     draft: Draft,
@@ -112,15 +112,14 @@ pub fn settle(
     }
 }
 
-/// Gives a draft its name, once the disk has it.
+/// Syncs a draft and gives it its name.
 fn take_name(rt: &HostRuntime, draft: &Draft, name: &Name) -> io::Result<()> {
     name.access.give_to(&draft.file)?;
     draft.file.sync_all()?;
     fs::rename(rt, draft.path.as_str(), name.path.as_str())
 }
 
-/// Waits until the disk has the name too. In a folder that may be written and not read nothing can be waited for, nor where folders
-/// aren't synced.
+/// Syncs the folder of the name. If the folder may not be read, or the file system doesn't sync folders, there is nothing to wait for.
 fn keep_name(rt: &HostRuntime, name: &Name) -> Result<(), Fault> {
     match sync_folder(rt, folder_of(name.path.as_path())) {
         Ok(()) => Ok(()),

@@ -1,4 +1,4 @@
-//! The command `show`: what one side of a session sent, in words.
+//! The command `show`: prints the commands that one side of a session sent.
 
 use crate::files::{file_fault, open_input};
 use crate::transcript::Transcript;
@@ -10,10 +10,10 @@ use std::io::{Read, Write};
 /// How many octets are read at once.
 const PIECE: usize = 4_096;
 
-/// Writes a line for each command of a file of octets, up to the first fault, and answers whether there is none.
+/// Writes a line for each command in a file, up to the first fault. Returns whether there was no fault.
 ///
 /// # Errors
-/// [`Fault::File`] where the file can't be read; [`RunFault::Write`] where `out` told a fault; [`Fault::MEMORY`].
+/// [`Fault::File`] if the file can't be read; [`RunFault::Write`] if `out` returned an error; [`Fault::MEMORY`].
 pub fn show(rt: &HostRuntime, input: &str, out: &mut impl Write) -> Result<bool, Fault> {
     let mut input = open_input(rt, input)?;
     let mut transcript = Transcript::new(rt.alloc());
@@ -33,7 +33,7 @@ pub fn show(rt: &HostRuntime, input: &str, out: &mut impl Write) -> Result<bool,
     Ok(!transcript.is_faulty())
 }
 
-/// The lines that a piece adds. No piece is the end.
+/// The lines that a piece adds. An empty piece is the end.
 fn lines_of(
     rt: &HostRuntime,
     transcript: &mut Transcript,

@@ -1,4 +1,4 @@
-//! The traces that lines ask for.
+//! The traces that command lines ask for.
 
 use crate::files::{file_fault, is_at, is_of_database};
 use crate::tracing::Trace;
@@ -6,11 +6,11 @@ use oftp_command_line::Fault;
 use std::fs::{self, Metadata};
 use std::io::ErrorKind;
 
-/// The trace in the file at a path, where there is one. A file that the session needs, one of these or of the database, isn't
-/// written; a device loses nothing.
+/// Opens the trace at a path, if there is one. A file that the session needs may not be traced to: one of `needed`, or one of the database.
+/// A device may.
 ///
 /// # Errors
-/// [`Fault::File`] where it is such a file, or can't be made or written; [`Fault::MEMORY`].
+/// [`Fault::File`] if it is such a file, or can't be created or written; [`Fault::MEMORY`].
 pub fn open_trace<'a>(
     rt: &'a HostRuntime,
     path: Option<&str>,
@@ -31,7 +31,7 @@ pub fn open_trace<'a>(
     Ok(Some(trace))
 }
 
-/// Whether this is of one of the files, or of a file of the database.
+/// Whether this file is one of `needed`, or one of the database.
 fn is_needed(
     rt: &HostRuntime,
     about: &Metadata,

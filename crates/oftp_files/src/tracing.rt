@@ -1,4 +1,4 @@
-//! Traces: what goes over a connection, appended to a file in words. No session knows of them.
+//! Traces: the commands on a connection, appended to a file as text. Sessions know nothing of them.
 
 use crate::access::make_private;
 use crate::transcript::Transcript;
@@ -11,7 +11,7 @@ use std::fmt;
 use std::fs::{File, OpenOptions};
 use std::io::{self, ErrorKind, Read, Write};
 
-/// A file to which lines are appended, each behind the time. A line that can't be written is lost, and nothing else.
+/// A log to which lines are appended, each with the time. If a line can't be written, only that line is lost.
 #[derive(Drop)]
 pub struct Trace<'a> {
     rt: &'a HostRuntime,
@@ -23,15 +23,15 @@ pub struct Trace<'a> {
 enum Target {
     /// To a file.
     File(File),
-    /// To where somebody else takes them.
+    /// To a buffer that somebody takes later.
     Kept(RefCell<Vec<u8>>),
 }
 
 impl<'a> Trace<'a> {
-    /// The trace in a file, which is made where it isn't there, so that nobody else may read it.
+    /// Opens the trace in a file. A file that doesn't exist is created so that only its owner may read it.
     ///
     /// # Errors
-    /// The file can't be made or written.
+    /// The file can't be created or opened for writing.
     pub fn open(rt: &'a HostRuntime, path: &str) -> io::Result<Trace<'a>> {
         let file = match make_private(rt, path) {
             Err(error) if error.kind() == ErrorKind::AlreadyExists => {
@@ -45,7 +45,7 @@ impl<'a> Trace<'a> {
         })
     }
 
-    /// The trace that is kept until somebody takes it.
+    /// A trace that is kept in memory until it is taken.
     pub fn kept(rt: &'a HostRuntime) -> Trace<'a> {
         Trace {
             rt,
@@ -53,7 +53,7 @@ impl<'a> Trace<'a> {
         }
     }
 
-    /// What was kept.
+    /// The lines that were kept in memory; none for a trace in a file.
     pub fn into_kept(self) -> Vec<u8> {
         let Trace { rt, target } = self;
         match target {
@@ -65,12 +65,12 @@ impl<'a> Trace<'a> {
         }
     }
 
-    /// Appends lines that were told elsewhere.
+    /// Appends lines that have their times already.
     pub fn append(&self, lines: &[u8]) {
         self.put(lines)
     }
 
-    /// Appends the line of a session's end.
+    /// Appends the line for the end of a session.
     pub fn tell_end(&self, ended: &Result<End, Fault>) {
         match ended {
             Ok(end) => self.tell(&Outcome::Ended(*end)),
@@ -78,7 +78,7 @@ impl<'a> Trace<'a> {
         }
     }
 
-    /// Appends a line.
+    /// Appends a line with the time. It is lost if the clock fails or memory runs out.
     pub fn tell<L: fmt::Display>(&self, line: &L) {
         if let Some(time) = self.time() {
             if let Ok(text) = format!(in self.rt.alloc(); "{time} {line}\n") {
@@ -87,12 +87,12 @@ impl<'a> Trace<'a> {
         }
     }
 
-    /// The time, where the clock tells it.
+    /// The time, if the clock can be read.
     fn time(&self) -> Option<Timestamp> {
         Timestamp::now(self.rt).ok()
     }
 
-    /// Appends lines at once.
+    /// Appends lines with one write.
     fn put(&self, lines: &[u8]) {
         match &self.target {
             Target::File(file) => {
@@ -104,7 +104,7 @@ impl<'a> Trace<'a> {
     }
 }
 
-/// Keeps lines behind those that were kept.
+/// Appends lines to those in memory.
 fn keep(alloc: Global, kept: &RefCell<Vec<u8>>, lines: &[u8]) {
     if let Ok(mut all) = kept.try_replace(Vec::new(alloc)) {
         let _ = all.extend_from_slice(lines);
@@ -112,14 +112,14 @@ fn keep(alloc: Global, kept: &RefCell<Vec<u8>>, lines: &[u8]) {
     }
 }
 
-/// The reader or the writer of a session, and the trace of what goes through it, where one is kept.
+/// The reader or writer of a session, with the trace of its octets, if there is one.
 #[derive(Drop)]
 pub struct Traced<'a, S> {
     stream: S,
     way: Option<Way<'a>>,
 }
 
-/// One direction of a session: the trace, the mark in front of its lines, and what was told of it.
+/// One direction of a session: the trace, the mark in front of its lines, and the parser of its octets.
 #[derive(Drop)]
 struct Way<'a> {
     trace: &'a Trace<'a>,
@@ -128,12 +128,12 @@ struct Way<'a> {
 }
 
 impl<'a, S> Traced<'a, S> {
-    /// What the partner sends.
+    /// A reader for what the partner sends.
     pub fn reader(stream: S, trace: Option<&'a Trace<'a>>) -> Traced<'a, S> {
         Traced::new(stream, trace, "<")
     }
 
-    /// What the partner is sent.
+    /// A writer for what the partner receives.
     pub fn writer(stream: S, trace: Option<&'a Trace<'a>>) -> Traced<'a, S> {
         Traced::new(stream, trace, ">")
     }
@@ -148,8 +148,7 @@ impl<'a, S> Traced<'a, S> {
         Traced { stream, way }
     }
 
-    /// Tells the trace what went through. Where that couldn't be told, nothing of this direction is told any more, since it isn't known
-    /// where its next command begins.
+    /// Adds a piece to the trace. After a failure this direction isn't traced any more, since the start of its next command isn't known.
     fn tell(&mut self, piece: &[u8]) {
         let is_told = match &mut self.way {
             Some(way) => way.tell(piece).is_some(),
@@ -162,7 +161,7 @@ impl<'a, S> Traced<'a, S> {
 }
 
 impl Way<'_> {
-    /// Appends the lines of a piece. There is nothing where no clock tells the time, or memory runs out.
+    /// Appends the lines of a piece. Returns `None` if the clock can't be read, or memory runs out.
     fn tell(&mut self, piece: &[u8]) -> Option<()> {
         let alloc = self.trace.rt.alloc();
         let time = self.trace.time()?;

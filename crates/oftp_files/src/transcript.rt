@@ -1,29 +1,29 @@
-//! A stream of octets in words: a line for each command of its frames, up to the first octets that are none.
+//! Prints a stream of octets: a line for each command, up to the first octets that aren't one.
 
 use oftp_wire::{Deframer, parse};
 use std::alloc::{AllocError, Global};
 
-/// The greatest length of a frame in octets, its header counted (RFC 5024, section 8).
+/// The greatest length of a frame in octets, with its header (RFC 5024, section 8).
 const LONGEST_FRAME: usize = 100_003;
 
-/// How many octets the header of a frame has.
+/// The length of a frame's header in octets.
 const HEADER: u64 = 4;
 
-/// A stream that is told as it comes.
+/// A stream that is printed as it arrives.
 #[derive(Drop)]
 pub struct Transcript {
     alloc: Global,
     deframer: Deframer,
-    /// How many octets came.
+    /// How many octets have arrived.
     came: u64,
     /// Where the next frame begins, in octets from 0.
     offset: u64,
-    /// Whether a fault was told, behind which nothing is read.
+    /// Whether a fault was printed. Nothing is parsed after it.
     is_faulty: bool,
 }
 
 impl Transcript {
-    /// A stream of which nothing came.
+    /// A stream of which nothing has arrived.
     pub fn new(alloc: Global) -> Transcript {
         Transcript {
             alloc,
@@ -34,16 +34,15 @@ impl Transcript {
         }
     }
 
-    /// Whether a fault was told.
+    /// Whether a fault was printed.
     pub fn is_faulty(&self) -> bool {
         self.is_faulty
     }
 
-    /// Takes the next piece of the stream, and adds to the lines one, with `head` in front, for each command that is whole then, or
-    /// for the fault.
+    /// Parses the next piece of the stream. Adds a line, with `head` in front, for each command that is whole now, or for the first fault.
     ///
     /// # Errors
-    /// A growth was refused.
+    /// Out of memory: part of the lines may be missing.
     pub fn take(&mut self, piece: &[u8], head: &str, lines: &mut String) -> Result<(), AllocError> {
         if self.is_faulty {
             return Ok(());
@@ -52,7 +51,7 @@ impl Transcript {
             return Err(AllocError);
         }
         self.came = self.came.saturating_add(piece.len() as u64);
-        // A frame has an octet or more, and less than a frame and a piece is held.
+        // A frame has at least one octet, and the deframer has fewer than a frame and a piece.
         for _ in 0..LONGEST_FRAME.saturating_add(piece.len()) {
             if !self.tell_next(head, lines)? {
                 break;
@@ -61,10 +60,10 @@ impl Transcript {
         Ok(())
     }
 
-    /// Adds the line of a frame that the stream's end cuts off, where there is one.
+    /// Adds a line if the end of the stream cuts off a frame.
     ///
     /// # Errors
-    /// A growth was refused.
+    /// Out of memory: part of the line may be missing.
     pub fn end(&mut self, head: &str, lines: &mut String) -> Result<(), AllocError> {
         if !self.is_faulty && self.offset < self.came {
             self.is_faulty = true;
@@ -77,7 +76,7 @@ impl Transcript {
         Ok(())
     }
 
-    /// Adds the line of the next frame, where it is whole, and answers whether another may follow.
+    /// Adds the line of the next frame, if it is whole. Returns whether another may follow.
     fn tell_next(&mut self, head: &str, lines: &mut String) -> Result<bool, AllocError> {
         let at = self.offset;
         let frame = match self.deframer.next() {
@@ -104,8 +103,8 @@ impl Transcript {
     }
 }
 
-/// Adds the line of a command, whose texts are the partner's. A control of writing direction in them is shown as `?`, so that each line
-/// reads in the order of its characters.
+/// Adds the line of a command, whose texts are the partner's. Controls of writing direction are replaced by `?`, so that each line reads in
+/// the order of its characters.
 fn add_line(head: &str, told: &str, lines: &mut String) -> Result<(), AllocError> {
     lines.push_str(head)?;
     for character in told.chars() {
