@@ -1,9 +1,9 @@
-//! Whoever has a register, and does what the commands over a folder ask with it.
+//! The interface to a register for the commands over a folder.
 
 use oftp_command_line::{Fault, Submit};
 use oftp_listing::ReportKind;
 
-/// How what was asked came out, with the line that tells it, without its end.
+/// The result of an operation, with its printed line, without the line's end.
 #[derive(Drop)]
 pub enum Completion {
     /// It is done.
@@ -12,29 +12,29 @@ pub enum Completion {
     Refused(String),
 }
 
-/// Whoever has a register, and does what is asked with it.
+/// Access to a register, for the commands over a folder.
 pub trait Clerk {
     /// The text of a report.
     ///
     /// # Errors
-    /// The office failed, or the station is gone; memory ran out.
+    /// The office failed, or the station is gone; out of memory.
     fn report(&mut self, kind: ReportKind) -> Result<String, Fault>;
 
-    /// Writes the incoming file of a number to a path, where nothing is.
+    /// Writes the incoming file with a number to a path that doesn't exist.
     ///
     /// # Errors
-    /// Those of [`Clerk::report`], and that the file can't be made. Nothing is at the path then.
+    /// Those of [`Clerk::report`], and that the file can't be created. Nothing is at the path then.
     fn fetch(&mut self, no: u64, path: &str) -> Result<Completion, Fault>;
 
-    /// Issues the End-to-End Response of the incoming file of a number.
+    /// Issues the End-to-End Response of the incoming file with a number.
     ///
     /// # Errors
-    /// Those of [`Clerk::report`]. It is issued or not then.
+    /// Those of [`Clerk::report`]. It may have been issued then.
     fn release(&mut self, no: u64) -> Result<Completion, Fault>;
 
-    /// Registers a file that is to be sent, of this content.
+    /// Registers a file to be sent, with this content.
     ///
     /// # Errors
-    /// Those of [`Clerk::report`]. It is registered or not then.
+    /// Those of [`Clerk::report`]. It may have been registered then.
     fn submit(&mut self, submit: &Submit<'_>, content: &[u8]) -> Result<Completion, Fault>;
 }

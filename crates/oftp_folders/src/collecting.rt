@@ -1,4 +1,4 @@
-//! Incoming files that are whole and have no response are written to a folder.
+//! The command `collect`: incoming files that are whole and have no response are written to a folder.
 
 use crate::clerk::{Clerk, Completion};
 use crate::entries::ListedFile;
@@ -7,15 +7,15 @@ use oftp_command_line::{Carried, Collect, Fault, write_line};
 use oftp_listing::ReportKind;
 use std::io::Write;
 
-/// The line of a release where the file has a response.
+/// The line for a release if the file has a response already.
 const ANSWERED: &str = "refused: 3 state";
 
-/// Writes each incoming file that is whole and has no response to a folder, one after another, unless it is there already. Where the line
-/// asks for that, its End-to-End Response is issued once the disk has it. A line for each goes to `out`. It answers whether none was refused.
+/// Writes each incoming file that is whole and has no response to a folder, unless it is there already. If the command line asks for it,
+/// its End-to-End Response is issued once the file is synced. Each gets a line in `out`. Returns whether none was refused.
 ///
 /// # Errors
-/// Those of the clerk, that a file can't be made, or that `out` told a fault. What was written and released so far stays, and the next call
-/// goes on there.
+/// Those of the clerk, that a file can't be created, or that `out` returned an error. What was written and released so far stays, and the
+/// next call continues there.
 pub fn collect<D: Clerk + Drop>(
     rt: &HostRuntime,
     line: &Collect<'_>,
@@ -36,7 +36,7 @@ pub fn collect<D: Clerk + Drop>(
     Ok(is_done)
 }
 
-/// The file of a line, where it is whole and has no response.
+/// The file of a line of the report, if it is whole and has no response.
 fn unanswered<'a>(told: &'a str) -> Option<ListedFile<'a>> {
     match ListedFile::of(told) {
         Some(entry) if entry.is_unanswered() => Some(entry),
@@ -44,7 +44,7 @@ fn unanswered<'a>(told: &'a str) -> Option<ListedFile<'a>> {
     }
 }
 
-/// Collects a file, and answers whether it was done. What is in the folder already isn't written again.
+/// Collects a file. Returns whether it wasn't refused. A file that is in the folder isn't written again.
 fn collect_one<D: Clerk>(
     rt: &HostRuntime,
     line: &Collect<'_>,
@@ -65,13 +65,13 @@ fn collect_one<D: Clerk>(
     tell(refusal?, entry.no, name.as_str(), out)
 }
 
-/// The name that a file has in the folder.
+/// The name of a file in the folder.
 fn name_in_folder(rt: &HostRuntime, entry: &ListedFile<'_>) -> Result<String, Fault> {
     let name = name_of(rt.alloc(), entry.stamps, entry.code())?;
     numbered(rt.alloc(), entry.no, name.as_str())
 }
 
-/// Writes a file, and releases it where that is asked for. It answers the line of a refusal.
+/// Writes a file, and releases it if that is asked for. Returns the line of a refusal.
 fn take<D: Clerk>(
     folder: &Folder,
     clerk: &mut D,
@@ -86,8 +86,8 @@ fn take<D: Clerk>(
     }
 }
 
-/// Releases a file that is in the folder, once the disk has its name there. One that somebody has answered meanwhile needs no more. It
-/// answers the line of a refusal.
+/// Releases a file in the folder, once its name there is synced. A file that got a response meanwhile isn't refused. Returns the line of a
+/// refusal.
 fn answer<D: Clerk>(folder: &Folder, clerk: &mut D, no: u64) -> Result<Option<String>, Fault> {
     folder.keep()?;
     match clerk.release(no)? {
@@ -96,7 +96,7 @@ fn answer<D: Clerk>(folder: &Folder, clerk: &mut D, no: u64) -> Result<Option<St
     }
 }
 
-/// Writes the line of a file, and answers whether it was done.
+/// Writes the line of a file. Returns whether it wasn't refused.
 fn tell(refusal: Option<String>, no: u64, name: &str, out: &mut impl Write) -> Result<bool, Fault> {
     match refusal {
         None => {

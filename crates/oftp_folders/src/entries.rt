@@ -1,8 +1,8 @@
-//! The lines of a report on files, as far as the commands over a folder read them.
+//! Parses the lines of a report on files, as far as the commands over a folder need them.
 
 use crate::folders::Stamps;
 
-/// How the line of an incoming file ends that is whole, and has no response.
+/// The end of the line of an incoming file that is whole and has no response.
 const UNANSWERED: &str = ",whole,none";
 
 /// A file in a report.
@@ -10,14 +10,14 @@ const UNANSWERED: &str = ",whole,none";
 pub(super) struct ListedFile<'a> {
     /// Its number.
     pub(super) no: u64,
-    /// What names it between the station and its partner.
+    /// Its dataset name, date and time.
     pub(super) stamps: Stamps<'a>,
-    // What stands behind that: the partner's code, and what it is.
+    // The other fields: the partner's code, and the state.
     rest: &'a str,
 }
 
 impl<'a> ListedFile<'a> {
-    /// The file of a line. The heading is of none.
+    /// Parses a line. The heading isn't a file.
     pub(super) fn of(line: &'a str) -> Option<ListedFile<'a>> {
         let (no, behind) = line.split_once(',')?;
         let (dataset, behind) = behind.split_once(',')?;
@@ -45,7 +45,7 @@ impl<'a> ListedFile<'a> {
         }
     }
 
-    /// Whether it is an incoming file that is whole, and has no response.
+    /// Whether it is an incoming file that is whole and has no response.
     pub(super) fn is_unanswered(&self) -> bool {
         self.rest.ends_with(UNANSWERED)
     }

@@ -1,4 +1,4 @@
-//! Folders of files over which a command goes, and the names that files have there.
+//! The folders that commands work on, and the names of the files in them.
 
 use oftp_command_line::Fault;
 use oftp_files::file_fault;
@@ -7,19 +7,19 @@ use std::fs::{self, File, TryLockError};
 use std::io::{self, ErrorKind};
 use std::time::{Clock, Duration};
 
-/// How often a folder over which another command goes is tried again: ten seconds long.
+/// How often a locked folder is tried again, which is for ten seconds.
 const TRIES: u32 = 200;
 
-/// How many milliseconds it is waited before that.
+/// The pause before that, in milliseconds.
 const PAUSE: u64 = 50;
 
-/// What stands between the parts of a name. No part has it.
+/// The separator between the parts of a name. No part contains it.
 const BETWEEN: char = '_';
 
-/// What stands for a character of a part that has no place in a file's name. No part has it.
+/// The replacement for a character that isn't allowed in a file's name. No part contains it.
 const INSTEAD: char = '+';
 
-/// A folder that is held, so that no other command goes over it meanwhile.
+/// A folder that is locked against other commands.
 #[derive(Drop)]
 pub struct Folder {
     file: File,
@@ -27,10 +27,10 @@ pub struct Folder {
 }
 
 impl Folder {
-    /// The folder of a path. Where another command goes over it, it is waited for.
+    /// Locks the folder at a path. If another command has it locked, waits up to ten seconds.
     ///
     /// # Errors
-    /// There is no such folder, or it can't be read, or the other command goes on for too long.
+    /// [`Fault::File`] if there is no such folder, it can't be opened, or it stays locked; [`Fault::MEMORY`].
     pub fn held(rt: &HostRuntime, path: &str) -> Result<Folder, Fault> {
         let about = fs::metadata(rt, path).map_err(|error| file_fault(&error))?;
         if !about.is_dir() {
@@ -47,19 +47,19 @@ impl Folder {
         self.path.as_str()
     }
 
-    /// Waits until the disk has the names in it. Where folders aren't synced, nothing can be waited for.
+    /// Syncs the folder, so that the names in it are durable. File systems that don't sync folders are accepted.
     pub(super) fn keep(&self) -> Result<(), Fault> {
         synced(self.file.sync_all())
     }
 }
 
-/// Waits until the disk has the names in a folder, as [`Folder::keep`] does.
+/// Syncs a folder by its path, as [`Folder::keep`] does.
 pub(super) fn keep_names(rt: &HostRuntime, folder: &str) -> Result<(), Fault> {
     let file = fs::open(rt, folder).map_err(|error| file_fault(&error))?;
     synced(file.sync_all())
 }
 
-/// What comes of a sync of a folder.
+/// The result of a sync of a folder.
 fn synced(outcome: io::Result<()>) -> Result<(), Fault> {
     match outcome {
         Ok(()) => Ok(()),
@@ -70,7 +70,7 @@ fn synced(outcome: io::Result<()>) -> Result<(), Fault> {
     }
 }
 
-/// Locks a folder. Where folders can't be locked, no command is kept away.
+/// Locks a folder. If folders can't be locked, no command is kept out.
 fn hold(rt: &HostRuntime, folder: &File) -> Result<(), Fault> {
     for _ in 0..TRIES {
         match folder.try_lock() {
@@ -86,7 +86,7 @@ pub(super) fn path_in(rt: &HostRuntime, folder: &str, name: &str) -> Result<Stri
     format!(in rt.alloc(); "{folder}/{name}").map_err(|_| Fault::MEMORY)
 }
 
-/// Whether a regular file is at a path. Anything else that is there is a fault.
+/// Whether a regular file is at a path. Anything else there is an error.
 pub(super) fn has_file(rt: &HostRuntime, path: &str) -> Result<bool, Fault> {
     match fs::symlink_metadata(rt, path) {
         Ok(about) if about.is_file() => Ok(true),
@@ -96,7 +96,7 @@ pub(super) fn has_file(rt: &HostRuntime, path: &str) -> Result<bool, Fault> {
     }
 }
 
-/// The names of the regular files in a folder, in their order. A folder that isn't there has none, and a name that is no text is nobody's.
+/// The names of the regular files in a folder, sorted. A folder that doesn't exist has none. Names that aren't text are left out.
 pub(super) fn files_in(rt: &HostRuntime, folder: &str) -> Result<Vec<String>, Fault> {
     let mut names = Vec::new(rt.alloc());
     let entries = match fs::read_dir(rt, folder) {
@@ -115,7 +115,7 @@ pub(super) fn files_in(rt: &HostRuntime, folder: &str) -> Result<Vec<String>, Fa
     Ok(names)
 }
 
-/// Adds the name of a regular file. What is gone meanwhile isn't added.
+/// Adds the name of a regular file. A file that is gone meanwhile isn't added.
 fn add_file(
     rt: &HostRuntime,
     names: &mut Vec<String>,
@@ -132,7 +132,7 @@ fn add_file(
     names.push(name).map_err(|_| Fault::MEMORY)
 }
 
-/// What names a virtual file between two partners: its dataset name, its date and its time.
+/// What identifies a virtual file between two partners: its dataset name, date and time.
 #[derive(Clone, Copy)]
 pub(super) struct Stamps<'a> {
     pub(super) dataset: &'a str,
@@ -140,7 +140,7 @@ pub(super) struct Stamps<'a> {
     pub(super) time: &'a str,
 }
 
-/// The name that a file of these stamps has, which comes from or goes to the partner of a code.
+/// The name of a file that was received from the partner with a code, or sent to it.
 pub(super) fn name_of(alloc: Global, stamps: Stamps<'_>, code: &str) -> Result<String, Fault> {
     let Stamps {
         dataset,
@@ -150,7 +150,7 @@ pub(super) fn name_of(alloc: Global, stamps: Stamps<'_>, code: &str) -> Result<S
     joined(alloc, [dataset, date, time, code]).map_err(|_| Fault::MEMORY)
 }
 
-/// The name that it has while it is handed in. These names in their order are moments in theirs.
+/// The name of a file while it is submitted. Sorted by name, such files are in the order of their times.
 pub(super) fn claim_name(alloc: Global, stamps: Stamps<'_>, code: &str) -> Result<String, Fault> {
     let Stamps {
         dataset,
@@ -160,7 +160,7 @@ pub(super) fn claim_name(alloc: Global, stamps: Stamps<'_>, code: &str) -> Resul
     joined(alloc, [date, time, dataset, code]).map_err(|_| Fault::MEMORY)
 }
 
-/// The stamps in the name of a file that is handed in.
+/// The dataset name, date and time in the name of a file that is submitted.
 pub(super) fn stamps_in<'a>(claim: &'a str) -> Option<Stamps<'a>> {
     let (date, behind) = claim.split_once(BETWEEN)?;
     let (time, behind) = behind.split_once(BETWEEN)?;
@@ -172,12 +172,12 @@ pub(super) fn stamps_in<'a>(claim: &'a str) -> Option<Stamps<'a>> {
     })
 }
 
-/// The same name, with the number that the file has in the register in front.
+/// A name with the file's number in the register in front.
 pub(super) fn numbered(alloc: Global, no: u64, name: &str) -> Result<String, Fault> {
     format!(in alloc; "{no:07}{}{name}", BETWEEN).map_err(|_| Fault::MEMORY)
 }
 
-/// The parts of a name, one behind another.
+/// Joins the parts of a name.
 fn joined(alloc: Global, parts: [&str; 4]) -> Result<String, AllocError> {
     let mut name = String::new(alloc);
     for part in parts {
@@ -189,7 +189,7 @@ fn joined(alloc: Global, parts: [&str; 4]) -> Result<String, AllocError> {
     Ok(name)
 }
 
-/// Adds a part as a file's name may have it.
+/// Adds a part of a name. Characters that aren't allowed are replaced.
 fn add_safely(name: &mut String, part: &str) -> Result<(), AllocError> {
     for character in part.chars() {
         name.push(if is_safe(character) {
@@ -201,7 +201,7 @@ fn add_safely(name: &mut String, part: &str) -> Result<(), AllocError> {
     Ok(())
 }
 
-/// Whether a file's name may have a character of a part: each that a field may have, but for the slash.
+/// Whether a character may be in a file's name: ASCII letters and digits, and the signs of a field X other than the slash.
 fn is_safe(character: char) -> bool {
     character.is_ascii_alphanumeric() || matches!(character, '-' | '.' | '&' | '(' | ')')
 }

@@ -1,4 +1,4 @@
-//! Files that were taken from a folder, and are handed in and put away.
+//! Submits files that were taken from a folder, and moves them away.
 
 use crate::clerk::{Clerk, Completion};
 use crate::entries::ListedFile;
@@ -13,28 +13,28 @@ use std::collections::BTreeMap;
 use std::fs;
 use std::io::{ErrorKind, Write};
 
-/// The folder of the files that are taken.
+/// The subfolder of the files that are taken.
 pub(super) const TAKEN: &str = "taken";
 
-/// That of those which the register has.
+/// The subfolder of those that the register has.
 const SENT: &str = "sent";
 
-/// That of those which it refuses.
+/// The subfolder of those that it refused.
 const REFUSED: &str = "refused";
 
-/// What stands behind the name of a refused file in that of its line.
+/// The ending of the file with the line of a refused file.
 const LINE: &str = ".line";
 
-/// The line of a file that the register has under these stamps.
+/// The line for a file if the register has one with the same dataset name, date and time.
 const DUPLICATE: &str = "refused: 1 duplicate";
 
-/// The line of a file that can't be read.
+/// The line for a file that can't be read.
 const UNREAD: &str = "fault: 7 file";
 
-/// What a station says that is no station's.
+/// The error for a reply that no station gives.
 const GONE: Fault = Fault::Run(RunFault::Office);
 
-/// The folders beside the files of a folder, by their paths.
+/// The paths of the subfolders.
 #[derive(Drop)]
 pub(super) struct Rooms {
     pub(super) taken: String,
@@ -43,7 +43,7 @@ pub(super) struct Rooms {
 }
 
 impl Rooms {
-    /// Those beside the files of a folder, which are made where they aren't there.
+    /// The subfolders of a folder. Those that don't exist are created.
     pub(super) fn made(rt: &HostRuntime, folder: &str) -> Result<Rooms, Fault> {
         Ok(Rooms {
             taken: made(rt, folder, TAKEN)?,
@@ -53,7 +53,7 @@ impl Rooms {
     }
 }
 
-/// A folder in a folder.
+/// Creates a subfolder, unless it exists.
 fn made(rt: &HostRuntime, folder: &str, name: &str) -> Result<String, Fault> {
     let path = path_in(rt, folder, name)?;
     match fs::create_dir(rt, path.as_str()) {
@@ -63,7 +63,7 @@ fn made(rt: &HostRuntime, folder: &str, name: &str) -> Result<String, Fault> {
     }
 }
 
-/// A folder that is there under a path.
+/// Checks that a path is a folder.
 fn found(rt: &HostRuntime, path: String) -> Result<String, Fault> {
     let about = fs::metadata(rt, path.as_str()).map_err(|error| file_fault(&error))?;
     if about.is_dir() {
@@ -73,16 +73,16 @@ fn found(rt: &HostRuntime, path: String) -> Result<String, Fault> {
     }
 }
 
-/// How a file came out that was handed in.
+/// The result of a submission.
 #[derive(Drop)]
 enum Handed {
-    /// The register has it under this number.
+    /// The register has the file under this number.
     Under(u64),
-    /// It is refused, as this line tells.
+    /// It was refused, with this line.
     Refused(String),
 }
 
-/// The files of a folder that are handed in for a partner.
+/// The submission of a folder's files to a partner.
 #[derive(Drop)]
 pub(super) struct Handing<'a, D> {
     rt: &'a HostRuntime,
@@ -91,12 +91,12 @@ pub(super) struct Handing<'a, D> {
     clerk: D,
     // The dataset names of the files.
     wanted: BTreeMap<Vec<u8>, bool>,
-    // The numbers of those files of such names to the partner which the register has, by the names under which they would be taken.
+    // The numbers of the files in the register to the partner with such dataset names, by the names that they would have in `taken`.
     known: BTreeMap<Vec<u8>, u64>,
 }
 
 impl<'a, D: Clerk> Handing<'a, D> {
-    /// Files of which nothing is known yet.
+    /// A submission that hasn't looked anything up.
     pub(super) fn new(
         rt: &'a HostRuntime,
         line: &'a Offer<'a>,
@@ -113,7 +113,7 @@ impl<'a, D: Clerk> Handing<'a, D> {
         }
     }
 
-    /// Looks up what the register has of files of these names, and of those that are taken under these.
+    /// Looks up which files with the names in `files` and `claims` the register has.
     pub(super) fn look_up(&mut self, files: &[String], claims: &[String]) -> Result<(), Fault> {
         self.want_all(files)?;
         for claim in claims {
@@ -124,7 +124,7 @@ impl<'a, D: Clerk> Handing<'a, D> {
         self.look_again()
     }
 
-    /// Wants to know of files of these names.
+    /// Adds dataset names to those that are looked up.
     fn want_all(&mut self, files: &[String]) -> Result<(), Fault> {
         for name in files {
             self.want(name.as_str())?;
@@ -132,7 +132,7 @@ impl<'a, D: Clerk> Handing<'a, D> {
         Ok(())
     }
 
-    /// Wants to know of files of a name.
+    /// Adds a dataset name to those that are looked up.
     fn want(&mut self, dataset: &str) -> Result<(), Fault> {
         let name = octets_of(self.rt.alloc(), dataset)?;
         match self.wanted.insert(name, true) {
@@ -152,7 +152,7 @@ impl<'a, D: Clerk> Handing<'a, D> {
         Ok(())
     }
 
-    /// Notes a file that the register has, where it may be one of these.
+    /// Notes a file of the register, if it goes to the partner and has one of the names.
     fn note(&mut self, entry: &ListedFile<'_>) -> Result<(), Fault> {
         let dataset = entry.stamps.dataset.as_bytes();
         if entry.code() != self.line.to || self.wanted.get(dataset).is_none() {
@@ -166,7 +166,7 @@ impl<'a, D: Clerk> Handing<'a, D> {
         }
     }
 
-    /// The name under which a file is taken that is handed in by a moment, unless the register has one by it, or one is taken or refused.
+    /// The name under which a file is taken if it is given this time. `None` if a file with this time is in the register, taken or refused.
     pub(super) fn claim_at(&self, name: &str, moment: Moment) -> Result<Option<String>, Fault> {
         let alloc = self.rt.alloc();
         let (date, time) = moment.stamps(alloc)?;
@@ -183,7 +183,7 @@ impl<'a, D: Clerk> Handing<'a, D> {
         })
     }
 
-    /// Whether the register has a file of these stamps, which would be taken under this name, or one is taken or refused.
+    /// Whether a file with this dataset name, date and time is in the register, taken or refused.
     fn is_used(&self, claim: &str, stamps: Stamps<'_>) -> Result<bool, Fault> {
         if self.number_of(claim).is_some() {
             return Ok(true);
@@ -195,7 +195,7 @@ impl<'a, D: Clerk> Handing<'a, D> {
         )
     }
 
-    /// The number of the file that the register has which is taken under a name.
+    /// The number of a file in the register, by its name in `taken`.
     fn number_of(&self, claim: &str) -> Option<u64> {
         match self.known.get(claim.as_bytes()) {
             Some(no) => Some(*no),
@@ -203,7 +203,7 @@ impl<'a, D: Clerk> Handing<'a, D> {
         }
     }
 
-    /// Whether anything has a name in a folder.
+    /// Whether a name exists in a folder.
     fn is_there(&self, folder: &str, name: &str) -> Result<bool, Fault> {
         let path = path_in(self.rt, folder, name)?;
         match fs::symlink_metadata(self.rt, path.as_str()) {
@@ -213,8 +213,7 @@ impl<'a, D: Clerk> Handing<'a, D> {
         }
     }
 
-    /// Hands in the file that is taken under a name, unless the register has it, puts it away and writes its line. It answers whether the
-    /// register has it.
+    /// Submits a taken file, unless the register has it, moves it away and writes its line. Returns whether the register has it.
     pub(super) fn hand_in(&mut self, claim: &str, out: &mut impl Write) -> Result<bool, Fault> {
         let Some(stamps) = stamps_in(claim) else {
             return Ok(true);
@@ -238,7 +237,7 @@ impl<'a, D: Clerk> Handing<'a, D> {
         }
     }
 
-    /// Puts a file away that was handed in.
+    /// Moves a file to `sent` or `refused`.
     fn put_away(&self, claim: &str, stamps: Stamps<'_>, handed: &Handed) -> Result<(), Fault> {
         match handed {
             Handed::Under(no) => self.put_to_sent(claim, stamps, *no),
@@ -246,7 +245,7 @@ impl<'a, D: Clerk> Handing<'a, D> {
         }
     }
 
-    /// Hands in a file.
+    /// Submits a file.
     fn submit(&mut self, claim: &str, stamps: Stamps<'_>) -> Result<Handed, Fault> {
         let alloc = self.rt.alloc();
         let path = path_in(self.rt, self.rooms.taken.as_str(), claim)?;
@@ -274,8 +273,8 @@ impl<'a, D: Clerk> Handing<'a, D> {
         }
     }
 
-    /// How a file came out that is refused. Where the register has it, a request of an earlier call was carried out behind the look-up of
-    /// this one.
+    /// The result of a refused submission. If the register has the file now, a request of an earlier call was carried out after the look-up
+    /// of this one.
     fn refused(&mut self, claim: &str, why: String) -> Result<Handed, Fault> {
         if why.as_str() != DUPLICATE {
             return Ok(Handed::Refused(why));
@@ -287,14 +286,14 @@ impl<'a, D: Clerk> Handing<'a, D> {
         }
     }
 
-    /// Puts a file away that the register has.
+    /// Moves a file that the register has to `sent`.
     fn put_to_sent(&self, claim: &str, stamps: Stamps<'_>, no: u64) -> Result<(), Fault> {
         let name = name_of(self.rt.alloc(), stamps, self.line.to)?;
         let name = numbered(self.rt.alloc(), no, name.as_str())?;
         self.put(claim, self.rooms.sent.as_str(), name.as_str())
     }
 
-    /// Puts a file away that is refused, behind its line.
+    /// Moves a refused file to `refused`, after its line was written there.
     fn put_to_refused(&self, claim: &str, stamps: Stamps<'_>, why: &str) -> Result<(), Fault> {
         let name = name_of(self.rt.alloc(), stamps, self.line.to)?;
         let path = path_in(self.rt, self.rooms.refused.as_str(), name.as_str())?;
@@ -302,7 +301,7 @@ impl<'a, D: Clerk> Handing<'a, D> {
         self.put(claim, self.rooms.refused.as_str(), name.as_str())
     }
 
-    /// Gives a file that is taken a name in another folder.
+    /// Moves a taken file to another folder, under a new name.
     fn put(&self, claim: &str, folder: &str, name: &str) -> Result<(), Fault> {
         let from = path_in(self.rt, self.rooms.taken.as_str(), claim)?;
         let to = path_in(self.rt, folder, name)?;
@@ -318,7 +317,7 @@ fn write_beside(rt: &HostRuntime, path: &str, why: &str) -> Result<(), Fault> {
     fs::write(rt, path.as_str(), line.as_bytes()).map_err(|error| file_fault(&error))
 }
 
-/// The number at the end of the line of a file that was handed in.
+/// The number at the end of the line for a submission.
 fn number_in(line: &str) -> Result<Handed, Fault> {
     match line.rsplit_once(' ') {
         Some((_, number)) => match number.parse::<u64>() {
@@ -329,7 +328,7 @@ fn number_in(line: &str) -> Result<Handed, Fault> {
     }
 }
 
-/// The octets of a text, as a key.
+/// A text as a key of a map.
 fn octets_of(alloc: Global, text: &str) -> Result<Vec<u8>, Fault> {
     Vec::from_slice(alloc, text.as_bytes()).map_err(|_| Fault::MEMORY)
 }

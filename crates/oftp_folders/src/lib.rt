@@ -1,5 +1,5 @@
-//! What the commands over a folder of files do: `collect` writes there what came, and `offer` hands in what lies there. Who does what they ask
-//! with a register is the caller's ([`Clerk`]).
+//! The commands over a folder of files: `collect` writes received files there, and `offer` submits files from there. The caller gives
+//! access to the register ([`Clerk`]).
 #![tactic(auto)]
 
 mod clerk;

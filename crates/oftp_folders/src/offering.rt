@@ -1,7 +1,7 @@
-//! The files of a folder are handed in, to be sent to a partner.
+//! The command `offer`: the files of a folder are submitted, to be sent to a partner.
 //!
-//! A file is taken first: it goes to a folder beside it, under a name that has the date and the time by which it is handed in. So whoever
-//! goes on after a kill knows by which name the register has it, if it does.
+//! A file is taken first: it is moved to a subfolder, under a name with the date and time that it is given. So after a crash the next call
+//! knows under which name the register has it, if it does.
 
 use crate::clerk::Clerk;
 use crate::folders::{Folder, claim_name, files_in, keep_names, path_in, stamps_in};
@@ -13,17 +13,18 @@ use oftp_wire::X;
 use std::fs;
 use std::io::{ErrorKind, Write};
 
-/// How many octets a dataset name has at most.
+/// The greatest length of a dataset name.
 const MOST_NAME: usize = 26;
 
-/// How many moments are tried for a file, each a tick later: more than a register has files.
+/// How many times are tried for a file, each a tick after the last: more than a register has files.
 const MOST_MOMENTS: u32 = 1_000_001;
 
-/// Takes the files of a folder, and hands in all that are taken, in the order of their times. A line for each goes to `out`. It answers
-/// whether none was refused.
+/// Takes the files of a folder, and submits all that are taken, in the order of their times. Each gets a line in `out`. Returns whether
+/// none was refused.
 ///
 /// # Errors
-/// Those of the clerk, that a file can't be moved, or that `out` told a fault. What is taken stays so, and the next call goes on with it.
+/// Those of the clerk, that a file can't be moved, or that `out` returned an error. Taken files stay taken, and the next call continues
+/// with them.
 pub fn offer<D: Clerk + Drop>(
     rt: &HostRuntime,
     line: &Offer<'_>,
@@ -41,7 +42,7 @@ pub fn offer<D: Clerk + Drop>(
     take_and_hand_in(rt, folder, handing, files.as_slice(), claims, out)
 }
 
-/// Takes these files, and hands them in beside those that are taken.
+/// Takes these files, and submits all that are taken.
 fn take_and_hand_in<D: Clerk + Drop>(
     rt: &HostRuntime,
     folder: &Folder,
@@ -57,7 +58,7 @@ fn take_and_hand_in<D: Clerk + Drop>(
     hand_in(handing, claims, out)
 }
 
-/// Hands in what is taken, and answers whether none was refused.
+/// Submits the taken files. Returns whether none was refused.
 fn hand_in<D: Clerk + Drop>(
     handing: Handing<'_, D>,
     claims: Vec<String>,
@@ -75,7 +76,7 @@ fn hand_in<D: Clerk + Drop>(
     Ok(is_done)
 }
 
-/// The names of the files that are offered: the regular files that have a dataset name. One that is hidden isn't offered.
+/// The names of the files to submit: the regular files whose names are dataset names. Hidden files are left out.
 fn offered(rt: &HostRuntime, folder: &Folder) -> Result<Vec<String>, Fault> {
     let mut names = Vec::new(rt.alloc());
     for name in files_in(rt, folder.path())? {
@@ -86,12 +87,12 @@ fn offered(rt: &HostRuntime, folder: &Folder) -> Result<Vec<String>, Fault> {
     Ok(names)
 }
 
-/// Whether a file's name is a dataset name.
+/// Whether a file's name is a dataset name that isn't hidden.
 fn is_dataset_name(name: &str) -> bool {
     !name.starts_with('.') && X::<MOST_NAME>::new(name.as_bytes()).is_some()
 }
 
-/// The names of the files that were taken for the partner, and not handed in or not put away yet.
+/// The names of the files that an earlier call took for the partner, and didn't submit or move away.
 fn claimed(rt: &HostRuntime, line: &Offer<'_>, folder: &Folder) -> Result<Vec<String>, Fault> {
     let taken = path_in(rt, folder.path(), TAKEN)?;
     let mut claims = Vec::new(rt.alloc());
@@ -103,7 +104,7 @@ fn claimed(rt: &HostRuntime, line: &Offer<'_>, folder: &Folder) -> Result<Vec<St
     Ok(claims)
 }
 
-/// Whether a file of this name was taken for the partner of a code.
+/// Whether a file with this name was taken for the partner with a code.
 fn is_for(rt: &HostRuntime, code: &str, name: &str) -> Result<bool, Fault> {
     match stamps_in(name) {
         Some(stamps) => Ok(claim_name(rt.alloc(), stamps, code)?.as_str() == name),
@@ -111,7 +112,7 @@ fn is_for(rt: &HostRuntime, code: &str, name: &str) -> Result<bool, Fault> {
     }
 }
 
-/// Takes files, and waits until the disk knows it.
+/// Takes files, and syncs the folders.
 fn take_all<D: Clerk>(
     rt: &HostRuntime,
     folder: &Folder,
@@ -150,8 +151,8 @@ fn take<D: Clerk>(
     }
 }
 
-/// The name that a file is taken under: that of its last change, or of the first moment behind it by which the register has no file of this
-/// name to the partner, and none is taken or refused.
+/// The name under which a file is taken. It has the time of the file's last change, or the first later one that no file with this name to
+/// the partner has in the register, taken or refused.
 fn free_claim<D: Clerk>(
     handing: &Handing<'_, D>,
     name: &str,

@@ -1,4 +1,4 @@
-//! The date and the time that a file is given when it is offered: those of its last change, as UTC has them.
+//! The date and time that a file is given when it is offered: those of its last change, in UTC.
 
 use jiff::Timestamp;
 use oftp_command_line::Fault;
@@ -6,19 +6,19 @@ use std::alloc::{AllocError, Global};
 use std::fs::Metadata;
 use std::os::unix::fs::MetadataExt;
 
-/// How many nanoseconds the last of the ten digits counts: a time stamp has four digits behind its seconds.
+/// A tick in nanoseconds: a time has four digits after its seconds.
 const TICK: i64 = 100_000;
 
 /// How many ticks a second has.
 const TICKS: i64 = 10_000;
 
-/// The last second of the year 9999.
+/// The first second that isn't accepted: the last that jiff can represent, on 30 December 9999.
 const LAST: i64 = 253_402_207_200;
 
-/// How many digits a date has.
+/// The number of digits of a date.
 const DATE: usize = 8;
 
-/// A moment of the clock, to a tick.
+/// A point in time, in ticks.
 #[derive(Clone, Copy)]
 pub(super) struct Moment {
     second: i64,
@@ -26,7 +26,7 @@ pub(super) struct Moment {
 }
 
 impl Moment {
-    /// The moment at which a file was changed last. One outside of the years 1970 to 9999 is the first of 1970.
+    /// The time of a file's last change. One before 1970 or from [`LAST`] on counts as the beginning of 1970.
     pub(super) fn of(about: &Metadata) -> Moment {
         let second = about.mtime();
         if (0..LAST).contains(&second) {
@@ -37,7 +37,7 @@ impl Moment {
         }
     }
 
-    /// The moment that is a tick later.
+    /// The time one tick later.
     pub(super) fn next(self) -> Moment {
         if self.tick < TICKS - 1 {
             Moment {
@@ -52,7 +52,7 @@ impl Moment {
         }
     }
 
-    /// Its date and its time, as CCYYMMDD and HHMMSScccc.
+    /// The date as CCYYMMDD, and the time as HHMMSScccc.
     pub(super) fn stamps(self, alloc: Global) -> Result<(String, String), Fault> {
         let Ok(second) = Timestamp::from_second(self.second) else {
             return Err(Fault::File);
@@ -63,7 +63,7 @@ impl Moment {
     }
 }
 
-/// The digits of a text: as many as a date has, and the others.
+/// The digits of a text: the first eight, and the others.
 fn digits_of(alloc: Global, text: &str) -> Result<(String, String), AllocError> {
     let mut date = String::new(alloc);
     let mut time = String::new(alloc);
