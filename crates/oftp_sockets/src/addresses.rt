@@ -1,36 +1,37 @@
-//! Sockets by their addresses.
+//! Sockets by address.
 
 use oftp_command_line::Fault;
 use std::io::{self, ErrorKind};
 use std::net::{TcpListener, TcpStream, ToSocketAddrs};
 use std::time::{Clock, Duration};
 
-/// The error of a machine that has no memory for a socket (ENOBUFS).
+/// The error of a system without memory for a socket (ENOBUFS).
 const NO_BUFFERS: i32 = 105;
 
-/// The errors of a call to accept that say nothing of the listener, by Linux's numbers: the caller is gone, or may not come (EPERM,
-/// ENONET, EPROTO, ENOPROTOOPT, EOPNOTSUPP, ENETDOWN, ENETUNREACH, ECONNABORTED, ECONNRESET, ETIMEDOUT, EHOSTDOWN, EHOSTUNREACH), or there is
-/// no descriptor or no memory for it now (ENOMEM, ENFILE, EMFILE, ENOBUFS).
+/// The errors of accept after which the listener still works, by Linux's numbers. The caller is gone or was rejected (EPERM, ENONET,
+/// EPROTO, ENOPROTOOPT, EOPNOTSUPP, ENETDOWN, ENETUNREACH, ECONNABORTED, ECONNRESET, ETIMEDOUT, EHOSTDOWN, EHOSTUNREACH), or there is no
+/// descriptor or memory for it now (ENOMEM, ENFILE, EMFILE, ENOBUFS).
 const PASSING: [i32; 16] = [
     1, 64, 71, 92, 95, 100, 101, 103, 104, 110, 112, 113, 12, 23, 24, NO_BUFFERS,
 ];
 
-/// How many milliseconds it is waited before accept is called again.
+/// The pause before accept is called again, in milliseconds.
 const PAUSE: u64 = 100;
 
-/// The listener on a port of one of the machine's addresses. The same port can be bound again at once.
+/// Listens on a port of one of the machine's addresses. The port can be bound again at once.
 ///
 /// # Errors
-/// [`Fault::Socket`] where it can't be bound; [`Fault::MEMORY`].
+/// [`Fault::Socket`] if it can't be bound; [`Fault::MEMORY`].
 pub fn bound(rt: &HostRuntime, address: &str, port: u16) -> Result<TcpListener, Fault> {
     TcpListener::bind(rt, (address, port)).map_err(|error| socket_fault(&error))
 }
 
-/// The stream to an address, which is a host and a port. Each address that the host's name stands for is tried for so long; without a
-/// limit, for as long as the machine does. Where none answers, the last one says why.
+/// Connects to an address, which is a host and a port. Each address of the host is tried for up to `limit`; without a limit, for as long as
+/// the system tries.
 ///
 /// # Errors
-/// [`Fault::Socket`] where none can be reached, or the name stands for none; [`Fault::MEMORY`].
+/// [`Fault::Socket`] if none can be reached, or the name has no address; [`Fault::MEMORY`]. If several addresses failed, it is the error of
+/// the last.
 pub fn connected(
     rt: &HostRuntime,
     address: &str,
@@ -52,7 +53,7 @@ pub fn connected(
     Err(fault)
 }
 
-/// The stream of the next caller. What passes is waited for.
+/// Accepts the next connection. After an error that [`passes`], accept is called again.
 pub(super) fn accepted(rt: &HostRuntime, listener: &TcpListener) -> Result<TcpStream, Fault> {
     for _ in 0..u64::MAX {
         match listener.accept() {
@@ -72,7 +73,7 @@ pub fn passes(error: &io::Error) -> bool {
     }
 }
 
-/// Want of memory is no fault of the socket.
+/// The error for a failed socket operation. Out of memory isn't an error of the socket.
 pub fn socket_fault(error: &io::Error) -> Fault {
     if error.kind() == ErrorKind::OutOfMemory || error.raw_os_error() == Some(NO_BUFFERS) {
         Fault::MEMORY

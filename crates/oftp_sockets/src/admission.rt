@@ -1,4 +1,4 @@
-//! The admission of a caller: a session up to the station's SSID, which lets the caller in. No database is opened for it.
+//! The admission of a caller: a session up to the station's SSID, which admits the caller. It opens no database.
 
 use crate::ports::ports_of;
 use oftp_command_line::Fault;
@@ -9,34 +9,34 @@ use oftp_register::PlainOffice;
 use std::alloc::Global;
 use std::io::{self, ErrorKind, Read, Write};
 
-/// How many octets stand before a command in its frame.
+/// The length of a frame's header in octets.
 const HEADER: usize = 4;
 
-/// What an SSID begins with (RFC 5024, 5.3.2).
+/// The first octet of an SSID (RFC 5024, section 5.3.2).
 const SSID: u8 = b'X';
 
-/// How an admission came out.
+/// The result of an admission.
 #[derive(Drop)]
 pub(super) enum Admission {
-    /// The caller isn't let in: its session ended.
+    /// The caller isn't admitted: its session ended.
     Ended(End),
-    /// The caller is let in.
+    /// The caller is admitted.
     LetIn(Opening),
 }
 
-/// What went over a connection before a caller is let in.
+/// The octets of a connection before its caller is admitted.
 #[derive(Drop)]
 pub(super) struct Opening {
-    /// What the caller said, and perhaps more behind its SSID.
+    /// The caller's octets, which may go beyond its SSID.
     pub(super) heard: Vec<u8>,
-    /// How many octets the station said.
+    /// How many octets the station sent.
     pub(super) said: u64,
 }
 
-/// Serves a session up to the station's SSID, over an empty register. No step before it looks at the register or changes it.
+/// Serves a session up to the station's SSID, over an empty register. No earlier step reads or changes the register.
 ///
 /// # Errors
-/// A fault of the session. Want of memory is one, too.
+/// An error of the session, which includes out of memory.
 pub(super) fn admit<R: Read + Drop, W: Write + Drop>(
     alloc: Global,
     book: &Book,
@@ -68,18 +68,18 @@ pub(super) fn admit<R: Read + Drop, W: Write + Drop>(
     ended.map(Admission::Ended)
 }
 
-/// What the octets that a caller has said come to.
+/// What the octets of a caller amount to.
 #[derive(Clone, Copy)]
 pub(super) enum Said {
-    /// They are no whole command yet.
+    /// They aren't a whole command yet.
     TooLittle,
     /// They end the session.
     Farewell,
-    /// They let the caller in.
+    /// They admit the caller.
     Password,
 }
 
-/// Looks what these octets of a caller come to, and answers nobody.
+/// Judges the octets of a caller. Nothing is sent.
 pub(super) fn judged(alloc: Global, book: &Book, octets: &[u8]) -> Result<Said, Fault> {
     match admit(alloc, book, octets, io::sink()) {
         Ok(Admission::Ended(End::Input)) => Ok(Said::TooLittle),
@@ -89,10 +89,10 @@ pub(super) fn judged(alloc: Global, book: &Book, octets: &[u8]) -> Result<Said, 
     }
 }
 
-/// Says the greeting of a session, and answers how many octets it has.
+/// Sends the greeting of a session. Returns its length in octets.
 ///
 /// # Errors
-/// It can't be written.
+/// It can't be written, or out of memory.
 pub(super) fn greet<W: Write + Drop>(
     alloc: Global,
     book: &Book,
@@ -111,7 +111,7 @@ pub(super) fn greet<W: Write + Drop>(
     Ok(writer.moved())
 }
 
-/// A reader that keeps what it gave.
+/// A reader that records what it read.
 #[derive(Drop)]
 struct Recorded<R> {
     reader: R,
@@ -121,7 +121,7 @@ struct Recorded<R> {
 }
 
 impl<R> Recorded<R> {
-    /// The reader, which gave nothing yet.
+    /// A recorder that has read nothing.
     fn new(alloc: Global, reader: R) -> Recorded<R> {
         Recorded {
             reader,
@@ -142,17 +142,17 @@ impl<R: Read> Read for Recorded<R> {
     }
 }
 
-/// A writer of frames that holds an SSID back.
+/// A writer of frames that refuses to write an SSID.
 #[derive(Drop)]
 struct Gate<W> {
     writer: W,
-    // How many octets of a frame that was begun are left.
+    // How many octets of the current frame are left.
     left: usize,
     has_held: bool,
 }
 
 impl<W> Gate<W> {
-    /// The writer, before the first frame.
+    /// A writer before the first frame.
     fn new(writer: W) -> Gate<W> {
         Gate {
             writer,
@@ -181,7 +181,7 @@ impl<W: Write> Write for Gate<W> {
     }
 }
 
-/// A writer that leaves out the first octets, which are out already.
+/// A writer that skips the first octets, which were sent already.
 #[derive(Drop)]
 pub(super) struct Skipping<W> {
     writer: W,
@@ -189,7 +189,7 @@ pub(super) struct Skipping<W> {
 }
 
 impl<W> Skipping<W> {
-    /// The writer, which leaves out so many octets.
+    /// A writer that skips `left` octets.
     pub(super) fn new(writer: W, left: u64) -> Skipping<W> {
         Skipping { writer, left }
     }

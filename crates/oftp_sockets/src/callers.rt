@@ -1,4 +1,4 @@
-//! What goes wrong with one caller, and what ends the service.
+//! Errors of one caller, and errors that end the service.
 
 use oftp_command_line::{Fault, write_line};
 use oftp_engine::RunFault;
@@ -7,14 +7,14 @@ use std::io::Write;
 /// Why a caller wasn't served to the end.
 #[derive(Clone, Copy, Drop)]
 pub enum Trouble {
-    /// It is this caller's alone: a line on standard error says so, and the service goes on.
+    /// An error of this caller alone: it gets a line on standard error, and the service goes on.
     OfCaller(Fault),
-    /// It ends the service.
+    /// An error that ends the service.
     OfService(Fault),
 }
 
 impl Trouble {
-    /// The fault, whoever has it.
+    /// The error of either kind.
     pub fn fault(self) -> Fault {
         match self {
             Trouble::OfCaller(fault) | Trouble::OfService(fault) => fault,
@@ -37,7 +37,8 @@ impl From<RunFault> for Trouble {
     }
 }
 
-/// What came of serving a caller, or nothing where its trouble was its own, which is told then. That it can't be told ends no service.
+/// The result of serving a caller, or `None` after an error of this caller alone, whose line is written to `err`. If it can't be written,
+/// the service goes on.
 pub(super) fn settled<T: Drop>(
     served: Result<T, Trouble>,
     err: &mut impl Write,

@@ -1,19 +1,19 @@
-//! Partners to whom the station had the last word, and who are left the time to read it, side by side.
+//! Connections whose session the station has ended. Their partners get time to read the last frame, all at once.
 
 use crate::connection::{Connection, FAREWELL, MOST_DROPPED, is_passing};
 use std::io::Read;
 use std::time::{Duration, Instant};
 
-/// How many are left the time at once, at most. Where another comes, the first has had it.
+/// The most such connections at once. If another one comes, the oldest is closed.
 const MOST_LEAVING: usize = 64;
 
 /// How many octets are read at once.
 const PIECE: usize = 4_096;
 
-/// How many reads of one of them are made before it's the others' turn.
+/// How many times one connection is read before the others get their turn.
 const MOST_READS: u32 = 256;
 
-/// A partner who is left the time.
+/// A connection that is about to be closed.
 #[derive(Drop)]
 struct Leaver {
     connection: Connection,
@@ -23,7 +23,7 @@ struct Leaver {
     is_gone: bool,
 }
 
-/// Those who are left the time, in the order in which their sessions ended.
+/// The connections that are about to be closed, in the order in which their sessions ended.
 #[derive(Drop)]
 pub struct Leaving<'a> {
     rt: &'a HostRuntime,
@@ -31,7 +31,7 @@ pub struct Leaving<'a> {
 }
 
 impl<'a> Leaving<'a> {
-    /// Nobody.
+    /// No connections.
     pub fn new(rt: &'a HostRuntime) -> Leaving<'a> {
         Leaving {
             rt,
@@ -39,12 +39,12 @@ impl<'a> Leaving<'a> {
         }
     }
 
-    /// Whether it is nobody.
+    /// Whether there are no such connections.
     pub fn is_empty(&self) -> bool {
         self.leavers.is_empty()
     }
 
-    /// Leaves a partner the time. One to whom that can't be given is closed at once.
+    /// Adds a connection. If it can't be added, it is closed at once.
     pub fn take_in(&mut self, connection: Connection) {
         let Ok(since) = Instant::now(self.rt) else {
             return;
@@ -63,7 +63,7 @@ impl<'a> Leaving<'a> {
         });
     }
 
-    /// Drops what they still send, and closes the connections of those who are gone, or have had their time.
+    /// Drops what the partners still send. Closes the connections of those that have left, or whose time is over.
     pub fn go_on(&mut self) {
         let rt = self.rt;
         for leaver in &mut self.leavers {
@@ -74,7 +74,7 @@ impl<'a> Leaving<'a> {
 }
 
 impl Leaver {
-    /// Drops what it has sent.
+    /// Drops what the partner has sent.
     fn go_on(&mut self, rt: &HostRuntime) {
         let mut piece = [0; PIECE];
         for _ in 0..MOST_READS {

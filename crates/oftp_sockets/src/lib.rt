@@ -1,5 +1,5 @@
-//! Connections to partners and to who asks by HTTP: they are accepted, admitted, waited for and given up. What a session or a request is served
-//! from is the caller's ([`Desk`], [`Replies`]).
+//! Connections to partners and to HTTP clients: they are accepted, admitted, waited for and closed. The caller supplies the office of
+//! sessions and of requests ([`Desk`], [`Replies`]).
 #![tactic(auto)]
 
 mod addresses;

@@ -1,13 +1,13 @@
-//! Reads and writes up to a moment.
+//! Reads and writes with a deadline.
 
 use crate::connection::Connection;
 use std::io::{self, ErrorKind, Read, Write};
 use std::time::{Duration, Instant};
 
-/// How often a read or a write that a signal interrupts is made, within the time that was left to the first.
+/// How often a read or write that a signal interrupts is made, within the time of the first.
 const MOST_CALLS: u32 = 1_000;
 
-/// How long a partner may keep still, of so many seconds. Zero seconds are no limit.
+/// How long a partner may be idle. Zero seconds are no limit.
 pub fn patience_of(seconds: u64) -> Option<Duration> {
     match seconds {
         0 => None,
@@ -15,7 +15,7 @@ pub fn patience_of(seconds: u64) -> Option<Duration> {
     }
 }
 
-/// How long a connection is waited for: so long in all, and no longer than the patience at each read and each write.
+/// The deadline of a connection in all, and how long each read and each write may take.
 #[derive(Clone, Copy)]
 pub struct Term<'a> {
     rt: &'a HostRuntime,
@@ -26,7 +26,7 @@ pub struct Term<'a> {
 }
 
 impl<'a> Term<'a> {
-    /// The term of a connection that began at a moment. Without a patience it has its length alone.
+    /// The term of a connection since `begun`. Without a patience only its length limits it.
     pub(super) fn new(
         rt: &'a HostRuntime,
         connection: &'a Connection,
@@ -43,12 +43,12 @@ impl<'a> Term<'a> {
         }
     }
 
-    /// Whether a read waits for nobody: the partner has said something, or the connection has ended.
+    /// Whether a read doesn't block: octets have arrived, or the connection has ended.
     pub fn is_heard(&self) -> bool {
         self.connection.is_heard()
     }
 
-    /// How long the partner may go on to keep still, which has done so since a moment. There is nothing once that is over.
+    /// How much longer the partner may be idle, if it has been so since `since`. `None` once that time is over.
     pub fn left(&self, since: Instant) -> Option<Duration> {
         let whole = self
             .length
@@ -60,7 +60,7 @@ impl<'a> Term<'a> {
         if left.is_zero() { None } else { Some(left) }
     }
 
-    /// The connection, which waits no longer than what is left of a call that was begun at a moment.
+    /// The connection, with the timeout that is left of a call since `since`.
     fn hurried(&self, since: Instant) -> io::Result<&'a Connection> {
         let Some(left) = self.left(since) else {
             return Err(io::Error::from(ErrorKind::TimedOut));
@@ -70,14 +70,14 @@ impl<'a> Term<'a> {
     }
 }
 
-/// A connection that is read and written within its term, and then fails.
+/// A connection whose reads and writes fail once its term is over.
 #[derive(Drop)]
 pub(super) struct Timed<'a> {
     term: Term<'a>,
 }
 
 impl<'a> Timed<'a> {
-    /// The connection from now on, for so long.
+    /// A connection with a term from now on, of this length.
     pub(super) fn new(
         rt: &'a HostRuntime,
         connection: &'a Connection,
@@ -87,7 +87,7 @@ impl<'a> Timed<'a> {
         Ok(Timed::of(Term::new(rt, connection, begun, length, None)))
     }
 
-    /// The connection for as long as its term.
+    /// A connection with this term.
     pub(super) fn of(term: Term<'a>) -> Timed<'a> {
         Timed { term }
     }
@@ -123,7 +123,7 @@ impl Write for Timed<'_> {
     }
 }
 
-/// A reader over a connection, which fails behind the connection's term.
+/// A reader over a connection that fails once the connection's term is over.
 #[derive(Drop)]
 pub(super) struct Within<'a, R> {
     reader: R,
@@ -131,7 +131,7 @@ pub(super) struct Within<'a, R> {
 }
 
 impl<'a, R> Within<'a, R> {
-    /// The reader within a term.
+    /// A reader with this term.
     pub(super) fn new(reader: R, term: Term<'a>) -> Within<'a, R> {
         Within { reader, term }
     }

@@ -1,4 +1,4 @@
-//! Requests over sockets.
+//! HTTP requests over sockets.
 
 ghost use Rattle.std.specs.Prelude.{◌≤◌, IfOk, IfSome, length};
 
@@ -18,23 +18,23 @@ use std::time::Duration;
 /// How many octets of a request are read: one more than a head may have.
 pub const MOST_REQUEST_OCTETS: usize = 8_193;
 
-/// How many seconds a request may take to come, and its reply to go.
+/// How many seconds a request may take to arrive, and its reply to be sent.
 pub const REQUEST_SECONDS: u64 = 10;
 
-/// What requests are answered from.
+/// The source of replies.
 pub trait Replies {
-    /// The reply to a request, of which it matters what the register holds.
+    /// The reply to a request that depends on the register.
     ///
     /// # Errors
-    /// The trouble of who asks, or of the service.
+    /// An error of this client, or of the service.
     fn reply_to(&mut self, rt: &HostRuntime, request: &[u8]) -> Result<Reply, Trouble>;
 }
 
-/// Answers so many requests, one connection each. Where the trouble is of one who asks alone, the connection is closed without a reply, and
-/// a line to `err` says so.
+/// Answers `requests` requests, each on its own connection. After an error of one client alone, its connection is closed without a reply,
+/// and `err` gets a line.
 ///
 /// # Errors
-/// Any other fault: of what they are answered from, of memory or of the listener.
+/// Any other error: of the source of replies, of the listener, or out of memory.
 pub fn http_on<A: Replies>(
     rt: &HostRuntime,
     listener: &TcpListener,
@@ -49,7 +49,7 @@ pub fn http_on<A: Replies>(
     Ok(())
 }
 
-/// Answers one request. A connection that fails, or ends before the head is whole, is closed without a reply.
+/// Answers one request. If the connection fails, or ends before the head is whole, it is closed without a reply.
 fn serve<A: Replies>(rt: &HostRuntime, stream: TcpStream, replies: &mut A) -> Result<(), Trouble> {
     let Ok(connection) = Connection::new(stream, None) else {
         return Ok(());
@@ -63,7 +63,7 @@ fn serve<A: Replies>(rt: &HostRuntime, stream: TcpStream, replies: &mut A) -> Re
     Ok(())
 }
 
-/// Reads a request into the room for it, and answers how many octets it has. There is none where the input ends before its head is whole.
+/// Reads a request into `octets`. Returns its length, or `None` if the input ends before its head is whole.
 fn hear(
     rt: &HostRuntime,
     connection: &Connection,
@@ -87,7 +87,7 @@ fn hear(
     Ok(Some(count))
 }
 
-/// Whether a request can be answered. What the answer is doesn't count yet, so the database isn't opened for it.
+/// Whether a request can be answered. This is tried over an empty register, so that no database is opened for it.
 ///
 /// # Errors
 /// [`Fault::MEMORY`].
@@ -99,7 +99,7 @@ pub fn is_whole(alloc: Global, request: &[u8]) -> Result<bool, Fault> {
     }
 }
 
-/// The reply to a request. What it is answered from is asked only where it matters what the register holds.
+/// The reply to a request. The source of replies is only asked if the reply depends on the register.
 fn reply_to<A: Replies>(
     rt: &HostRuntime,
     request: &[u8],
@@ -111,8 +111,8 @@ fn reply_to<A: Replies>(
     }
 }
 
-/// The reply that is the same whatever a register holds, if there is one: to octets that are no request, to a target that nothing fits,
-/// and to another method than GET for a list.
+/// The reply that is the same for each register, if there is one: to octets that aren't a request, to an unknown target, and to another
+/// method than GET for a list.
 fn reply_of_any(alloc: Global, request: &[u8]) -> Result<Option<Reply>, Fault> {
     let reply = answer(alloc, request, &mut PlainOffice::new(alloc, LIMITS))?;
     if is_of_any(reply.octets(), request) {
@@ -122,14 +122,14 @@ fn reply_of_any(alloc: Global, request: &[u8]) -> Result<Option<Reply>, Fault> {
     }
 }
 
-/// Whether the reply from an empty register is that from any. It says of a list alone that the method isn't allowed.
+/// Whether the reply of an empty register is that of each register. A 405 is only sent for a list.
 fn is_of_any(reply: &[u8], request: &[u8]) -> bool {
     reply.starts_with(b"HTTP/1.1 400")
         || reply.starts_with(b"HTTP/1.1 405")
         || reply.starts_with(b"HTTP/1.1 404") && !may_name_entry(request)
 }
 
-/// Whether a request may ask for one entry. No method has a slash, so the first one begins the target, if any does.
+/// Whether a request may ask for one entry. No method has a slash, so the first slash begins the target.
 fn may_name_entry(request: &[u8]) -> bool {
     for at in 0..request.len() {
         if request[at] == b'/' {
@@ -140,7 +140,7 @@ fn may_name_entry(request: &[u8]) -> bool {
     false
 }
 
-/// Whether a text begins so, with the first digit of a number behind it.
+/// Whether a text is this beginning and then the first digit of a number.
 fn is_of_number(text: &[u8], beginning: &[u8]) -> bool {
     let Some(rest) = text.strip_prefix(beginning) else {
         return false;
@@ -151,12 +151,12 @@ fn is_of_number(text: &[u8], beginning: &[u8]) -> bool {
     }
 }
 
-/// The connection for as long as a request may take to come, or its reply to go.
+/// The connection with the time that a request may take to arrive, or its reply to be sent.
 fn timed<'a>(rt: &'a HostRuntime, connection: &'a Connection) -> io::Result<Timed<'a>> {
     Timed::new(rt, connection, Duration::from_secs(REQUEST_SECONDS))
 }
 
-/// Sends a reply, and leaves the caller the time to read it.
+/// Sends a reply, and gives the client time to read it.
 fn send(rt: &HostRuntime, connection: &Connection, reply: &Reply) -> io::Result<()> {
     timed(rt, connection)?.write_all(reply.octets())?;
     connection.part(rt)

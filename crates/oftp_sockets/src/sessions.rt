@@ -13,25 +13,25 @@ use std::io::{Read, Write};
 use std::net::{TcpListener, TcpStream};
 use std::time::{Duration, Instant};
 
-/// The wire to a partner.
+/// The connection of a session.
 #[derive(Drop)]
 pub struct Wire<'a, R, W> {
-    /// What the partner has said already.
+    /// The partner's octets that were read already.
     pub heard: &'a [u8],
-    /// What it says then.
+    /// The reader for the following octets.
     pub reader: R,
-    /// What it is told.
+    /// The writer to the partner.
     pub writer: W,
-    /// How long it is waited for.
+    /// The deadline of the session.
     pub term: Term<'a>,
 }
 
-/// What a session is served over.
+/// The service that runs sessions.
 pub trait Desk {
-    /// Serves a session.
+    /// Runs a session.
     ///
     /// # Errors
-    /// Its trouble.
+    /// An error of this partner, or of the service.
     fn converse<R: Read + Drop, W: Write + Drop>(
         &mut self,
         rt: &HostRuntime,
@@ -41,35 +41,35 @@ pub trait Desk {
     ) -> Result<End, Trouble>;
 }
 
-/// What sessions are served from.
+/// The settings of sessions.
 #[derive(Clone, Copy)]
 pub struct Station<'a> {
-    /// The book of its partners.
+    /// The book with the partners.
     pub book: &'a Book,
-    /// How long a partner may keep still before its session is given up. Without a limit it is waited for as long as it takes.
+    /// How long a partner may be idle before its session is given up. `None` is no limit.
     pub patience: Option<Duration>,
     /// How long a session may take in all.
     pub longest: Duration,
-    /// Where what goes over its connections is told, if it is.
+    /// The trace of the connections, if there is one.
     pub trace: Option<&'a Trace<'a>>,
 }
 
-/// Where callers are received.
+/// The settings for callers.
 #[derive(Clone, Copy)]
 pub struct Reception<'a> {
-    /// Where they call.
+    /// The listener.
     pub listener: &'a TcpListener,
-    /// How many of them are served.
+    /// How many callers are served.
     pub sessions: u64,
-    /// How long each has to be let in, from the greeting on.
+    /// How long a caller has to be admitted, from the greeting on.
     pub admission: Duration,
 }
 
-/// Serves so many sessions of partners who call, one after another, and writes a line for each: to `out` how it ended, or to `err` the
-/// fault that is this caller's alone. Who isn't let in keeps nobody waiting but by the words that send it away.
+/// Serves sessions of callers, one after another, and writes a line for each: its end to `out`, or an error of this caller alone to `err`.
+/// A caller that isn't admitted delays others only while its session is ended.
 ///
 /// # Errors
-/// Any other fault: of the desk, of memory, of the listener or of `out`.
+/// Any other error: of the desk, of the listener, of `out`, or out of memory.
 pub fn listen_on<D: Desk>(
     rt: &HostRuntime,
     reception: &Reception<'_>,
@@ -89,7 +89,7 @@ pub fn listen_on<D: Desk>(
     Ok(())
 }
 
-/// The session of the next caller, where so many more are served.
+/// Serves the session of the next caller, if `most` more are served.
 fn serve_next<D: Desk>(
     rt: &HostRuntime,
     waiting: &mut Waiting<'_>,
@@ -107,10 +107,10 @@ fn serve_next<D: Desk>(
     served
 }
 
-/// One session with a partner who was called over this stream.
+/// Runs one session with a partner that was called over this stream.
 ///
 /// # Errors
-/// Any fault of the desk or of the session.
+/// Any error of the desk or of the session.
 pub fn dial<D: Desk>(
     rt: &HostRuntime,
     stream: TcpStream,
@@ -126,7 +126,7 @@ pub fn dial<D: Desk>(
     served.map_err(Trouble::fault)
 }
 
-/// Appends how a session ended to its trace. Where the station had the last word, the partner is left the time to read it.
+/// Appends the end of a session to its trace. If the station ended it, or the office failed, the partner gets time to read the last frame.
 pub fn part(
     rt: &HostRuntime,
     connection: &Connection,
@@ -139,7 +139,7 @@ pub fn part(
     }
 }
 
-/// Appends how a session ended to its trace, if it has one.
+/// Appends the end of a session to its trace, if it has one.
 pub fn tell_end(station: &Station<'_>, served: &Result<End, Trouble>) {
     let Some(trace) = station.trace else {
         return;
@@ -153,10 +153,10 @@ pub fn tell_end(station: &Station<'_>, served: &Result<End, Trouble>) {
     }
 }
 
-/// One session with a partner who was called.
+/// Runs one session with a partner that was called.
 ///
 /// # Errors
-/// The trouble of the session, of the desk, or that no clock tells the time.
+/// An error of the session or of the desk, or the clock can't be read.
 pub fn serve_called<D: Desk>(
     rt: &HostRuntime,
     connection: &Connection,
@@ -181,10 +181,10 @@ pub fn serve_called<D: Desk>(
     )
 }
 
-/// One session with a caller. Nothing is asked of the desk before the caller is to be let in.
+/// Runs one session with a caller. The desk is only used once the caller is admitted.
 ///
 /// # Errors
-/// The trouble of the session or of the desk.
+/// An error of the session or of the desk.
 pub fn serve_caller<D: Desk>(
     rt: &HostRuntime,
     caller: &Caller,

@@ -1,4 +1,4 @@
-//! Callers who wait to be let in, side by side. They hold nothing but their connections.
+//! Callers that wait for admission, all at once. They use nothing but their connections.
 
 use crate::addresses::{accepted, passes};
 use crate::admission::{Said, greet, judged};
@@ -13,67 +13,67 @@ use std::io::{self, ErrorKind, Read};
 use std::net::{TcpListener, TcpStream};
 use std::time::{Clock, Duration, Instant};
 
-/// How many callers wait at once, at most. The others are in the system's queue.
+/// The most callers that wait at once. The others are in the system's queue.
 const MOST_WAITING: u64 = 128;
 
-/// How many milliseconds it is waited before they are looked at again.
+/// The pause before they are looked at again, in milliseconds.
 const PAUSE: u64 = 5;
 
-/// How many octets of a caller are heard before its turn: no fewer than an SSID has.
+/// How many octets of a caller are read before its turn: at least as many as an SSID has.
 const MOST_HEARD: usize = 128;
 
-/// A caller who was greeted.
+/// A caller that was greeted.
 #[derive(Drop)]
 pub struct Caller {
     /// The connection.
     pub connection: Connection,
-    /// When it was greeted. The time of others' sessions isn't counted.
+    /// When it was greeted. The time of other sessions isn't counted.
     pub(super) begun: Instant,
-    /// How long it has to be let in. Who said too little in its time has none left.
+    /// How long it has to be admitted. Zero if it was given up.
     pub(super) length: Duration,
-    /// How many octets the greeting has.
+    /// The length of the greeting in octets.
     pub(super) greeting: u64,
-    // What it said.
+    // Its octets so far.
     heard: Vec<u8>,
-    // When it last said something, or else was greeted.
+    // When it last sent something, or was greeted.
     still_since: Instant,
     standing: Standing,
 }
 
-/// How a caller stands.
+/// The state of a caller.
 #[derive(Clone, Copy)]
 enum Standing {
     /// It is waited for.
     Waits,
-    /// Its session ends: it said what ends it, left, or said too little in its time.
+    /// Its session ends: it sent what ends it, left, or sent too little in its time.
     Leaves,
-    /// It is to be let in.
+    /// It is to be admitted.
     Enters,
 }
 
-/// Who was taken in.
+/// The result of accepting a caller.
 #[derive(Clone, Copy)]
 pub enum Arrival {
-    /// Nobody: nobody has called, or there is no room.
+    /// None: nobody has called, or there is no room.
     Nobody,
-    /// Nobody yet: it has to be tried again.
+    /// None yet: accept has to be called again.
     Later,
-    /// The next who has called.
+    /// The next caller.
     Somebody,
 }
 
-/// The callers who wait, in the order in which they came.
+/// The waiting callers, in the order in which they came.
 #[derive(Drop)]
 pub struct Waiting<'a> {
     rt: &'a HostRuntime,
     listener: &'a TcpListener,
-    // How long each has to be let in.
+    // How long each has to be admitted.
     admission: Duration,
     callers: Vec<Caller>,
 }
 
 impl<'a> Waiting<'a> {
-    /// Nobody waits yet.
+    /// No waiting callers.
     pub fn new(rt: &'a HostRuntime, listener: &'a TcpListener, admission: Duration) -> Waiting<'a> {
         Waiting {
             rt,
@@ -83,10 +83,10 @@ impl<'a> Waiting<'a> {
         }
     }
 
-    /// The next caller whose turn it is, where so many more are served: the first who is to be let in, else the first who leaves.
+    /// Waits for the next caller whose turn it is, if `most` more are served: the first that is to be admitted, else the first that leaves.
     ///
     /// # Errors
-    /// The trouble of a caller who can't be greeted, or of the service.
+    /// An error of a caller that can't be greeted, or of the service.
     pub(super) fn next_caller(
         &mut self,
         most: u64,
@@ -102,10 +102,10 @@ impl<'a> Waiting<'a> {
         Err(Trouble::from(Fault::Socket))
     }
 
-    /// The caller whose turn it is, if it is anybody's: the first who is to be let in, else the first who leaves.
+    /// The caller whose turn it is, if there is one: the first that is to be admitted, else the first that leaves.
     ///
     /// # Errors
-    /// The trouble of that caller, or of the service.
+    /// An error of that caller, or of the service.
     pub fn due(&mut self, station: &Station<'_>) -> Result<Option<Caller>, Trouble> {
         let Some(place) = self.called(station)? else {
             return Ok(None);
@@ -120,10 +120,10 @@ impl<'a> Waiting<'a> {
         }
     }
 
-    /// Takes in the next who has called, where there is room, and waits for nobody: the listener doesn't either.
+    /// Accepts and greets the next caller, if there is room. The listener has to be non-blocking.
     ///
     /// # Errors
-    /// The trouble of a caller who can't be greeted, or of the listener.
+    /// An error of a caller that can't be greeted, or of the listener.
     pub fn take_in(&mut self, station: &Station<'_>) -> Result<Arrival, Trouble> {
         if self.callers.len() as u64 >= MOST_WAITING {
             return Ok(Arrival::Nobody);
@@ -141,7 +141,7 @@ impl<'a> Waiting<'a> {
         Ok(Arrival::Somebody)
     }
 
-    /// The connection of who came last.
+    /// The connection of the newest caller.
     pub fn newest(&self) -> Option<&Connection> {
         match self.callers.last() {
             Some(caller) => Some(&caller.connection),
@@ -149,12 +149,12 @@ impl<'a> Waiting<'a> {
         }
     }
 
-    /// Whether nobody waits.
+    /// Whether no caller waits.
     pub fn is_empty(&self) -> bool {
         self.callers.is_empty()
     }
 
-    /// Takes in who has called, up to so many in all.
+    /// Accepts callers, until `most` wait.
     fn welcome(&mut self, most: u64, station: &Station<'_>) -> Result<(), Trouble> {
         for _ in self.callers.len() as u64..most {
             let Some(stream) = self.arrived()? else {
@@ -168,7 +168,7 @@ impl<'a> Waiting<'a> {
         Ok(())
     }
 
-    /// The stream of who has called. Where nobody waits yet it is waited for.
+    /// The stream of the next caller. If no caller waits, this blocks until one comes.
     fn arrived(&self) -> Result<Option<TcpStream>, Fault> {
         let is_idle = self.callers.is_empty();
         if self.listener.set_nonblocking(!is_idle).is_err() {
@@ -177,14 +177,14 @@ impl<'a> Waiting<'a> {
         if is_idle {
             return accepted(self.rt, self.listener).map(Some);
         }
-        // What fails for good is told once nobody waits.
+        // A lasting error is returned by the blocking call, once no caller waits.
         match self.listener.accept() {
             Ok((stream, _)) => Ok(Some(stream)),
             Err(_) => Ok(None),
         }
     }
 
-    /// The caller of a stream, who is greeted, and whose reads don't wait from then on.
+    /// Greets the caller of a stream, and makes the stream non-blocking.
     fn greeted(&self, stream: TcpStream, station: &Station<'_>) -> Result<Caller, Trouble> {
         let Ok(connection) = Connection::new(stream, station.patience) else {
             return Err(Trouble::from(RunFault::Read));
@@ -208,7 +208,7 @@ impl<'a> Waiting<'a> {
         })
     }
 
-    /// The place of the caller whose turn it is, if it is anybody's.
+    /// The index of the caller whose turn it is, if there is one.
     fn called(&mut self, station: &Station<'_>) -> Result<Option<usize>, Fault> {
         let rt = self.rt;
         let mut first = None;
@@ -222,10 +222,10 @@ impl<'a> Waiting<'a> {
         Ok(first)
     }
 
-    /// Whether a caller waits who is to be let in, and hasn't left.
+    /// Whether a caller is to be admitted, and hasn't left.
     ///
     /// # Errors
-    /// Memory ran out.
+    /// Out of memory.
     pub fn has_guest(&mut self, station: &Station<'_>) -> Result<bool, Fault> {
         let rt = self.rt;
         for caller in &mut self.callers {
@@ -237,7 +237,8 @@ impl<'a> Waiting<'a> {
         Ok(false)
     }
 
-    /// A session was served since this moment, whose time isn't counted. Of a caller who came within it no more than its own time is left out.
+    /// Doesn't count the time of a session that was served since this moment. A caller that came during it gets back no more than its own
+    /// time.
     pub fn stand_still(&mut self, since: Instant) {
         let rt = self.rt;
         let Ok(passed) = since.elapsed(rt) else {
@@ -250,7 +251,7 @@ impl<'a> Waiting<'a> {
     }
 }
 
-/// The moment so much later, but not behind now.
+/// A moment later by `length`, but not after now.
 fn postponed(rt: &HostRuntime, moment: Instant, length: Duration) -> Instant {
     let length = match moment.elapsed(rt) {
         Ok(passed) => length.min(passed),
@@ -259,7 +260,7 @@ fn postponed(rt: &HostRuntime, moment: Instant, length: Duration) -> Instant {
     moment.checked_add(length).unwrap_or(moment)
 }
 
-/// What a caller said, and what it says then.
+/// A reader over a caller's octets so far, and then its connection.
 #[derive(Drop)]
 pub(super) struct Spoken<'a> {
     heard: &'a [u8],
@@ -277,7 +278,7 @@ impl Read for Spoken<'_> {
 }
 
 impl Caller {
-    /// The code of the partner that it is let in as. There is none where it isn't let in.
+    /// The code of the partner that it is admitted as. `None` if it isn't admitted.
     pub fn code(&self, alloc: Global) -> Option<String> {
         if !matches!(&self.standing, Standing::Enters) {
             return None;
@@ -290,7 +291,7 @@ impl Caller {
         }
     }
 
-    /// What it said, and what it says then.
+    /// A reader over its octets so far, and then its connection.
     pub(super) fn spoken(&self) -> Spoken<'_> {
         Spoken {
             heard: self.heard.as_slice(),
@@ -298,7 +299,7 @@ impl Caller {
         }
     }
 
-    /// How it stands now.
+    /// Its state now.
     fn look(&mut self, rt: &HostRuntime, station: &Station<'_>) -> Result<Standing, Fault> {
         if matches!(&self.standing, Standing::Waits) {
             self.standing = self.heed(rt, station)?;
@@ -306,7 +307,7 @@ impl Caller {
         Ok(self.standing)
     }
 
-    /// How it stands once it is heard what it said since.
+    /// Its state after the octets that have arrived were read.
     fn heed(&mut self, rt: &HostRuntime, station: &Station<'_>) -> Result<Standing, Fault> {
         let mut piece = [0; MOST_HEARD];
         let mut connection = &self.connection;
@@ -318,7 +319,7 @@ impl Caller {
         }
     }
 
-    /// How it stands once it said this, too.
+    /// Its state after these octets.
     fn hear(
         &mut self,
         rt: &HostRuntime,
@@ -339,7 +340,7 @@ impl Caller {
                 Standing::Leaves
             });
         }
-        // What was said in time is answered, however busy the machine is.
+        // What arrived in time is answered, however busy the machine is.
         self.length = station.longest;
         Ok(match said {
             Said::Password => Standing::Enters,
@@ -347,7 +348,7 @@ impl Caller {
         })
     }
 
-    /// How it stands where it said too little so far.
+    /// Its state if it sent too little so far.
     fn waited(&mut self, rt: &HostRuntime, station: &Station<'_>) -> Standing {
         if is_over(rt, self.begun, self.length) {
             return self.given_up();
@@ -358,14 +359,14 @@ impl Caller {
         }
     }
 
-    /// It isn't waited for any more.
+    /// The state of a caller that is given up.
     fn given_up(&mut self) -> Standing {
         self.length = Duration::from_secs(0);
         Standing::Leaves
     }
 }
 
-/// Whether so long has passed since a moment.
+/// Whether this much time has passed since a moment.
 fn is_over(rt: &HostRuntime, since: Instant, length: Duration) -> bool {
     match since.elapsed(rt) {
         Ok(passed) => passed >= length,
