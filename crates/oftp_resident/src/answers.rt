@@ -1,4 +1,4 @@
-//! The answers to commands: pieces of what they print or write, and then their exit status.
+//! The answers to commands: pieces of their output and of files, and then the exit status.
 
 use crate::statuses::{DONE, FAILED};
 use oftp_channel::{LONGEST_PIECE, Outlet, write_end, write_piece};
@@ -6,7 +6,7 @@ use oftp_command_line::{Fault, Outcome, write_line};
 use oftp_engine::{End, Port};
 use std::alloc::Global;
 
-/// An answer, as its octets come together.
+/// The octets of an answer.
 #[derive(Drop)]
 pub(super) struct Answer {
     alloc: Global,
@@ -14,7 +14,7 @@ pub(super) struct Answer {
 }
 
 impl Answer {
-    /// The answer without a piece.
+    /// An answer without pieces.
     pub(super) fn new(alloc: Global) -> Answer {
         Answer {
             alloc,
@@ -25,7 +25,7 @@ impl Answer {
     /// Adds octets for an outlet, in as many pieces as they need.
     ///
     /// # Errors
-    /// Memory ran out.
+    /// Out of memory.
     pub(super) fn add(&mut self, outlet: Outlet, octets: &[u8]) -> Result<(), Fault> {
         let mut rest = octets;
         for _ in 0..octets.len() {
@@ -39,7 +39,7 @@ impl Answer {
         Ok(())
     }
 
-    /// Adds a piece. What is too long for one is told as want of memory.
+    /// Adds a piece. A piece that is too long gives the error of out of memory.
     fn add_piece(&mut self, outlet: Outlet, piece: &[u8]) -> Result<(), Fault> {
         let mut port = Port::new(Vec::new(self.alloc), 0);
         if piece.len() <= LONGEST_PIECE && write_piece(&mut port, outlet, piece) {
@@ -49,7 +49,7 @@ impl Answer {
         }
     }
 
-    /// Adds the exit status, which ends it.
+    /// Adds the exit status, which ends the answer.
     fn add_end(&mut self, status: u8) -> Result<(), Fault> {
         let mut port = Port::new(Vec::new(self.alloc), 0);
         if write_end(&mut port, status) {
@@ -59,7 +59,7 @@ impl Answer {
         }
     }
 
-    /// Takes octets.
+    /// Adds octets.
     fn take(&mut self, octets: Vec<u8>) -> Result<(), Fault> {
         match self.octets.extend_from_slice(octets.as_slice()) {
             Ok(()) => Ok(()),
@@ -67,14 +67,14 @@ impl Answer {
         }
     }
 
-    /// Adds the line of a fault.
+    /// Adds the line of an error.
     fn add_fault(&mut self, fault: Fault) -> Result<(), Fault> {
         let mut line = Vec::new(self.alloc);
         write_line(&mut line, &fault)?;
         self.add(Outlet::Errors, line.as_slice())
     }
 
-    /// Adds what ends the answer of a command that ends with this status, or by this fault.
+    /// Adds the end of an answer: the exit status, or the line of an error and the status of a failure.
     fn end(&mut self, outcome: Result<u8, Fault>) -> Result<(), Fault> {
         match outcome {
             Ok(status) => self.add_end(status),
@@ -85,7 +85,7 @@ impl Answer {
         }
     }
 
-    /// The octets of the answer of a command that ends with this status, or by this fault. There are none where memory runs out.
+    /// The octets of an answer with this end. `None` if memory runs out.
     pub(super) fn ended(mut self, outcome: Result<u8, Fault>) -> Option<Vec<u8>> {
         match self.end(outcome) {
             Ok(()) => Some(self.octets),
@@ -94,7 +94,7 @@ impl Answer {
     }
 }
 
-/// The answer to a command which called a partner: what its trace is to have, and how the session ended.
+/// The answer to a command that called a partner: the lines for its trace, and the end of the session. `None` if memory runs out.
 pub(super) fn answer_of_call(
     alloc: Global,
     trace: &[u8],
@@ -106,7 +106,7 @@ pub(super) fn answer_of_call(
     answer.ended(outcome)
 }
 
-/// Adds the line of how a session ended, and answers the exit status.
+/// Adds the line for the end of a session. Returns the exit status.
 fn add_end_of_session(
     alloc: Global,
     answer: &mut Answer,

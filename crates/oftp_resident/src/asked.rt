@@ -1,4 +1,4 @@
-//! What commands ask, and what is done for them over the office.
+//! The requests of commands, and how they are carried out with the office.
 
 use crate::answers::Answer;
 use crate::calls::Wanted;
@@ -15,7 +15,7 @@ use std::alloc::Global;
 use std::io;
 use std::time::Duration;
 
-/// What a command asks: its words, and the octets of the files that it read for them.
+/// The request of a command: its words, and the contents of the files that it read.
 #[derive(Drop)]
 pub(super) struct Asked {
     book: Vec<u8>,
@@ -23,23 +23,23 @@ pub(super) struct Asked {
     words: Vec<String>,
 }
 
-/// What comes of it.
+/// The result of a request.
 #[derive(Drop)]
 pub(super) enum Task {
-    /// It is answered so. Where there is no answer, there was no memory for it.
+    /// It has this answer. `None` if there was no memory for it.
     Answered(Option<Vec<u8>>),
-    /// It is answered so, and the office has failed.
+    /// It has this answer, and the office has failed.
     Failed(Option<Vec<u8>>),
     /// A partner is to be called for it.
     Calls(Wanted),
-    /// It copies the database's files itself, while no job is done.
+    /// The command copies the database's files itself, while no job runs.
     Copies,
-    /// It is nothing that a command asks.
+    /// It isn't a request of a command.
     Nothing,
 }
 
 impl Asked {
-    /// What is asked by the octets of a request: the book, the content, and then the words.
+    /// Parses a request: the book, the content, and then the words. `None` if it isn't one, or memory runs out.
     pub(super) fn of(alloc: Global, request: Vec<Vec<u8>>) -> Option<Asked> {
         let mut parts = request.into_iter();
         let book = parts.next()?;
@@ -56,7 +56,7 @@ impl Asked {
         })
     }
 
-    /// Whether it is done at once, also within a session: it changes nothing, or is nothing that a command asks.
+    /// Whether it is answered at once, even during a session: it changes nothing, or isn't a request of a command.
     pub(super) fn is_look_up(&self, alloc: Global) -> bool {
         match line_of(alloc, self.words.as_slice()) {
             Ok(line) => matches!(&line, Line::Report(_) | Line::Fetch(_) | Line::Init { .. }),
@@ -64,7 +64,7 @@ impl Asked {
         }
     }
 
-    /// Does what is asked over an office.
+    /// Carries out the request with an office.
     pub(super) fn carry_out(&self, rt: &HostRuntime, office: &mut impl HeldOffice) -> Task {
         let alloc = rt.alloc();
         match line_of(alloc, self.words.as_slice()) {
@@ -89,7 +89,7 @@ impl Asked {
         }
     }
 
-    /// Who is to be called.
+    /// The call that is asked for.
     fn call(&self, alloc: Global, call: &Call<'_>) -> Result<Wanted, Fault> {
         let book = book_of(alloc, self.book.as_slice())?;
         let code = String::from_str(alloc, call.partner).map_err(|_| Fault::MEMORY)?;
@@ -103,7 +103,7 @@ impl Asked {
         })
     }
 
-    /// Does what a line asks over an office, and answers its exit status. There is none for a line that no command asks.
+    /// Carries out a command line with an office. Returns its exit status, or `None` if it isn't a request of a command.
     fn carry_out_line(
         &self,
         alloc: Global,
@@ -136,7 +136,7 @@ impl Asked {
         Ok(Some(status))
     }
 
-    /// Does what an operator wants of an office, as the next job of the list that the station does.
+    /// Does an operator's job with an office, as the next job of the station.
     fn operate<'a>(
         &self,
         alloc: Global,
@@ -162,7 +162,7 @@ impl Asked {
         }
     }
 
-    /// What is submitted.
+    /// The file that is submitted.
     fn submission<'a>(&'a self, submit: &Submit<'a>) -> Submission<'a> {
         Submission {
             dataset: submit.dataset,
@@ -177,7 +177,7 @@ impl Asked {
     }
 }
 
-/// What an operator wants, as a job whose line is kept. It has no reader.
+/// An operator's job whose line is kept in memory. It has no reader.
 fn job_of<'a>(alloc: Global, operator: Operator<'a>) -> Job<'a, io::Empty, Vec<u8>> {
     Job::call(operator, Port::new(Vec::new(alloc), 0))
 }
@@ -198,7 +198,7 @@ fn report(
     }
 }
 
-/// Adds a whole incoming file to an answer, and the line that tells it.
+/// Adds a whole incoming file to an answer, and its line.
 fn send_file(
     alloc: Global,
     office: &mut impl HeldOffice,
@@ -210,7 +210,7 @@ fn send_file(
     tell_in(alloc, outcome, answer)
 }
 
-/// Adds the line of an outcome to an answer, and answers the exit status.
+/// Adds the line of an outcome to an answer. Returns the exit status.
 fn tell_in(alloc: Global, outcome: Outcome, answer: &mut Answer) -> Result<u8, Fault> {
     let mut line = Vec::new(alloc);
     let status = tell(outcome, &mut line)?;
@@ -218,7 +218,7 @@ fn tell_in(alloc: Global, outcome: Outcome, answer: &mut Answer) -> Result<u8, F
     Ok(status)
 }
 
-/// The whole incoming file of this number, or the refusal where there is none.
+/// Looks up the whole incoming file with this number, or the refusal if there is none.
 ///
 /// # Errors
 /// The office failed.
@@ -234,7 +234,7 @@ pub fn entry_to_fetch<O: Office>(
     }
 }
 
-/// An incoming file that is fetched.
+/// The request for the content of an incoming file.
 #[derive(Clone, Copy)]
 struct Fetching {
     alloc: Global,

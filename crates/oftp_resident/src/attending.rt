@@ -1,5 +1,5 @@
-//! A session of the resident station. Between two pieces of the partner's octets the station waits for all sockets, and looks things up for
-//! whoever asks.
+//! A session of the resident station. Whenever it waits for the partner, the station waits for all sockets, and answers requests that only
+//! look something up.
 
 ghost use Rattle.std.specs.Prelude.{◌≢◌, OnOk};
 ghost use Rattle.oftp_session.specs.Standings.{Broken};
@@ -16,23 +16,23 @@ use std::time::Instant;
 /// How many octets of the partner are read at once, at most.
 const PIECE: usize = 4_096;
 
-/// What a session of the resident station is served over: its office, and those who ask meanwhile.
+/// The service that runs a session in the resident station: its office, and the clients during the session.
 #[derive(Drop)]
 pub(super) struct Attending<'r, 'a, O, P> {
     /// The station.
     pub(super) resident: &'r mut Resident<'a>,
     /// Its office.
     pub(super) office: &'r mut O,
-    /// Where the lines of callers go who can't be greeted.
+    /// The output for the lines of callers that can't be greeted.
     pub(super) out: &'r mut P,
     /// When the session gives way to a caller, if it is a call.
     pub(super) yielding: Option<Yielding>,
 }
 
-/// How a partner is waited for.
+/// How to wait for a partner.
 #[derive(Clone, Copy)]
 struct Wait<'a> {
-    // How many of its octets are at hand: for these nobody is waited for.
+    // How many of its octets were read already. Nothing is waited for before these are used.
     at_hand: u64,
     term: Term<'a>,
 }
@@ -62,7 +62,7 @@ impl<O: HeldOffice, P: Write> Desk for Attending<'_, '_, O, P> {
 }
 
 impl<O: HeldOffice, P: Write> Attending<'_, '_, O, P> {
-    /// Goes through a session to its end.
+    /// Runs a session to its end.
     fn talk<R: Read, W: Write>(
         &mut self,
         conversation: &mut Conversation<'_>,
@@ -80,7 +80,7 @@ impl<O: HeldOffice, P: Write> Attending<'_, '_, O, P> {
         Err(Trouble::from(Fault::Socket))
     }
 
-    /// Goes on with a session as far as its octets reach, and has it hear the next ones. It answers how the session ended, if it did.
+    /// Continues a session as far as its octets allow, and gives it the next ones. Returns how the session ended, if it did.
     fn go_on<R: Read, W: Write>(
         &mut self,
         conversation: &mut Conversation<'_>,
@@ -108,10 +108,10 @@ impl<O: HeldOffice, P: Write> Attending<'_, '_, O, P> {
         }
     }
 
-    /// Waits until the partner has said something, and answers those who look something up meanwhile. A call that isn't answered yet gives way.
+    /// Waits until octets of the partner arrive, and answers look-ups meanwhile. A call that isn't answered yet may give way.
     ///
     /// # Errors
-    /// The partner has kept still for too long, the call gives way, or the service ends.
+    /// The partner was idle for too long, the call gave way, or the service ends.
     fn attend(&mut self, term: Term<'_>, is_answered: bool) -> Result<(), Trouble> {
         let Ok(since) = Instant::now(self.resident.rt) else {
             return Err(Trouble::from(RunFault::Read));
@@ -139,7 +139,7 @@ impl<O: HeldOffice, P: Write> Attending<'_, '_, O, P> {
         Ok(())
     }
 
-    /// Answers those who look something up, as far as nobody is waited for.
+    /// Answers look-ups, without blocking.
     fn look_around(&mut self) -> Result<Again, Fault> {
         let again = self.resident.hear(self.office)?;
         self.resident.answer_look_ups(self.office)?;
@@ -147,7 +147,7 @@ impl<O: HeldOffice, P: Write> Attending<'_, '_, O, P> {
         Ok(again)
     }
 
-    /// Whether the session was a call that gave way, and that is to be made again. It gave way so often before.
+    /// Whether the session was a call that gave way and is to be made again. `times` is how often it gave way before.
     pub(super) fn is_made_again(&self, times: u32) -> bool {
         match &self.yielding {
             Some(yielding) => yielding.is_made_again(times),
@@ -155,7 +155,7 @@ impl<O: HeldOffice, P: Write> Attending<'_, '_, O, P> {
         }
     }
 
-    /// Greets who has called, where the session is a call, and looks whether it gives way to one who is to be let in.
+    /// Greets new callers if the session is a call. Returns whether it gives way to one that is to be admitted.
     fn gives_way(&mut self) -> Result<bool, Fault> {
         let Some(yielding) = &mut self.yielding else {
             return Ok(false);

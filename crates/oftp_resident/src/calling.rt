@@ -1,4 +1,4 @@
-//! Whom the station has called: for commands, and by the clock.
+//! The partners that the station calls: for commands, and by the clock.
 
 use crate::answers::answer_of_call;
 use crate::calls::Wanted;
@@ -8,7 +8,7 @@ use oftp_command_line::Fault;
 use oftp_partners::Book;
 
 impl Resident<'_> {
-    /// Calls each partner for whom something is next, where the clock has struck. One who is still called isn't called once more.
+    /// Calls each partner that something is to be sent to, if the interval is over. A partner that is being called isn't called again.
     pub(super) fn call_due(&mut self, office: &mut impl HeldOffice) -> Result<(), Fault> {
         let Some(clock) = &mut self.clock else {
             return Ok(());
@@ -28,7 +28,7 @@ impl Resident<'_> {
         Ok(())
     }
 
-    /// Calls the partner at a place of the book. Where there is no memory for it, it is called when the clock strikes again.
+    /// Calls the partner at an index of the list. If memory runs out, it is called after the next interval.
     fn call_by_clock(&mut self, place: usize) {
         let Some(code) = self.bench.codes.get(place) else {
             return;
@@ -50,7 +50,7 @@ impl Resident<'_> {
         let _ = self.want(None, wanted);
     }
 
-    /// Whether the clock has to call the partner of this code: something is next for it, and it isn't called.
+    /// Whether the clock has to call the partner with this code: something is to be sent to it, and it isn't being called.
     pub(super) fn is_still_due(
         &self,
         code: &str,
@@ -70,7 +70,7 @@ impl Resident<'_> {
         Ok(false)
     }
 
-    /// Has a partner called.
+    /// Requests a call of a partner.
     pub(super) fn want(&mut self, client: Option<u64>, wanted: Wanted) -> Result<(), Fault> {
         let address = {
             let book = book_of_call(&wanted, self.station.book);
@@ -82,7 +82,7 @@ impl Resident<'_> {
         self.calls.want(client, wanted, address)
     }
 
-    /// Has a partner called for a command. It is a job once the call has come to an end.
+    /// Requests a call of a partner for a command. It counts as a job once the call has ended. Returns whether it failed at once, as a job.
     pub(super) fn want_call(&mut self, client: u64, wanted: Wanted) -> Result<bool, Fault> {
         let Err(fault) = self.want(Some(client), wanted) else {
             return Ok(false);
@@ -94,7 +94,7 @@ impl Resident<'_> {
     }
 }
 
-/// The book by which a partner is called.
+/// The book with the partner of a call.
 pub(super) fn book_of_call<'a>(wanted: &'a Wanted, own: &'a Book) -> &'a Book {
     match &wanted.book {
         Some(book) => book,

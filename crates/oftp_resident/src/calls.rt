@@ -1,4 +1,4 @@
-//! The partners whom the station calls. A partner that can't be reached delays nobody: connecting waits beside all else.
+//! Outgoing connections. A partner that can't be reached delays nothing: connections are made in the background.
 
 use crate::watch::Watch;
 use mio::net::TcpStream;
@@ -12,33 +12,33 @@ use std::time::{Duration, Instant};
 /// How many addresses of one partner are tried, at most.
 const MOST_ADDRESSES: usize = 64;
 
-/// How many partners are waited for at once, at most.
+/// How many connections are made at once, at most.
 const MOST_CONNECTING: usize = 64;
 
-/// Who is to be called, and for whom.
+/// A call that is requested.
 #[derive(Drop)]
 pub(super) struct Wanted {
-    /// The book of the command that wants it. The clock wants it by the station's own.
+    /// The book of the command that requested it. `None` is the station's own.
     pub(super) book: Option<Book>,
     /// The partner's code.
     pub(super) code: String,
-    /// How long it may keep still. Without a limit it is waited for as long as it takes.
+    /// How long the partner may be idle. `None` is no limit.
     pub(super) patience: Option<Duration>,
     /// How long the session may take.
     pub(super) longest: Duration,
-    /// Whether the command wants it told what goes over the connection.
+    /// Whether the command wants a trace of the connection.
     pub(super) is_traced: bool,
     /// How often the call gave way to a caller.
     pub(super) times: u32,
 }
 
-/// A partner who is called.
+/// A call that is being made.
 #[derive(Drop)]
 struct Call {
-    // The number of the command that wants it, if one does.
+    // The number of the command that requested it; `None` for the clock.
     client: Option<u64>,
     wanted: Wanted,
-    // The host and the port, and the addresses that they stand for once they were looked up.
+    // The host and port, and their addresses once they were looked up.
     address: String,
     addresses: Vec<SocketAddr>,
     // How many of them were tried.
@@ -47,31 +47,31 @@ struct Call {
     progress: Progress,
 }
 
-/// How far a call is.
+/// The state of a call.
 #[derive(Drop)]
 enum Progress {
-    /// It isn't begun.
+    /// It hasn't begun.
     Wanted,
-    /// The partner is waited for.
+    /// It is connecting.
     Connecting(TcpStream),
-    /// The partner is there.
+    /// It is connected.
     Connected(TcpStream),
-    /// It isn't reached.
+    /// The partner can't be reached.
     Failed(Fault),
 }
 
-/// A call that came to an end: the partner's stream, or why there is none.
+/// A call that has ended: the partner's stream, or an error.
 #[derive(Drop)]
 pub(super) struct Called {
-    /// The number of the command that wanted it, if one did.
+    /// The number of the command that requested it; `None` for the clock.
     pub(super) client: Option<u64>,
-    /// Who was called.
+    /// The requested call.
     pub(super) wanted: Wanted,
-    /// The stream, whose reads wait.
+    /// The stream, in blocking mode.
     pub(super) stream: Result<net::TcpStream, Fault>,
 }
 
-/// The calls, in the order in which they were wanted.
+/// The calls, in the order in which they were requested.
 #[derive(Drop)]
 pub(super) struct Calls<'a> {
     rt: &'a HostRuntime,
@@ -79,7 +79,7 @@ pub(super) struct Calls<'a> {
 }
 
 impl<'a> Calls<'a> {
-    /// Nobody is called.
+    /// No calls.
     pub(super) fn new(rt: &'a HostRuntime) -> Calls<'a> {
         Calls {
             rt,
@@ -87,12 +87,12 @@ impl<'a> Calls<'a> {
         }
     }
 
-    /// Whether nobody is called.
+    /// Whether there are no calls.
     pub(super) fn is_empty(&self) -> bool {
         self.calls.is_empty()
     }
 
-    /// Whether a partner is called by the clock.
+    /// Whether the clock is calling a partner.
     pub(super) fn has(&self, code: &str) -> bool {
         for call in &self.calls {
             if call.client.is_none() && call.wanted.code.as_str() == code {
@@ -102,10 +102,10 @@ impl<'a> Calls<'a> {
         false
     }
 
-    /// Has a partner called at an address, for the command of a number or for the clock.
+    /// Requests a call of a partner at an address, for the command with a number or for the clock.
     ///
     /// # Errors
-    /// Memory ran out, or no clock tells the time.
+    /// Out of memory, or the clock can't be read.
     pub(super) fn want(
         &mut self,
         client: Option<u64>,
@@ -128,8 +128,8 @@ impl<'a> Calls<'a> {
         self.calls.push(call).map_err(|_| Fault::MEMORY)
     }
 
-    /// Begins the next call, where there is room, and answers whether it did. One is begun at a time, since the machine may take long to
-    /// look up a name.
+    /// Begins the next call, if there is room. Returns whether it did. Only one is begun at a time, since the system may take long to
+    /// resolve a name.
     pub(super) fn begin_next(&mut self, watch: &Watch) -> bool {
         let rt = self.rt;
         let mut connecting = 0usize;
@@ -146,7 +146,7 @@ impl<'a> Calls<'a> {
         false
     }
 
-    /// The first call that came to an end, if one did.
+    /// Checks all calls. Returns the first that has ended, if one has.
     pub(super) fn next_called(&mut self, watch: &Watch) -> Option<Called> {
         let rt = self.rt;
         let mut ended = None;
@@ -165,7 +165,7 @@ impl<'a> Calls<'a> {
 }
 
 impl Call {
-    /// Whether it came to an end.
+    /// Whether it has ended.
     fn has_ended(&self) -> bool {
         matches!(&self.progress, Progress::Connected(_) | Progress::Failed(_))
     }
@@ -182,7 +182,7 @@ impl Call {
         }
     }
 
-    /// Looks whether the partner is there, and tries its next address where it isn't any more.
+    /// Checks whether it is connected, and tries the next address after a failure.
     fn look(&mut self, rt: &HostRuntime, watch: &Watch) {
         let fault = match &self.progress {
             Progress::Connecting(stream) => match state_of(stream) {
@@ -202,7 +202,7 @@ impl Call {
         }
     }
 
-    /// The partner is there.
+    /// Marks it as connected.
     fn connect(&mut self) {
         let before = std::mem::replace(&mut self.progress, Progress::Failed(Fault::Socket));
         self.progress = match before {
@@ -211,7 +211,7 @@ impl Call {
         };
     }
 
-    /// Whether an address was waited for as long as the patience lasts.
+    /// Whether the present address took longer than the partner may be idle.
     fn is_over(&self, rt: &HostRuntime) -> bool {
         match (self.wanted.patience, self.begun.elapsed(rt)) {
             (Some(patience), Ok(passed)) => passed >= patience,
@@ -220,7 +220,7 @@ impl Call {
         }
     }
 
-    /// Tries the next addresses until one is waited for. Where none is left, the last one said why.
+    /// Tries the next addresses until one is connecting. If none is left, the error of the last one stays.
     fn try_next(&mut self, rt: &HostRuntime, watch: &Watch) {
         for _ in 0..MOST_ADDRESSES {
             if self.tried >= self.addresses.len() {
@@ -240,7 +240,7 @@ impl Call {
     }
 }
 
-/// The addresses that a host and a port stand for.
+/// The addresses of a host and port.
 fn addresses_of(rt: &HostRuntime, address: &str) -> Result<Vec<SocketAddr>, Fault> {
     let mut addresses = Vec::new(rt.alloc());
     let found = address
@@ -254,14 +254,14 @@ fn addresses_of(rt: &HostRuntime, address: &str) -> Result<Vec<SocketAddr>, Faul
     Ok(addresses)
 }
 
-/// The stream to an address, which connects meanwhile.
+/// Begins to connect to an address.
 fn connecting(rt: &HostRuntime, address: SocketAddr, watch: &Watch) -> io::Result<TcpStream> {
     let stream = TcpStream::connect(rt, address)?;
     watch.add(&stream)?;
     Ok(stream)
 }
 
-/// Whether a stream is connected by now. An error says why it won't be.
+/// Whether a stream is connected. An error says why it can't be.
 fn state_of(stream: &TcpStream) -> io::Result<bool> {
     if let Some(error) = stream.take_error()? {
         return Err(error);
@@ -269,7 +269,7 @@ fn state_of(stream: &TcpStream) -> io::Result<bool> {
     Ok(stream.peer_addr().is_ok())
 }
 
-/// What a call came to.
+/// The result of a call.
 fn outcome_of(call: Call) -> Called {
     let Call {
         client,
@@ -289,7 +289,7 @@ fn outcome_of(call: Call) -> Called {
     }
 }
 
-/// The stream, whose reads and writes wait from now on.
+/// The stream in blocking mode.
 fn waiting_stream(stream: TcpStream) -> Result<net::TcpStream, Fault> {
     let stream = net::TcpStream::from(stream);
     match stream.set_nonblocking(false) {

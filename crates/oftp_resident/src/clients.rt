@@ -1,4 +1,4 @@
-//! The commands that ask the station, side by side. Whoever is slow, silent or gone delays nobody.
+//! The commands that are connected to the station, all at once. One that is slow, silent or gone delays nothing.
 
 use crate::watch::Watch;
 use oftp_channel::{LONGEST_PIECE, Outlet, lacking, read_request, write_piece, write_ready};
@@ -9,34 +9,34 @@ use std::alloc::Global;
 use std::io::{self, ErrorKind, Read, Write};
 use std::os::unix::net::{UnixListener, UnixStream};
 
-/// How many commands are connected at once, at most.
+/// The most commands that are connected at once.
 const MOST_CLIENTS: usize = 64;
 
 /// How many octets are read at once.
 const PIECE: usize = 16_384;
 
-/// How many pieces of one command are read before it's the others' turn.
+/// How many times one command is read before the others get their turn.
 const MOST_PIECES: usize = 64;
 
-/// What tells a command that it may copy the database's files.
+/// The message that lets a command copy the database's files.
 const COPY: &[u8] = b"copy";
 
-/// How a command stands.
+/// The state of a command.
 #[derive(Clone, Copy, PartialEq, Eq)]
 enum Standing {
-    /// Its request comes.
+    /// Its request is arriving.
     Asks,
     /// Its request is whole, and waits for its turn.
     Waits,
-    /// Its request is carried out.
+    /// Its request is being carried out.
     IsServed,
     /// It copies the database's files.
     Copies,
     /// It has copied them, or is gone.
     HasCopied,
-    /// Its answer goes.
+    /// Its answer is being sent.
     IsAnswered,
-    /// It is gone, or asked for nothing that can be done, or has its answer.
+    /// It is gone, its request was invalid, or its answer was sent.
     IsDone,
 }
 
@@ -47,12 +47,12 @@ struct Client {
     number: u64,
     heard: Vec<u8>,
     answer: Vec<u8>,
-    // How many octets of the answer went.
+    // How many octets of the answer were sent.
     sent: usize,
     standing: Standing,
 }
 
-/// The commands that are connected, in the order in which they came.
+/// The connected commands, in the order in which they came.
 #[derive(Drop)]
 pub(super) struct Clients {
     alloc: Global,
@@ -62,7 +62,7 @@ pub(super) struct Clients {
 }
 
 impl Clients {
-    /// Nobody is connected.
+    /// No commands.
     pub(super) fn new(alloc: Global) -> Clients {
         Clients {
             alloc,
@@ -71,7 +71,7 @@ impl Clients {
         }
     }
 
-    /// Takes in who has connected, and answers whether others may wait for that.
+    /// Accepts new connections. Returns whether more may be waiting.
     ///
     /// # Errors
     /// The listener fails.
@@ -94,7 +94,7 @@ impl Clients {
         Ok(true)
     }
 
-    /// Sends the first away who keeps a place without a request that waits, and answers whether there is one.
+    /// Closes the first connection whose request is incomplete, or whose answer isn't sent yet. Returns whether there was one.
     fn make_room(&mut self) -> bool {
         match self.place_to_clear() {
             Some(place) if place < self.clients.len() => {
@@ -105,7 +105,7 @@ impl Clients {
         }
     }
 
-    /// The place of the first who asks nothing yet, or doesn't take its answer.
+    /// The index of the first command whose request is incomplete, or whose answer isn't sent yet.
     fn place_to_clear(&self) -> Option<usize> {
         for (place, client) in self.clients.iter().enumerate() {
             if matches!(&client.standing, Standing::Asks | Standing::IsAnswered) {
@@ -115,7 +115,7 @@ impl Clients {
         None
     }
 
-    /// Takes a command in, which is told that its request is heard. Whoever is gone at once isn't kept.
+    /// Adds a command, which is sent a ready message. One that is gone at once isn't added.
     fn take_in(&mut self, stream: UnixStream, watch: &Watch) {
         if stream.set_nonblocking(true).is_err() || watch.add(&stream).is_err() {
             return;
@@ -135,7 +135,7 @@ impl Clients {
         });
     }
 
-    /// Hears what they ask, and answers whether more of it may be there.
+    /// Reads the requests. Returns whether more octets may be there.
     pub(super) fn hear(&mut self) -> bool {
         let mut is_more = false;
         for client in &mut self.clients {
@@ -150,7 +150,7 @@ impl Clients {
         is_more
     }
 
-    /// The first request that is whole, with the number of who asks it.
+    /// The first whole request, with the number of its command.
     pub(super) fn next_request(&mut self) -> Option<(u64, Vec<Vec<u8>>)> {
         for client in &mut self.clients {
             if client.standing == Standing::Waits {
@@ -164,7 +164,7 @@ impl Clients {
         None
     }
 
-    /// Has an answer sent to the command of a number, if it is still there. Without an answer the connection is closed.
+    /// Sends an answer to the command with a number, if it is still connected. Without an answer the connection is closed.
     pub(super) fn answer(&mut self, number: u64, answer: Option<Vec<u8>>) {
         for client in &mut self.clients {
             if client.number == number {
@@ -174,7 +174,7 @@ impl Clients {
         }
     }
 
-    /// Lets the command of a number, if it is still there, copy the database's files.
+    /// Lets the command with a number copy the database's files, if it is still connected.
     pub(super) fn let_copy(&mut self, number: u64) {
         for client in &mut self.clients {
             if client.number == number {
@@ -184,7 +184,7 @@ impl Clients {
         }
     }
 
-    /// The number of the command that copies the database's files, if one does, and whether it has done so.
+    /// The number of the command that copies the database's files, if one does, and whether it has finished.
     pub(super) fn copying(&self) -> Option<(u64, bool)> {
         for client in &self.clients {
             match &client.standing {
@@ -196,7 +196,7 @@ impl Clients {
         None
     }
 
-    /// Sends what goes of the answers at once.
+    /// Sends what can be sent of the answers without blocking.
     pub(super) fn send(&mut self) {
         for client in &mut self.clients {
             if client.standing == Standing::IsAnswered {
@@ -206,7 +206,7 @@ impl Clients {
         self.clear();
     }
 
-    /// Whether an answer isn't out yet, or somebody copies the database's files.
+    /// Whether an answer isn't sent yet, or a command copies the database's files.
     pub(super) fn is_answering(&self) -> bool {
         for client in &self.clients {
             match &client.standing {
@@ -217,7 +217,7 @@ impl Clients {
         false
     }
 
-    /// Closes the connections that are done with.
+    /// Closes the connections that are done.
     fn clear(&mut self) {
         self.clients
             .retain(|client| client.standing != Standing::IsDone);
@@ -225,7 +225,7 @@ impl Clients {
 }
 
 impl Client {
-    /// Hears what it asks, and answers whether more of it may be there.
+    /// Reads its request. Returns whether more octets may be there.
     fn hear(&mut self) -> bool {
         let mut piece = [0; PIECE];
         for _ in 0..MOST_PIECES {
@@ -242,7 +242,7 @@ impl Client {
         true
     }
 
-    /// Takes octets of its request.
+    /// Adds octets of its request.
     fn take(&mut self, piece: &[u8]) {
         if self.heard.extend_from_slice(piece).is_err() {
             self.standing = Standing::IsDone;
@@ -255,14 +255,14 @@ impl Client {
         };
     }
 
-    /// Its request, of which nothing is kept. There is none where memory runs out, or octets came behind it.
+    /// Takes its request out of the buffer. `None` if memory runs out, or octets follow the request.
     fn request(&mut self, alloc: Global) -> Option<Vec<Vec<u8>>> {
         let request = requested(alloc, self.heard.as_slice());
         self.heard = Vec::new(alloc);
         request
     }
 
-    /// Lets it copy the database's files. It tells that it has done so by writing no more.
+    /// Lets it copy the database's files. It ends its direction of the connection when it has finished.
     fn let_copy(&mut self) {
         let is_told = COPY.len() <= LONGEST_PIECE
             && write_piece(&mut Port::new(&self.stream, 0), Outlet::Content, COPY);
@@ -273,7 +273,7 @@ impl Client {
         };
     }
 
-    /// Hears whether it still copies the database's files.
+    /// Checks whether it still copies the database's files.
     fn hear_end(&mut self) {
         let mut octet = [0; 1];
         let mut stream = &self.stream;
@@ -284,7 +284,7 @@ impl Client {
         };
     }
 
-    /// Takes its answer. Without one it is done with.
+    /// Sets its answer. Without one it is done.
     fn take_answer(&mut self, answer: Option<Vec<u8>>) {
         match answer {
             Some(answer) => {
@@ -295,7 +295,7 @@ impl Client {
         }
     }
 
-    /// Sends what goes of its answer at once.
+    /// Sends what can be sent of its answer without blocking.
     fn send(&mut self) {
         for _ in 0..u64::MAX {
             let mut stream = &self.stream;
@@ -312,12 +312,12 @@ impl Client {
     }
 }
 
-/// Whether a read or a write goes on later.
+/// Whether a non-blocking call may succeed later.
 fn is_passing(error: &io::Error) -> bool {
     matches!(error.kind(), ErrorKind::WouldBlock | ErrorKind::Interrupted)
 }
 
-/// The request that these octets are, and nothing else.
+/// Parses a request. `None` if the octets aren't exactly one, or memory runs out.
 fn requested(alloc: Global, octets: &[u8]) -> Option<Vec<Vec<u8>>> {
     let mut reader = Port::new(octets, octets.len() as u64);
     let request = read_request(alloc, &mut reader).ok()?;

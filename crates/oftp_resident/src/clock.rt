@@ -1,4 +1,4 @@
-//! The clock of the station's own calls: whom it calls, and when.
+//! The schedule of the station's own calls.
 
 use crate::office::{Errand, HeldOffice};
 use oftp_command_line::Fault;
@@ -9,7 +9,7 @@ use oftp_wire::Mode;
 use std::alloc::Global;
 use std::time::{Duration, Instant};
 
-/// The partners in their order, and when they were last looked at.
+/// The partners to call, the interval, and its last start.
 #[derive(Drop)]
 pub(super) struct Clock<'a> {
     rt: &'a HostRuntime,
@@ -20,10 +20,10 @@ pub(super) struct Clock<'a> {
 }
 
 impl<'a> Clock<'a> {
-    /// The clock that strikes each time so long has passed, from now on. There is none where no time is between.
+    /// A clock with this interval, from now on. `None` if the interval is zero.
     ///
     /// # Errors
-    /// No clock tells the time.
+    /// The clock can't be read.
     pub(super) fn new(
         rt: &'a HostRuntime,
         book: &'a Book,
@@ -45,7 +45,7 @@ impl<'a> Clock<'a> {
         }))
     }
 
-    /// How long it is until it strikes.
+    /// How much of the interval is left.
     pub(super) fn left(&self) -> Duration {
         match self.since.elapsed(self.rt) {
             Ok(passed) => self.every.saturating_sub(passed),
@@ -53,7 +53,7 @@ impl<'a> Clock<'a> {
         }
     }
 
-    /// Starts anew where it has struck, and answers whether it has.
+    /// Starts the next interval if this one is over. Returns whether it was.
     pub(super) fn strikes(&mut self) -> bool {
         if !self.left().is_zero() {
             return false;
@@ -62,7 +62,7 @@ impl<'a> Clock<'a> {
         true
     }
 
-    /// Whether something is next for the partner at a place of the book. There is no answer where no partner has it.
+    /// Whether something is to be sent to the partner at an index of the list. `None` if there is no such index.
     ///
     /// # Errors
     /// The office failed.
@@ -82,7 +82,7 @@ impl<'a> Clock<'a> {
         }
     }
 
-    /// The code of the partner at a place.
+    /// The code of the partner at an index.
     pub(super) fn code(&self, place: usize) -> Option<&'a str> {
         match self.codes.get(place) {
             Some(code) => Some(code.as_str()),
@@ -91,7 +91,7 @@ impl<'a> Clock<'a> {
     }
 }
 
-/// A partner for whom something may be next.
+/// A look-up whether something is to be sent to a partner.
 #[derive(Clone, Copy)]
 struct Looking<'a> {
     partner: &'a Partner,
@@ -114,10 +114,10 @@ impl Errand for Looking<'_> {
     }
 }
 
-/// The codes of the partners of a book, in their order, from its text. A text that is no book has none.
+/// The codes of the partners of a book, in the order of its text. A text without partners has none.
 ///
 /// # Errors
-/// [`Fault::MEMORY`].
+/// [`Fault::MEMORY`], also if the text isn't TOML.
 pub fn codes_of(alloc: Global, octets: &[u8]) -> Result<Vec<String>, Fault> {
     let mut codes = Vec::new(alloc);
     let Ok(text) = str::from_utf8(octets) else {

@@ -1,4 +1,4 @@
-//! The commands' requests: carried out in their turn, and within a session those that only look something up.
+//! The requests of commands. They are carried out in turn, and during a session only those that look something up.
 
 use crate::asked::{Asked, Task};
 use crate::office::HeldOffice;
@@ -6,16 +6,16 @@ use crate::turns::{MOST_AT_ONCE, Resident};
 use oftp_command_line::Fault;
 use oftp_engine::RunFault;
 
-/// What came within a session and waits for its end.
+/// A request that arrived during a session and waits for its end.
 #[derive(Drop)]
 pub(super) struct Deferred {
-    // The number of the command that asks it.
+    // The number of its command.
     client: u64,
     asked: Asked,
 }
 
 impl Resident<'_> {
-    /// Carries out the next request of a command, if there is one.
+    /// Carries out the next request of a command. Returns whether it was a job.
     pub(super) fn serve_command(&mut self, office: &mut impl HeldOffice) -> Result<bool, Fault> {
         let Some((client, request)) = self.clients.next_request() else {
             return Ok(false);
@@ -24,7 +24,7 @@ impl Resident<'_> {
         self.carry_out(client, asked.as_ref(), office)
     }
 
-    /// Carries out the next request that waited for the end of a session, if one did.
+    /// Carries out the next request that waited for the end of a session. Returns whether it was a job.
     pub(super) fn serve_deferred(&mut self, office: &mut impl HeldOffice) -> Result<bool, Fault> {
         for _ in 0..MOST_AT_ONCE {
             let Some(Deferred { client, asked }) = self.next_deferred() else {
@@ -37,7 +37,7 @@ impl Resident<'_> {
         Ok(false)
     }
 
-    /// Carries out the requests that only look something up, and has the others wait for the end of the session.
+    /// Carries out the requests that only look something up. The others wait for the end of the session.
     pub(super) fn answer_look_ups(&mut self, office: &mut impl HeldOffice) -> Result<(), Fault> {
         let alloc = self.rt.alloc();
         for _ in 0..MOST_AT_ONCE {
@@ -52,7 +52,7 @@ impl Resident<'_> {
         Ok(())
     }
 
-    /// Carries out what only looks something up. What doesn't waits; where there is no memory for that, its connection is closed.
+    /// Carries out a request that only looks something up. Another one waits; if there is no memory for that, its connection is closed.
     fn answer_or_defer(
         &mut self,
         client: u64,
@@ -67,7 +67,7 @@ impl Resident<'_> {
         Ok(())
     }
 
-    /// What waited for the end of a session, and came first.
+    /// The oldest request that waited for the end of a session.
     fn next_deferred(&mut self) -> Option<Deferred> {
         if self.deferred.is_empty() {
             None
@@ -76,8 +76,7 @@ impl Resident<'_> {
         }
     }
 
-    /// Carries out what the command of a number asks, and answers whether that was a job, which is counted. A call is none before it has come to
-    /// an end.
+    /// Carries out a request. Returns whether it was a job, which is counted. A call is a job only when it has ended.
     fn carry_out(
         &mut self,
         client: u64,

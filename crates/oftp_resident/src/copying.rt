@@ -1,4 +1,4 @@
-//! Backups: while a command copies the database's files, no job is done that could change them.
+//! Backups: while a command copies the database's files, no job runs that could change them.
 
 use crate::answers::Answer;
 use crate::statuses::DONE;
@@ -6,7 +6,7 @@ use crate::turns::Resident;
 use oftp_command_line::Fault;
 use std::time::{Duration, Instant};
 
-/// How many seconds a command may copy, at most.
+/// For how many seconds a command may copy, at most.
 const LONGEST: u64 = 30;
 
 impl Resident<'_> {
@@ -21,7 +21,7 @@ impl Resident<'_> {
         }
     }
 
-    /// Whether a command copies them. One that has done so is answered, and so is one that takes too long.
+    /// Whether a command is copying them. One that has finished, or takes too long, is answered.
     pub(super) fn is_copied(&mut self) -> bool {
         let Some(since) = self.copied_since else {
             return false;
@@ -36,7 +36,7 @@ impl Resident<'_> {
         false
     }
 
-    /// Whether a command that copies since this moment takes too long.
+    /// Whether a copy that began at this moment takes too long.
     fn is_too_long(&self, since: Instant) -> bool {
         match since.elapsed(self.rt) {
             Ok(passed) => passed >= Duration::from_secs(LONGEST),
@@ -44,7 +44,7 @@ impl Resident<'_> {
         }
     }
 
-    /// Answers a command that copied: it has done so while nothing changed, or else the file that it makes can't be made.
+    /// Answers a command that copied: it has finished while nothing changed, or its copy fails with [`Fault::File`].
     fn end_copy(&mut self, client: u64, has_copied: bool) {
         let outcome = if has_copied {
             Ok(DONE)

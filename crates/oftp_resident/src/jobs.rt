@@ -1,4 +1,4 @@
-//! The jobs that are sessions: with a caller, and with a partner who was called.
+//! The jobs that are sessions: with a caller, and with a partner that was called.
 
 use crate::answers::answer_of_call;
 use crate::attending::Attending;
@@ -19,7 +19,7 @@ use std::net::TcpStream;
 use std::time::Instant;
 
 impl Resident<'_> {
-    /// Serves the caller whose turn it is, if there is one.
+    /// Serves the caller whose turn it is. Returns whether one was served.
     pub(super) fn serve_caller(
         &mut self,
         office: &mut impl HeldOffice,
@@ -58,8 +58,8 @@ impl Resident<'_> {
         Ok(true)
     }
 
-    /// Appends how a session ended to its trace. Where the station had the last word, the partner is left the time to read it, beside all
-    /// else; but it is waited for where the program ends.
+    /// Appends the end of a session to its trace. If the station ended it, the partner gets time to read the last frame, in the background.
+    /// If the office failed, this blocks, since the program ends.
     fn part_from(
         &mut self,
         connection: Connection,
@@ -78,7 +78,7 @@ impl Resident<'_> {
         }
     }
 
-    /// Serves the partner who was called, if there is one. A call that gives way waits until the caller was served.
+    /// Serves the next partner that was called. Returns whether there was one. A call that gives way waits until the caller was served.
     pub(super) fn serve_called(
         &mut self,
         office: &mut impl HeldOffice,
@@ -114,7 +114,7 @@ impl Resident<'_> {
         Ok(true)
     }
 
-    /// Answers the command that wanted a call, if one did.
+    /// Answers the command that requested a call, if one did.
     fn answer_call(&mut self, client: Option<u64>, trace: &[u8], ended: &Result<End, Fault>) {
         if let Some(client) = client {
             let answer = answer_of_call(self.rt.alloc(), trace, ended);
@@ -123,7 +123,7 @@ impl Resident<'_> {
         }
     }
 
-    /// One session with a partner who was called over this stream, if there is one. It has no end where the call gave way.
+    /// Runs one session with a partner that was called over this stream. Returns `None` if the call gave way.
     fn converse(
         &mut self,
         stream: Result<TcpStream, Fault>,

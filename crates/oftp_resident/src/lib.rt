@@ -1,4 +1,4 @@
-//! The resident station: it holds an office, and does everything over it, one job after another.
+//! The resident station: it keeps an office open, and does one job after another with it.
 #![tactic(auto)]
 
 mod answers;

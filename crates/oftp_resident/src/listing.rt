@@ -1,4 +1,4 @@
-//! Requests by HTTP, which are answered between the jobs, and within a session where it waits.
+//! HTTP requests, which are answered between the jobs, and during a session while it waits.
 
 use crate::office::HeldOffice;
 use crate::replies::{Hosts, reply_to};
@@ -11,7 +11,7 @@ use oftp_sockets::Arrival;
 use std::net::TcpListener;
 
 impl Resident<'_> {
-    /// Takes in who asks by HTTP, and answers whose request is whole.
+    /// Accepts HTTP clients, and answers the requests that are whole.
     pub(super) fn answer_requests(
         &mut self,
         listener: &TcpListener,
@@ -34,7 +34,7 @@ impl Resident<'_> {
         Ok(if has_answered { Again::AtOnce } else { again })
     }
 
-    /// Answers a request. Where memory runs out its connection is closed.
+    /// Answers a request. If memory runs out, its connection is closed.
     fn answer_request(
         &mut self,
         request: Request,

@@ -1,4 +1,4 @@
-//! The office that the station holds, and what is done with it.
+//! The office of the station, and the operations on it.
 
 ghost use Rattle.std.specs.Prelude.{◌≢◌, OnOk};
 ghost use Rattle.oftp_session.specs.Standings.{Broken};
@@ -11,25 +11,24 @@ use oftp_session::Ending;
 use std::alloc::Global;
 use std::io::{Read, Write};
 
-/// What is done with an office, whatever it keeps its register in.
+/// An operation on any office.
 pub trait Errand {
-    /// What it comes to.
+    /// Its result.
     type Outcome;
 
-    /// Does it.
+    /// Does the operation.
     fn run<O: Office>(self, office: &mut O) -> Self::Outcome;
 }
 
-/// An office that is held while one job after another is done over it. What it keeps its register in is hidden.
+/// An office that stays open while one job after another is done with it. Its store is hidden.
 pub trait HeldOffice {
-    /// Does what can be done with any office.
+    /// Does an operation on the office.
     fn run<E: Errand>(&mut self, errand: E) -> E::Outcome;
 
-    /// Goes on with a conversation as far as the octets reach that it has heard, and answers how it ended, if it did. It must not be called
-    /// after a fault.
+    /// Continues a conversation as far as its octets allow. Returns how it ended, if it did. It must not be called after an error.
     ///
     /// # Errors
-    /// What is to be said can't be written, the office failed, or memory ran out.
+    /// The output can't be written, the office failed, or out of memory.
     fn go_on<W: Write>(
         &mut self,
         conversation: &mut Conversation<'_>,
@@ -38,10 +37,10 @@ pub trait HeldOffice {
         requires { conversation.old.seen.standing ≢ Broken }
         ensures { OnOk result (conversation.new.seen.standing ≢ Broken) };
 
-    /// Does the next job of a list that grows.
+    /// Does the next job of a growing list.
     ///
     /// # Errors
-    /// The office failed, or memory ran out.
+    /// The office failed, or out of memory.
     fn do_next<R: Read, W: Write>(
         &mut self,
         alloc: Global,
@@ -50,7 +49,7 @@ pub trait HeldOffice {
     ) -> Result<(), RunFault>;
 }
 
-/// Writes a report of what an office holds, as [`report`] does.
+/// Writes a report of the register, as [`report`] does.
 ///
 /// # Errors
 /// Those of [`report`].
@@ -67,7 +66,7 @@ pub fn report_to<O: HeldOffice, W: Write>(
     })
 }
 
-/// Answers a request from what an office holds, as [`answer`] does.
+/// Answers a request from the register, as [`answer`] does.
 ///
 /// # Errors
 /// Those of [`answer`].
@@ -79,7 +78,7 @@ pub fn answer_from<O: HeldOffice>(
     office.run(Request { alloc, request })
 }
 
-/// A report that is written.
+/// The operation that writes a report.
 struct Reporting<'a, W> {
     alloc: Global,
     kind: ReportKind,
@@ -99,7 +98,7 @@ impl<W: Write> Errand for Reporting<'_, W> {
     }
 }
 
-/// A request that is answered.
+/// The operation that answers a request.
 struct Request<'a> {
     alloc: Global,
     request: &'a [u8],

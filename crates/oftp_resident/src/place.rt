@@ -1,4 +1,4 @@
-//! The socket beside a database: where it is, and how it is made, taken over and found.
+//! The socket beside a database: its path, and how it is created, replaced and connected to.
 
 use std::fs::{self, File, Files};
 use std::io::{self, ErrorKind};
@@ -7,25 +7,25 @@ use std::os::fd::{AsFd, AsRawFd};
 use std::os::unix::fs::FileTypeExt;
 use std::os::unix::net::{SocketAddr, UnixListener, UnixStream};
 
-/// What stands behind the database's name in the socket's.
+/// The ending of the socket's name after the database's name.
 const ENDING: &str = "-station";
 
-/// The mode of the socket's file: who may write it may connect.
+/// The mode of the socket's file: whoever may write it may connect.
 const MODE: u32 = 0o600;
 
-/// As many connections may wait to be accepted as the machine allows.
+/// As many connections may wait to be accepted as the system allows.
 const BACKLOG: i32 = -1;
 
-/// Where the socket beside a database is.
+/// The path of the socket beside a database.
 #[derive(Drop)]
 pub struct SocketPlace {
-    // The folder is held open, so that the path through it fits into a socket's address, however long its own is.
+    // The folder stays open, so that the path through its descriptor fits into a socket's address, however long its own path is.
     folder: File,
     path: String,
 }
 
 impl SocketPlace {
-    /// The place beside a database that is there, by whatever name or link it was found.
+    /// The place beside an existing database. Links in its path are followed.
     ///
     /// # Errors
     /// There is no such file, or its folder can't be opened.
@@ -41,11 +41,11 @@ impl SocketPlace {
         Ok(SocketPlace { folder, path })
     }
 
-    /// Listens there. A socket that is left of a process which was killed is taken over: the caller holds the database, so nobody listens on
-    /// it. Nobody else may connect, from the first moment on.
+    /// Listens at the socket. A socket that a killed process left is replaced: the caller has the database locked, so no other process
+    /// listens. From the first moment only the file's owner may connect.
     ///
     /// # Errors
-    /// Any of the machine's; one where another file has the name, which stays.
+    /// Any error of the system; one if another file has the name, which stays.
     pub fn listen(&self, rt: &HostRuntime) -> io::Result<UnixListener> {
         self.remove(rt)?;
         let socket = rt.unix_socket()?;
@@ -58,18 +58,18 @@ impl SocketPlace {
         Ok(UnixListener::from(socket))
     }
 
-    /// The connection to whoever listens there.
+    /// Connects to the station that listens there.
     ///
     /// # Errors
-    /// Nobody listens there, or nobody may connect.
+    /// No process listens there, or this one may not connect.
     pub fn connect(&self, rt: &HostRuntime) -> io::Result<UnixStream> {
         UnixStream::connect(rt, self.path.as_str())
     }
 
-    /// Removes the socket's file. Another file of its name stays.
+    /// Removes the socket's file. Another file with its name stays.
     ///
     /// # Errors
-    /// Any of the machine's, but not that there is none.
+    /// Any error of the system, except that there is no file.
     pub fn remove(&self, rt: &HostRuntime) -> io::Result<()> {
         match fs::symlink_metadata(rt, self.path.as_str()) {
             Ok(found) if found.file_type().is_socket() => fs::remove_file(rt, self.path.as_str()),
@@ -79,7 +79,7 @@ impl SocketPlace {
     }
 }
 
-/// The machine's error, where C answers -1.
+/// The system's error, if a C function returned a negative number.
 fn checked(status: i32) -> io::Result<()> {
     if status < 0 {
         Err(io::Error::from_raw_os_error(os::errno()))

@@ -1,4 +1,4 @@
-//! The replies to requests by HTTP: the page, what the register holds, or that the caller asks another host.
+//! The replies to HTTP requests: the page, the content of the register, or an error if the request is for another host.
 
 use crate::office::{HeldOffice, answer_from};
 use crate::page::PAGE;
@@ -8,14 +8,14 @@ use oftp_listing::ListFault;
 use std::alloc::{AllocError, Global};
 use std::net::IpAddr;
 
-/// How many fields a head may have.
+/// How many header fields a request may have.
 const MOST_FIELDS: usize = 64;
 
 /// The reply to a request for another host.
 const OTHER_HOST: &[u8] =
     b"HTTP/1.1 400 Bad Request\r\nContent-Type: application/json\r\nContent-Length: 13\r\nConnection: close\r\n\r\n{\"error\":400}";
 
-/// Whom a request may ask: the machine by the address that was called, `localhost`, or a name.
+/// The hosts that a request may name: the address that was called, `localhost`, or a name.
 #[derive(Clone, Copy)]
 pub(super) struct Hosts<'a> {
     /// The address that was called.
@@ -27,7 +27,7 @@ pub(super) struct Hosts<'a> {
 /// The reply to a request.
 ///
 /// # Errors
-/// Memory ran out, or the office failed.
+/// Out of memory, or the office failed.
 pub(super) fn reply_to(
     alloc: Global,
     office: &mut impl HeldOffice,
@@ -44,7 +44,7 @@ pub(super) fn reply_to(
     }
 }
 
-/// The reply that is the page.
+/// The reply with the page.
 fn page(alloc: Global) -> Result<Vec<u8>, AllocError> {
     let head = format!(in alloc;
         "HTTP/1.1 200 OK\r\nContent-Type: text/html; charset=utf-8\r\nContent-Length: {}\r\nConnection: close\r\n\r\n",
@@ -55,18 +55,18 @@ fn page(alloc: Global) -> Result<Vec<u8>, AllocError> {
     Ok(reply)
 }
 
-/// What a request asks.
+/// What a request asks for.
 #[derive(Clone, Copy)]
 enum Asked {
     /// Another host.
     OtherHost,
     /// The page.
     Page,
-    /// The register, or nothing that there is.
+    /// The register, or an unknown target.
     Register,
 }
 
-/// What a request asks, as far as that isn't the register's.
+/// What a request asks for.
 fn goal_of(hosts: Hosts<'_>, request: &[u8]) -> Asked {
     let mut fields = [EMPTY_HEADER_SPAN; MOST_FIELDS];
     let Ok(Status::Complete(head)) = parse_request(request, &mut fields) else {
@@ -86,12 +86,12 @@ fn goal_of(hosts: Hosts<'_>, request: &[u8]) -> Asked {
     }
 }
 
-/// The octets of a part.
+/// The octets of a part of a request.
 fn part(request: &[u8], span: Span) -> &[u8] {
     request.get(span.start..span.end).unwrap_or(&[])
 }
 
-/// Whether a field names another host.
+/// Whether a header field names another host.
 fn is_other_host(hosts: Hosts<'_>, request: &[u8], field: HeaderSpan) -> bool {
     if !part(request, field.name).eq_ignore_ascii_case(b"host") {
         return false;
@@ -102,7 +102,7 @@ fn is_other_host(hosts: Hosts<'_>, request: &[u8], field: HeaderSpan) -> bool {
     }
 }
 
-/// The host in the value of the field, without its port.
+/// The host in the field's value, without its port.
 fn host_of(value: &str) -> &str {
     if let Some(rest) = value.strip_prefix('[') {
         return match rest.split_once(']') {

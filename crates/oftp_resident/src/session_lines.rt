@@ -1,4 +1,4 @@
-//! The lines that the resident station prints of its sessions.
+//! The lines that the resident station prints for its sessions.
 
 use oftp_command_line::{Fault, Outcome, write_line};
 use oftp_engine::{End, RunFault};
@@ -6,7 +6,7 @@ use oftp_sockets::Trouble;
 use std::fmt;
 use std::io::Write;
 
-/// Who called whom.
+/// Which side called.
 #[derive(Clone, Copy)]
 pub(super) enum Way {
     /// The partner called.
@@ -15,7 +15,7 @@ pub(super) enum Way {
     Out,
 }
 
-/// The line of a session: the partner's code, who called, and how it ended.
+/// The line of a session: the partner's code, the side that called, and the end of the session.
 #[derive(Clone, Copy)]
 struct SessionLine<'a> {
     code: &'a str,
@@ -37,10 +37,10 @@ impl fmt::Display for SessionLine<'_> {
     }
 }
 
-/// Writes the line of a session with the partner of this code. A caller who wasn't let in has none.
+/// Writes the line of a session with the partner with this code. `None` is a caller that wasn't admitted, and is printed as `-`.
 ///
 /// # Errors
-/// `out` told a fault.
+/// `out` returned an error.
 fn tell_session(
     out: &mut impl Write,
     code: Option<&str>,
@@ -54,7 +54,7 @@ fn tell_session(
 /// Writes the line of a session.
 ///
 /// # Errors
-/// `out` told a fault, or the office did within the session.
+/// `out` returned an error, or the office failed in the session.
 pub(super) fn settle(
     out: &mut impl Write,
     code: Option<&str>,
@@ -78,7 +78,7 @@ fn is_of_office(ended: &Result<End, Fault>) -> bool {
 /// Writes the line of a session with a caller.
 ///
 /// # Errors
-/// As [`settle`].
+/// Those of [`settle`].
 pub(super) fn tell_caller(
     out: &mut impl Write,
     code: Option<&str>,

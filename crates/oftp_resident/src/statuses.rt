@@ -7,19 +7,19 @@ use std::io::Write;
 /// The exit status of a command that is done.
 pub const DONE: u8 = 0;
 
-/// That of one that was refused, or failed.
+/// The exit status of a command that was refused, or failed.
 pub const FAILED: u8 = 1;
 
-/// Writes how a command came out, and answers the exit status.
+/// Writes the outcome of a command. Returns the exit status.
 ///
 /// # Errors
-/// `out` told a fault.
+/// `out` returned an error.
 pub fn tell(outcome: Outcome, out: &mut impl Write) -> Result<u8, Fault> {
     write_line(out, &outcome)?;
     Ok(if outcome.is_refusal() { FAILED } else { DONE })
 }
 
-/// The exit status of a call of the operator, whose line is out.
+/// The exit status of an operator's call, whose line was written.
 pub fn status_of(told: Told) -> u8 {
     match told {
         Told::Done => DONE,
@@ -27,7 +27,7 @@ pub fn status_of(told: Told) -> u8 {
     }
 }
 
-/// The exit status of a command over many files, of which none was refused, or some were.
+/// The exit status of a command over many files, by whether none was refused.
 pub fn status_where(is_done: bool) -> u8 {
     if is_done { DONE } else { FAILED }
 }

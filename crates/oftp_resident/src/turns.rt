@@ -1,4 +1,4 @@
-//! The turns of the resident station: each takes in whoever is there, does one job at most, and waits where there is none.
+//! The main loop of the resident station. Each turn handles new connections, does at most one job, and waits if there is none.
 
 use crate::calls::Calls;
 use crate::clients::Clients;
@@ -16,49 +16,49 @@ use std::net::TcpListener;
 use std::os::unix::net::UnixListener;
 use std::time::{Duration, Instant};
 
-/// How many milliseconds it is waited at most where somebody has a limited time.
+/// The longest wait while a time limit is running, in milliseconds.
 const TICK: u64 = 100;
 
-/// How many kinds of jobs there are.
+/// The number of kinds of jobs.
 const KINDS: u8 = 3;
 
-/// How many callers and commands are taken in at once, at most.
+/// How many callers and commands are accepted in one turn, at most.
 pub(super) const MOST_AT_ONCE: u32 = 128;
 
-/// Where the resident station meets the others.
+/// The listeners and settings of the resident station.
 #[derive(Clone, Copy)]
 pub struct Bench<'a> {
-    /// Where partners call. It waits for nobody.
+    /// The listener for partners. [`reside`] makes it non-blocking.
     pub partners: &'a TcpListener,
-    /// Where commands connect. It waits for nobody.
+    /// The listener for commands. [`reside`] makes it non-blocking.
     pub commands: &'a UnixListener,
-    /// Where requests by HTTP come, if they do. It waits for nobody.
+    /// The listener for HTTP, if there is one. [`reside`] makes it non-blocking.
     pub requests: Option<&'a TcpListener>,
-    /// A name of the machine that they may ask, if there is one.
+    /// Another host name that HTTP requests may use, if there is one.
     pub host: Option<&'a String>,
-    /// How long a caller has to be let in.
+    /// How long a caller has to be admitted.
     pub admission: Duration,
-    /// The partners' codes, in their order.
+    /// The codes of the partners, in their order.
     pub codes: &'a [String],
-    /// After how long each of them for whom something waits is called; zero is never.
+    /// The interval after which each partner is called that something waits for; zero is never.
     pub interval: Duration,
-    /// After how many jobs it ends; 0 is never.
+    /// The number of jobs after which it ends; 0 is never.
     pub jobs: u64,
 }
 
-/// When it has to be looked again who is there, without anybody's doing.
+/// When the connections have to be checked again, even without an event.
 #[derive(Clone, Copy)]
 pub(super) enum Again {
-    /// At once: not all was heard.
+    /// At once: more octets may be there.
     AtOnce,
-    /// Soon: the machine had no descriptor or no memory for somebody.
+    /// Soon: the system had no descriptor or memory for a connection.
     Soon,
     /// Never.
     Never,
 }
 
 impl Again {
-    /// How long it may be waited where somebody has a limited time.
+    /// The longest wait while a time limit is running.
     pub(super) fn tick(self) -> Duration {
         Duration::from_millis(match self {
             Again::AtOnce => 0,
@@ -76,7 +76,7 @@ impl Again {
     }
 }
 
-/// The resident station at its work.
+/// The running resident station.
 #[derive(Drop)]
 pub(super) struct Resident<'a> {
     pub(super) rt: &'a HostRuntime,
@@ -90,11 +90,11 @@ pub(super) struct Resident<'a> {
     pub(super) yielded: Option<Yielded>,
     pub(super) clock: Option<Clock<'a>>,
     pub(super) watch: Watch,
-    // Who is left the time to read the last word.
+    // The connections whose session the station has ended.
     pub(super) leaving: Leaving<'a>,
-    // What came within a session and waits for its end, in the order in which it came.
+    // The requests that arrived during a session and wait for its end, in their order.
     pub(super) deferred: Vec<Deferred>,
-    // How many jobs were done.
+    // The number of jobs that were done.
     pub(super) done: u64,
     // Since when a command copies the database's files, if one does.
     pub(super) copied_since: Option<Instant>,
@@ -102,10 +102,10 @@ pub(super) struct Resident<'a> {
     last: u8,
 }
 
-/// Serves partners and commands over an office, one job after another and each to its end, and writes a line to `out` for each session.
+/// Serves partners and commands with an office, one job after another, and writes a line to `out` for each session.
 ///
 /// # Errors
-/// A fault of the office, of `out` or of a listener.
+/// An error of the office, of `out`, of a listener or of the clock.
 pub fn reside(
     rt: &HostRuntime,
     bench: &Bench<'_>,
@@ -137,7 +137,7 @@ pub fn reside(
     resident.work(office, out)
 }
 
-/// The wait for the listeners.
+/// Watches the listeners.
 fn watch_over(rt: &HostRuntime, bench: &Bench<'_>) -> io::Result<Watch> {
     bench.partners.set_nonblocking(true)?;
     bench.commands.set_nonblocking(true)?;
@@ -152,7 +152,7 @@ fn watch_over(rt: &HostRuntime, bench: &Bench<'_>) -> io::Result<Watch> {
 }
 
 impl Resident<'_> {
-    /// Does jobs until there were as many as are wanted, their answers are out, and nobody is left the time to read them.
+    /// Does jobs until their number is reached, their answers were sent, and the partners had time to read them.
     fn work(&mut self, office: &mut impl HeldOffice, out: &mut impl Write) -> Result<(), Fault> {
         for _ in 0..u64::MAX {
             let again = self.take_in(office, out)?;
@@ -177,7 +177,7 @@ impl Resident<'_> {
         self.done = self.done.saturating_add(1);
     }
 
-    /// How long it may be waited.
+    /// How long the next wait may be.
     fn limit(&self, is_busy: bool, again: Again) -> Option<Duration> {
         match again {
             Again::AtOnce => Some(Duration::from_millis(0)),
@@ -188,7 +188,7 @@ impl Resident<'_> {
         }
     }
 
-    /// How long it is until the clock strikes, if there is one.
+    /// How much is left of the clock's interval, if there is a clock.
     fn until_the_clock(&self) -> Option<Duration> {
         match &self.clock {
             Some(clock) => Some(clock.left()),
@@ -196,7 +196,7 @@ impl Resident<'_> {
         }
     }
 
-    /// Whether somebody has a limited time.
+    /// Whether a time limit is running.
     fn has_limits(&self) -> bool {
         !self.waiting.is_empty()
             || !self.calls.is_empty()
@@ -205,7 +205,7 @@ impl Resident<'_> {
             || self.copied_since.is_some()
     }
 
-    /// Takes in who has called and who has connected, hears the commands, answers requests, and calls whom the clock has called.
+    /// Accepts callers and commands, reads and answers requests, and requests the calls that are due by the clock.
     fn take_in(
         &mut self,
         office: &mut impl HeldOffice,
@@ -217,7 +217,7 @@ impl Resident<'_> {
         Ok(again)
     }
 
-    /// Takes in who has connected, hears the commands, and answers requests. It changes nothing of the register.
+    /// Accepts commands, reads their requests, and answers HTTP requests. The register isn't changed.
     pub(super) fn hear(&mut self, office: &mut impl HeldOffice) -> Result<Again, Fault> {
         let mut again = Again::Never;
         if self.clients.welcome(self.bench.commands, &self.watch)? {
@@ -233,7 +233,7 @@ impl Resident<'_> {
         Ok(again)
     }
 
-    /// Takes in who has called.
+    /// Accepts callers.
     pub(super) fn welcome_callers(&mut self, out: &mut impl Write) -> Result<Again, Fault> {
         for _ in 0..MOST_AT_ONCE {
             match self.waiting.take_in(&self.station) {
@@ -246,20 +246,20 @@ impl Resident<'_> {
         Ok(Again::AtOnce)
     }
 
-    /// Whether a caller waits who is to be let in.
+    /// Whether a caller is to be admitted.
     pub(super) fn has_guest(&mut self) -> Result<bool, Fault> {
         self.waiting.has_guest(&self.station)
     }
 
-    /// Watches the caller who came last. One who can't be watched is looked at with the others.
+    /// Watches the newest caller. If that fails, it is checked with the others.
     fn watch_newest(&self) {
         if let Some(connection) = self.waiting.newest() {
             let _ = self.watch.add(connection);
         }
     }
 
-    /// Does the next job, if there is one: first what came within a session, and then none of a kind where another kind waits. It answers
-    /// whether anything was done, of which a call that gave way is no job yet.
+    /// Does the next job, if there is one: first a request that arrived during a session, then one of each kind in turn. Returns whether
+    /// anything was done. A call that gave way isn't a job yet.
     fn next_job(
         &mut self,
         office: &mut impl HeldOffice,

@@ -1,4 +1,4 @@
-//! Who asks by HTTP, side by side. Whoever sends half a head, or reads slowly, delays nobody.
+//! HTTP clients, all at once. One that sends half a head, or reads slowly, delays nothing.
 
 use crate::watch::Watch;
 use oftp_command_line::Fault;
@@ -7,54 +7,54 @@ use std::io::{self, ErrorKind, Read, Write};
 use std::net::{IpAddr, Shutdown, TcpListener, TcpStream};
 use std::time::{Duration, Instant};
 
-/// How many are kept at once, at most. The others are in the system's queue.
+/// The most clients at once. The others are in the system's queue.
 const MOST_VISITORS: usize = 64;
 
 /// How many octets are read at once.
 const PIECE: usize = 4_096;
 
-/// How many reads of one visitor are made before it's the others' turn.
+/// How many times one client is read before the others get their turn.
 const MOST_READS: u32 = 16;
 
-/// How a visitor stands.
+/// The state of a client.
 #[derive(Clone, Copy, PartialEq, Eq)]
 enum Standing {
-    /// The request comes.
+    /// The request is arriving.
     Asks,
     /// The request is whole.
     Waits,
-    /// The reply goes.
+    /// The reply is being sent.
     IsAnswered,
-    /// The reply went, and what still comes is dropped, so that no reset takes it away.
+    /// The reply was sent. What still arrives is dropped, so that no reset discards the reply.
     Leaves,
     /// The connection is closed.
     IsDone,
 }
 
-/// Who asks something.
+/// An HTTP client.
 #[derive(Drop)]
 struct Visitor {
     stream: TcpStream,
-    // Since when the request may come, or else since when the reply may go.
+    // The start of the time for the request, and then of the time for the reply.
     since: Instant,
     heard: Vec<u8>,
     reply: Vec<u8>,
-    // How many octets of the reply went.
+    // How many octets of the reply were sent.
     sent: usize,
     standing: Standing,
 }
 
-/// Those who ask, in the order in which they came.
+/// The clients, in the order in which they came.
 #[derive(Drop)]
 pub(super) struct Visitors<'a> {
     rt: &'a HostRuntime,
     visitors: Vec<Visitor>,
 }
 
-/// A request that is whole.
+/// A whole request.
 #[derive(Drop)]
 pub(super) struct Request {
-    /// Where its visitor stands.
+    /// The index of its client.
     pub(super) place: usize,
     /// Its octets.
     pub(super) octets: Vec<u8>,
@@ -63,7 +63,7 @@ pub(super) struct Request {
 }
 
 impl<'a> Visitors<'a> {
-    /// Nobody asks.
+    /// No clients.
     pub(super) fn new(rt: &'a HostRuntime) -> Visitors<'a> {
         Visitors {
             rt,
@@ -71,12 +71,12 @@ impl<'a> Visitors<'a> {
         }
     }
 
-    /// Whether nobody asks.
+    /// Whether there are no clients.
     pub(super) fn is_empty(&self) -> bool {
         self.visitors.is_empty()
     }
 
-    /// Takes in who has called, where there is room.
+    /// Accepts clients, while there is room.
     ///
     /// # Errors
     /// The listener fails.
@@ -96,7 +96,7 @@ impl<'a> Visitors<'a> {
         Ok(Arrival::Nobody)
     }
 
-    /// Takes a visitor in. Whoever is gone at once isn't kept.
+    /// Adds a client. One that is gone at once isn't added.
     fn take_in(&mut self, stream: TcpStream, watch: &Watch) {
         let Ok(since) = Instant::now(self.rt) else {
             return;
@@ -116,7 +116,7 @@ impl<'a> Visitors<'a> {
         });
     }
 
-    /// Goes on with each: hears what is asked, sends what goes of the replies, and closes what is over.
+    /// Continues with each client: reads its request, sends its reply, and closes what is over.
     pub(super) fn go_on(&mut self) {
         let rt = self.rt;
         for visitor in &mut self.visitors {
@@ -126,7 +126,7 @@ impl<'a> Visitors<'a> {
             .retain(|visitor| visitor.standing != Standing::IsDone);
     }
 
-    /// The first request that is whole.
+    /// The first whole request.
     pub(super) fn next_request(&mut self) -> Option<Request> {
         let alloc = self.rt.alloc();
         for (place, visitor) in self.visitors.iter_mut().enumerate() {
@@ -143,7 +143,7 @@ impl<'a> Visitors<'a> {
         None
     }
 
-    /// Has a reply sent to the visitor at a place.
+    /// Sends a reply to the client at an index.
     pub(super) fn answer(&mut self, place: usize, reply: Vec<u8>) {
         let rt = self.rt;
         if let Some(visitor) = self.visitors.get_mut(place) {
@@ -161,7 +161,7 @@ fn called_address(stream: &TcpStream) -> Option<IpAddr> {
 }
 
 impl Visitor {
-    /// Goes on, as far as that waits for nobody.
+    /// Continues, without blocking.
     fn go_on(&mut self, rt: &HostRuntime) {
         match self.standing {
             Standing::Asks => self.hear(rt),
@@ -174,7 +174,7 @@ impl Visitor {
         }
     }
 
-    /// Whether its time is over. A request that is whole isn't given up.
+    /// Whether its time is over. A whole request isn't given up.
     fn is_over(&self, rt: &HostRuntime) -> bool {
         if self.standing == Standing::Waits {
             return false;
@@ -185,7 +185,7 @@ impl Visitor {
         }
     }
 
-    /// Hears what it asks. What ends before it is whole gets no reply.
+    /// Reads its request. If the input ends before the request is whole, there is no reply.
     fn hear(&mut self, rt: &HostRuntime) {
         let mut piece = [0; PIECE];
         for _ in 0..MOST_READS {
@@ -201,7 +201,7 @@ impl Visitor {
         }
     }
 
-    /// Takes octets of its request, up to as many as are read.
+    /// Adds octets of its request, up to the greatest length.
     fn take(&mut self, rt: &HostRuntime, piece: &[u8]) {
         if self.heard.extend_from_slice(piece).is_err() {
             self.standing = Standing::IsDone;
@@ -216,7 +216,7 @@ impl Visitor {
         };
     }
 
-    /// Takes the reply.
+    /// Sets its reply.
     fn answer(&mut self, rt: &HostRuntime, reply: Vec<u8>) {
         self.reply = reply;
         self.since = Instant::now(rt).unwrap_or(self.since);
@@ -224,7 +224,7 @@ impl Visitor {
         self.send();
     }
 
-    /// Sends what goes of the reply at once.
+    /// Sends what can be sent of its reply without blocking.
     fn send(&mut self) {
         for _ in 0..u64::MAX {
             let mut stream = &self.stream;
@@ -249,7 +249,7 @@ impl Visitor {
         };
     }
 
-    /// Drops what still comes.
+    /// Drops what still arrives.
     fn leave(&mut self) {
         let mut piece = [0; PIECE];
         for _ in 0..MOST_READS {
@@ -266,7 +266,7 @@ impl Visitor {
     }
 }
 
-/// Whether a read or a write goes on later.
+/// Whether a non-blocking call may succeed later.
 fn is_passing(error: &io::Error) -> bool {
     matches!(error.kind(), ErrorKind::WouldBlock | ErrorKind::Interrupted)
 }

@@ -1,4 +1,4 @@
-//! The wait for any of many sockets.
+//! A wait for any of many sockets.
 
 use mio::unix::SourceFd;
 use mio::{Events, Interest, Poll, Token};
@@ -6,13 +6,13 @@ use std::io;
 use std::os::fd::AsRawFd;
 use std::time::Duration;
 
-/// How many events a wait takes, at most. The others end the next one.
+/// How many events a wait returns, at most. The next wait returns the others.
 const MOST_EVENTS: usize = 64;
 
-/// The mark of each socket: all are looked at after each wait.
+/// The token of each socket: all are checked after each wait.
 const ANY: Token = Token(0);
 
-/// The sockets that are waited for, each until it is closed.
+/// The watched sockets, each until it is closed.
 #[derive(Drop)]
 pub(super) struct Watch {
     poll: Poll,
@@ -20,7 +20,7 @@ pub(super) struct Watch {
 }
 
 impl Watch {
-    /// No socket is waited for.
+    /// No watched sockets.
     pub(super) fn new(rt: &HostRuntime) -> io::Result<Watch> {
         Ok(Watch {
             poll: Poll::new(rt)?,
@@ -28,7 +28,7 @@ impl Watch {
         })
     }
 
-    /// Adds a socket. It is told of when it changes, and once at first.
+    /// Watches a socket. Its changes are reported (edge-triggered), and its state once at first.
     pub(super) fn add<S: AsRawFd>(&self, socket: &S) -> io::Result<()> {
         let fd = socket.as_raw_fd();
         let changes = Interest::READABLE | Interest::WRITABLE;
@@ -37,7 +37,7 @@ impl Watch {
             .register(&mut SourceFd(&fd), ANY, changes)
     }
 
-    /// Waits until a socket has changed, a signal comes, or the time is over.
+    /// Waits until a socket changes, a signal comes, or the time is over.
     pub(super) fn wait(&mut self, limit: Option<Duration>) -> io::Result<()> {
         self.poll.poll(&mut self.events, limit)
     }

@@ -1,5 +1,5 @@
-//! How a call gives way. While its partner doesn't answer it, a caller may wait to be let in: of two stations that call each other at the same
-//! moment, each would wait for the other one's answer.
+//! How a call gives way. While its partner doesn't answer, a caller may wait to be admitted. If two stations call each other at the same
+//! moment, each would wait for the other's answer.
 
 use crate::calls::Wanted;
 use crate::office::HeldOffice;
@@ -9,24 +9,24 @@ use oftp_partners::{Book, Partner};
 use std::io::Write;
 use std::time::{Duration, Instant};
 
-/// How many octets a partner says before it answers: its greeting, which is SSRM in a frame (RFC 5024, 5.3.1).
+/// The octets that a partner sends before it answers: its greeting, which is SSRM in a frame (RFC 5024, section 5.3.1).
 pub(super) const GREETING: u64 = 23;
 
-/// For how many seconds a caller waits where the station's code is less than that of the partner who is called.
+/// For how many seconds a caller waits if the station's code is less than that of the called partner.
 const LESSER: u64 = 1;
 
-/// The same where it isn't. Of stations that wait for each other in a circle some have to wait less than others.
+/// The same if it isn't. In a circle of stations that wait for each other, some have to wait less than others.
 const GREATER: u64 = 4;
 
-/// How often one call gives way, at most. After that it fails where it would have to.
+/// How often one call gives way, at most. After that it fails.
 const MOST_TIMES: u32 = 10;
 
 /// When a call gives way.
 #[derive(Clone, Copy)]
 pub(super) struct Yielding {
-    // For how long a caller waits before.
+    // How long a caller waits before that.
     after: Duration,
-    // Since when one has been waiting, if one is.
+    // Since when a caller has been waiting, if one is.
     since: Option<Instant>,
     has_given_way: bool,
 }
@@ -34,13 +34,13 @@ pub(super) struct Yielding {
 /// A call that gave way, and is made again once the caller was served.
 #[derive(Drop)]
 pub(super) struct Yielded {
-    // The number of the command that wants it, if one does.
+    // The number of the command that requested it; `None` for the clock.
     client: Option<u64>,
     wanted: Wanted,
 }
 
 impl Yielded {
-    /// The call of a partner for the command of a number or for the clock, which gave way.
+    /// A call that gave way, for the command with a number or for the clock.
     pub(super) fn new(client: Option<u64>, mut wanted: Wanted) -> Yielded {
         wanted.times = wanted.times.saturating_add(1);
         Yielded { client, wanted }
@@ -48,7 +48,7 @@ impl Yielded {
 }
 
 impl Yielding {
-    /// How the call of a partner gives way, by the station's book.
+    /// When the call of a partner gives way, by the codes of both stations.
     pub(super) fn of(book: &Book, partner: &Partner) -> Yielding {
         let own = book.station().code.as_str();
         let seconds = if own < partner.code.as_str() {
@@ -63,7 +63,7 @@ impl Yielding {
         }
     }
 
-    /// Looks whether the call gives way by now, where a caller waits or none does.
+    /// Checks whether the call gives way now. `is_awaited` says whether a caller waits.
     pub(super) fn gives_way(&mut self, rt: &HostRuntime, is_awaited: bool) -> bool {
         self.since = match self.since {
             Some(since) if is_awaited => Some(since),
@@ -77,13 +77,13 @@ impl Yielding {
         self.has_given_way
     }
 
-    /// Whether the call gave way, and is to be made again, which was so often before.
+    /// Whether the call gave way and is to be made again. `times` is how often it gave way before.
     pub(super) fn is_made_again(&self, times: u32) -> bool {
         self.has_given_way && times < MOST_TIMES
     }
 }
 
-/// Whether so long has passed since a moment.
+/// Whether this much time has passed since a moment.
 fn is_over(rt: &HostRuntime, since: Instant, length: Duration) -> bool {
     match since.elapsed(rt) {
         Ok(passed) => passed >= length,
@@ -92,7 +92,7 @@ fn is_over(rt: &HostRuntime, since: Instant, length: Duration) -> bool {
 }
 
 impl Resident<'_> {
-    /// Serves the caller whose turn it is, if there is one, and then has the call made again that gave way.
+    /// Serves the caller whose turn it is, and then requests the call again that gave way. Returns whether a caller was served.
     pub(super) fn serve_caller_first(
         &mut self,
         office: &mut impl HeldOffice,
@@ -103,8 +103,8 @@ impl Resident<'_> {
         Ok(is_served)
     }
 
-    /// Has the call made again that gave way, if one did. One by the clock isn't, where its partner is called already or nothing is next for it
-    /// any more.
+    /// Requests the call again that gave way, if one did. A call by the clock isn't requested if its partner is being called already, or
+    /// nothing is to be sent to it any more.
     fn call_again(&mut self, office: &mut impl HeldOffice) -> Result<(), Fault> {
         let Some(Yielded { client, wanted }) = self.yielded.take() else {
             return Ok(());
