@@ -1,4 +1,4 @@
-//! The office over the database that a line names.
+//! Opens the database that a command line names.
 
 mod file;
 mod office;
@@ -17,34 +17,34 @@ use std::fs;
 use std::io::ErrorKind;
 use std::time::{Clock, Duration};
 
-/// How often a database that another program has open is tried again: ten seconds long.
+/// How often a locked database is tried again, which is for ten seconds.
 pub const PATIENCE: u32 = 200;
 
-/// How many milliseconds it is waited before a database is tried again.
+/// The pause before that, in milliseconds.
 const PAUSE: u64 = 50;
 
-/// The fault of a database that another program has open for too long.
+/// The error for a database that stays locked.
 const HELD: Fault = Fault::Store(StoreFault::Store);
 
-/// What is made of the database.
+/// How a database is opened.
 #[derive(Clone, Copy)]
 enum Opening {
-    /// Its tables are made where it has none.
+    /// Its tables are created if it has none.
     Open,
-    /// It is brought to schema 2.
+    /// It is migrated to schema 2.
     Migrate,
 }
 
-/// Opens the office that a database holds, and makes its tables where it is empty or isn't there. Where another program has it open,
-/// it is tried again as often as `patience` says.
+/// Opens the office of a database. If the database is empty or doesn't exist, its tables are created. If another process has it locked, it
+/// is tried again `patience` times.
 ///
 /// # Errors
-/// [`Fault::Store`], also where another program still has it open.
+/// [`Fault::Store`], also if the database stays locked.
 pub fn open(rt: &HostRuntime, path: &str, patience: u32) -> Result<DatabaseOffice, Fault> {
     open_if_free(rt, path, patience).map_err(store_fault)
 }
 
-/// Opens the office as [`open`] does, for a command that a station may carry out. It gives up as soon as one runs over the database.
+/// Opens the office as [`open`] does, for a command that a station can carry out. Gives up as soon as a station runs over the database.
 ///
 /// # Errors
 /// Those of [`open`].
@@ -68,7 +68,7 @@ fn is_served(rt: &HostRuntime, path: &str) -> bool {
     }
 }
 
-/// Opens the database that the line names, so that its tables are made, and gives it up.
+/// Opens a database as [`open`] does, which creates its tables, and closes it.
 ///
 /// # Errors
 /// Those of [`open`].
@@ -77,11 +77,11 @@ pub fn make(rt: &HostRuntime, path: &str) -> Result<(), Fault> {
     Ok(())
 }
 
-/// Opens it as [`open`] does, and tells a database that is still held apart from one that fails.
+/// Opens the office as [`open`] does, with an error of its own for a database that stays locked.
 ///
 /// # Errors
-/// [`PathFault::Held`] where another program still has it open; [`PathFault::Unkept`] where nothing would be kept of it;
-/// [`PathFault::Store`] for what the store told.
+/// [`PathFault::Held`] if the database stays locked; [`PathFault::Unkept`] if SQLite would keep nothing of it; [`PathFault::Store`] for an
+/// error of the store.
 pub fn open_if_free(
     rt: &HostRuntime,
     path: &str,
@@ -91,10 +91,10 @@ pub fn open_if_free(
     patiently(rt, path, Opening::Open, patience)
 }
 
-/// Brings a database to schema 2, with the same patience. One that isn't there isn't made.
+/// Migrates a database to schema 2, with the same patience. One that doesn't exist isn't created.
 ///
 /// # Errors
-/// [`Fault::Store`]; where none is there, as for one of another schema.
+/// [`Fault::Store`]. If the database doesn't exist, it is the one for a wrong schema.
 pub fn migrate(rt: &HostRuntime, path: &str, patience: u32) -> Result<DatabaseOffice, Fault> {
     match fs::metadata(rt, path) {
         Err(error) if error.kind() == ErrorKind::NotFound => {
@@ -104,7 +104,7 @@ pub fn migrate(rt: &HostRuntime, path: &str, patience: u32) -> Result<DatabaseOf
     }
 }
 
-/// Tries until the database isn't held, or the patience ends.
+/// Tries until the database isn't locked, or the patience is used up.
 fn patiently(
     rt: &HostRuntime,
     path: &str,
@@ -132,7 +132,7 @@ fn attempt(rt: &HostRuntime, path: &str, how: Opening) -> Result<DatabaseOffice,
     }
 }
 
-/// A database that is still held, or that nothing would be kept of, is a store that failed.
+/// The error for a database. One that stays locked, or isn't kept, is a store that failed.
 fn store_fault(fault: PathFault) -> Fault {
     match fault {
         PathFault::Unkept | PathFault::Held => HELD,

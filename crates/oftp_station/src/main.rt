@@ -8,7 +8,7 @@ use perform::{perform, tell_unread};
 use std::process::ExitCode;
 use std::{env, io};
 
-/// The words after the program's name.
+/// The arguments after the program's name.
 fn words_of(rt: &HostRuntime) -> io::Result<Vec<String>> {
     let mut words = Vec::new(rt.alloc());
     for word in env::args(rt)?.skip(1) {

@@ -19,11 +19,11 @@ use oftp_store::StoreFault;
 use std::io::{self, ErrorKind, Write};
 use std::os::unix::net::UnixStream;
 
-/// The exit status of a bad command line.
+/// The exit status for a bad command line.
 const BAD_LINE: u8 = 2;
 
-/// Carries out the command that the words after the program's name are. Its line goes to `out`, and the line of a fault or the
-/// text of a bad command line to `err`. It answers the exit status: 0 done, 1 refused or failed, 2 a bad command line.
+/// Carries out a command line, given by the arguments after the program's name. Its output goes to `out`; the line of an error, or the text
+/// for a bad command line, goes to `err`. Returns the exit status: 0 done, 1 refused or failed, 2 a bad command line.
 pub fn perform(
     rt: &HostRuntime,
     words: &[String],
@@ -49,7 +49,7 @@ pub fn perform(
     }
 }
 
-/// What is left to do where the words after the program's name can't be read: to say why. It answers the exit status.
+/// Reports arguments that can't be read. Returns the exit status.
 pub fn tell_unread(error: &io::Error, err: &mut impl Write) -> u8 {
     if error.kind() == ErrorKind::OutOfMemory {
         let _ = writeln!(err, "{}", Fault::MEMORY);
@@ -59,7 +59,7 @@ pub fn tell_unread(error: &io::Error, err: &mut impl Write) -> u8 {
     BAD_LINE
 }
 
-/// The database of a command that a station over it carries out, where one runs.
+/// The database of a command that a station over it can carry out.
 fn shared_database<'a>(line: &Line<'a>) -> Option<&'a str> {
     match line {
         Line::Submit(submit) => Some(submit.files.database),
@@ -76,8 +76,8 @@ fn shared_database<'a>(line: &Line<'a>) -> Option<&'a str> {
     }
 }
 
-/// Carries out a command: by the station that runs over its database, or else over the database itself. A station may come to run over it
-/// while it is waited for: that one is asked then.
+/// Carries out a command: by the station that runs over its database, or else with the database itself. If the database stays locked, a
+/// station that has started meanwhile is asked.
 fn carry_out(
     rt: &HostRuntime,
     words: &[String],
@@ -101,7 +101,7 @@ fn carry_out(
     }
 }
 
-/// Carries out a command beside the station that is reached over a stream. One over many files asks it many times.
+/// Carries out a command by the station that is connected over a stream. A command over many files connects to it many times.
 fn carry_out_beside(
     rt: &HostRuntime,
     words: &[String],
@@ -117,7 +117,7 @@ fn carry_out_beside(
     }
 }
 
-/// Has a station carry out a command.
+/// Asks a station to carry out a command.
 fn ask(
     asking: Asking<'_>,
     line: &Line<'_>,
@@ -136,8 +136,7 @@ fn ask(
     }
 }
 
-/// Carries out a command, writes what it did, and answers the exit status. A call of the operator, a report and a
-/// service write it themselves, a service the faults of its callers too.
+/// Carries out a command and writes its line. Returns the exit status. Operator's calls, reports and services write their lines themselves.
 fn carry_out_alone(
     rt: &HostRuntime,
     line: &Line<'_>,

@@ -1,12 +1,12 @@
-//! The file that a database is kept in.
+//! The file of a database.
 
 use oftp_files::make_private;
 
-/// The path under which SQLite keeps nothing.
+/// A path for which SQLite keeps no file.
 const UNKEPT: &str = ":memory:";
 
-/// Makes the file where there is none, so that nobody else may read or write it; the log beside it gets the same mode when the database is
-/// opened. What can't be made is told then.
+/// Creates the file if it doesn't exist, so that only its owner may read or write it. The log beside it gets the same mode when the
+/// database is opened. If the file can't be created, opening the database returns the error.
 pub(super) fn make_file(rt: &HostRuntime, path: &str) {
     if path != UNKEPT {
         let _ = make_private(rt, path);

@@ -1,4 +1,4 @@
-//! The office over a database's files, and what the program has it do.
+//! The office over a database's files, and the program's operations on it.
 
 ghost use Rattle.std.specs.Prelude.{◌≢◌, OnOk};
 ghost use Rattle.oftp_session.specs.Standings.{Broken};
@@ -14,13 +14,13 @@ use sqlite::{Alter, FileFrom, FileStore, Unknown};
 use std::alloc::Global;
 use std::io::{Read, Write};
 
-/// The office over files, in which a torn write is supposed to leave each octet old or new.
+/// The office over files. A torn write is assumed to leave each octet old or new.
 pub(super) type FileOffice = SqlOffice<FileStore<FileFrom<Unknown>>>;
 
-/// The office over a database's files, which are given up when it is dropped.
+/// The office over a database's files, which are closed when it is dropped.
 ///
-/// It hides what store it is over. A function that drops a [`FileOffice`], or calls what is generic over offices with one, is proved
-/// with all that the store is; this is so for three functions here, and for none that has a `DatabaseOffice`.
+/// It hides its store. The proof of a function that drops a [`FileOffice`], or calls a generic function over offices with one, has to go
+/// through the whole store. Three functions here need this, and no function with a `DatabaseOffice` does.
 pub struct DatabaseOffice {
     office: FileOffice,
 }
@@ -32,25 +32,25 @@ impl Drop for DatabaseOffice {
     }
 }
 
-/// What is done with an office over a store, whatever store it is.
+/// An operation on an office over a store, for each kind of store.
 trait StoreErrand {
-    // What it comes to.
+    // Its result.
     type Outcome;
 
-    // Does it.
+    // Does the operation.
     fn run_over<S: Alter>(self, office: &mut SqlOffice<S>) -> Self::Outcome;
 }
 
 impl DatabaseOffice {
-    /// The office that is over these files.
+    /// The office over these files.
     pub(super) fn new(office: FileOffice) -> DatabaseOffice {
         DatabaseOffice { office }
     }
 
-    /// Brings what the log holds into the database's file, so that it is the whole of the database, and gives both up.
+    /// Writes the log into the database's file, so that it has the whole database, and closes both.
     ///
     /// # Errors
-    /// The disk failed, or has no room.
+    /// [`Fault::File`]: the disk failed, or is full.
     pub fn close(self) -> Result<(), Fault> {
         let DatabaseOffice { office } = self;
         match office.into_conn().close() {
@@ -59,7 +59,7 @@ impl DatabaseOffice {
         }
     }
 
-    /// Lends the office to an errand over a store.
+    /// Does an operation on the office.
     fn lend<E: StoreErrand>(&mut self, errand: E) -> E::Outcome {
         errand.run_over(&mut self.office)
     }
@@ -85,7 +85,7 @@ impl DatabaseOffice {
         })
     }
 
-    /// Does what an operator wants, as [`operate_durable`] does.
+    /// Does an operator's job, as [`operate_durable`] does.
     ///
     /// # Errors
     /// Those of [`operate_durable`].
@@ -131,7 +131,7 @@ impl HeldOffice for DatabaseOffice {
     }
 }
 
-/// An errand that needs no more of the office than that it is one.
+/// An operation that only needs an office.
 struct AnyStore<E>(E);
 
 impl<E: Errand> StoreErrand for AnyStore<E> {
@@ -143,7 +143,7 @@ impl<E: Errand> StoreErrand for AnyStore<E> {
     }
 }
 
-/// A session that is served.
+/// The operation that serves a session.
 struct Session<'a, R, W> {
     alloc: Global,
     book: &'a Book,
@@ -167,7 +167,7 @@ impl<R: Read, W: Write> StoreErrand for Session<'_, R, W> {
     }
 }
 
-/// The next job of a list that grows.
+/// The operation that does the next job of a growing list.
 struct Next<'a, 'b, R, W> {
     alloc: Global,
     book: &'a Book,
@@ -183,7 +183,7 @@ impl<R: Read, W: Write> StoreErrand for Next<'_, '_, R, W> {
     }
 }
 
-/// What an operator wants.
+/// The operation that does an operator's job.
 struct Call<'a, W> {
     alloc: Global,
     book: &'a Book,

@@ -1,4 +1,4 @@
-//! What a service's sessions and requests are served from.
+//! The offices for the sessions and requests of a service.
 
 use crate::database::{DatabaseOffice, PATIENCE, open_if_free};
 use oftp_command_line::Fault;
@@ -9,15 +9,15 @@ use oftp_sockets::{Desk, Replies, Station, Trouble, Wire, ports_of};
 use oftp_store::{PathFault, StoreFault};
 use std::io::{Read, Write};
 
-/// The database that is opened for each session and each request, and given up after it.
+/// A database that is opened for each session and each request, and closed after it.
 #[derive(Clone, Copy)]
 pub struct Opened<'a> {
-    /// The file that holds it.
+    /// The database's file.
     pub database: &'a str,
 }
 
 impl Opened<'_> {
-    /// The office over the database. One that another program still holds is the caller's trouble alone.
+    /// The office over the database. A database that stays locked is an error of this caller alone.
     fn office(self, rt: &HostRuntime) -> Result<DatabaseOffice, Trouble> {
         open_if_free(rt, self.database, PATIENCE).map_err(trouble_of)
     }
@@ -64,7 +64,7 @@ impl Desk for DatabaseOffice {
     }
 }
 
-/// Whose trouble it is that a database can't be opened.
+/// The kind of error for a database that can't be opened.
 fn trouble_of(fault: PathFault) -> Trouble {
     match fault {
         PathFault::Held => Trouble::OfCaller(Fault::Store(StoreFault::Store)),

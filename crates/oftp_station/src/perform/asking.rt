@@ -1,4 +1,4 @@
-//! Commands that have the station do what they ask, where one runs over their database. They read and make the files themselves.
+//! Commands that ask the station over their database to carry them out. They read and write the files themselves.
 
 use crate::perform::backups::DatabaseCopy;
 use crate::perform::fetching::make_file_of;
@@ -13,10 +13,10 @@ use std::io::{self, Write};
 use std::net::Shutdown;
 use std::os::unix::net::UnixStream;
 
-/// The station is gone, or says what no station says: what was asked is done or not done.
+/// The error if the station is gone, or sends what no station sends. The request may have been carried out then.
 const GONE: Fault = Fault::Run(RunFault::Office);
 
-/// A command whose database a station holds.
+/// A command whose database a station has locked.
 #[derive(Clone, Copy)]
 pub(super) struct Asking<'a> {
     rt: &'a HostRuntime,
@@ -24,13 +24,13 @@ pub(super) struct Asking<'a> {
     stream: &'a UnixStream,
 }
 
-/// The connection to the station that runs over a database, if one does.
+/// Connects to the station that runs over a database, if one does.
 pub(super) fn reached(rt: &HostRuntime, database: &str) -> Option<UnixStream> {
     SocketPlace::beside(rt, database).ok()?.connect(rt).ok()
 }
 
 impl<'a> Asking<'a> {
-    /// The command of these words, whose station is reached over this stream.
+    /// The command with these words, whose station is connected over this stream.
     pub(super) fn new(
         rt: &'a HostRuntime,
         words: &'a [String],
@@ -39,7 +39,7 @@ impl<'a> Asking<'a> {
         Asking { rt, words, stream }
     }
 
-    /// Hands in a file.
+    /// Submits a file.
     pub(super) fn submit(
         self,
         submit: &Submit<'_>,
@@ -62,19 +62,19 @@ impl<'a> Asking<'a> {
         self.ask_line(book.as_slice(), &[], out, err)
     }
 
-    /// Asks what needs no file.
+    /// Sends a request that needs no file.
     pub(super) fn ask_alone(self, out: &mut impl Write, err: &mut impl Write) -> Result<u8, Fault> {
         self.ask_line(&[], &[], out, err)
     }
 
-    /// Asks for a report, which is written as it comes.
+    /// Requests a report, which is written as it arrives.
     pub(super) fn report(self, out: &mut impl Write, err: &mut impl Write) -> Result<u8, Fault> {
         let status = self.ask(&[], &[], out, err, &mut io::sink())?;
         flush(out)?;
         Ok(status)
     }
 
-    /// Fetches a file, and makes it once all of it is there.
+    /// Fetches a file, which is written once all of it has arrived.
     pub(super) fn fetch(
         self,
         fetch: &Fetch<'_>,
@@ -92,7 +92,7 @@ impl<'a> Asking<'a> {
         Ok(status)
     }
 
-    /// Takes a backup. The station does no job while the database's files are copied, and the copy is finished after that.
+    /// Makes a backup. The station does no job while the database's files are copied. The copy is finished after that.
     pub(super) fn back_up(
         self,
         backup: &Backup<'_>,
@@ -121,7 +121,7 @@ impl<'a> Asking<'a> {
         }
     }
 
-    /// Has a partner called.
+    /// Requests a call of a partner.
     pub(super) fn call(
         self,
         call: &Call<'_>,
@@ -142,7 +142,7 @@ impl<'a> Asking<'a> {
         Ok(status)
     }
 
-    /// Asks for what is a line, which is printed once the whole answer has come.
+    /// Sends a request for a line, which is printed once the whole answer has arrived.
     fn ask_line(
         self,
         book: &[u8],
@@ -156,7 +156,7 @@ impl<'a> Asking<'a> {
         Ok(status)
     }
 
-    /// Asks, takes the pieces of the answer to where they go, and answers the exit status.
+    /// Sends a request, and writes the pieces of the answer to their outputs. Returns the exit status.
     pub(super) fn ask(
         self,
         book: &[u8],
@@ -194,7 +194,7 @@ impl<'a> Asking<'a> {
     }
 }
 
-/// The words of a request: the book, the content, and the words of the command.
+/// The parts of a request: the book, the content, and the words of the command.
 fn request_of<'a>(
     alloc: Global,
     book: &'a [u8],
@@ -213,7 +213,7 @@ fn request_of<'a>(
     }
 }
 
-/// Why no answer comes.
+/// The error for an answer that can't be read.
 fn fault_of(fault: HearFault) -> Fault {
     match fault {
         HearFault::Memory => Fault::MEMORY,
@@ -229,7 +229,7 @@ fn put(octets: &[u8], out: &mut impl Write) -> Result<(), Fault> {
     }
 }
 
-/// Has an output written at once.
+/// Flushes an output.
 fn flush(out: &mut impl Write) -> Result<(), Fault> {
     match out.flush() {
         Ok(()) => Ok(()),
@@ -237,13 +237,13 @@ fn flush(out: &mut impl Write) -> Result<(), Fault> {
     }
 }
 
-/// Writes a line at once.
+/// Writes a line and flushes it.
 fn print(line: &[u8], out: &mut impl Write) -> Result<(), Fault> {
     put(line, out)?;
     flush(out)
 }
 
-/// The writer of what tells that the database's files may be copied. They are copied then, and the station is told once that is done.
+/// A writer that gets the message that the database's files may be copied. It copies them, and tells the station that it has finished.
 #[derive(Clone, Copy)]
 struct Copying<'a> {
     asking: Asking<'a>,
@@ -255,7 +255,7 @@ struct Copying<'a> {
 impl Write for Copying<'_> {
     fn write(&mut self, told: &[u8]) -> io::Result<usize> {
         self.written = self.copy.write(self.asking.rt, self.database);
-        // A station that is gone answers nothing.
+        // A station that is gone needs no message.
         let _ = self.asking.stream.shutdown(Shutdown::Write);
         Ok(told.len())
     }
@@ -265,7 +265,7 @@ impl Write for Copying<'_> {
     }
 }
 
-/// The writer of what a session's trace is to have. A trace that isn't asked for takes it, too.
+/// A writer for the lines of a session's trace. Without a trace they are dropped.
 #[derive(Clone, Copy)]
 struct Told<'a> {
     trace: Option<&'a Trace<'a>>,

@@ -1,4 +1,4 @@
-//! The command `backup`, which copies a database as it stands to one file.
+//! The command `backup`, which copies a database to one file.
 
 use crate::database;
 use oftp_command_line::{Backup, Fault, Outcome};
@@ -12,10 +12,10 @@ use std::io::{ErrorKind, Read, Write};
 /// How many octets are copied at once.
 const PIECE: usize = 16_384;
 
-/// What stands behind a database's name in those of the files that are read with it.
+/// The endings of the files that SQLite reads together with a database.
 const READ_WITH_IT: [&str; 2] = ["-wal", "-journal"];
 
-/// Copies a database to a file. Nobody else changes it meanwhile: it is open here.
+/// Copies a database to a file. No other process changes it meanwhile, since it is open and locked here.
 pub(super) fn back_up(rt: &HostRuntime, line: &Backup<'_>) -> Result<Outcome, Fault> {
     let office = database::open_shared(rt, line.database)?;
     let copy = DatabaseCopy::begun(rt, line)?;
@@ -32,14 +32,14 @@ pub(super) struct DatabaseCopy {
 }
 
 impl DatabaseCopy {
-    /// The copy to the file that a line names, of which nothing is written yet.
+    /// Begins a copy to the file that a command line names.
     pub(super) fn begun(rt: &HostRuntime, line: &Backup<'_>) -> Result<DatabaseCopy, Fault> {
         let name = name_of(rt, line)?;
         let draft = draft_of(rt, &name)?;
         Ok(DatabaseCopy { name, draft })
     }
 
-    /// Writes what the files of a database hold. Nobody may change them meanwhile: then what is written is what a kill would leave.
+    /// Copies the files of a database. Nothing may change them meanwhile. The copy is then what a crash would leave.
     pub(super) fn write(&self, rt: &HostRuntime, database: &str) -> Result<(), Fault> {
         let real = fs::canonicalize(rt, database).map_err(|error| file_fault(&error))?;
         pour(rt, real.as_str(), &self.draft.file)?;
@@ -52,7 +52,7 @@ impl DatabaseCopy {
         pour(rt, log.as_str(), &copied)
     }
 
-    /// Gives the copy its name, once it was written and opened as a station opens it. Where it wasn't it is removed.
+    /// Gives the copy its name, after it was opened as a station opens it. If writing or opening it failed, it is removed.
     pub(super) fn finish(
         self,
         rt: &HostRuntime,
@@ -71,7 +71,7 @@ impl DatabaseCopy {
     }
 }
 
-/// Opens a copy that was written, which tests it, and brings what its log holds into its one file.
+/// Opens a copy, which tests it, and writes its log into its one file.
 fn unite(
     rt: &HostRuntime,
     name: &Name,
@@ -83,7 +83,7 @@ fn unite(
     refuse_logged(rt, name)
 }
 
-/// The name that a copy is to bear, with the access that the database has. No device has one, nor a file of a database.
+/// The later name of a copy, with the permissions and the owner of the database. It may not be a device or a file of a database.
 fn name_of(rt: &HostRuntime, line: &Backup<'_>) -> Result<Name, Fault> {
     let about = fs::metadata(rt, line.database).map_err(|error| file_fault(&error))?;
     if is_there(rt, line.to)? && !is_file(rt, line.to)? {
@@ -98,7 +98,7 @@ fn name_of(rt: &HostRuntime, line: &Backup<'_>) -> Result<Name, Fault> {
     }
 }
 
-/// A name beside which a log lies, or a journal, is that of another database. It would be read into the copy.
+/// Refuses a name with a log or journal beside it. That is another database's, and would be read into the copy.
 fn refuse_logged(rt: &HostRuntime, name: &Name) -> Result<(), Fault> {
     for ending in READ_WITH_IT {
         let path = name.path();
@@ -110,7 +110,7 @@ fn refuse_logged(rt: &HostRuntime, name: &Name) -> Result<(), Fault> {
     Ok(())
 }
 
-/// Whether anything bears a name.
+/// Whether a path exists, even as a dangling link.
 fn is_there(rt: &HostRuntime, path: &str) -> Result<bool, Fault> {
     match fs::symlink_metadata(rt, path) {
         Ok(_) => Ok(true),
@@ -119,7 +119,7 @@ fn is_there(rt: &HostRuntime, path: &str) -> Result<bool, Fault> {
     }
 }
 
-/// Whether a name is that of a regular file, or leads to one.
+/// Whether a path leads to a regular file.
 fn is_file(rt: &HostRuntime, path: &str) -> Result<bool, Fault> {
     match fs::metadata(rt, path) {
         Ok(about) => Ok(about.is_file()),
@@ -127,7 +127,7 @@ fn is_file(rt: &HostRuntime, path: &str) -> Result<bool, Fault> {
     }
 }
 
-/// Writes all that a file holds to another.
+/// Copies the content of a file to another.
 fn pour(rt: &HostRuntime, from: &str, to: &File) -> Result<(), Fault> {
     let mut from = open_input(rt, from)?;
     let mut to = to;

@@ -1,4 +1,4 @@
-//! What the commands over a folder have done with a register: over the database that they open, or by the station that holds it.
+//! Access to a register for the commands over a folder: over the database that they open, or by the station that has it locked.
 
 use crate::database::DatabaseOffice;
 use crate::perform::asking::{Asking, reached};
@@ -13,13 +13,13 @@ use oftp_vfile::Format;
 use std::alloc::{AllocError, Global};
 use std::io::{self, Write};
 
-/// The station is gone, or has failed.
+/// The error if the station is gone, or has failed.
 const GONE: Fault = Fault::Run(RunFault::Office);
 
-/// What a station tells where its memory ran out.
+/// The line of a station that is out of memory.
 const NO_MEMORY: &[u8] = b"fault: 4 memory\n";
 
-/// The text of octets that were printed.
+/// The text of printed octets.
 fn text_of(octets: Vec<u8>) -> Result<String, Fault> {
     match String::from_utf8(octets) {
         Ok(text) => Ok(text),
@@ -27,7 +27,7 @@ fn text_of(octets: Vec<u8>) -> Result<String, Fault> {
     }
 }
 
-/// The reply of a line and of whether it tells of something that is done.
+/// The completion with a printed line, by whether it is done.
 fn completion_of(alloc: Global, is_done: bool, line: Vec<u8>) -> Result<Completion, Fault> {
     let text = text_of(line)?;
     let line = String::from_str(alloc, text.as_str().trim_end()).map_err(|_| Fault::MEMORY)?;
@@ -38,7 +38,7 @@ fn completion_of(alloc: Global, is_done: bool, line: Vec<u8>) -> Result<Completi
     })
 }
 
-/// The office over the database, which the command itself has opened.
+/// Access over the database, which the command has opened itself.
 #[derive(Drop)]
 pub(super) struct OwnClerk<'a> {
     pub(super) rt: &'a HostRuntime,
@@ -48,7 +48,7 @@ pub(super) struct OwnClerk<'a> {
 }
 
 impl OwnClerk<'_> {
-    /// Does what an operator wants.
+    /// Does an operator's job.
     fn operate(&mut self, operator: &Operator<'_>) -> Result<Completion, Fault> {
         let alloc = self.rt.alloc();
         let mut port = Port::new(Vec::new(alloc), 0);
@@ -102,7 +102,7 @@ impl Clerk for OwnClerk<'_> {
     }
 }
 
-/// The station that holds the database, which is asked over a connection each time.
+/// Access by the station that has the database locked. Each request has its own connection.
 #[derive(Clone, Copy)]
 pub(super) struct StationClerk<'a> {
     pub(super) rt: &'a HostRuntime,
@@ -112,7 +112,7 @@ pub(super) struct StationClerk<'a> {
 }
 
 impl StationClerk<'_> {
-    /// Has the command of a line carried out, which hands in this content. What is printed is answered, behind whether it is done.
+    /// Asks the station to carry out a command line, with this content for a submission. Returns whether it is done, and its output.
     fn ask(
         &self,
         line: Result<String, AllocError>,
@@ -139,7 +139,7 @@ impl StationClerk<'_> {
     }
 }
 
-/// The words of a text, which single spaces part.
+/// The words of a text, separated by single spaces.
 fn words_of(alloc: Global, text: &str) -> Result<Vec<String>, Fault> {
     let mut words = Vec::new(alloc);
     for word in text.split(' ') {
@@ -154,22 +154,22 @@ fn add(alloc: Global, words: &mut Vec<String>, word: &str) -> Result<(), Fault> 
     words.push(word).map_err(|_| Fault::MEMORY)
 }
 
-/// The line of a report. A station reads no file that a line names, so the database's name says nothing.
+/// The command line for a report. A station doesn't open the files that a command line names, so the database's name is arbitrary.
 fn report_line(alloc: Global, kind: ReportKind) -> Result<String, AllocError> {
     format!(in alloc; "report --db=d {}", kind_word(kind))
 }
 
-/// The line by which a file is fetched, which is made here.
+/// The command line that fetches a file, which is written here.
 fn fetch_line(alloc: Global, no: u64) -> Result<String, AllocError> {
     format!(in alloc; "fetch --db=d {no} f")
 }
 
-/// The line by which a file is released.
+/// The command line that releases a file.
 fn release_line(alloc: Global, no: u64) -> Result<String, AllocError> {
     format!(in alloc; "release --db=d --book=b {no}")
 }
 
-/// The line by which a file is handed in, which is read here. Nothing in it has a space.
+/// The command line that submits a file, which is read here. None of its values has a space.
 fn submit_line(alloc: Global, submit: &Submit<'_>) -> Result<String, AllocError> {
     let Submit {
         dataset,
@@ -185,7 +185,7 @@ fn submit_line(alloc: Global, submit: &Submit<'_>) -> Result<String, AllocError>
     )
 }
 
-/// The letter that `submit` has for a format.
+/// The letter of `submit` for a format.
 fn letter_of(format: Format) -> &'static str {
     match format {
         Format::Fixed => "F",
@@ -195,7 +195,7 @@ fn letter_of(format: Format) -> &'static str {
     }
 }
 
-/// The word that `report` has for a kind.
+/// The word of `report` for a kind.
 fn kind_word(kind: ReportKind) -> &'static str {
     match kind {
         ReportKind::Incoming => "in",

@@ -8,7 +8,7 @@ use oftp_folders::{self as folders, Folder};
 use oftp_resident::status_where;
 use std::io::Write;
 
-/// Collects files over the database, which it holds meanwhile.
+/// Collects files over the database, which is locked meanwhile.
 pub(super) fn collect(
     rt: &HostRuntime,
     line: &Collect<'_>,
@@ -25,7 +25,7 @@ pub(super) fn collect(
     folders::collect(rt, line, &folder, clerk, out).map(status_where)
 }
 
-/// Collects files beside the station that holds the database.
+/// Collects files by the station that has the database locked.
 pub(super) fn collect_beside(
     rt: &HostRuntime,
     line: &Collect<'_>,

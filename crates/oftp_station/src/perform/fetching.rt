@@ -16,7 +16,7 @@ pub(super) fn fetch(rt: &HostRuntime, line: &Fetch<'_>) -> Result<Outcome, Fault
     office.run(Fetching { rt, line })
 }
 
-/// A file that is fetched.
+/// The operation that fetches a file.
 pub(super) struct Fetching<'a> {
     pub(super) rt: &'a HostRuntime,
     pub(super) line: &'a Fetch<'a>,
@@ -46,7 +46,7 @@ fn fetch_from<O: Office>(
     }
 }
 
-/// Makes the file that the line names, of octets that are there.
+/// Writes these octets to the file that a command line names.
 pub(super) fn make_file_of(rt: &HostRuntime, line: &Fetch<'_>, octets: &[u8]) -> Result<(), Fault> {
     match place_of(rt, line.file, line.database)? {
         Place::Device(mut device) => put(&mut device, octets),
@@ -58,12 +58,12 @@ pub(super) fn make_file_of(rt: &HostRuntime, line: &Fetch<'_>, octets: &[u8]) ->
     }
 }
 
-/// Writes octets. What can't be written can't be made.
+/// Writes octets.
 fn put(file: &mut File, octets: &[u8]) -> Result<(), Fault> {
     file.write_all(octets).map_err(|error| file_fault(&error))
 }
 
-/// Makes the file that the line names.
+/// Writes the content of an incoming file to the file that a command line names.
 fn make_file<O: Office>(
     rt: &HostRuntime,
     line: &Fetch<'_>,
@@ -80,7 +80,7 @@ fn make_file<O: Office>(
     }
 }
 
-/// Writes the local form of a file. One that can't be written is one that can't be made.
+/// Writes the local form of an incoming file. A failed write is an error of the file.
 fn write_to<O: Office, W: Write>(
     alloc: Global,
     office: &mut O,

@@ -1,4 +1,4 @@
-//! The command `offer`, which hands in the files of a folder that are to be sent to a partner.
+//! The command `offer`, which submits the files of a folder, to be sent to a partner.
 
 use crate::database;
 use crate::perform::clerks::{OwnClerk, StationClerk};
@@ -9,10 +9,10 @@ use oftp_partners::Book;
 use oftp_resident::{FAILED, status_where, tell};
 use std::io::Write;
 
-/// The line of records of a length that their format doesn't have.
+/// The line for a record length that the format doesn't allow.
 const NO_LENGTH: &str = "refused: 5 field";
 
-/// Offers files over the database, which it holds meanwhile.
+/// Offers files over the database, which is locked meanwhile.
 pub(super) fn offer(rt: &HostRuntime, line: &Offer<'_>, out: &mut impl Write) -> Result<u8, Fault> {
     let book = read_book(rt, line.files.book)?;
     if let Some(status) = refused(&book, line, out)? {
@@ -28,7 +28,7 @@ pub(super) fn offer(rt: &HostRuntime, line: &Offer<'_>, out: &mut impl Write) ->
     folders::offer(rt, line, &folder, clerk, out).map(status_where)
 }
 
-/// Offers files beside the station that holds the database.
+/// Offers files by the station that has the database locked.
 pub(super) fn offer_beside(
     rt: &HostRuntime,
     line: &Offer<'_>,
@@ -47,7 +47,7 @@ pub(super) fn offer_beside(
     folders::offer(rt, line, &folder, clerk, out).map(status_where)
 }
 
-/// The exit status where the line can be meant for no file at all: the refusal is told then.
+/// The exit status if no file at all can be offered with this command line. The refusal is printed then.
 fn refused(book: &Book, line: &Offer<'_>, out: &mut impl Write) -> Result<Option<u8>, Fault> {
     if book.partner(line.to.as_bytes()).is_none() {
         return tell(Outcome::Unknown, out).map(Some);

@@ -1,4 +1,4 @@
-//! The commands `submit`, `release` and `refuse`, which are calls of the operator.
+//! The commands `submit`, `release` and `refuse`, which are operator's calls.
 
 use crate::database::{self, DatabaseOffice};
 use oftp_command_line::{Fault, Files, Refuse, Release, Submit};
@@ -7,14 +7,14 @@ use oftp_files::{read_book, read_content};
 use oftp_partners::Book;
 use std::io::Write;
 
-/// The book, and the office over the database.
+/// Reads the book, and opens the office over the database.
 fn opened(rt: &HostRuntime, files: &Files<'_>) -> Result<(Book, DatabaseOffice), Fault> {
     let book = read_book(rt, files.book)?;
     let office = database::open_shared(rt, files.database)?;
     Ok((book, office))
 }
 
-/// Does what an operator wants of an office, which is given up then, and writes the line that tells it.
+/// Does an operator's job with an office, writes its line, and closes the office.
 fn call(
     rt: &HostRuntime,
     mut office: DatabaseOffice,
@@ -28,7 +28,7 @@ fn call(
         .map_err(Fault::Run)
 }
 
-/// Does what an operator wants of the office over the database that a line names.
+/// Does an operator's job with the database that a command line names.
 fn operate(
     rt: &HostRuntime,
     files: &Files<'_>,
@@ -39,7 +39,7 @@ fn operate(
     call(rt, office, &book, operator, out)
 }
 
-/// Registers a file that is to be sent to a partner.
+/// Registers a file to be sent to a partner.
 pub(super) fn submit(
     rt: &HostRuntime,
     submit: &Submit<'_>,
@@ -60,7 +60,7 @@ pub(super) fn submit(
     call(rt, office, &book, &operator, out)
 }
 
-/// Issues the end response of an incoming file.
+/// Issues the End-to-End Response of an incoming file.
 pub(super) fn release(
     rt: &HostRuntime,
     release: &Release<'_>,
@@ -70,7 +70,7 @@ pub(super) fn release(
     operate(rt, &release.files, &operator, out)
 }
 
-/// Issues the negative end response of an incoming file.
+/// Issues the Negative End Response of an incoming file.
 pub(super) fn refuse(
     rt: &HostRuntime,
     refuse: &Refuse<'_>,

@@ -1,4 +1,4 @@
-//! The commands `init`, `migrate` and `report`, which look at a database alone.
+//! The commands `init`, `migrate` and `report`, which only need a database.
 
 use crate::database::{self, PATIENCE};
 use oftp_command_line::{Fault, Outcome, Report};
@@ -6,19 +6,19 @@ use oftp_engine::Port;
 use oftp_resident::report_to;
 use std::io::Write;
 
-/// Opens a database, making its tables.
+/// Opens a database and creates its tables, unless it has them.
 pub(super) fn initiate(rt: &HostRuntime, database: &str) -> Result<Outcome, Fault> {
     database::open_shared(rt, database)?;
     Ok(Outcome::Initiated)
 }
 
-/// Brings a database of schema 1 to schema 2.
+/// Migrates a database of schema 1 to schema 2.
 pub(super) fn migrate(rt: &HostRuntime, database: &str) -> Result<Outcome, Fault> {
     database::migrate(rt, database, PATIENCE)?;
     Ok(Outcome::Migrated)
 }
 
-/// Writes a report of what a database keeps.
+/// Writes a report of a database.
 pub(super) fn write_report(
     rt: &HostRuntime,
     what: &Report<'_>,

@@ -12,7 +12,7 @@ use std::alloc::Global;
 use std::io::Write;
 use std::time::Duration;
 
-/// The trace that the line of a service asks for.
+/// The trace that the command line of a service asks for.
 pub(super) fn trace_of<'a>(
     rt: &'a HostRuntime,
     files: &Files<'_>,
@@ -21,12 +21,12 @@ pub(super) fn trace_of<'a>(
     open_trace(rt, terms.trace, &[files.book], Some(files.database))
 }
 
-/// How long a caller has to be let in. Who isn't takes no longer than a session may.
+/// How long a caller has to be admitted, which is no longer than a session may take.
 fn admission_of(entrance: &Entrance<'_>, terms: &SessionTerms<'_>) -> Duration {
     Duration::from_secs(entrance.admission.min(terms.longest))
 }
 
-/// What the sessions of a service are served from.
+/// The settings for the sessions of a service.
 fn station_of<'a>(
     book: &'a Book,
     terms: &SessionTerms<'_>,
@@ -40,8 +40,7 @@ fn station_of<'a>(
     }
 }
 
-/// Serves partners and commands over the database, which is held open, and writes a line to `out` for each session, behind one that says
-/// that it is ready.
+/// Serves partners and commands over the database, which stays open. Writes a line to `out` when it is ready, and one for each session.
 pub(super) fn run(rt: &HostRuntime, line: &Run<'_>, out: &mut impl Write) -> Result<(), Fault> {
     let (octets, book) = read_book_octets(rt, line.files.book)?;
     let mut office = database::open(rt, line.files.database, PATIENCE)?;
@@ -50,7 +49,7 @@ pub(super) fn run(rt: &HostRuntime, line: &Run<'_>, out: &mut impl Write) -> Res
     run_over(rt, line, &station, octets.as_slice(), &mut office, out)
 }
 
-/// A name, if there is one, as a text of its own.
+/// A copy of a name, if there is one.
 fn name_of(alloc: Global, name: Option<&str>) -> Result<Option<String>, Fault> {
     match name {
         Some(name) => match String::from_str(alloc, name) {
@@ -61,7 +60,7 @@ fn name_of(alloc: Global, name: Option<&str>) -> Result<Option<String>, Fault> {
     }
 }
 
-/// The same over the office, which holds the database, with the octets of the book.
+/// Serves them over an open office. `octets` are the book's.
 fn run_over(
     rt: &HostRuntime,
     line: &Run<'_>,
@@ -96,7 +95,7 @@ fn run_over(
     ended
 }
 
-/// Serves the sessions of partners who call, and writes a line for each: its end to `out`, or its fault to `err`.
+/// Serves the sessions of partners that call, and writes a line for each: its end to `out`, or its error to `err`.
 pub(super) fn listen(
     rt: &HostRuntime,
     line: &Listen<'_>,
@@ -135,7 +134,7 @@ pub(super) fn call(rt: &HostRuntime, line: &Call<'_>) -> Result<Outcome, Fault> 
     dial(rt, stream, partner, &station, &mut desk).map(Outcome::Ended)
 }
 
-/// Answers requests for what a database holds. The fault of one caller is written to `err`.
+/// Answers HTTP requests about a database. The error of one client is written to `err`.
 pub(super) fn http(rt: &HostRuntime, line: &Http<'_>, err: &mut impl Write) -> Result<(), Fault> {
     database::make(rt, line.database)?;
     let listener = bound(rt, line.address, line.port)?;

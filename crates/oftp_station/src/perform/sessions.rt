@@ -1,4 +1,4 @@
-//! The command `feed`, one session from file to file.
+//! The command `feed`, which runs one session from file to file.
 
 use crate::database::{self, DatabaseOffice, PATIENCE};
 use oftp_command_line::{Fault, Feed, Outcome, Side};
@@ -14,7 +14,7 @@ use std::fs::{self, File, Metadata, OpenFile};
 use std::io::ErrorKind;
 use std::rt::Files;
 
-/// One session from the octets of one file to another file, with a register in memory where the line names no database.
+/// Runs one session with the octets of one file as input and another file as output. Without a database the register is in memory.
 pub(super) fn feed(rt: &HostRuntime, line: &Feed<'_>) -> Result<Outcome, Fault> {
     let book = read_book(rt, line.book)?;
     let Some(role) = role_of(&book, line) else {
@@ -26,7 +26,7 @@ pub(super) fn feed(rt: &HostRuntime, line: &Feed<'_>) -> Result<Outcome, Fault> 
     }
 }
 
-/// The session over a database, which is given up then.
+/// Runs the session over a database, and closes it.
 fn feed_durable(
     rt: &HostRuntime,
     line: &Feed<'_>,
@@ -42,7 +42,7 @@ fn feed_durable(
     outcome_of(ended, trace.as_ref())
 }
 
-/// The session with a register in memory.
+/// Runs the session with a register in memory.
 fn feed_in_memory(
     rt: &HostRuntime,
     line: &Feed<'_>,
@@ -58,7 +58,7 @@ fn feed_in_memory(
     outcome_of(ended, trace.as_ref())
 }
 
-/// What a session comes to, which is also the last line of its trace.
+/// The outcome of a session, which is also the last line of its trace.
 fn outcome_of(ended: Result<End, RunFault>, trace: Option<&Trace<'_>>) -> Result<Outcome, Fault> {
     let ended = ended.map_err(Fault::Run);
     if let Some(trace) = trace {
@@ -67,12 +67,12 @@ fn outcome_of(ended: Result<End, RunFault>, trace: Option<&Trace<'_>>) -> Result
     ended.map(Outcome::Ended)
 }
 
-/// The trace that the line asks for.
+/// The trace that the command line asks for.
 fn trace_of<'a>(rt: &'a HostRuntime, line: &Feed<'_>) -> Result<Option<Trace<'a>>, Fault> {
     open_trace(rt, line.trace, &[line.input, line.book], line.database)
 }
 
-/// The role in the session. An initiator calls a named partner, and a partner that is named is in the book.
+/// The role in the session. An initiator needs a partner, and a named partner has to be in the book.
 fn role_of<'b>(book: &'b Book, line: &Feed<'_>) -> Option<Role<'b>> {
     let named = match line.partner {
         Some(code) => Some(book.partner(code.as_bytes())?),
@@ -81,7 +81,7 @@ fn role_of<'b>(book: &'b Book, line: &Feed<'_>) -> Option<Role<'b>> {
     role_with(line.role, named)
 }
 
-/// The role on a side of the session, with the partner that is named.
+/// The role for this side of the session, with the named partner.
 fn role_with<'b>(side: Side, named: Option<&'b Partner>) -> Option<Role<'b>> {
     match side {
         Side::Responder => Some(Role::Responder),
@@ -89,7 +89,7 @@ fn role_with<'b>(side: Side, named: Option<&'b Partner>) -> Option<Role<'b>> {
     }
 }
 
-/// The ports of the files that the line names: what the partner sends, and what it is sent.
+/// The ports for the files that the command line names.
 fn ports<'a>(
     rt: &HostRuntime,
     line: &Feed<'_>,
@@ -101,7 +101,7 @@ fn ports<'a>(
     Ok(ports_of(Traced::reader(input, trace), Traced::writer(output, trace)))
 }
 
-/// Refuses an output that the session needs: making it would take away its octets. A device loses none.
+/// Refuses an output file that the session needs, since it would be truncated. A device isn't.
 fn check_output<R: Files + AllocGlobal>(
     rt: &R,
     line: &Feed<'_>,
@@ -119,7 +119,7 @@ fn check_output<R: Files + AllocGlobal>(
     Ok(())
 }
 
-/// Whether this is of the input, the book, the trace or a file of the database.
+/// Whether the output is the input, the book, the trace or a file of the database.
 fn is_needed<R: Files + AllocGlobal>(
     rt: &R,
     line: &Feed<'_>,
