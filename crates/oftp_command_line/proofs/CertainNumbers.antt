@@ -1,4 +1,4 @@
--- An argument that takes numbers, and is required or has a default, has one of them as its value at each parse.
+-- An argument that takes numbers, and is required or has a default, always has one of them as its value.
 use Rattle.std.proofs.Common.{◌≡◌, ◌∙◌, ap, ◌==◌, ◌<◌, ℕ, true, false, List, [], ◌∷◌, length, is_some, Option, Some, None, refl, sym, subst, true≢false, inl, inr, arith, unwrap_or}
 use Rattle.std.specs.List.{All, slice_index_or}
 use Rattle.std.specs.Str.{bytes_eq}
@@ -34,7 +34,7 @@ range_parser low high (Some (Unsigned least most)) e =
     rw (same_least, same_most) refl
 range_parser low high other e = absurd (true≢false (sym e))
 
--- the first of the values that are read as they are written
+-- the first value, of values that are read as they are written
 first_read : (f : Found) (id : Text) (x : MatchedArg) (Q : Text → Type 0) → matched_of f id ≡ Some x → x.reading ≡ AsWritten
     → All (λ (v : Bor Text). Q v.now) x.vals.items → is_some (first_value f id) ≡ true
     → (t : Text) × (first_value f id ≡ Some t) × (one_text f id ≡ Some t) × Q t
@@ -49,7 +49,7 @@ first_read f id x Q found as_written all has = go x.vals.items refl all (rw foun
     go (v ∷ vs) e all has =
         (v.now, rw (found, e) refl, rw (found, as_written, e) refl, All-get_or (λ (w : Bor Text). Q w.now) (v ∷ vs) 0 v (omega arith) all)
 
--- a text of a number is a number among the rows
+-- a value that is the text of a number in range is a number among the rows
 number_is : (low high : ℕ) (id : Text) (rows : List Row) (t : Text) → first_of id rows ≡ Some t → one_of id rows ≡ Some t → IsUnsignedIn low high t
     → IsNumber low high id rows
 number_is low high id rows t first one is =
@@ -62,7 +62,7 @@ number_is low high id rows t first one is =
       most = rw same is.3;
     }
 
--- what the entry of an argument gives, whose values are read as they are written
+-- the entry of an argument whose values are read as they are written
 entry_read : (c : Command) (f : Found) (id : Text) (x : MatchedArg) (e : Entry) → groups_of c ≡ [] → (id ≡ [] → ⊥)
     → ((r : Reading) → HasReading c id r → r ≡ AsWritten) → matched_of f id ≡ Some x → is_some (first_value f id) ≡ true
     → e.1 ≡ x → e.0.now ≡ id → EntryPasses c e
@@ -84,7 +84,7 @@ entry_read c f id x e no_groups named reads found has same_x key_id pass =
     ] in
     first_read f id x (PassesArg c id) found (ap (λ (y : MatchedArg). y.reading) (sym same_x) ∙ is) all has
 
--- what the entry of an id gives, where it is an argument's with a value
+-- the entry of an id that is an argument's with a value
 value_read : (c : Command) (f : Found) (id : Text) → ValuesPass c f → groups_of c ≡ [] → (id ≡ [] → ⊥)
     → ((r : Reading) → HasReading c id r → r ≡ AsWritten) → is_some (first_value f id) ≡ true
     → (t : Text) × (first_value f id ≡ Some t) × (one_text f id ≡ Some t) × PassesArg c id t

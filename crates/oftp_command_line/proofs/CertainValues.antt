@@ -1,4 +1,4 @@
--- An argument that is required or has a default has a value at each parse.
+-- An argument that is required or has a default always has a value.
 use Rattle.std.proofs.Common.{zero, suc, ◌≡◌, ◌⊎◌, ◌∙◌, subst, ◌<◌, ◌≤◌, ap, ◌&&◌, ◌||◌, ℕ, Bool, true, false, not, List, [], ◌∷◌, length, map, codes, is_some, Option, Some, None, refl, sym, inl, inr, arith, true≢false}
 use Rattle.std.specs.List.{All, find, list_all, list_any, slice_index_or}
 use Rattle.std.specs.Str.{bytes_eq}
@@ -48,7 +48,7 @@ set_action : (o : Option ArgAction) → is_set o ≡ true → o ≡ Some Set
 set_action (Some Set) e = refl
 set_action other e = absurd (true≢false (sym e))
 
--- what the test of an argument with no say on another says of it
+-- what the test `is_simple && is_free` says of an argument
 record Lone (a : Arg) : Type 0 where
   plain : IsPlainArg a
   no_ifs : a.default_vals_ifs.items ≡ []
@@ -71,7 +71,7 @@ lone a e =
       no_delimiter = is_none _ delimiter.0;
     }
 
--- what the test of a certain argument says of it
+-- what the test `is_certain` says of an argument
 record Certain (a : Arg) : Type 0 where
   wanted : (a.required ≡ true) ⊎ (0 < length (items_of a.default_vals))
   set : a.action ≡ Some Set
@@ -88,7 +88,7 @@ certain a e =
       least = rw one (omega arith);
     }
 
--- ---- the place of the argument with an id
+-- ---- the index of the argument with an id
 
 pub record Place (is_such : Rule → Bool) (xs : List Arg) (id : Text) : Type 0 where
   pub place : ℕ
@@ -206,7 +206,7 @@ entry_has_value old m p plain globals k d lt set delim least unique named own ha
 
 -- ---- each parse
 
--- the first of the arguments, for a list that is not empty
+-- the first argument of a list that isn't empty
 some_arg : (xs : List Arg) → 0 < length xs → Arg
 some_arg [] lt = absurd (omega arith)
 some_arg (x ∷ xs) lt = x
@@ -260,7 +260,7 @@ always is_such c id e =
       some = some_arg (args_of c) (omega (arith, place.within));
     }
 
--- such an argument has a value, where it is certain
+-- an argument that is certain has a value
 pub value_at : (is_such : Rule → Bool) → ((r : Rule) → is_such r ≡ true → is_certain r ≡ true) → (c : Command) (m : ArgMatches) → IsParsedFrom c m
     → (id : Text) → Always is_such c id → is_some (first_value (found_of m) id) ≡ true
 value_at is_such is_sure c m p id h =

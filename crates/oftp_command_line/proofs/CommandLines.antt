@@ -1,4 +1,4 @@
--- A fault that a command's line hands on.
+-- An error that a command line's reader passes on.
 use Rattle.std.proofs.Common.{◌≡◌, subst, sym}
 use Rattle.std.specs.Prelude.{Err, IfErr, Ok, Result}
 use Rattle.std.specs.Result.{IsErrAnd}

@@ -1,4 +1,4 @@
--- Command lines that are written out, in a table for each command: a line, and what it asks for.
+-- Worked command lines, in a table for each command: a line, and the command that it gives.
 use Rattle.std.proofs.Common.{◌≡◌, ◌==◌, ◌++◌, ℕ, Bool, List, Option, refl, [], ◌∷◌, Some, None, codes, false, if◌then◌else◌, map, true}
 use Rattle.clap.proofs.OnLiterals.{clap_on_literals}
 use Rattle.oftp_listing.specs.declared.reports.ReportKind.TheVariants.{Incoming, Issued, Outgoing, Received}
@@ -20,24 +20,24 @@ abbrev begun : ℕ → List (List ℕ) → List (List ℕ)
 begun octet [] = (octet ∷ []) ∷ []
 begun octet (word ∷ words) = (octet ∷ word) ∷ words
 
--- the words of a line, which single spaces part
+-- the words of a line, separated by single spaces
 abbrev words_of : List ℕ → List (List ℕ)
 words_of [] = [] ∷ []
 words_of (octet ∷ octets) = if octet == 32 then [] ∷ words_of octets else begun octet (words_of octets)
 
--- the words of a line with what they ask for
+-- the words of a line with the command that they give
 abbrev Example : Type 0
 Example = List (List ℕ) × Option Said
 
--- the line asks for this
+-- the line gives this command
 abbrev asks : List ℕ → Said → Example
 asks line said = (words_of line, Some said)
 
--- the line is no command line
+-- the line is invalid
 abbrev bad : List ℕ → Example
 bad line = (words_of line, None)
 
--- each line asks for this
+-- each line gives its command
 abbrev AreRead : List Example → Type 0
 AreRead examples = map (λ (e : Example). line_of_words e.0) examples ≡ map (λ (e : Example). e.1) examples
 
@@ -49,9 +49,9 @@ d_and_b = record { database = codes "d"; book = codes "b" }
 init_lines : AreRead (
     -- `init` takes the database
     asks (codes "init --db d") (said_init (codes "d"))
-    -- it does without none
+    -- the database is required
     ∷ bad (codes "init")
-    -- and takes no word
+    -- it takes no word
     ∷ bad (codes "init --db=d w")
     ∷ [])
 unfolding clap_on_literals line_named taken
@@ -61,7 +61,7 @@ init_lines = refl
 migrate_lines : AreRead (
     -- `migrate` takes the database
     asks (codes "migrate --db=d") (said_migrate (codes "d"))
-    -- an option comes once
+    -- an option may only be given once
     ∷ bad (codes "migrate --db=d --db=d")
     ∷ [])
 unfolding clap_on_literals line_named taken
@@ -71,19 +71,19 @@ migrate_lines = refl
 check_lines : AreRead (
     -- `check` takes the book
     asks (codes "check --book b") (said_check (codes "b"))
-    -- it does without no book
+    -- the book is required
     ∷ bad (codes "check")
-    -- and takes no word
+    -- it takes no word
     ∷ bad (codes "check --book=b w")
     ∷ [])
 unfolding clap_on_literals line_named taken
 check_lines = refl
 
--- the line of a file that is submitted, with no more than the needed words before these
+-- a line of `submit` with its required options, and then these words
 abbrev submit_line : List ℕ → List ℕ
 submit_line more = codes "submit --db=d --book=b --dataset=n --date=20240131 --time=1015300001 --to=p" ++ more
 
--- what it asks for, in this format and of records of such a length
+-- the command that it gives, with this format and record length
 abbrev submit_asked : Format → ℕ → Said
 submit_asked f longest = said_submit (record {
   files = d_and_b;
@@ -99,7 +99,7 @@ submit_asked f longest = said_submit (record {
 
 -- lines of `submit`
 submit_lines : AreRead (
-    -- `submit` is of records of no length and without a description, where no more is said
+    -- by default the record length is 0 and the description is empty
     asks (submit_line (codes " --format=U f")) (submit_asked format.Unstructured 0)
     -- options and words come in any order
     ∷ asks (codes "submit f --description=x --longest=99999 --format=V --to=p --time=t --date=e --dataset=n --book=b --db=d")
@@ -114,15 +114,15 @@ submit_lines : AreRead (
       description = codes "x";
       file = codes "f";
     }))
-    -- a length may have zeros and a plus before it
+    -- a length may have leading zeros and a plus
     ∷ asks (submit_line (codes " --format=F f --longest=+007")) (submit_asked format.Fixed 7)
     -- T is a format
     ∷ asks (submit_line (codes " --format=T f")) (submit_asked format.Text 0)
     -- no format has this letter
     ∷ bad (submit_line (codes " --format=u f"))
-    -- a length has a bound
+    -- a length has an upper limit
     ∷ bad (submit_line (codes " --format=U f --longest=100000"))
-    -- and none is below zero
+    -- a length isn't negative
     ∷ bad (submit_line (codes " --format=U f --longest=-1"))
     -- the date has no default
     ∷ bad (codes "submit --db=d --book=b --dataset=n --time=1015300001 --to=p --format=U f")
@@ -130,13 +130,13 @@ submit_lines : AreRead (
 unfolding clap_on_literals submit_app line_named taken
 submit_lines = refl
 
--- what a folder's files are offered for: to p, in this format and of records of such a length
+-- an offer to p, with this format and record length
 abbrev offer_asked : Format → ℕ → Said
 offer_asked f longest = said_offer (record { files = d_and_b; to = codes "p"; folder = codes "f"; format = f; longest = longest })
 
 -- lines of `offer`
 offer_lines : AreRead (
-    -- `offer` is of unstructured files, where no more is said
+    -- by default the files are unstructured
     asks (codes "offer --db=d --book=b --to=p --from=f") (offer_asked format.Unstructured 0)
     -- options come in any order
     ∷ asks (codes "offer --longest 80 --from f --format=F --to p --book=b --db d") (offer_asked format.Fixed 80)
@@ -146,17 +146,17 @@ offer_lines : AreRead (
     ∷ asks (codes "offer --db=d --book=b --to=p --from=f --format=T") (offer_asked format.Text 0)
     -- no format has this letter
     ∷ bad (codes "offer --db=d --book=b --to=p --from=f --format=u")
-    -- a length has a bound
+    -- a length has an upper limit
     ∷ bad (codes "offer --db=d --book=b --to=p --from=f --longest=100000")
-    -- it does without no partner
+    -- the partner is required
     ∷ bad (codes "offer --db=d --book=b --from=f")
-    -- without no folder
+    -- the folder is required
     ∷ bad (codes "offer --db=d --book=b --to=p")
-    -- and without no book
+    -- the book is required
     ∷ bad (codes "offer --db=d --to=p --from=f")
     -- it takes no word
     ∷ bad (codes "offer --db=d --book=b --to=p --from=f w")
-    -- and no name of a file
+    -- it takes no dataset name
     ∷ bad (codes "offer --db=d --book=b --to=p --from=f --dataset=n")
     ∷ [])
 unfolding clap_on_literals offer_app line_named taken
@@ -170,15 +170,15 @@ release_lines : AreRead (
     ∷ asks (codes "release --db=d --book=b 1") (said_release (record { files = d_and_b; no = 1 }))
     -- the last is 9999999
     ∷ asks (codes "release --db=d --book=b 9999999") (said_release (record { files = d_and_b; no = 9999999 }))
-    -- there is none before the first
+    -- 0 is too small
     ∷ bad (codes "release --db=d --book=b 0")
-    -- nor after the last
+    -- 8 digits are too many
     ∷ bad (codes "release --db=d --book=b 10000000")
-    -- and a number is digits
+    -- a number has only digits
     ∷ bad (codes "release --db=d --book=b 7a")
-    -- it does without no number
+    -- the number is required
     ∷ bad (codes "release --db=d --book=b")
-    -- and without no book
+    -- the book is required
     ∷ bad (codes "release --db=d 7")
     ∷ [])
 unfolding clap_on_literals release_app line_named taken
@@ -190,11 +190,11 @@ refuse_lines : AreRead (
     asks (codes "refuse --db=d --book=b 7 99 x") (said_refuse (record { files = d_and_b; no = 7; reason = 99; text = codes "x" }))
     -- the first reason is 0, and the text may be empty
     ∷ (words_of (codes "refuse --db=d --book=b 7 0") ++ [] ∷ [], Some (said_refuse (record { files = d_and_b; no = 7; reason = 0; text = [] })))
-    -- a reason has two digits
+    -- a reason has two digits at most
     ∷ bad (codes "refuse --db=d --book=b 7 100 x")
     -- no file has the number 0
     ∷ bad (codes "refuse --db=d --book=b 0 99 x")
-    -- the text is missing
+    -- the text is required
     ∷ bad (codes "refuse --db=d --book=b 7 99")
     ∷ [])
 unfolding clap_on_literals refuse_app line_named taken
@@ -204,39 +204,39 @@ refuse_lines = refl
 fetch_lines : AreRead (
     -- `fetch` takes a number and a file
     asks (codes "fetch --db=d 7 f") (said_fetch (record { database = codes "d"; no = 7; file = codes "f" }))
-    -- in this order
+    -- the words have this order
     ∷ bad (codes "fetch --db=d f 7")
-    -- and no book
+    -- it takes no book
     ∷ bad (codes "fetch --db=d --book=b 7 f")
     ∷ [])
 unfolding clap_on_literals fetch_app line_named taken
 fetch_lines = refl
 
--- what is collected in a folder, and whether it is released
+-- files are collected in a folder, and released or not
 abbrev collect_asked : Bool → Said
 collect_asked releases = said_collect (record { files = d_and_b; folder = codes "f"; releases = releases })
 
 -- lines of `collect`
 collect_lines : AreRead (
-    -- `collect` releases nothing, where no more is said
+    -- by default `collect` releases nothing
     asks (codes "collect --db=d --book=b --to=f") (collect_asked false)
-    -- it releases where that is said
+    -- with `--release` it releases
     ∷ asks (codes "collect --db=d --book=b --to=f --release") (collect_asked true)
-    -- in any order
+    -- options come in any order
     ∷ asks (codes "collect --release --to f --book b --db d") (collect_asked true)
-    -- to release takes no value
+    -- `--release` takes no value
     ∷ bad (codes "collect --db=d --book=b --to=f --release=true")
-    -- nor a word
+    -- it takes no word
     ∷ bad (codes "collect --db=d --book=b --to=f --release true")
-    -- it is said once
+    -- a flag may only be given once
     ∷ bad (codes "collect --db=d --book=b --to=f --release --release")
-    -- it does without no folder
+    -- the folder is required
     ∷ bad (codes "collect --db=d --book=b")
-    -- without no book
+    -- the book is required
     ∷ bad (codes "collect --db=d --to=f")
-    -- and without no database
+    -- the database is required
     ∷ bad (codes "collect --book=b --to=f")
-    -- it takes no number of a file
+    -- it takes no file number
     ∷ bad (codes "collect --db=d --book=b --to=f 7")
     ∷ [])
 unfolding clap_on_literals collect_app line_named taken
@@ -246,15 +246,15 @@ collect_lines = refl
 report_lines : AreRead (
     -- `report` takes a kind
     asks (codes "report --db=d in") (said_report (record { database = codes "d"; kind = Incoming }))
-    -- so does this one
+    -- `out` is a kind
     ∷ asks (codes "report --db=d out") (said_report (record { database = codes "d"; kind = Outgoing }))
-    -- so does this one
+    -- `issued` is a kind
     ∷ asks (codes "report --db=d issued") (said_report (record { database = codes "d"; kind = Issued }))
-    -- so does this one
+    -- `received` is a kind
     ∷ asks (codes "report --db=d received") (said_report (record { database = codes "d"; kind = Received }))
-    -- no report has this name
+    -- a kind is in small letters
     ∷ bad (codes "report --db=d In")
-    -- it does without no kind
+    -- the kind is required
     ∷ bad (codes "report --db=d")
     ∷ [])
 unfolding clap_on_literals report_app line_named taken
@@ -264,15 +264,15 @@ report_lines = refl
 backup_lines : AreRead (
     -- `backup` takes the database and a file
     asks (codes "backup --db=d f") (said_backup (record { database = codes "d"; to = codes "f" }))
-    -- in any order
+    -- they come in any order
     ∷ asks (codes "backup f --db d") (said_backup (record { database = codes "d"; to = codes "f" }))
-    -- it does without no file
+    -- the file is required
     ∷ bad (codes "backup --db=d")
-    -- and without no database
+    -- the database is required
     ∷ bad (codes "backup f")
-    -- it takes one file alone
+    -- it takes only one file
     ∷ bad (codes "backup --db=d f g")
-    -- and no book
+    -- it takes no book
     ∷ bad (codes "backup --db=d --book=b f")
     ∷ [])
 unfolding clap_on_literals backup_app line_named taken
@@ -288,7 +288,7 @@ show_lines = refl
 
 -- lines of `feed`
 feed_lines : AreRead (
-    -- `feed` is a responder's with any partner and a register in memory, where no more is said
+    -- by default `feed` is a responder with any partner and a register in memory
     asks (codes "feed --book=b i o")
     (said_feed (record { database = None; book = codes "b"; role = Responder; partner = None; trace = None; input = codes "i"; output = codes "o" }))
     -- options and words come in any order
@@ -299,29 +299,29 @@ feed_lines : AreRead (
     (said_feed (record { database = None; book = codes "b"; role = Responder; partner = None; trace = None; input = codes "-i"; output = codes "--role" }))
     -- no side has this name
     ∷ bad (codes "feed --book=b --role=listener i o")
-    -- an option comes once
+    -- an option may only be given once
     ∷ bad (codes "feed --book=b --book=c i o")
     -- a word is missing
     ∷ bad (codes "feed --book=b i")
     -- there is a word too many
     ∷ bad (codes "feed --book=b i o x")
-    -- help is no command line
+    -- `--help` gives no command
     ∷ bad (codes "feed --help")
     ∷ [])
 unfolding clap_on_literals feed_app line_named taken
 feed_lines = refl
 
--- callers are awaited on this port of this address, and have so many seconds to be let in
+-- listening on this port of this address, with this many seconds for an admission
 abbrev entrance_at : ℕ → List ℕ → ℕ → EntranceSaid
 entrance_at port address admission = record { port = port; address = address; admission = admission }
 
--- a partner may keep still for so many seconds, a session takes so many at most, and is told there
+-- a partner may be idle and a session may take this many seconds, and this is the trace
 abbrev terms_of : ℕ → ℕ → Option (List ℕ) → TermsSaid
 terms_of patience longest trace = record { patience = patience; longest = longest; trace = trace }
 
 -- lines of `run`
 run_lines : AreRead (
-    -- `run` serves on port 3305 of the loopback address without an end, where no more is said
+    -- by default `run` listens on port 3305 of the loopback address, and has no end
     asks (codes "run --db=d --book=b")
     (said_run (record {
       files = d_and_b;
@@ -343,23 +343,23 @@ run_lines : AreRead (
       terms = terms_of 0 1 (Some (codes "t"));
       jobs = 1000000;
     }))
-    -- the interval ends with a day
+    -- the interval is a day at most
     ∷ bad (codes "run --db=d --book=b --call-every=86401")
-    -- a port has a last one for HTTP, too
+    -- the HTTP port has an upper limit
     ∷ bad (codes "run --db=d --book=b --http-port=65536")
-    -- no port is 0
+    -- the port isn't 0
     ∷ bad (codes "run --db=d --book=b --port=0")
-    -- no more than a million jobs can be asked for
+    -- a million jobs are the most
     ∷ bad (codes "run --db=d --book=b --jobs=1000001")
-    -- patience ends with a day
+    -- the patience is a day at most
     ∷ bad (codes "run --db=d --book=b --patience=86401")
-    -- some time is left to be let in
+    -- an admission takes a second at least
     ∷ bad (codes "run --db=d --book=b --admission=0")
-    -- a session takes some time
+    -- a session takes a second at least
     ∷ bad (codes "run --db=d --book=b --longest=0")
-    -- it doesn't count sessions
+    -- it takes no number of sessions
     ∷ bad (codes "run --db=d --book=b --sessions=1")
-    -- it does without no book
+    -- the book is required
     ∷ bad (codes "run --db=d")
     -- it takes no word
     ∷ bad (codes "run --db=d --book=b w")
@@ -369,33 +369,33 @@ run_lines = refl
 
 -- lines of `listen`
 listen_lines : AreRead (
-    -- `listen` serves one session on port 3305 of the loopback address, where no more is said
+    -- by default `listen` serves one session on port 3305 of the loopback address
     asks (codes "listen --db=d --book=b")
     (said_listen (record { files = d_and_b; entrance = entrance_at 3305 (codes "127.0.0.1") 30; sessions = 1; terms = terms_of 300 86400 None }))
     -- options come in any order
     ∷ asks (codes "listen --patience 0 --longest=1 --sessions=1000000 --trace=t --book=b --address ::1 --admission 86400 --db=d --port=65535")
     (said_listen (record { files = d_and_b; entrance = entrance_at 65535 (codes "::1") 86400; sessions = 1000000; terms = terms_of 0 1 (Some (codes "t")) }))
-    -- no port is 0
+    -- the port isn't 0
     ∷ bad (codes "listen --db=d --book=b --port=0")
-    -- nor after the last
+    -- the port has an upper limit
     ∷ bad (codes "listen --db=d --book=b --port=65536")
-    -- some session is served
+    -- one session is the least
     ∷ bad (codes "listen --db=d --book=b --sessions=0")
-    -- and no more than a million
+    -- a million sessions are the most
     ∷ bad (codes "listen --db=d --book=b --sessions=1000001")
-    -- patience ends with a day
+    -- the patience is a day at most
     ∷ bad (codes "listen --db=d --book=b --patience=86401")
-    -- some time is left to be let in
+    -- an admission takes a second at least
     ∷ bad (codes "listen --db=d --book=b --admission=0")
-    -- and a day at most
+    -- an admission takes a day at most
     ∷ bad (codes "listen --db=d --book=b --admission=86401")
-    -- a session takes some time
+    -- a session takes a second at least
     ∷ bad (codes "listen --db=d --book=b --longest=0")
-    -- and ends with a day
+    -- a session takes a day at most
     ∷ bad (codes "listen --db=d --book=b --longest=86401")
     -- it takes no word
     ∷ bad (codes "listen --db=d --book=b w")
-    -- and calls no partner
+    -- it takes no partner
     ∷ bad (codes "listen --db=d --book=b --partner=p")
     ∷ [])
 unfolding clap_on_literals listen_app line_named taken
@@ -406,16 +406,16 @@ call_lines : AreRead (
     -- `call` takes a partner
     asks (codes "call --db=d --book=b --partner=p")
     (said_call (record { files = d_and_b; partner = codes "p"; terms = terms_of 300 86400 None }))
-    -- and a patience, a longest session and a trace
+    -- it takes a patience, a session length and a trace
     ∷ asks (codes "call --db=d --book=b --longest 1 --patience 86400 --trace t --partner p")
     (said_call (record { files = d_and_b; partner = codes "p"; terms = terms_of 86400 1 (Some (codes "t")) }))
-    -- it does without no partner
+    -- the partner is required
     ∷ bad (codes "call --db=d --book=b")
-    -- it lets nobody in
+    -- it takes no admission
     ∷ bad (codes "call --db=d --book=b --partner=p --admission=30")
-    -- its session takes some time
+    -- a session takes a second at least
     ∷ bad (codes "call --db=d --book=b --partner=p --longest=0")
-    -- and its port is the book's
+    -- it takes no port, since the book has the address
     ∷ bad (codes "call --db=d --book=b --partner=p --port=3305")
     ∷ [])
 unfolding clap_on_literals call_app line_named taken
@@ -423,24 +423,24 @@ call_lines = refl
 
 -- lines of `http`
 http_lines : AreRead (
-    -- `http` answers one request on port 8080 of the loopback address, where no more is said
+    -- by default `http` answers one request on port 8080 of the loopback address
     asks (codes "http --db=d") (said_http (record { database = codes "d"; port = 8080; address = codes "127.0.0.1"; requests = 1 }))
     -- options come in any order
     ∷ asks (codes "http --requests=1000000 --address=a --db=d --port 1")
     (said_http (record { database = codes "d"; port = 1; address = codes "a"; requests = 1000000 }))
-    -- some request is answered
+    -- one request is the least
     ∷ bad (codes "http --db=d --requests=0")
-    -- it needs no book
+    -- it takes no book
     ∷ bad (codes "http --db=d --book=b")
     ∷ [])
 unfolding clap_on_literals http_app line_named taken
 http_lines = refl
 
--- lines of no command
+-- lines without a command
 no_lines : AreRead (
     -- no command has this name
     bad (codes "feeds --book=b i o")
-    -- and no word names none
+    -- there is no word
     ∷ ([], None)
     ∷ [])
 unfolding clap_on_literals line_named taken

@@ -1,4 +1,4 @@
--- What the arguments that always have a value give.
+-- The values of arguments that always have one.
 use Rattle.std.proofs.Common.{◌≡◌, List, true}
 use Rattle.std.specs.Prelude.{IsSome}
 use Rattle.clap.specs.Words.{App, Row, Text, first_of}

@@ -6,7 +6,7 @@ use Rattle.oftp_command_line.specs.declared.line.commands.feed.Feed.{Feed}
 use Rattle.oftp_command_line.specs.declared.line.commands.feed.Side.{Side}
 use Rattle.oftp_command_line.specs.declared.line.commands.feed.Side.TheVariants.{Initiator, Responder}
 
--- what `feed` is asked for
+-- the options and words of `feed`
 pub record FeedSaid : Type 0 where
   pub database : Option Text
   pub book : Text
@@ -16,7 +16,7 @@ pub record FeedSaid : Type 0 where
   pub input : Text
   pub output : Text
 
--- the same, of the command that was read
+-- those of the command that was read
 abbrev pub feed_said : Feed → FeedSaid
 feed_said f = record {
   database = option_map (λ s. s.now) f.database;
@@ -28,16 +28,16 @@ feed_said f = record {
   output = f.output.now;
 }
 
--- `feed`, as the parser is told of it
+-- the declaration of `feed` to the parser
 unfoldable pub feed_app : App
 feed_app = app_with (codes "feed") (optional (codes "db") ∷ own_book ∷ defaulted (codes "role") (codes "responder")
     ∷ optional (codes "partner") ∷ own_trace ∷ word (codes "in") ∷ word (codes "out") ∷ [])
 
--- the side that a text names
+-- the side with this name
 abbrev pub side_of : Text → Option Side
 side_of = named ((codes "responder", Responder) ∷ (codes "initiator", Initiator) ∷ [])
 
--- what `feed` is asked for by these values, in a role
+-- the command `feed` with these values, on a side
 abbrev pub feed_with : Side → List Row → FeedSaid
 feed_with role rows = record {
   database = first_of (codes "db") rows;
@@ -49,6 +49,6 @@ feed_with role rows = record {
   output = given (codes "out") rows;
 }
 
--- the same, in the role that they name: none where they name no side
+-- the command `feed` with these values; `None` if they name no side
 abbrev pub feed_in : List Row → Option FeedSaid
 feed_in rows = option_map (λ role. feed_with role rows) (side_of (given (codes "role") rows))

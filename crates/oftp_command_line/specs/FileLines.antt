@@ -1,20 +1,20 @@
--- The command lines of `init`, `migrate`, `check` and `show`, which name one file and nothing else.
+-- The command lines of `init`, `migrate`, `check` and `show`, which only name one file.
 use Rattle.std.specs.Prelude.{[], ◌∷◌, codes}
 use Rattle.clap.specs.Words.{App}
 use Rattle.oftp_command_line.specs.Arguments.{app_with, own_book, own_database, word}
 
--- `init`, as the parser is told of it
+-- the declaration of `init` to the parser
 abbrev pub init_app : App
 init_app = app_with (codes "init") (own_database ∷ [])
 
--- `migrate`, as the parser is told of it
+-- the declaration of `migrate` to the parser
 abbrev pub migrate_app : App
 migrate_app = app_with (codes "migrate") (own_database ∷ [])
 
--- `check`, as the parser is told of it
+-- the declaration of `check` to the parser
 abbrev pub check_app : App
 check_app = app_with (codes "check") (own_book ∷ [])
 
--- `show`, as the parser is told of it
+-- the declaration of `show` to the parser
 abbrev pub show_app : App
 show_app = app_with (codes "show") (word (codes "in") ∷ [])

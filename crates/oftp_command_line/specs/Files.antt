@@ -9,10 +9,10 @@ pub record FilesSaid : Type 0 where
   pub database : Text
   pub book : Text
 
--- the same, of the files that were read
+-- those of the files that were read
 abbrev pub files_said : Files → FilesSaid
 files_said f = record { database = f.database.now; book = f.book.now }
 
--- the files that these values name
+-- the files with these values
 abbrev pub files_with : List Row → FilesSaid
 files_with rows = record { database = given (codes "db") rows; book = given (codes "book") rows }

@@ -1,4 +1,4 @@
--- The command lines of `collect` and `offer`, which go over a folder of files.
+-- The command lines of `collect` and `offer`, which work on a folder of files.
 use Rattle.std.specs.Prelude.{ℕ, Bool, List, [], ◌∷◌, Option, codes, option_map}
 use Rattle.clap.specs.Words.{App, Row, Text}
 use Rattle.oftp_vfile.specs.declared.format.Format.{Format}
@@ -9,21 +9,21 @@ use Rattle.oftp_command_line.specs.declared.line.commands.folders.Collect.{Colle
 use Rattle.oftp_command_line.specs.declared.line.commands.folders.Offer.{Offer}
 use Rattle.oftp_command_line.specs.declared.line.commands.operators.TheConstants.{MOST_LONGEST}
 
--- what `collect` is asked for
+-- the options of `collect`
 pub record CollectSaid : Type 0 where
   pub files : FilesSaid
   pub folder : Text
   pub releases : Bool
 
--- the same, of the command that was read
+-- those of the command that was read
 abbrev pub collect_said : Collect → CollectSaid
 collect_said c = record { files = files_said c.files; folder = c.folder.now; releases = c.releases }
 
--- `collect`, as the parser is told of it
+-- the declaration of `collect` to the parser
 unfoldable pub collect_app : App
 collect_app = app_with (codes "collect") (own_database ∷ own_book ∷ needed (codes "to") ∷ flag (codes "release") ∷ [])
 
--- what `collect` is asked for by these values
+-- the command `collect` with these values
 abbrev pub collect_with : List Row → CollectSaid
 collect_with rows = record {
   files = files_with rows;
@@ -31,7 +31,7 @@ collect_with rows = record {
   releases = has_flag (codes "release") rows;
 }
 
--- what `offer` is asked for
+-- the options of `offer`
 pub record OfferSaid : Type 0 where
   pub files : FilesSaid
   pub to : Text
@@ -39,7 +39,7 @@ pub record OfferSaid : Type 0 where
   pub format : Format
   pub longest : ℕ
 
--- the same, of the command that was read
+-- those of the command that was read
 abbrev pub offer_said : Offer → OfferSaid
 offer_said o = record {
   files = files_said o.files;
@@ -49,12 +49,12 @@ offer_said o = record {
   longest = o.longest;
 }
 
--- `offer`, as the parser is told of it
+-- the declaration of `offer` to the parser
 unfoldable pub offer_app : App
 offer_app = app_with (codes "offer") (own_database ∷ own_book ∷ needed (codes "to") ∷ needed (codes "from")
     ∷ defaulted (codes "format") (codes "U") ∷ numbered 0 MOST_LONGEST (defaulted (codes "longest") (codes "0")) ∷ [])
 
--- what `offer` is asked for by these values, in a format
+-- the command `offer` with these values, in a format
 abbrev pub offer_with : Format → List Row → OfferSaid
 offer_with format rows = record {
   files = files_with rows;
@@ -64,6 +64,6 @@ offer_with format rows = record {
   longest = number (codes "longest") rows;
 }
 
--- the same, in the format that they name: none where they name no format
+-- the command `offer` with these values; `None` if they name no format
 abbrev pub offer_in : List Row → Option OfferSaid
 offer_in rows = option_map (λ format. offer_with format rows) (format_of (given (codes "format") rows))

@@ -1,4 +1,4 @@
--- The command line that words are.
+-- The command line that the words make.
 use Rattle.std.specs.Prelude.{List, [], ◌∷◌, None, Option, Some, codes, option_and_then, option_map}
 use Rattle.clap.specs.Words.{App, Row, Text}
 use Rattle.oftp_command_line.specs.Arguments.{given, named, taken}
@@ -13,7 +13,7 @@ use Rattle.oftp_command_line.specs.declared.line.Line.TheVariants as line
 use Rattle.oftp_command_line.specs.declared.line.commands.Name.{Name}
 use Rattle.oftp_command_line.specs.declared.line.commands.Name.TheVariants as name
 
--- a command with what it is asked for, as plain values
+-- a command with its options and words, as plain values
 pub data Said : Type 0 where
   said_init : Text → Said
   said_migrate : Text → Said
@@ -33,7 +33,7 @@ pub data Said : Type 0 where
   said_call : CallSaid → Said
   said_http : HttpSaid → Said
 
--- the same, of the command that was read
+-- those of the command that was read
 abbrev pub said : Line → Said
 said (line.Init database) = said_init database.now
 said (line.Migrate database) = said_migrate database.now
@@ -53,7 +53,7 @@ said (line.Listen l) = said_listen (listen_said l)
 said (line.Call c) = said_call (call_said c)
 said (line.Http h) = said_http (http_said h)
 
--- the command's name that a text is
+-- the command with this name
 abbrev pub name_of : Text → Option Name
 name_of = named ((codes "init", name.Init) ∷ (codes "migrate", name.Migrate)
     ∷ (codes "check", name.Check) ∷ (codes "submit", name.Submit) ∷ (codes "offer", name.Offer)
@@ -63,7 +63,7 @@ name_of = named ((codes "init", name.Init) ∷ (codes "migrate", name.Migrate)
     ∷ (codes "feed", name.Feed) ∷ (codes "run", name.Run)
     ∷ (codes "listen", name.Listen) ∷ (codes "call", name.Call) ∷ (codes "http", name.Http) ∷ [])
 
--- the command of this name, as the parser is told of it
+-- the declaration of the command with this name to the parser
 abbrev pub app_named : Name → App
 app_named name.Init = init_app
 app_named name.Migrate = migrate_app
@@ -83,8 +83,7 @@ app_named name.Listen = listen_app
 app_named name.Call = call_app
 app_named name.Http = http_app
 
--- what the command of this name is asked for by these values: none where one of them is not among
--- those that its argument has names for
+-- the command with this name and these values; `None` if one of them isn't among the names for its argument
 abbrev pub said_by : Name → List Row → Option Said
 said_by name.Init rows = Some (said_init (given (codes "db") rows))
 said_by name.Migrate rows = Some (said_migrate (given (codes "db") rows))
@@ -104,12 +103,12 @@ said_by name.Listen rows = Some (said_listen (listen_with rows))
 said_by name.Call rows = Some (said_call (call_with rows))
 said_by name.Http rows = Some (said_http (http_with rows))
 
--- the command of this name, with what the words ask of it; the parser skips their first
+-- the command with this name and the words after the first; the parser skips the first
 unfoldable pub line_named : Name → List Text → Option Said
 line_named name words = option_and_then (said_by name) (taken (app_named name) words)
 
--- the command that the first word names, with what the words ask of it: none where there is no
--- word, no command has this name, or the command does not take the words after it
+-- The command that the first word names, with the words after it. `None` if there is no word, no command has this name, or the command
+-- doesn't accept the words.
 abbrev pub line_of_words : List Text → Option Said
 line_of_words [] = None
 line_of_words (first ∷ rest) = option_and_then (λ name. line_named name (first ∷ rest)) (name_of first)

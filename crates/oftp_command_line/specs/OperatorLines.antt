@@ -1,4 +1,4 @@
--- The command lines of `submit`, `release` and `refuse`, which are calls of the operator.
+-- The command lines of `submit`, `release` and `refuse`, which are operator's calls.
 use Rattle.std.specs.Prelude.{ℕ, List, [], ◌∷◌, Option, codes, option_map}
 use Rattle.clap.specs.Words.{App, Row, Text}
 use Rattle.oftp_vfile.specs.declared.format.Format.{Format}
@@ -10,7 +10,7 @@ use Rattle.oftp_command_line.specs.declared.line.commands.operators.Release.{Rel
 use Rattle.oftp_command_line.specs.declared.line.commands.operators.Submit.{Submit}
 use Rattle.oftp_command_line.specs.declared.line.commands.operators.TheConstants.{MOST_LONGEST, MOST_REASON}
 
--- what `submit` is asked for
+-- the options and words of `submit`
 pub record SubmitSaid : Type 0 where
   pub files : FilesSaid
   pub dataset : Text
@@ -22,7 +22,7 @@ pub record SubmitSaid : Type 0 where
   pub description : Text
   pub file : Text
 
--- the same, of the command that was read
+-- those of the command that was read
 abbrev pub submit_said : Submit → SubmitSaid
 submit_said s = record {
   files = files_said s.files;
@@ -36,19 +36,19 @@ submit_said s = record {
   file = s.file.now;
 }
 
--- `submit`, as the parser is told of it
+-- the declaration of `submit` to the parser
 unfoldable pub submit_app : App
 submit_app = app_with (codes "submit") (own_database ∷ own_book ∷ needed (codes "dataset") ∷ needed (codes "date")
     ∷ needed (codes "time") ∷ needed (codes "to") ∷ needed (codes "format")
     ∷ numbered 0 MOST_LONGEST (defaulted (codes "longest") (codes "0"))
     ∷ defaulted (codes "description") [] ∷ word (codes "file") ∷ [])
 
--- the format that a letter names
+-- the format with this letter
 abbrev pub format_of : Text → Option Format
 format_of = named ((codes "F", format.Fixed) ∷ (codes "V", format.Variable)
     ∷ (codes "U", format.Unstructured) ∷ (codes "T", format.Text) ∷ [])
 
--- what `submit` is asked for by these values, in a format
+-- the command `submit` with these values, in a format
 abbrev pub submit_with : Format → List Row → SubmitSaid
 submit_with format rows = record {
   files = files_with rows;
@@ -62,35 +62,35 @@ submit_with format rows = record {
   file = given (codes "file") rows;
 }
 
--- the same, in the format that they name: none where they name no format
+-- the command `submit` with these values; `None` if they name no format
 abbrev pub submit_in : List Row → Option SubmitSaid
 submit_in rows = option_map (λ format. submit_with format rows) (format_of (given (codes "format") rows))
 
--- what `release` is asked for
+-- the options and words of `release`
 pub record ReleaseSaid : Type 0 where
   pub files : FilesSaid
   pub no : ℕ
 
--- the same, of the command that was read
+-- those of the command that was read
 abbrev pub release_said : Release → ReleaseSaid
 release_said r = record { files = files_said r.files; no = r.no }
 
--- `release`, as the parser is told of it
+-- the declaration of `release` to the parser
 unfoldable pub release_app : App
 release_app = app_with (codes "release") (own_database ∷ own_book ∷ file_number ∷ [])
 
--- what `release` is asked for by these values
+-- the command `release` with these values
 abbrev pub release_with : List Row → ReleaseSaid
 release_with rows = record { files = files_with rows; no = number (codes "no") rows }
 
--- what `refuse` is asked for
+-- the options and words of `refuse`
 pub record RefuseSaid : Type 0 where
   pub files : FilesSaid
   pub no : ℕ
   pub reason : ℕ
   pub text : Text
 
--- the same, of the command that was read
+-- those of the command that was read
 abbrev pub refuse_said : Refuse → RefuseSaid
 refuse_said r = record {
   files = files_said r.files;
@@ -99,12 +99,12 @@ refuse_said r = record {
   text = r.text.now;
 }
 
--- `refuse`, as the parser is told of it
+-- the declaration of `refuse` to the parser
 unfoldable pub refuse_app : App
 refuse_app = app_with (codes "refuse") (own_database ∷ own_book ∷ file_number
     ∷ numbered 0 MOST_REASON (word (codes "reason")) ∷ word (codes "text") ∷ [])
 
--- what `refuse` is asked for by these values
+-- the command `refuse` with these values
 abbrev pub refuse_with : List Row → RefuseSaid
 refuse_with rows = record {
   files = files_with rows;

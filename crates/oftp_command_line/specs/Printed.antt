@@ -28,11 +28,11 @@ fault_line (Store store.WrongSchema) = codes "fault: 6 store 3"
 fault_line File = codes "fault: 7 file"
 fault_line Socket = codes "fault: 8 socket"
 
--- the output failed
+-- the error of a failed write
 abbrev pub write_fault : Fault
 write_fault = Run Write
 
--- a report's fault as that of its command; that a request isn't whole is none of a report
+-- a report's error as that of its command; a report never gives `Incomplete`
 abbrev pub fault_of_report : ListFault → Fault
 fault_of_report list.Incomplete = Run Memory
 fault_of_report list.Memory = Run Memory

@@ -9,7 +9,7 @@ use Rattle.oftp_command_line.specs.declared.line.commands.services.Http.{Http}
 use Rattle.oftp_command_line.specs.declared.line.commands.services.Listen.{Listen}
 use Rattle.oftp_command_line.specs.declared.line.commands.services.Run.{Run}
 
--- what `run` is asked for
+-- the options of `run`
 pub record RunSaid : Type 0 where
   pub files : FilesSaid
   pub entrance : EntranceSaid
@@ -19,7 +19,7 @@ pub record RunSaid : Type 0 where
   pub terms : TermsSaid
   pub jobs : ℕ
 
--- the same, of the command that was read
+-- those of the command that was read
 abbrev pub run_said : Run → RunSaid
 run_said r = record {
   files = files_said r.files;
@@ -31,12 +31,12 @@ run_said r = record {
   jobs = r.jobs;
 }
 
--- `run`, as the parser is told of it
+-- the declaration of `run` to the parser
 unfoldable pub run_app : App
 run_app = app_with (codes "run") (own_database ∷ own_book ∷ own_port (codes "3305") ∷ own_address ∷ own_http_port
     ∷ own_host ∷ own_interval ∷ own_admission ∷ own_patience ∷ own_duration ∷ own_trace ∷ own_jobs ∷ [])
 
--- what `run` is asked for by these values
+-- the command `run` with these values
 abbrev pub run_with : List Row → RunSaid
 run_with rows = record {
   files = files_with rows;
@@ -48,14 +48,14 @@ run_with rows = record {
   jobs = number (codes "jobs") rows;
 }
 
--- what `listen` is asked for
+-- the options of `listen`
 pub record ListenSaid : Type 0 where
   pub files : FilesSaid
   pub entrance : EntranceSaid
   pub sessions : ℕ
   pub terms : TermsSaid
 
--- the same, of the command that was read
+-- those of the command that was read
 abbrev pub listen_said : Listen → ListenSaid
 listen_said l = record {
   files = files_said l.files;
@@ -64,12 +64,12 @@ listen_said l = record {
   terms = terms_said l.terms;
 }
 
--- `listen`, as the parser is told of it
+-- the declaration of `listen` to the parser
 unfoldable pub listen_app : App
 listen_app = app_with (codes "listen") (own_database ∷ own_book ∷ own_port (codes "3305") ∷ own_address
     ∷ callers (codes "sessions") ∷ own_admission ∷ own_patience ∷ own_duration ∷ own_trace ∷ [])
 
--- what `listen` is asked for by these values
+-- the command `listen` with these values
 abbrev pub listen_with : List Row → ListenSaid
 listen_with rows = record {
   files = files_with rows;
@@ -78,13 +78,13 @@ listen_with rows = record {
   terms = terms_with rows;
 }
 
--- what `call` is asked for
+-- the options of `call`
 pub record CallSaid : Type 0 where
   pub files : FilesSaid
   pub partner : Text
   pub terms : TermsSaid
 
--- the same, of the command that was read
+-- those of the command that was read
 abbrev pub call_said : Call → CallSaid
 call_said c = record {
   files = files_said c.files;
@@ -92,12 +92,12 @@ call_said c = record {
   terms = terms_said c.terms;
 }
 
--- `call`, as the parser is told of it
+-- the declaration of `call` to the parser
 unfoldable pub call_app : App
 call_app = app_with (codes "call") (own_database ∷ own_book ∷ needed (codes "partner") ∷ own_patience ∷ own_duration
     ∷ own_trace ∷ [])
 
--- what `call` is asked for by these values
+-- the command `call` with these values
 abbrev pub call_with : List Row → CallSaid
 call_with rows = record {
   files = files_with rows;
@@ -105,14 +105,14 @@ call_with rows = record {
   terms = terms_with rows;
 }
 
--- what `http` is asked for
+-- the options of `http`
 pub record HttpSaid : Type 0 where
   pub database : Text
   pub port : ℕ
   pub address : Text
   pub requests : ℕ
 
--- the same, of the command that was read
+-- those of the command that was read
 abbrev pub http_said : Http → HttpSaid
 http_said h = record {
   database = h.database.now;
@@ -121,11 +121,11 @@ http_said h = record {
   requests = h.requests;
 }
 
--- `http`, as the parser is told of it
+-- the declaration of `http` to the parser
 unfoldable pub http_app : App
 http_app = app_with (codes "http") (own_database ∷ own_port (codes "8080") ∷ own_address ∷ callers (codes "requests") ∷ [])
 
--- what `http` is asked for by these values
+-- the command `http` with these values
 abbrev pub http_with : List Row → HttpSaid
 http_with rows = record {
   database = given (codes "db") rows;

@@ -1,4 +1,4 @@
--- What the parser is told of a command, and the names that the values of its arguments have: for private clauses alone.
+-- The declarations of the code to the parser, and the names of values. Only private functions cite it.
 use Rattle.std.specs.Prelude.{ℕ, Bool, IsSome, List, Option, None, Some, codes, false, fold, map, true}
 use Rattle.std.specs.Borrow.{Bor}
 use Rattle.clap.specs.Words.{App, Row, Rule, Text, first_of, new_app, with_rule}
@@ -13,7 +13,7 @@ use Rattle.oftp_command_line.specs.declared.line.arguments.TheConstants.{MOST_AD
 use Rattle.oftp_command_line.specs.declared.line.commands.Name.{Name}
 use Rattle.oftp_command_line.specs.declared.line.commands.Name.TheVariants as name
 
--- whether an argument of a kind may not be missing
+-- whether an argument of a kind is required
 abbrev pub is_required : Kind → Bool
 is_required Word = true
 is_required Needed = true
@@ -21,7 +21,7 @@ is_required Optional = false
 is_required Flag = false
 is_required (Defaulted value) = false
 
--- what the parser does where an argument of a kind is given
+-- what the parser does when an argument of a kind is given
 abbrev pub action_of : Kind → ArgAction
 action_of Word = Set
 action_of Needed = Set
@@ -29,7 +29,7 @@ action_of Optional = Set
 action_of Flag = SetTrue
 action_of (Defaulted value) = Set
 
--- an argument of a kind, whatever numbers it takes
+-- an argument of a kind, without the range of its numbers
 abbrev pub rule_of_kind : Kind → Text → Rule
 rule_of_kind Word id = spec.word id
 rule_of_kind Needed id = spec.needed id
@@ -37,24 +37,24 @@ rule_of_kind Optional id = spec.optional id
 rule_of_kind Flag id = spec.flag id
 rule_of_kind (Defaulted value) id = spec.defaulted id value.now
 
--- the argument, where it takes the numbers from the one to the other
+-- the argument, restricted to these numbers, if there are any
 abbrev pub within : Option (ℕ × ℕ) → Rule → Rule
 within None rule = rule
 within (Some ends) rule = spec.numbered ends.0 ends.1 rule
 
--- an argument of a command
+-- the declaration of an argument
 abbrev pub told : Argument → Rule
 told argument = within argument.numbers (rule_of_kind argument.kind argument.id.now)
 
--- the command that has one more
+-- the command with one more argument
 abbrev pub with_one : App → Argument → App
 with_one app argument = with_rule app (told argument)
 
--- the command of a name that has these arguments
+-- the command with this name and these arguments
 abbrev pub app_told : Text → List Argument → App
 app_told name arguments = fold with_one (new_app name) arguments
 
--- the word that is the name of a command
+-- the name of a command
 abbrev pub word_of : Name → Text
 word_of name.Init = codes "init"
 word_of name.Migrate = codes "migrate"
@@ -74,11 +74,11 @@ word_of name.Listen = codes "listen"
 word_of name.Call = codes "call"
 word_of name.Http = codes "http"
 
--- names with what each stands for, as texts
+-- names with their values, as texts
 abbrev pub names_in : {X : Type 0} → List (Bor Text × X) → List (Text × X)
 names_in names = map (λ n. (n.0.now, n.1)) names
 
--- there is a value for each part of an entrance
+-- there is a value for each option of an entrance
 pub record HasEntrance (rows : List Row) : Type 0 where
   pub port : IsNumber 1 MOST_PORT (codes "port") rows
   pub address : IsSome (first_of (codes "address") rows)

@@ -1,4 +1,4 @@
-//! The words of the station's program: what those that it is given ask for, and how a command comes out in those that it prints.
+//! The command line of the station's program: how its arguments are parsed, and which lines it prints.
 #![tactic(auto)]
 
 mod line;

@@ -1,4 +1,4 @@
-//! The command line: what the words after the program's name ask for.
+//! Parses the command line, given by the arguments after the program's name.
 ghost use Rattle.std.specs.Prelude.{◌≡◌, IfErr, IfOk, None, Some, map, true};
 ghost use Rattle.std.specs.String.{string_bytes};
 ghost use Rattle.oftp_command_line.specs.Fault.{is_bad};
@@ -20,63 +20,63 @@ use commands::{NAMES, Name};
 use std::alloc::{AllocError, Global};
 use values::matched;
 
-/// A command with its options and words, borrowed from the words of the command line.
+/// A command with its options and words. The texts are borrowed from the arguments.
 #[derive(Clone, Copy)]
 pub enum Line<'a> {
-    /// The database is opened, and its tables are made.
+    /// Opens the database and creates its tables.
     Init {
-        /// The file that holds the database.
+        /// The database's file.
         database: &'a str,
     },
-    /// A database of schema 1 is brought to schema 2.
+    /// Migrates a database of schema 1 to schema 2.
     Migrate {
-        /// The file that holds the database.
+        /// The database's file.
         database: &'a str,
     },
-    /// The book is read, and its partners are counted.
+    /// Reads the book and counts its partners.
     Check {
-        /// The file that holds the book.
+        /// The book's file.
         book: &'a str,
     },
-    /// A file is to be sent to a partner.
+    /// Submits a file to be sent to a partner.
     Submit(Submit<'a>),
-    /// The files in a folder are to be sent to a partner.
+    /// Submits the files of a folder to be sent to a partner.
     Offer(Offer<'a>),
-    /// An incoming file was delivered.
+    /// Marks an incoming file as delivered.
     Release(Release<'a>),
-    /// An incoming file wasn't delivered.
+    /// Marks an incoming file as not delivered.
     Refuse(Refuse<'a>),
-    /// An incoming file is written to a file.
+    /// Writes an incoming file to a file.
     Fetch(Fetch<'a>),
-    /// The incoming files that aren't answered are written to a folder.
+    /// Writes the incoming files without a response to a folder.
     Collect(Collect<'a>),
-    /// What the database holds is told.
+    /// Prints a report of the database.
     Report(Report<'a>),
-    /// The database is copied to a file.
+    /// Copies the database to a file.
     Backup(Backup<'a>),
-    /// What one side of a session sent is told in words.
+    /// Prints the commands that one side of a session sent.
     Show {
-        /// The file that holds its octets.
+        /// The file with its octets.
         input: &'a str,
     },
-    /// One session from the octets of a file to another file.
+    /// Runs one session from file to file.
     Feed(Feed<'a>),
-    /// A station by day and night.
+    /// Runs a resident station.
     Run(Run<'a>),
-    /// Sessions of partners who call.
+    /// Serves sessions of partners that call.
     Listen(Listen<'a>),
-    /// One session with a partner who is called.
+    /// Runs one session with a partner that is called.
     Call(Call<'a>),
-    /// Requests for what the database holds.
+    /// Answers HTTP requests about the database.
     Http(Http<'a>),
 }
 
-/// Why the words are read as no command.
+/// Why a command line isn't parsed.
 #[derive(Drop)]
 pub enum LineFault {
-    /// They are no command line. The text says why, for standard error, and ends its last line.
+    /// It is invalid. The text for standard error says why, and ends with a line end.
     Bad(String),
-    /// There was no memory to read them.
+    /// Out of memory.
     Memory,
 }
 
@@ -88,8 +88,8 @@ impl From<AllocError> for LineFault {
     }
 }
 
-/// The command that the words after the program's name ask for: the first names the command, and
-/// the rest are its options and words. `--help` is answered as a bad command line, with the help.
+/// Parses a command line. The first word names the command, and the others are its options and words. `--help` gives [`LineFault::Bad`]
+/// with the help.
 pub fn line_of<'a>(alloc: Global, words: &'a [String]) -> Result<Line<'a>, LineFault>
     ensures ok { IfOk result (λ l. line_of_words (map string_bytes words.entry.now) ≡ Some (said l)) }
     ensures bad { IfErr result (λ e. is_bad e ≡ true
@@ -104,7 +104,7 @@ pub fn line_of<'a>(alloc: Global, words: &'a [String]) -> Result<Line<'a>, LineF
     read_command(alloc, name, words)
 }
 
-/// The command of this name that the words ask for. The parser takes the first word for the name.
+/// Parses the options and words of the command with this name. The parser takes the first word as the name.
 fn read_command<'a>(alloc: Global, name: Name, words: &'a [String]) -> Result<Line<'a>, LineFault>
     ensures ok { IfOk result (λ l. line_named name (map string_bytes words.entry.now) ≡ Some (said l)) }
     ensures bad { IfErr result (λ e. is_bad e ≡ true
@@ -115,13 +115,13 @@ fn read_command<'a>(alloc: Global, name: Name, words: &'a [String]) -> Result<Li
     name.read(alloc, &matches)
 }
 
-/// The text for a name that no command has.
+/// The text for an unknown command.
 fn unknown_command(alloc: Global, name: &str) -> Result<String, AllocError> {
     let error = format!(in alloc; "error: unknown command '{name}'")?;
     usage_after(alloc, error.as_str())
 }
 
-/// The error, and how each command is called.
+/// An error with the usage of each command.
 fn usage_after(alloc: Global, error: &str) -> Result<String, AllocError> {
     let mut text = format!(in alloc; "{error}\n\nUsage:\n")?;
     for name in NAMES {

@@ -1,4 +1,4 @@
-//! How a command comes out, as a person reads it.
+//! The results of commands, as they are printed.
 
 ghost use Rattle.std.specs.Prelude.{◌≡◌, IfErr, Some};
 ghost use Rattle.oftp_command_line.specs.Printed.{carried_line, fault_line, fault_of_report, is_refusal, outcome_line, write_fault};
@@ -13,27 +13,27 @@ use std::io::{self, Write};
 /// Why a command failed: the line on standard error.
 #[derive(Clone, Copy, Drop)]
 pub enum Fault {
-    /// A session was broken off.
+    /// A session failed.
     Run(RunFault),
-    /// The book's text is no book.
+    /// The book is invalid.
     Book(BookFault),
-    /// The database isn't opened, or not brought to schema 2.
+    /// The database can't be opened or migrated.
     Store(StoreFault),
-    /// A file that the line names can't be read or made.
+    /// A file that the command line names can't be read or written.
     File,
-    /// An address can't be bound or connected to, or no caller be accepted.
+    /// An address can't be bound or connected to, or a caller can't be accepted.
     Socket,
 }
 
 impl Fault {
-    /// Memory ran out.
+    /// Out of memory.
     pub const MEMORY: Fault = Fault::Run(RunFault::Memory);
 }
 
 impl From<ListFault> for Fault {
     ghost from_gives = { λ told fault. fault ≡ fault_of_report told };
 
-    // That a request isn't whole is no fault of a report or of a whole request.
+    // A whole request or a report never gives `Incomplete`.
     fn from(fault: ListFault) -> Fault {
         Fault::Run(match fault {
             ListFault::Incomplete | ListFault::Memory => RunFault::Memory,
@@ -69,17 +69,17 @@ pub enum Outcome {
     Initiated,
     /// The database has schema 2.
     Migrated,
-    /// The book is a book, of so many partners.
+    /// The book is valid, and has this number of partners.
     Checked(usize),
-    /// A session was served, and ended so.
+    /// A session was served, with this end.
     Ended(End),
-    /// The incoming file of this number was written.
+    /// The incoming file with this number was written.
     Fetched(u64),
     /// The database was copied.
     BackedUp,
-    /// What the line names isn't there.
+    /// What the command line names doesn't exist.
     Unknown,
-    /// The file isn't in the state that the command asks for.
+    /// The file isn't in the state that the command requires.
     WrongState,
 }
 
@@ -121,28 +121,28 @@ impl fmt::Display for Outcome {
     }
 }
 
-/// What became of a file of a folder: the line on standard output.
+/// The result for a file of a folder: the line on standard output.
 #[derive(Clone, Copy, Drop)]
 pub enum Carried<'a> {
-    /// An incoming file is in the folder, and released where that was asked for.
+    /// An incoming file is in the folder, and was released if that was asked for.
     Collected {
         /// Its number.
         no: u64,
-        /// The name that it has in the folder.
+        /// Its name in the folder.
         name: &'a str,
     },
-    /// A file of the folder is to be sent.
+    /// A file of the folder was submitted.
     Offered {
-        /// The number that it has as an outgoing file.
+        /// Its number as an outgoing file.
         no: u64,
-        /// The name that it had in the folder, which is its dataset name.
+        /// Its name in the folder, which is its dataset name.
         name: &'a str,
     },
     /// A file is refused, and nothing is changed.
     Refused {
-        /// Why it is: the line that `submit`, `fetch` or `release` has for it.
+        /// The reason: the line that `submit`, `fetch` or `release` prints for it.
         why: &'a str,
-        /// The name that it has in the folder, or was to have there.
+        /// Its name in the folder, or the name that it would have there.
         name: &'a str,
     },
 }
@@ -159,7 +159,7 @@ impl fmt::Display for Carried<'_> {
     }
 }
 
-/// Writes a line so that whoever reads the output has it at once. Any error is [`RunFault::Write`].
+/// Writes a line and flushes it, so that readers of the output get it at once. Any error is [`RunFault::Write`].
 pub fn write_line<L: fmt::Display>(out: &mut impl Write, line: &L) -> Result<(), Fault>
     ensures fails { IfErr result (λ fault. fault ≡ write_fault) }
 {

@@ -1,4 +1,4 @@
-//! The arguments of a command, as the parser is told of them.
+//! The arguments of commands, as they are declared to the parser.
 ghost use Rattle.std.specs.Prelude.{◌≡◌, ◌∷◌, [], IfOk, Some, false};
 ghost use Rattle.clap.specs.Words.{app_of, items_of, new_app, rule_of};
 ghost use Rattle.clap.specs.declared.builder.command.Command.TheViews.{out-Command as fields_of};
@@ -9,59 +9,59 @@ use clap::builder::ValueParser;
 use clap::{Arg, ArgAction, Command};
 use std::alloc::{AllocError, Global};
 
-/// The greatest number of an incoming file that can be asked for.
+/// The greatest number of an incoming file.
 const MOST_NO: u64 = 9_999_999;
 
 /// The greatest port.
 const MOST_PORT: u64 = 65_535;
 
-/// How many callers can be asked for, at most.
+/// The greatest number of callers to serve.
 const MOST_CALLERS: u64 = 1_000_000;
 
-/// The greatest patience with a partner that can be asked for, in seconds: a day.
+/// The longest patience with a partner, in seconds: a day.
 const MOST_PATIENCE: u64 = 86_400;
 
-/// The longest admission of a caller that can be asked for, in seconds: a day.
+/// The longest time for a caller's admission, in seconds: a day.
 const MOST_ADMISSION: u64 = 86_400;
 
-/// The longest session that can be asked for, in seconds: a day.
+/// The longest session, in seconds: a day.
 const MOST_DURATION: u64 = 86_400;
 
-/// The longest time between the calls of a partner that can be asked for, in seconds: a day.
+/// The longest interval between the calls of a partner, in seconds: a day.
 const MOST_INTERVAL: u64 = 86_400;
 
-/// After how many jobs a station can be asked to end, at most.
+/// The greatest number of jobs after which a station ends.
 const MOST_JOBS: u64 = 1_000_000;
 
 /// An argument of a command, which takes one value unless it is a flag.
 #[derive(Clone, Copy)]
 pub(super) struct Argument<'a> {
     id: &'a str,
-    // What stands for it in texts.
+    // Its placeholder in texts.
     shown: &'a str,
     help: &'a str,
     kind: Kind<'a>,
-    // The least and the greatest number that it takes, where it takes numbers.
+    // The least and the greatest number, if it takes numbers.
     numbers: Option<(u64, u64)>,
 }
 
-/// How an argument is given.
+/// The kind of an argument.
 #[derive(Clone, Copy)]
 enum Kind<'a> {
-    /// As a word, which may not be missing.
+    /// A required word.
     Word,
-    /// As an option, which may not be missing.
+    /// A required option.
     Needed,
-    /// As an option.
+    /// An optional option.
     Optional,
-    /// As an option that takes no value.
+    /// An option without a value.
     Flag,
-    /// As an option, which has this value where it is missing.
+    /// An option with this default.
     Defaulted(&'a str),
 }
 
 impl Kind<'_> {
-    /// Whether it may not be missing.
+    /// Whether it is required.
     fn is_required(self) -> bool
         ensures { result ≡ is_required self.entry }
     {
@@ -71,7 +71,7 @@ impl Kind<'_> {
         }
     }
 
-    /// What the parser does where it is given.
+    /// What the parser does when it is given.
     fn action(self) -> ArgAction
         ensures { result ≡ action_of self.entry }
     {
@@ -83,7 +83,7 @@ impl Kind<'_> {
 }
 
 impl<'a> Argument<'a> {
-    /// The argument, as the parser is told of it.
+    /// Declares the argument to the parser.
     fn told(self, alloc: Global) -> Arg<'a>
         ensures rule { rule_of result ≡ told self.entry }
         ensures local { result.global ≡ false }
@@ -96,7 +96,7 @@ impl<'a> Argument<'a> {
         }
     }
 
-    /// The same, whatever numbers it takes.
+    /// Declares the argument without the range of its numbers.
     fn named(self, alloc: Global) -> Arg<'a>
         ensures rule { rule_of result ≡ rule_of_kind self.entry.kind self.entry.id.now }
         ensures local { result.global ≡ false }
@@ -115,7 +115,7 @@ impl<'a> Argument<'a> {
     }
 }
 
-/// A command with no arguments yet. `usage` is how it is called, and `about` what it does.
+/// A command without arguments. `usage` is its usage, and `about` its description.
 fn bare_command<'a>(alloc: Global, name: &'a str, usage: &'a str, about: &'a str) -> Command<'a>
     ensures app { app_of result ≡ new_app name.entry.now }
     ensures texts { ((fields_of result).usage_str ≡ Some usage.entry)
@@ -124,7 +124,7 @@ fn bare_command<'a>(alloc: Global, name: &'a str, usage: &'a str, about: &'a str
     Command::new(alloc, name).override_usage(usage).about(about)
 }
 
-/// A command with these arguments, as the parser is told of it.
+/// Declares a command with these arguments to the parser.
 pub(super) fn command<'a>(
     alloc: Global,
     name: &'a str,
@@ -141,7 +141,7 @@ pub(super) fn command<'a>(
     Ok(command)
 }
 
-/// An argument of a kind that takes any text. `shown` stands for it in texts.
+/// An argument of a kind that takes any text. `shown` is its placeholder in texts.
 fn any_text<'a>(kind: Kind<'a>, id: &'a str, shown: &'a str, help: &'a str) -> Argument<'a>
     ensures { told result ≡ rule_of_kind kind.entry id.entry.now }
 {
@@ -154,35 +154,35 @@ fn any_text<'a>(kind: Kind<'a>, id: &'a str, shown: &'a str, help: &'a str) -> A
     }
 }
 
-/// A word that must be given.
+/// A required word.
 pub(super) fn word<'a>(id: &'a str, shown: &'a str, help: &'a str) -> Argument<'a>
     ensures { told result ≡ spec.word id.entry.now }
 {
     any_text(Kind::Word, id, shown, help)
 }
 
-/// An option that must be given, and takes one value.
+/// A required option with one value.
 pub(super) fn needed<'a>(id: &'a str, shown: &'a str, help: &'a str) -> Argument<'a>
     ensures { told result ≡ spec.needed id.entry.now }
 {
     any_text(Kind::Needed, id, shown, help)
 }
 
-/// An option that may be missing, and takes one value.
+/// An optional option with one value.
 pub(super) fn optional<'a>(id: &'a str, shown: &'a str, help: &'a str) -> Argument<'a>
     ensures { told result ≡ spec.optional id.entry.now }
 {
     any_text(Kind::Optional, id, shown, help)
 }
 
-/// An option that takes no value, and may be missing.
+/// An optional option without a value.
 pub(super) fn flag<'a>(id: &'a str, help: &'a str) -> Argument<'a>
     ensures { told result ≡ spec.flag id.entry.now }
 {
     any_text(Kind::Flag, id, id, help)
 }
 
-/// An option that has this value where it is missing.
+/// An option with this default.
 pub(super) fn defaulted<'a>(
     id: &'a str,
     value: &'a str,
@@ -194,7 +194,7 @@ pub(super) fn defaulted<'a>(
     any_text(Kind::Defaulted(value), id, shown, help)
 }
 
-/// The argument, which takes the numbers from `low` to `high`.
+/// The argument, restricted to numbers from `low` to `high`.
 pub(super) fn numbered<'a>(argument: Argument<'a>, low: u64, high: u64) -> Argument<'a>
     ensures { told result ≡ spec.numbered low high (told argument.entry) }
 {
@@ -204,21 +204,21 @@ pub(super) fn numbered<'a>(argument: Argument<'a>, low: u64, high: u64) -> Argum
     }
 }
 
-/// The option for the database, which must be given.
+/// The required option for the database.
 pub(super) fn own_database<'a>() -> Argument<'a>
     ensures { told result ≡ spec.own_database }
 {
     needed("db", "DATABASE", "The file that holds the database")
 }
 
-/// The option for the book, which must be given.
+/// The required option for the book.
 pub(super) fn own_book<'a>() -> Argument<'a>
     ensures { told result ≡ spec.own_book }
 {
     needed("book", "BOOK", "The file that holds the book")
 }
 
-/// The word that is an incoming file's number.
+/// The word for an incoming file's number.
 pub(super) fn file_number<'a>() -> Argument<'a>
     ensures { told result ≡ spec.file_number }
 {
@@ -226,7 +226,7 @@ pub(super) fn file_number<'a>() -> Argument<'a>
     numbered(no, 1, MOST_NO)
 }
 
-/// The option for the port where callers are awaited, which is `port` where it is missing.
+/// The option for the port to listen on, with this default.
 pub(super) fn own_port<'a>(port: &'a str) -> Argument<'a>
     ensures { told result ≡ spec.own_port port.entry.now }
 {
@@ -234,7 +234,7 @@ pub(super) fn own_port<'a>(port: &'a str) -> Argument<'a>
     numbered(defaulted("port", port, "PORT", help), 1, MOST_PORT)
 }
 
-/// The option for the address where callers are awaited.
+/// The option for the address to listen on.
 pub(super) fn own_address<'a>() -> Argument<'a>
     ensures { told result ≡ spec.own_address }
 {
@@ -249,7 +249,7 @@ pub(super) fn callers<'a>(id: &'a str, help: &'a str) -> Argument<'a>
     numbered(defaulted(id, "1", "COUNT", help), 1, MOST_CALLERS)
 }
 
-/// The option for the port where requests by HTTP are awaited.
+/// The option for the HTTP port; 0 is none.
 pub(super) fn own_http_port<'a>() -> Argument<'a>
     ensures { told result ≡ spec.own_http_port }
 {
@@ -257,7 +257,7 @@ pub(super) fn own_http_port<'a>() -> Argument<'a>
     numbered(defaulted("http-port", "0", "PORT", help), 0, MOST_PORT)
 }
 
-/// The option for a name of the machine that requests may ask.
+/// The option for another host name that HTTP requests may use.
 pub(super) fn own_host<'a>() -> Argument<'a>
     ensures { told result ≡ spec.own_host }
 {
@@ -265,7 +265,7 @@ pub(super) fn own_host<'a>() -> Argument<'a>
     optional("host", "NAME", help)
 }
 
-/// The option for how many seconds lie between the calls of a partner for whom something waits.
+/// The option for the interval in seconds between the calls of a partner that something waits for; 0 is never.
 pub(super) fn own_interval<'a>() -> Argument<'a>
     ensures { told result ≡ spec.own_interval }
 {
@@ -278,7 +278,7 @@ pub(super) fn own_interval<'a>() -> Argument<'a>
     )
 }
 
-/// The option for how many jobs are done.
+/// The option for the number of jobs after which a station ends; 0 is never.
 pub(super) fn own_jobs<'a>() -> Argument<'a>
     ensures { told result ≡ spec.own_jobs }
 {
@@ -286,7 +286,7 @@ pub(super) fn own_jobs<'a>() -> Argument<'a>
     numbered(defaulted("jobs", "0", "COUNT", help), 0, MOST_JOBS)
 }
 
-/// The option for the file to which a session's commands are appended in words.
+/// The option for the file to which a session's commands are appended as text.
 pub(super) fn own_trace<'a>() -> Argument<'a>
     ensures { told result ≡ spec.own_trace }
 {
@@ -294,7 +294,7 @@ pub(super) fn own_trace<'a>() -> Argument<'a>
     optional("trace", "FILE", help)
 }
 
-/// The option for how many seconds a partner may keep still.
+/// The option for how many seconds a partner may be idle; 0 is no limit.
 pub(super) fn own_patience<'a>() -> Argument<'a>
     ensures { told result ≡ spec.own_patience }
 {
@@ -303,7 +303,7 @@ pub(super) fn own_patience<'a>() -> Argument<'a>
     numbered(patience, 0, MOST_PATIENCE)
 }
 
-/// The option for how many seconds a caller has to be let in.
+/// The option for how many seconds a caller has to be admitted.
 pub(super) fn own_admission<'a>() -> Argument<'a>
     ensures { told result ≡ spec.own_admission }
 {

@@ -1,4 +1,4 @@
-//! The commands: how the parser is told of each, and what is read from the values that it found.
+//! The commands: how each is declared to the parser, and how its values are read.
 ghost use Rattle.std.specs.Prelude.{◌≡◌, IfErr, IfOk, None, Some, codes, true};
 ghost use Rattle.clap.specs.Words.{app_of};
 ghost use Rattle.oftp_command_line.specs.Arguments as spec;
@@ -34,7 +34,7 @@ use services::{
 };
 use std::alloc::{AllocError, Global};
 
-/// The names of all commands, in the order in which texts have them.
+/// The names of all commands, in their order in texts.
 pub(super) const NAMES: [Name; 17] = [
     Name::Init,
     Name::Migrate,
@@ -78,7 +78,7 @@ pub(super) enum Name {
 }
 
 impl Name {
-    /// The name that a word is.
+    /// The command with this name.
     pub(super) fn of(word: &str) -> Option<Name>
         ensures { result ≡ name_of word.now }
     {
@@ -104,7 +104,7 @@ impl Name {
         }
     }
 
-    /// The command of this name with these arguments, as the parser is told of it.
+    /// Declares the command with these arguments to the parser.
     fn taking<'a>(
         self,
         alloc: Global,
@@ -115,7 +115,7 @@ impl Name {
         command(alloc, self.word(), self.usage(), self.about(), arguments)
     }
 
-    /// The command of this name, as the parser is told of it.
+    /// Declares the command to the parser.
     pub(super) fn command<'a>(self, alloc: Global) -> Result<Command<'a>, AllocError>
         ensures { IfOk result (λ c. app_of c ≡ app_named self) }
     {
@@ -140,7 +140,7 @@ impl Name {
         }
     }
 
-    /// What the command of this name is asked for by the values of its options and words.
+    /// Reads the values of the command's options and words.
     #[tactic(auto, using(crate::proofs::Values::has_text))]
     pub(super) fn read<'a>(
         self,
@@ -181,7 +181,7 @@ impl Name {
     }
 }
 
-/// The word that is the file of which `show` tells.
+/// The word for the file that `show` reads.
 fn input<'a>() -> Argument<'a>
     ensures { told result ≡ spec.word (codes "in") }
 {

@@ -1,4 +1,4 @@
-//! What the parser makes of the words, and the values that it found for the arguments.
+//! Runs the parser, and reads the values of the arguments.
 ghost use Rattle.std.specs.Prelude.{◌≡◌, ℕ, IfErr, IfOk, IsSome, None, Some, codes, map, option_map, true};
 ghost use Rattle.std.specs.String.{string_bytes};
 ghost use Rattle.clap.specs.Words.{app_of, first_of, is_simple_and_free, kind_of};
@@ -26,7 +26,7 @@ fn fault_from(alloc: Global, error: &Error) -> LineFault
     }
 }
 
-/// What the parser makes of the words, of which the first is the command's name.
+/// Runs the parser over the words, of which the first is the command's name.
 pub(super) fn matched<'a>(
     alloc: Global,
     command: Command<'a>,
@@ -45,14 +45,14 @@ pub(super) fn matched<'a>(
     }
 }
 
-/// The value of an option that may be missing.
+/// The value of an optional option.
 pub(super) fn value_of<'a>(matches: &ArgMatches<'a>, id: &str) -> Option<&'a str>
     ensures { option_map (λ s. s.now) result ≡ first_of id.now (values_in matches.now) }
 {
     matches.get_str(id)
 }
 
-/// The value of an argument that must be given or has a default.
+/// The value of an argument that is required or has a default.
 pub(super) fn given<'a>(matches: &ArgMatches<'a>, id: &str) -> &'a str
     requires { IsSome (first_of id.now (values_in matches.now)) }
     ensures { result.now ≡ spec.given id.now (values_in matches.now) }
@@ -60,7 +60,7 @@ pub(super) fn given<'a>(matches: &ArgMatches<'a>, id: &str) -> &'a str
     value_of(matches, id).unwrap()
 }
 
-/// Whether an option that takes no value was given.
+/// Whether an option without a value was given.
 pub(super) fn has_flag(matches: &ArgMatches<'_>, id: &str) -> bool
     ensures { result ≡ spec.has_flag id.now (values_in matches.now) }
 {
@@ -70,7 +70,7 @@ pub(super) fn has_flag(matches: &ArgMatches<'_>, id: &str) -> bool
     }
 }
 
-/// The number that is the value of an argument which takes numbers, and must be given or has a default.
+/// The value of an argument that takes numbers, and is required or has a default.
 pub(super) fn number(matches: &ArgMatches<'_>, id: &str) -> u64
     requires { (low : ℕ) × ((high : ℕ) × IsNumber low high id.now (values_in matches.now)) }
     ensures { result ≡ spec.number id.now (values_in matches.now) }
@@ -86,7 +86,7 @@ pub(super) fn no_of(matches: &ArgMatches<'_>) -> u64
     number(matches, "no")
 }
 
-/// The port where callers are awaited.
+/// The port to listen on.
 pub(super) fn port_of(matches: &ArgMatches<'_>) -> u16
     requires { IsNumber 1 MOST_PORT (codes "port") (values_in matches.now) }
     ensures { result ≡ spec.number (codes "port") (values_in matches.now) }
@@ -94,7 +94,7 @@ pub(super) fn port_of(matches: &ArgMatches<'_>) -> u16
     number(matches, "port") as u16
 }
 
-/// The address where callers are awaited.
+/// The address to listen on.
 pub(super) fn address_of<'a>(matches: &ArgMatches<'a>) -> &'a str
     requires { IsSome (first_of (codes "address") (values_in matches.now)) }
     ensures { result.now ≡ spec.given (codes "address") (values_in matches.now) }
@@ -102,7 +102,7 @@ pub(super) fn address_of<'a>(matches: &ArgMatches<'a>) -> &'a str
     given(matches, "address")
 }
 
-/// How many callers are served, by the option of this id.
+/// How many callers are served, from the option with this id.
 pub(super) fn callers_of(matches: &ArgMatches<'_>, id: &str) -> u64
     requires { IsNumber 1 MOST_CALLERS id.now (values_in matches.now) }
     ensures { result ≡ spec.number id.now (values_in matches.now) }
@@ -110,7 +110,7 @@ pub(super) fn callers_of(matches: &ArgMatches<'_>, id: &str) -> u64
     number(matches, id)
 }
 
-/// How many seconds a partner may keep still.
+/// How many seconds a partner may be idle; 0 is no limit.
 pub(super) fn patience_of(matches: &ArgMatches<'_>) -> u64
     requires { IsNumber 0 MOST_PATIENCE (codes "patience") (values_in matches.now) }
     ensures { result ≡ spec.number (codes "patience") (values_in matches.now) }
@@ -118,7 +118,7 @@ pub(super) fn patience_of(matches: &ArgMatches<'_>) -> u64
     number(matches, "patience")
 }
 
-/// How many seconds a caller has to be let in.
+/// How many seconds a caller has to be admitted.
 pub(super) fn admission_of(matches: &ArgMatches<'_>) -> u64
     requires { IsNumber 1 MOST_ADMISSION (codes "admission") (values_in matches.now) }
     ensures { result ≡ spec.number (codes "admission") (values_in matches.now) }
@@ -134,7 +134,7 @@ pub(super) fn duration_of(matches: &ArgMatches<'_>) -> u64
     number(matches, "longest")
 }
 
-/// The port where requests by HTTP are awaited.
+/// The HTTP port; 0 is none.
 pub(super) fn http_port_of(matches: &ArgMatches<'_>) -> u16
     requires { IsNumber 0 MOST_PORT (codes "http-port") (values_in matches.now) }
     ensures { result ≡ spec.number (codes "http-port") (values_in matches.now) }
@@ -142,14 +142,14 @@ pub(super) fn http_port_of(matches: &ArgMatches<'_>) -> u16
     number(matches, "http-port") as u16
 }
 
-/// A name of the machine that requests may ask, if there is one.
+/// Another host name that HTTP requests may use, if there is one.
 pub(super) fn host_of<'a>(matches: &ArgMatches<'a>) -> Option<&'a str>
     ensures { option_map (λ s. s.now) result ≡ first_of (codes "host") (values_in matches.now) }
 {
     value_of(matches, "host")
 }
 
-/// How many seconds lie between the calls of a partner for whom something waits.
+/// The interval in seconds between the calls of a partner that something waits for; 0 is never.
 pub(super) fn interval_of(matches: &ArgMatches<'_>) -> u64
     requires { IsNumber 0 MOST_INTERVAL (codes "call-every") (values_in matches.now) }
     ensures { result ≡ spec.number (codes "call-every") (values_in matches.now) }
@@ -157,7 +157,7 @@ pub(super) fn interval_of(matches: &ArgMatches<'_>) -> u64
     number(matches, "call-every")
 }
 
-/// How many jobs are done.
+/// The number of jobs after which a station ends; 0 is never.
 pub(super) fn jobs_of(matches: &ArgMatches<'_>) -> u64
     requires { IsNumber 0 MOST_JOBS (codes "jobs") (values_in matches.now) }
     ensures { result ≡ spec.number (codes "jobs") (values_in matches.now) }
@@ -165,14 +165,14 @@ pub(super) fn jobs_of(matches: &ArgMatches<'_>) -> u64
     number(matches, "jobs")
 }
 
-/// The file to which a session's commands are appended in words, if one is.
+/// The file to which a session's commands are appended as text, if there is one.
 pub(super) fn trace_of<'a>(matches: &ArgMatches<'a>) -> Option<&'a str>
     ensures { option_map (λ s. s.now) result ≡ first_of (codes "trace") (values_in matches.now) }
 {
     value_of(matches, "trace")
 }
 
-/// What a text names among these.
+/// The value with this name.
 fn named<T: Copy>(names: &[(&str, T)], text: &str) -> Option<T>
     ensures { result ≡ spec.named (names_in names.now) text.now }
 {
@@ -184,7 +184,7 @@ fn named<T: Copy>(names: &[(&str, T)], text: &str) -> Option<T>
     None
 }
 
-/// The text for a value that is none of these names. `argument` is how texts show the argument.
+/// The text for a value that isn't one of these names. `argument` is the argument as texts show it.
 fn unlisted<T>(
     alloc: Global,
     value: &str,
@@ -202,11 +202,10 @@ fn unlisted<T>(
     Ok(text)
 }
 
-/// What the value of an argument that must be given or has a default names among these.
-/// `argument` is how texts show the argument.
+/// The value with the name that an argument has, which is required or has a default. `argument` is the argument as texts show it.
 ///
 /// # Errors
-/// `Bad` where it names nothing, else `Memory`.
+/// `Bad` if there is no such name, else `Memory`.
 pub(super) fn choice<T: Copy>(
     alloc: Global,
     matches: &ArgMatches<'_>,

@@ -13,35 +13,35 @@ use crate::line::values::{choice, given, trace_of, value_of};
 use clap::ArgMatches;
 use std::alloc::Global;
 
-/// The command `feed`, which plays one session from the octets of a file to another file.
+/// The command `feed`, which runs one session from file to file.
 #[derive(Clone, Copy)]
 pub struct Feed<'a> {
-    /// The file that holds the database. Without one the register is in memory.
+    /// The database's file. `None` is a register in memory.
     pub database: Option<&'a str>,
-    /// The file that holds the book.
+    /// The book's file.
     pub book: &'a str,
-    /// Which side of the session the station plays.
+    /// The side of the session that the station has.
     pub role: Side,
-    /// The code of the partner that an initiator calls. A responder may go without.
+    /// The code of the partner that an initiator calls. A responder may have none.
     pub partner: Option<&'a str>,
-    /// The file to which what goes over the connection is appended in words, if one is.
+    /// The file to which the commands of the session are appended as text, if there is one.
     pub trace: Option<&'a str>,
-    /// The file that holds what the partner sends.
+    /// The file with what the partner sends.
     pub input: &'a str,
-    /// The file that is given what the station sends.
+    /// The file to which the station's output is written.
     pub output: &'a str,
 }
 
-/// A side of a session (RFC 5024, 4.2.1).
+/// A side of a session (RFC 5024, section 4.2.1).
 #[derive(Clone, Copy)]
 pub enum Side {
-    /// The side that was connected to.
+    /// The side that accepted the connection.
     Responder,
     /// The side that made the connection.
     Initiator,
 }
 
-/// The sides, by the names that `feed` has for them.
+/// The sides, by their names for `feed`.
 const SIDES: &[(&str, Side)] = &[
     ("responder", Side::Responder),
     ("initiator", Side::Initiator),
@@ -66,7 +66,7 @@ pub(super) fn feed_arguments<'a>() -> [Argument<'a>; 7]
     ]
 }
 
-/// What `feed` is asked for by the values of its options and words.
+/// Reads the values of the options and words of `feed`.
 pub(super) fn feed_read<'a>(alloc: Global, matches: &ArgMatches<'a>) -> Result<Feed<'a>, LineFault>
     requires { HasValues feed_app (values_in matches.now) }
     ensures ok { IfOk result (λ f. feed_in (values_in matches.now) ≡ Some (feed_said f)) }

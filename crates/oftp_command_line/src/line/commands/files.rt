@@ -7,16 +7,16 @@ ghost use Rattle.oftp_command_line.specs.Files.{files_said, files_with};
 use crate::line::values::given;
 use clap::ArgMatches;
 
-/// The files of a command that names both.
+/// The two files of a command that names both.
 #[derive(Debug, Clone, Copy, PartialEq, Eq)]
 pub struct Files<'a> {
-    /// The file that holds the database.
+    /// The database's file.
     pub database: &'a str,
-    /// The file that holds the book.
+    /// The book's file.
     pub book: &'a str,
 }
 
-/// The files that the values of the options name.
+/// Reads the two files from the values of the options.
 pub(super) fn files_read<'a>(matches: &ArgMatches<'a>) -> Files<'a>
     requires database { IsSome (first_of (codes "db") (values_in matches.now)) }
     requires book { IsSome (first_of (codes "book") (values_in matches.now)) }

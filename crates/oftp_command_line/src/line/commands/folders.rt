@@ -1,4 +1,4 @@
-//! The commands `collect` and `offer`, which go over a folder of files.
+//! The commands `collect` and `offer`, which work on a folder of files.
 #![tactic(auto, using(crate::proofs::Values::has_text), unfolding(crate::specs::FolderLines::collect_app, crate::specs::FolderLines::offer_app))]
 
 ghost use Rattle.std.specs.Prelude.{◌≡◌, IfErr, IfOk, None, Some, codes, true};
@@ -16,12 +16,12 @@ use clap::ArgMatches;
 use oftp_vfile::Format;
 use std::alloc::Global;
 
-/// The command `collect`, which writes the incoming files that aren't answered to a folder.
+/// The command `collect`, which writes the incoming files that are whole and have no response to a folder.
 #[derive(Clone, Copy)]
 pub struct Collect<'a> {
     /// The database and the book.
     pub files: Files<'a>,
-    /// The folder that is given their local forms.
+    /// The folder to which their local forms are written.
     pub folder: &'a str,
     /// Whether each is released once it is there.
     pub releases: bool,
@@ -41,7 +41,7 @@ pub(super) fn collect_arguments<'a>() -> [Argument<'a>; 4]
     ]
 }
 
-/// What `collect` is asked for by the values of its options.
+/// Reads the values of the options of `collect`.
 pub(super) fn collect_read<'a>(matches: &ArgMatches<'a>) -> Collect<'a>
     requires { HasValues collect_app (values_in matches.now) }
     ensures { collect_said result ≡ collect_with (values_in matches.now) }
@@ -53,14 +53,14 @@ pub(super) fn collect_read<'a>(matches: &ArgMatches<'a>) -> Collect<'a>
     }
 }
 
-/// The command `offer`, which hands over the files in a folder that are to be sent to a partner.
+/// The command `offer`, which submits the files of a folder, to be sent to a partner.
 #[derive(Clone, Copy)]
 pub struct Offer<'a> {
     /// The database and the book.
     pub files: Files<'a>,
     /// The code of the partner that they go to.
     pub to: &'a str,
-    /// The folder that holds them in their local form.
+    /// The folder with their local forms.
     pub folder: &'a str,
     /// The format of their records.
     pub format: Format,
@@ -87,7 +87,7 @@ pub(super) fn offer_arguments<'a>() -> [Argument<'a>; 6]
     ]
 }
 
-/// What `offer` is asked for by the values of its options.
+/// Reads the values of the options of `offer`.
 pub(super) fn offer_read<'a>(
     alloc: Global,
     matches: &ArgMatches<'a>,

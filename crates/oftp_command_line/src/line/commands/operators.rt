@@ -1,4 +1,4 @@
-//! The commands `submit`, `release` and `refuse`, which are calls of the operator.
+//! The commands `submit`, `release` and `refuse`, which are operator's calls.
 #![tactic(auto, using(crate::proofs::Values::has_text), unfolding(crate::specs::OperatorLines::submit_app, crate::specs::OperatorLines::release_app, crate::specs::OperatorLines::refuse_app))]
 
 ghost use Rattle.std.specs.Prelude.{◌≡◌, IfErr, IfOk, None, Some, codes, true};
@@ -17,13 +17,13 @@ use clap::ArgMatches;
 use oftp_vfile::Format;
 use std::alloc::Global;
 
-/// The greatest longest record that can be asked for.
+/// The greatest longest record, in octets.
 pub(super) const MOST_LONGEST: u64 = 99_999;
 
 /// The greatest reason.
 const MOST_REASON: u64 = 99;
 
-/// The formats, by the letters that `submit` and `offer` have for them.
+/// The formats, by their letters for `submit` and `offer`.
 pub(super) const FORMATS: &[(&str, Format)] = &[
     ("F", Format::Fixed),
     ("V", Format::Variable),
@@ -31,16 +31,16 @@ pub(super) const FORMATS: &[(&str, Format)] = &[
     ("T", Format::Text),
 ];
 
-/// The command `submit`, which hands over a file that is to be sent to a partner.
+/// The command `submit`, which submits a file to be sent to a partner.
 #[derive(Clone, Copy)]
 pub struct Submit<'a> {
     /// The database and the book.
     pub files: Files<'a>,
     /// The virtual file's dataset name.
     pub dataset: &'a str,
-    /// Its date stamp.
+    /// Its date, as CCYYMMDD.
     pub date: &'a str,
-    /// Its time stamp.
+    /// Its time, as HHMMSScccc.
     pub time: &'a str,
     /// The code of the partner that it goes to.
     pub to: &'a str,
@@ -48,9 +48,9 @@ pub struct Submit<'a> {
     pub format: Format,
     /// Its longest record in octets, 0 to 99,999.
     pub longest: u32,
-    /// What it is, in words.
+    /// Its description.
     pub description: &'a str,
-    /// The file that holds it in its local form.
+    /// The file with its local form.
     pub file: &'a str,
 }
 
@@ -78,7 +78,7 @@ pub(super) fn submit_arguments<'a>() -> [Argument<'a>; 10]
     ]
 }
 
-/// What `submit` is asked for by the values of its options and words.
+/// Reads the values of the options and words of `submit`.
 pub(super) fn submit_read<'a>(
     alloc: Global,
     matches: &ArgMatches<'a>,
@@ -101,7 +101,7 @@ pub(super) fn submit_read<'a>(
     })
 }
 
-/// The command `release`, which says that an incoming file was delivered.
+/// The command `release`, which marks an incoming file as delivered.
 #[derive(Clone, Copy)]
 pub struct Release<'a> {
     /// The database and the book.
@@ -117,7 +117,7 @@ pub(super) fn release_arguments<'a>() -> [Argument<'a>; 3]
     [own_database(), own_book(), file_number()]
 }
 
-/// What `release` is asked for by the values of its options and words.
+/// Reads the values of the options and words of `release`.
 pub(super) fn release_read<'a>(matches: &ArgMatches<'a>) -> Release<'a>
     requires { HasValues release_app (values_in matches.now) }
     ensures { release_said result ≡ release_with (values_in matches.now) }
@@ -128,16 +128,16 @@ pub(super) fn release_read<'a>(matches: &ArgMatches<'a>) -> Release<'a>
     }
 }
 
-/// The command `refuse`, which says that an incoming file wasn't delivered.
+/// The command `refuse`, which marks an incoming file as not delivered.
 #[derive(Clone, Copy)]
 pub struct Refuse<'a> {
     /// The database and the book.
     pub files: Files<'a>,
     /// The incoming file's number, 1 to 9,999,999.
     pub no: u64,
-    /// Why it wasn't, 0 to 99.
+    /// The reason, 0 to 99.
     pub reason: u64,
-    /// The reason in words.
+    /// The reason as text.
     pub text: &'a str,
 }
 
@@ -155,7 +155,7 @@ pub(super) fn refuse_arguments<'a>() -> [Argument<'a>; 5]
     ]
 }
 
-/// What `refuse` is asked for by the values of its options and words.
+/// Reads the values of the options and words of `refuse`.
 pub(super) fn refuse_read<'a>(matches: &ArgMatches<'a>) -> Refuse<'a>
     requires { HasValues refuse_app (values_in matches.now) }
     ensures { refuse_said result ≡ refuse_with (values_in matches.now) }

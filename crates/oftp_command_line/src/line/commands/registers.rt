@@ -1,4 +1,4 @@
-//! The commands `fetch`, `report` and `backup`, which take something out of the database.
+//! The commands `fetch`, `report` and `backup`, which read the database.
 #![tactic(auto, using(crate::proofs::Values::has_text), unfolding(crate::specs::RegisterLines::fetch_app, crate::specs::RegisterLines::report_app, crate::specs::RegisterLines::backup_app))]
 
 ghost use Rattle.std.specs.Prelude.{◌≡◌, IfErr, IfOk, None, Some, codes, true};
@@ -17,11 +17,11 @@ use std::alloc::Global;
 /// The command `fetch`, which writes an incoming file to a file.
 #[derive(Clone, Copy)]
 pub struct Fetch<'a> {
-    /// The file that holds the database.
+    /// The database's file.
     pub database: &'a str,
     /// The incoming file's number, 1 to 9,999,999.
     pub no: u64,
-    /// The file that is given its local form.
+    /// The file to which its local form is written.
     pub file: &'a str,
 }
 
@@ -33,7 +33,7 @@ pub(super) fn fetch_arguments<'a>() -> [Argument<'a>; 3]
     [own_database(), file_number(), word("file", "FILE", file)]
 }
 
-/// What `fetch` is asked for by the values of its options and words.
+/// Reads the values of the options and words of `fetch`.
 pub(super) fn fetch_read<'a>(matches: &ArgMatches<'a>) -> Fetch<'a>
     requires { HasValues fetch_app (values_in matches.now) }
     ensures { fetch_said result ≡ fetch_with (values_in matches.now) }
@@ -45,7 +45,7 @@ pub(super) fn fetch_read<'a>(matches: &ArgMatches<'a>) -> Fetch<'a>
     }
 }
 
-/// The kinds of report, by the names that `report` has for them.
+/// The kinds of report, by their names for `report`.
 const KINDS: &[(&str, ReportKind)] = &[
     ("in", ReportKind::Incoming),
     ("out", ReportKind::Outgoing),
@@ -53,12 +53,12 @@ const KINDS: &[(&str, ReportKind)] = &[
     ("received", ReportKind::Received),
 ];
 
-/// The command `report`, which tells what the database holds.
+/// The command `report`, which prints a report of the database.
 #[derive(Clone, Copy)]
 pub struct Report<'a> {
-    /// The file that holds the database.
+    /// The database's file.
     pub database: &'a str,
-    /// What is reported.
+    /// The kind of report.
     pub kind: ReportKind,
 }
 
@@ -70,7 +70,7 @@ pub(super) fn report_arguments<'a>() -> [Argument<'a>; 2]
     [own_database(), word("kind", "KIND", kind)]
 }
 
-/// What `report` is asked for by the values of its options and words.
+/// Reads the values of the options and words of `report`.
 pub(super) fn report_read<'a>(
     alloc: Global,
     matches: &ArgMatches<'a>,
@@ -85,12 +85,12 @@ pub(super) fn report_read<'a>(
     })
 }
 
-/// The command `backup`, which copies the database as it stands.
+/// The command `backup`, which copies the database to a file.
 #[derive(Clone, Copy)]
 pub struct Backup<'a> {
-    /// The file that holds the database.
+    /// The database's file.
     pub database: &'a str,
-    /// The file that is given the copy.
+    /// The file to which the copy is written.
     pub to: &'a str,
 }
 
@@ -102,7 +102,7 @@ pub(super) fn backup_arguments<'a>() -> [Argument<'a>; 2]
     [own_database(), word("to", "TO", to)]
 }
 
-/// What `backup` is asked for by the values of its options and words.
+/// Reads the values of the options and words of `backup`.
 pub(super) fn backup_read<'a>(matches: &ArgMatches<'a>) -> Backup<'a>
     requires { HasValues backup_app (values_in matches.now) }
     ensures { backup_said result ≡ backup_with (values_in matches.now) }

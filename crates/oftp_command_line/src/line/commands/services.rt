@@ -16,20 +16,20 @@ use crate::line::values::{
 };
 use clap::ArgMatches;
 
-/// The command `run`, which serves partners and commands by day and night.
+/// The command `run`, which serves partners and commands until it is stopped.
 #[derive(Debug, Clone, Copy, PartialEq, Eq)]
 pub struct Run<'a> {
     /// The database and the book.
     pub files: Files<'a>,
-    /// Where callers are awaited.
+    /// The address and port to listen on, and the time for an admission.
     pub entrance: Entrance<'a>,
-    /// The port where requests by HTTP are awaited, 0 to 65,535; 0 is none.
+    /// The HTTP port, 0 to 65,535; 0 is none.
     pub http_port: u16,
-    /// A name of the machine that requests may ask, if there is one.
+    /// Another host name that HTTP requests may use, if there is one.
     pub host: Option<&'a str>,
-    /// How many seconds lie between the calls of a partner for whom something waits, 0 to 86,400; 0 is never.
+    /// The interval in seconds between the calls of a partner that something waits for, 0 to 86,400; 0 is never.
     pub interval: u64,
-    /// How its sessions go.
+    /// The limits and the trace of its sessions.
     pub terms: SessionTerms<'a>,
     /// After how many jobs it ends, 0 to 1,000,000; 0 is never.
     pub jobs: u64,
@@ -56,7 +56,7 @@ pub(super) fn run_arguments<'a>() -> [Argument<'a>; 12]
     ]
 }
 
-/// What `run` is asked for by the values of its options.
+/// Reads the values of the options of `run`.
 #[tactic(auto, using(crate::proofs::Values::has_text), unfolding(crate::specs::ServiceLines::run_app))]
 pub(super) fn run_read<'a>(matches: &ArgMatches<'a>) -> Run<'a>
     requires { HasValues run_app (values_in matches.now) }
@@ -73,16 +73,16 @@ pub(super) fn run_read<'a>(matches: &ArgMatches<'a>) -> Run<'a>
     }
 }
 
-/// The command `listen`, which serves sessions of partners who call.
+/// The command `listen`, which serves sessions of partners that call.
 #[derive(Debug, Clone, Copy, PartialEq, Eq)]
 pub struct Listen<'a> {
     /// The database and the book.
     pub files: Files<'a>,
-    /// Where callers are awaited.
+    /// The address and port to listen on, and the time for an admission.
     pub entrance: Entrance<'a>,
     /// How many sessions are served, 1 to 1,000,000.
     pub sessions: u64,
-    /// How its sessions go.
+    /// The limits and the trace of its sessions.
     pub terms: SessionTerms<'a>,
 }
 
@@ -105,7 +105,7 @@ pub(super) fn listen_arguments<'a>() -> [Argument<'a>; 9]
     ]
 }
 
-/// What `listen` is asked for by the values of its options.
+/// Reads the values of the options of `listen`.
 #[tactic(auto, using(crate::proofs::Values::has_text), unfolding(crate::specs::ServiceLines::listen_app))]
 pub(super) fn listen_read<'a>(matches: &ArgMatches<'a>) -> Listen<'a>
     requires { HasValues listen_app (values_in matches.now) }
@@ -126,7 +126,7 @@ pub struct Call<'a> {
     pub files: Files<'a>,
     /// The code of the partner that is called.
     pub partner: &'a str,
-    /// How its session goes.
+    /// The limits and the trace of its session.
     pub terms: SessionTerms<'a>,
 }
 
@@ -146,7 +146,7 @@ pub(super) fn call_arguments<'a>() -> [Argument<'a>; 6]
     ]
 }
 
-/// What `call` is asked for by the values of its options.
+/// Reads the values of the options of `call`.
 #[tactic(auto, using(crate::proofs::Values::has_text), unfolding(crate::specs::ServiceLines::call_app))]
 pub(super) fn call_read<'a>(matches: &ArgMatches<'a>) -> Call<'a>
     requires { HasValues call_app (values_in matches.now) }
@@ -159,14 +159,14 @@ pub(super) fn call_read<'a>(matches: &ArgMatches<'a>) -> Call<'a>
     }
 }
 
-/// The command `http`, which answers requests for what the database holds.
+/// The command `http`, which answers HTTP requests about the database.
 #[derive(Debug, Clone, Copy, PartialEq, Eq)]
 pub struct Http<'a> {
-    /// The file that holds the database.
+    /// The database's file.
     pub database: &'a str,
-    /// The port where callers are awaited, 1 to 65,535.
+    /// The port to listen on, 1 to 65,535.
     pub port: u16,
-    /// The machine's address where callers are awaited.
+    /// The machine's address to listen on.
     pub address: &'a str,
     /// How many requests are answered, 1 to 1,000,000.
     pub requests: u64,
@@ -186,7 +186,7 @@ pub(super) fn http_arguments<'a>() -> [Argument<'a>; 4]
     ]
 }
 
-/// What `http` is asked for by the values of its options.
+/// Reads the values of the options of `http`.
 #[tactic(auto, using(crate::proofs::Values::has_text), unfolding(crate::specs::ServiceLines::http_app))]
 pub(super) fn http_read<'a>(matches: &ArgMatches<'a>) -> Http<'a>
     requires { HasValues http_app (values_in matches.now) }

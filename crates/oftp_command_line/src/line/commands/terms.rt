@@ -1,4 +1,4 @@
-//! What services over sockets have in common: where callers are awaited, and how sessions go.
+//! The options that services over sockets share: where they listen, and the limits of sessions.
 
 ghost use Rattle.std.specs.Prelude.{◌≡◌};
 ghost use Rattle.oftp_command_line.specs.Arguments.{values_in};
@@ -8,18 +8,18 @@ ghost use Rattle.oftp_command_line.specs.Told.{HasEntrance, HasTerms};
 use crate::line::values::{address_of, admission_of, duration_of, patience_of, port_of, trace_of};
 use clap::ArgMatches;
 
-/// Where callers are awaited, and how long each has to be let in.
+/// Where a service listens, and how long a caller has to be admitted.
 #[derive(Debug, Clone, Copy, PartialEq, Eq)]
 pub struct Entrance<'a> {
-    /// The port where callers are awaited, 1 to 65,535.
+    /// The port to listen on, 1 to 65,535.
     pub port: u16,
-    /// The machine's address where callers are awaited.
+    /// The machine's address to listen on.
     pub address: &'a str,
-    /// How many seconds a caller has in all to be let in, 1 to 86,400.
+    /// How many seconds a caller has to be admitted, 1 to 86,400.
     pub admission: u64,
 }
 
-/// The entrance that the values of the options name.
+/// Reads where a service listens from the values of the options.
 pub(super) fn entrance_read<'a>(matches: &ArgMatches<'a>) -> Entrance<'a>
     requires { HasEntrance (values_in matches.now) }
     ensures { entrance_said result ≡ entrance_with (values_in matches.now) }
@@ -31,18 +31,18 @@ pub(super) fn entrance_read<'a>(matches: &ArgMatches<'a>) -> Entrance<'a>
     }
 }
 
-/// How long a partner is waited for, and where a session is told.
+/// The limits and the trace of sessions.
 #[derive(Debug, Clone, Copy, PartialEq, Eq)]
 pub struct SessionTerms<'a> {
-    /// How many seconds a partner may keep still, 0 to 86,400; 0 is for ever.
+    /// How many seconds a partner may be idle, 0 to 86,400; 0 is no limit.
     pub patience: u64,
     /// How many seconds a session may take in all, 1 to 86,400.
     pub longest: u64,
-    /// The file to which what goes over the connection is appended in words, if one is.
+    /// The file to which the commands of sessions are appended as text, if there is one.
     pub trace: Option<&'a str>,
 }
 
-/// The terms that the values of the options name.
+/// Reads the limits and the trace from the values of the options.
 pub(super) fn terms_read<'a>(matches: &ArgMatches<'a>) -> SessionTerms<'a>
     requires { HasTerms (values_in matches.now) }
     ensures { terms_said result ≡ terms_with (values_in matches.now) }

@@ -1,11 +1,11 @@
-//! What texts say of the commands.
+//! The texts about the commands.
 ghost use Rattle.std.specs.Prelude.{◌≡◌};
 ghost use Rattle.oftp_command_line.specs.Told.{word_of};
 
 use super::Name;
 
 impl Name {
-    /// The word that it is.
+    /// The command's name.
     pub(super) fn word(self) -> &'static str
         ensures { result.now ≡ word_of self }
     {
@@ -30,7 +30,7 @@ impl Name {
         }
     }
 
-    /// How the command is called.
+    /// The command's usage.
     pub(in crate::line) fn usage(self) -> &'static str {
         match self {
             Name::Init => "oftp_station init --db <DATABASE>",
@@ -65,7 +65,7 @@ impl Name {
         }
     }
 
-    /// What the command does.
+    /// The command's description.
     pub(super) fn about(self) -> &'static str {
         match self {
             Name::Init => "Opens the database and makes its tables",

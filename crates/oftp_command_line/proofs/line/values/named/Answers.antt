@@ -7,7 +7,7 @@ use Rattle.oftp_command_line.specs.Arguments.{named}
 use Rattle.oftp_command_line.specs.Told.{names_in}
 use Rattle.oftp_command_line.proofs.line.values.named.Goals as goal
 
--- one name more
+-- one more name
 next_name : {X : Type 0} (names : List (Bor Text × X)) (text : Text) (i : ℕ) (name : Bor Text × X) → i < length names → name ≡ get_or names i name
     → named (names_in (drop i names)) text ≡ (if bytes_eq text name.0.now then Some name.1 else named (names_in (drop (i + 1) names)) text)
 next_name names text i name within is =

@@ -6,7 +6,7 @@ use Rattle.clap.proofs.WalkLemmas.{one_text-rows}
 use Rattle.oftp_command_line.specs.Arguments.{given}
 use Rattle.oftp_command_line.proofs.line.values.number.Goals as goal
 
--- a text of digits that fit is read as the number that they are
+-- a text of digits that fits is parsed as its number
 read_number : (E : Type 0) (G : Text → Result ℕ E → Type 0) → ((t : Text) (x : Result ℕ E) → G t x → ParsesUnsigned 64 10 t x) → (t : Text) (r : Option ℕ)
     → ReadsOne G t r → IsNumeral 10 (without_leading_plus t) → digits_value 10 (without_leading_plus t) < 2 ^ 64
     → r ≡ Some (digits_value 10 (without_leading_plus t))
