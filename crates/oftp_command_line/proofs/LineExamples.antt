@@ -172,7 +172,7 @@ release_lines : AreRead (
     ∷ asks (codes "release --db=d --book=b 9999999") (said_release (record { files = d_and_b; no = 9999999 }))
     -- 0 is too small
     ∷ bad (codes "release --db=d --book=b 0")
-    -- 8 digits are too many
+    -- 10000000 is too large
     ∷ bad (codes "release --db=d --book=b 10000000")
     -- a number has only digits
     ∷ bad (codes "release --db=d --book=b 7a")
