@@ -1,4 +1,4 @@
-//! The channel: requests and answers, as they are written and read.
+//! The channel: requests and answers, written and read.
 
 use crate::line::Line;
 use crate::octets::{print_line, print_whole};
@@ -9,10 +9,10 @@ use oftp_channel::{
 use oftp_io::Port;
 use std::io::{self, Write};
 
-/// The status that answers end with.
+/// The exit status at the end of answers.
 const STATUS: u8 = 7;
 
-/// What octets are read as.
+/// The message that octets are read as.
 #[derive(Clone, Copy, Drop)]
 enum Heard {
     Ready,
@@ -20,12 +20,12 @@ enum Heard {
     Part,
 }
 
-/// A port that gives these octets.
+/// A port that reads these octets.
 fn port_of(octets: &[u8]) -> Port<&[u8]> {
     Port::new(octets, u64::MAX)
 }
 
-/// The fault of octets, if they have one.
+/// The error of reading these octets, if there is one.
 fn fault_of(rt: &HostRuntime, heard: Heard, octets: &[u8]) -> Option<HearFault> {
     let mut port = port_of(octets);
     let alloc = rt.alloc();
@@ -36,7 +36,7 @@ fn fault_of(rt: &HostRuntime, heard: Heard, octets: &[u8]) -> Option<HearFault> 
     }
 }
 
-/// Prints what becomes of so many lengths.
+/// Prints the result of reading for a number of lengths in a row.
 fn print_lengths(rt: &HostRuntime, count: u32, fault: Option<HearFault>) -> io::Result<()> {
     match fault {
         Some(fault) => print!(rt; " {count}*{fault:?}"),
@@ -44,7 +44,7 @@ fn print_lengths(rt: &HostRuntime, count: u32, fault: Option<HearFault>) -> io::
     }
 }
 
-/// Prints what becomes of octets that are cut at each length, from none of them to all.
+/// Prints the results of reading octets that are cut at each length, from 0 on.
 fn print_cuts(rt: &HostRuntime, heard: Heard, octets: &[u8]) -> io::Result<()> {
     print!(rt; "  cut:")?;
     let mut before = fault_of(rt, heard, &[]);
@@ -62,7 +62,7 @@ fn print_cuts(rt: &HostRuntime, heard: Heard, octets: &[u8]) -> io::Result<()> {
     println!(rt)
 }
 
-/// Prints what is written of a request of these words.
+/// Prints the octets of a request with these words.
 fn ask(rt: &HostRuntime, words: &[Vec<u8>]) -> io::Result<()> {
     let mut lent = Vec::new(rt.alloc());
     for word in words {
@@ -76,7 +76,7 @@ fn ask(rt: &HostRuntime, words: &[Vec<u8>]) -> io::Result<()> {
     }
 }
 
-/// Prints the words of the request that octets begin with, and what becomes of the octets where they are cut.
+/// Prints the words of the request at the front of the octets, and the results for octets that are cut.
 fn asked(rt: &HostRuntime, octets: &[u8]) -> io::Result<()> {
     let mut port = port_of(octets);
     match read_request(rt.alloc(), &mut port) {
@@ -97,7 +97,7 @@ fn asked(rt: &HostRuntime, octets: &[u8]) -> io::Result<()> {
     print_cuts(rt, Heard::Request, octets)
 }
 
-/// Prints how many octets are lacking of a request, at least, where octets are cut at each length; `-` where none will ever be one.
+/// Prints how many octets of a request are missing, at least, if it is cut at each length; `-` if the octets can't begin a request.
 fn print_lacking(rt: &HostRuntime, octets: &[u8]) -> io::Result<()> {
     print!(rt; "  lacking:")?;
     for length in 0..=octets.len() {
@@ -109,7 +109,7 @@ fn print_lacking(rt: &HostRuntime, octets: &[u8]) -> io::Result<()> {
     println!(rt)
 }
 
-/// Prints what is written of an answer: a piece for each outlet, and the end.
+/// Prints the octets of an answer: a piece for each outlet, and the end.
 fn tell(rt: &HostRuntime, pieces: &[Vec<u8>]) -> io::Result<()> {
     let mut answer = Vec::new(rt.alloc());
     for (place, octets) in pieces.iter().enumerate() {
@@ -128,7 +128,7 @@ fn tell(rt: &HostRuntime, pieces: &[Vec<u8>]) -> io::Result<()> {
     }
 }
 
-/// Prints a part of an answer, and tells whether more may follow.
+/// Prints a part of an answer. Returns whether more may follow.
 fn print_part(rt: &HostRuntime, part: Result<AnswerPart, HearFault>) -> io::Result<bool> {
     match part {
         Ok(AnswerPart::Piece(outlet, octets)) => {
@@ -148,7 +148,7 @@ fn print_part(rt: &HostRuntime, part: Result<AnswerPart, HearFault>) -> io::Resu
     }
 }
 
-/// Prints the parts of the answer that octets begin with, up to its end.
+/// Prints the parts of the answer at the front of the octets, up to its end.
 fn told(rt: &HostRuntime, octets: &[u8]) -> io::Result<()> {
     let mut port = port_of(octets);
     for _ in 0..=octets.len() {
@@ -159,14 +159,14 @@ fn told(rt: &HostRuntime, octets: &[u8]) -> io::Result<()> {
     println!(rt; "  {} octets left", port.inner().len())
 }
 
-/// Prints what is written where a station is ready.
+/// Prints the octets of the ready message.
 fn ready(rt: &HostRuntime) -> io::Result<()> {
     let mut port = Port::new(Vec::new(rt.alloc()), 0);
     println!(rt; "  {}", write_ready(&mut port))?;
     print_line(rt, "  ", port.inner())
 }
 
-/// Answers a call of the channel.
+/// Carries out a call of the channel.
 pub fn answer(rt: &HostRuntime, line: &mut Line) -> io::Result<()> {
     match line.word() {
         "ask" => ask(rt, &line.words(rt.alloc())?),

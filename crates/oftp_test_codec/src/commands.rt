@@ -1,10 +1,11 @@
-//! Commands: what octets say, and what is written of what they say.
+//! Commands: parsed and encoded.
 
 use crate::octets::{Fields, joined, print_line};
 use oftp_wire::{Command, WireFault, encode, header, parse};
 use std::io;
 
-/// Prints what is written of a command over the octets ff: those that it was read from, and no more, or which.
+/// Encodes a command into a buffer of octets ff. Prints whether this gives the octets that it was parsed from and nothing more, or what it
+/// gives.
 fn write_again(rt: &HostRuntime, command: &Command, octets: &[u8]) -> io::Result<()> {
     let mut out = Vec::new(rt.alloc());
     out.resize(octets.len().saturating_add(1), 0xff)?;
@@ -16,7 +17,7 @@ fn write_again(rt: &HostRuntime, command: &Command, octets: &[u8]) -> io::Result
     print_line(rt, " ", &out)
 }
 
-/// Prints what is written of the command that is read.
+/// Prints the encoding of the parsed command.
 pub fn write(rt: &HostRuntime, octets: &[u8]) -> io::Result<()> {
     match parse(octets) {
         Ok(command) => write_again(rt, &command, octets),
@@ -24,7 +25,7 @@ pub fn write(rt: &HostRuntime, octets: &[u8]) -> io::Result<()> {
     }
 }
 
-/// Prints a command in words, and what is written of it, or the fault of the octets.
+/// Prints a parsed command as text, and its encoding, or the fault of the octets.
 pub fn read(rt: &HostRuntime, octets: &[u8]) -> io::Result<()> {
     match parse(octets) {
         Ok(command) => {
@@ -35,10 +36,10 @@ pub fn read(rt: &HostRuntime, octets: &[u8]) -> io::Result<()> {
     }
 }
 
-/// More octets than a command has beside its payload.
+/// More octets than a command has without its payload.
 const BESIDE: usize = 99;
 
-/// Prints a command with its header. Its payload, if it has one, has so many octets.
+/// Prints a command with its header. `payload` is the length of its payload, if it has one.
 pub fn print_frame(rt: &HostRuntime, command: &Command, payload: usize) -> io::Result<()> {
     let mut out = Vec::new(rt.alloc());
     out.resize(payload.saturating_add(BESIDE), 0)?;
@@ -51,7 +52,7 @@ pub fn print_frame(rt: &HostRuntime, command: &Command, payload: usize) -> io::R
     print_line(rt, "  ", &frame)
 }
 
-/// Prints what is written of a command, over the octets 9, where the room wants an octet.
+/// Encodes a command into a buffer of octets 9 that is one octet too short, and prints the result.
 pub fn room(rt: &HostRuntime, octets: &[u8]) -> io::Result<()> {
     let Ok(command) = parse(octets) else {
         return Ok(());
@@ -62,7 +63,7 @@ pub fn room(rt: &HostRuntime, octets: &[u8]) -> io::Result<()> {
     print_line(rt, " ", &out)
 }
 
-/// Prints what `read` prints, and each field of the command, the password too, which is no part of what is shown of it.
+/// Prints what `read` prints, and each field of the command. This includes the password, which the command's text leaves out.
 pub fn show(rt: &HostRuntime, octets: &[u8]) -> io::Result<()> {
     read(rt, octets)?;
     let Ok(command) = parse(octets) else {
@@ -75,7 +76,7 @@ pub fn show(rt: &HostRuntime, octets: &[u8]) -> io::Result<()> {
     }
 }
 
-/// Prints a fault, that of a field by its offset.
+/// Prints a fault. For a field it is the offset.
 fn print_fault(rt: &HostRuntime, octets: &[u8]) -> io::Result<()> {
     match parse(octets) {
         Ok(_) => print!(rt; " none"),
@@ -84,14 +85,14 @@ fn print_fault(rt: &HostRuntime, octets: &[u8]) -> io::Result<()> {
     }
 }
 
-/// Puts an octet to a place.
+/// Sets an octet.
 fn put(octets: &mut [u8], at: usize, octet: u8) {
     if let Some(first) = octets.get_mut(at) {
         *first = octet;
     }
 }
 
-/// Puts an octet to the front of each field, from the last to the first, and prints the fault after each.
+/// Sets the first octet of each field, from the last field to the first, and prints the fault after each.
 fn spoil(rt: &HostRuntime, fields: &[Vec<u8>], octet: u8) -> io::Result<()> {
     let mut octets = joined(rt.alloc(), fields)?;
     let mut at = octets.len();
@@ -104,7 +105,7 @@ fn spoil(rt: &HostRuntime, fields: &[Vec<u8>], octet: u8) -> io::Result<()> {
     println!(rt)
 }
 
-/// Prints at which other lengths, up to one octet more, the fault isn't the length.
+/// Prints the other lengths, up to one octet more, for which the fault isn't the length.
 fn cut(rt: &HostRuntime, octets: &[u8]) -> io::Result<()> {
     let mut longer = octets.to_vec(rt.alloc())?;
     longer.push(b' ')?;
@@ -117,7 +118,7 @@ fn cut(rt: &HostRuntime, octets: &[u8]) -> io::Result<()> {
     println!(rt)
 }
 
-/// Prints what a command means field by field, and the faults of its fields and of other lengths.
+/// Prints the parsed command field by field, the faults of its fields, and those of other lengths.
 pub fn fields(rt: &HostRuntime, fields: &Fields) -> io::Result<()> {
     let octets = joined(rt.alloc(), fields)?;
     show(rt, &octets)?;

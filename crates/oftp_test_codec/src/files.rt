@@ -10,17 +10,17 @@ use oftp_vfile::{Filled, Filler, Format, MOST_ROWS, Row, Taker, VFile};
 use oftp_wire::{Command, Count, Efid, Octets};
 use std::io;
 
-/// How many rows are lent at a time: a payload of 16,383 octets needs no more.
+/// How many rows are given to a filler at a time. A payload of 16,383 octets needs no more.
 const LENT: usize = 17;
 
-/// Whether each row has octets.
+/// Whether no row is empty.
 fn are_filled(rows: &[Row]) -> bool
     ensures { IsTrue result ↔ All (λ r. 0 < length r) rows.now }
 {
     rows.iter().all(|row| row.len() > 0)
 }
 
-/// The next payload, where the rows may be lent and there is room.
+/// Makes the next payload, if the rows may be given to the filler and the buffer is long enough.
 fn fill(filler: &mut Filler, rows: &[Row], last: bool, out: &mut [u8]) -> Filled {
     let few = rows.len() <= MOST_ROWS && filler.row() <= MOST_ROWS - rows.len();
     if out.len() < 2 || !few || !filler.is_in(rows) {
@@ -32,7 +32,7 @@ fn fill(filler: &mut Filler, rows: &[Row], last: bool, out: &mut [u8]) -> Filled
     filler.next_buffer(rows, last, out)
 }
 
-/// The rows that are lent from a row on, and whether they reach the end.
+/// The rows from `from` on that are given to a filler, and whether they reach the end.
 fn lent_of(rows: &[Row], from: usize) -> (&[Row], bool) {
     let rest = rows.get(from..).unwrap_or(&[]);
     match rest.get(..LENT) {
@@ -41,7 +41,7 @@ fn lent_of(rows: &[Row], from: usize) -> (&[Row], bool) {
     }
 }
 
-/// What is printed of each payload.
+/// What is printed for each payload.
 #[derive(Clone, Copy, Drop)]
 enum Shown {
     /// Its octets, and the mark after it.
@@ -51,7 +51,7 @@ enum Shown {
     Nothing,
 }
 
-/// Prints what is shown of a payload.
+/// Prints a payload.
 fn print_payload(rt: &HostRuntime, shown: Shown, mark: usize, payload: &[u8]) -> io::Result<()> {
     match shown {
         Shown::Marks => {
@@ -63,7 +63,7 @@ fn print_payload(rt: &HostRuntime, shown: Shown, mark: usize, payload: &[u8]) ->
     }
 }
 
-/// Fills the payloads of a file, each of which is taken again, and shown. Answers how many there are.
+/// Fills the payloads of a file, takes each of them again, and prints them. Returns their number.
 fn carry(
     rt: &HostRuntime,
     format: Format,
@@ -87,7 +87,7 @@ fn carry(
     Ok(u64::MAX)
 }
 
-/// Prints the payloads of the rows and the mark after each, and then what they carry.
+/// Prints the payloads of the rows with the mark after each, and then the rows that they carry.
 pub fn send(rt: &HostRuntime, line: &mut Line) -> io::Result<()> {
     let (format, longest) = (line.format(), line.number());
     let mut out = vec![in rt.alloc(); 0u8; line.number() as usize]?;
@@ -98,10 +98,10 @@ pub fn send(rt: &HostRuntime, line: &mut Line) -> io::Result<()> {
     print_compared(rt, taker, &rows)
 }
 
-/// The least number that has more digits than an EFID tells.
+/// The least number with more digits than a field of EFID.
 const LEAST_BEYOND: u64 = 100_000_000_000_000_000;
 
-/// The frames of a file: a DATA for each payload of the rows, and an EFID with the counts of what they carry.
+/// Prints the frames of a file: DATA for each payload of the rows, and EFID with their counts.
 pub fn frames(rt: &HostRuntime, line: &mut Line) -> io::Result<()> {
     let (format, longest) = (line.format(), line.number());
     let mut out = vec![in rt.alloc(); 0u8; line.number() as usize]?;
@@ -119,7 +119,7 @@ pub fn frames(rt: &HostRuntime, line: &mut Line) -> io::Result<()> {
     print_frame(rt, &Command::Efid(efid), 0)
 }
 
-/// Prints how many payloads a file of U has, and what they carry.
+/// Prints the number of payloads of a file in format U, and what they carry.
 pub fn whole(rt: &HostRuntime, line: &mut Line) -> io::Result<()> {
     let mut out = vec![in rt.alloc(); 0u8; line.number() as usize]?;
     let content = line.octets(rt.alloc())?;
@@ -134,7 +134,7 @@ pub fn whole(rt: &HostRuntime, line: &mut Line) -> io::Result<()> {
     print_compared(rt, taker, rows)
 }
 
-/// Prints what becomes of a payload from a row on, where these rows are lent.
+/// Prints the result of filling a payload with these rows, from a row on.
 pub fn next(rt: &HostRuntime, line: &mut Line) -> io::Result<()> {
     let mut filler = Filler::new(line.format(), line.number() as usize);
     let size = line.number() as usize;
@@ -149,13 +149,13 @@ pub fn next(rt: &HostRuntime, line: &mut Line) -> io::Result<()> {
     )
 }
 
-/// Prints whether a file of the format may have this longest record.
+/// Prints whether the format allows this longest record.
 pub fn longest(rt: &HostRuntime, line: &mut Line) -> io::Result<()> {
     let format = line.format();
     println!(rt; "  {}", format.allows_longest(line.number()))
 }
 
-/// Prints the rows of a local form, and whether they are written as it.
+/// Prints the rows of a local form, and whether they are written as the same local form.
 pub fn local(rt: &HostRuntime, line: &mut Line) -> io::Result<()> {
     let (format, longest) = (line.format(), line.number());
     let content = line.octets(rt.alloc())?;

@@ -4,7 +4,7 @@ use crate::octets::{Fields, fields_of, joined};
 use oftp_vfile::{Format, Row};
 use std::alloc::{AllocError, Global};
 
-/// What is left of a line.
+/// The rest of a line.
 #[derive(Drop)]
 pub struct Line<'a> {
     rest: &'a str,
@@ -37,17 +37,17 @@ impl<'a> Line<'a> {
         }
     }
 
-    /// The fields that the rest spells.
+    /// The fields in the rest of the line.
     pub fn fields(&self, alloc: Global) -> Result<Fields, AllocError> {
         fields_of(alloc, self.rest)
     }
 
-    /// The octets that the rest spells.
+    /// The octets in the rest of the line.
     pub fn octets(&self, alloc: Global) -> Result<Vec<u8>, AllocError> {
         joined(alloc, &self.fields(alloc)?)
     }
 
-    /// The fields that the rest spells, or `none`.
+    /// The fields in the rest of the line; none for `none`.
     pub fn words(&self, alloc: Global) -> Result<Fields, AllocError> {
         if self.rest == "none" {
             return Ok(Vec::new(alloc));
@@ -55,7 +55,7 @@ impl<'a> Line<'a> {
         self.fields(alloc)
     }
 
-    /// The rows that the rest spells, or `none`.
+    /// The rows in the rest of the line; none for `none`.
     pub fn rows(&self, alloc: Global) -> Result<Vec<Row>, AllocError> {
         rows_of(alloc, self.words(alloc)?)
     }

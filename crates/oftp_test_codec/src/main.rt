@@ -1,4 +1,4 @@
-//! Answers the calls that it reads, a line each: prints the line, and below it what the call answers.
+//! Carries out the calls that it reads, one per line. Prints each line, and then the result of the call.
 #![tactic(auto)]
 
 mod channel;
@@ -14,7 +14,7 @@ mod words;
 use line::Line;
 use std::io;
 
-/// Answers a call of the wire.
+/// Carries out a call of the wire.
 fn answer_of_wire(rt: &HostRuntime, call: &str, line: &mut Line) -> io::Result<()> {
     match call {
         "read" => commands::read(rt, &line.octets(rt.alloc())?),
@@ -29,7 +29,7 @@ fn answer_of_wire(rt: &HostRuntime, call: &str, line: &mut Line) -> io::Result<(
     }
 }
 
-/// Answers a call.
+/// Carries out a call.
 fn answer(rt: &HostRuntime, line: &mut Line) -> io::Result<()> {
     match line.word() {
         "longest" => files::longest(rt, line),

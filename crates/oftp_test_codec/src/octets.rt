@@ -1,12 +1,13 @@
-//! Octets as the lines spell them. A letter, a digit or another character stands for itself, and `\` with two hexadecimal digits for an
-//! octet; `N*` stands before what comes N times, `+` between such parts, and `|` between fields.
+//! Octets as text. A letter, a digit or another character stands for itself, and `\` with two hexadecimal digits for an octet. `N*` repeats
+//! what follows N times, `+` joins such parts, and `
+//! ` separates fields.
 
 ghost use Rattle.std.specs.Prelude.{◌<◌};
 
 use std::alloc::{AllocError, Global};
 use std::io;
 
-/// Octets, field by field.
+/// The octets of fields.
 pub type Fields = Vec<Vec<u8>>;
 
 /// The value of a hexadecimal digit, 0 for another octet.
@@ -20,7 +21,7 @@ fn digit(octet: u8) -> u8
     }
 }
 
-/// Adds an octet that is spelled by two digits, and the characters behind them.
+/// Adds an octet from two hexadecimal digits, and the characters after them.
 fn add_spelled(octets: &mut Vec<u8>, text: &[u8]) -> Result<(), AllocError> {
     if let [high, low, rest @ ..] = text {
         octets.push(digit(*high) * 16 + digit(*low))?;
@@ -41,7 +42,7 @@ fn add_once(octets: &mut Vec<u8>, part: &str) -> Result<(), AllocError> {
     Ok(())
 }
 
-/// Adds a part, as often as its count says.
+/// Adds a part as many times as its count says.
 fn add(octets: &mut Vec<u8>, part: &str) -> Result<(), AllocError> {
     let Some((count, part)) = part.split_once('*') else {
         return add_once(octets, part);
@@ -61,7 +62,7 @@ fn field_of(alloc: Global, text: &str) -> Result<Vec<u8>, AllocError> {
     Ok(octets)
 }
 
-/// The fields that a text spells.
+/// The fields of a text.
 pub fn fields_of(alloc: Global, text: &str) -> Result<Fields, AllocError> {
     let mut fields = Vec::new(alloc);
     for field in text.split('|') {
@@ -88,13 +89,13 @@ fn print_octet(rt: &HostRuntime, octet: u8) -> io::Result<()> {
     }
 }
 
-/// How many of the first octets are the same: one where they are fewer than four.
+/// The number of equal octets at the front, or 1 if there are fewer than four.
 fn run_of(octets: &[u8], first: u8) -> usize {
     let run = octets.iter().take_while(|octet| **octet == first).count();
     if run < 4 { 1 } else { run }
 }
 
-/// Prints an octet, and before it how often it comes, if more than once.
+/// Prints an octet, with a count if it is repeated.
 fn print_run(rt: &HostRuntime, octet: u8, run: usize) -> io::Result<()> {
     if run > 1 {
         print!(rt; "{run}*")?;
@@ -102,7 +103,7 @@ fn print_run(rt: &HostRuntime, octet: u8, run: usize) -> io::Result<()> {
     print_octet(rt, octet)
 }
 
-/// Prints octets as the lines spell them, with a count before four and more of the same.
+/// Prints octets as text, with a count for four or more equal ones.
 pub fn print(rt: &HostRuntime, octets: &[u8]) -> io::Result<()> {
     let mut rest = octets;
     let mut before = 1;
@@ -128,7 +129,7 @@ pub fn print_whole(rt: &HostRuntime, octets: &[u8]) -> io::Result<()> {
     print!(rt; ")")
 }
 
-/// Prints the rest of a line: octets behind a word.
+/// Prints the rest of a line: a word, and octets.
 pub fn print_line(rt: &HostRuntime, word: &str, octets: &[u8]) -> io::Result<()> {
     print!(rt; "{word}")?;
     print(rt, octets)?;

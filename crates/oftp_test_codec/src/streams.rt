@@ -1,4 +1,4 @@
-//! Streams: the commands of their frames.
+//! Streams: deframed into commands.
 
 use crate::line::Line;
 use crate::octets::{Fields, print_line, print_whole};
@@ -8,7 +8,7 @@ use std::io;
 /// The greatest length of a frame.
 const LIMIT: usize = 100_003;
 
-/// Prints the commands that are whole, and what is answered behind them.
+/// Prints the whole commands, and then the result after them.
 fn print_commands(rt: &HostRuntime, deframer: &mut Deframer) -> io::Result<()> {
     for _ in 0..u64::MAX {
         match deframer.next() {
@@ -20,7 +20,7 @@ fn print_commands(rt: &HostRuntime, deframer: &mut Deframer) -> io::Result<()> {
     Ok(())
 }
 
-/// Feeds pieces, and prints what is whole after each.
+/// Feeds pieces, and prints the whole commands after each.
 pub fn feed(rt: &HostRuntime, pieces: &Fields) -> io::Result<()> {
     let mut deframer = Deframer::new(rt.alloc(), LIMIT);
     for piece in pieces {
@@ -33,7 +33,7 @@ pub fn feed(rt: &HostRuntime, pieces: &Fields) -> io::Result<()> {
     Ok(())
 }
 
-/// Prints the header of a command of a length.
+/// Prints the header of a command with this length.
 pub fn header_of(rt: &HostRuntime, line: &mut Line) -> io::Result<()> {
     match header(line.number() as usize) {
         Some(octets) => print_line(rt, "  ", &octets),

@@ -1,11 +1,11 @@
-//! Payloads of a virtual file that comes in.
+//! Payloads of a virtual file that is received.
 
 use crate::line::Line;
 use crate::octets::print_whole;
 use oftp_vfile::{Limits, MOST_ROWS, Row, Taker};
 use std::io;
 
-/// What the takers keep at most.
+/// The limits of the takers.
 pub const LIMITS: Limits = Limits {
     files: 1000,
     octets: 8_388_608,
@@ -29,21 +29,21 @@ fn are_same(rows: &[Row], others: &[Row]) -> bool {
             .all(|(row, other)| row.octets() == other.octets())
 }
 
-/// Prints how many payloads were taken, and what the taker then tells.
+/// Prints how many payloads were taken, and the state of the taker.
 pub fn print_taken(rt: &HostRuntime, count: u64, taker: &Taker) -> io::Result<()> {
     let (counts, open) = (taker.counts(), taker.is_open());
     let whole = taker.whole_rows().len();
     println!(rt; "  {count} taken, counts {counts:?}, open {open}, {whole} whole rows")
 }
 
-/// Prints with how many rows the file closes, and whether they are these.
+/// Prints the number of rows of the closed file, and whether they are these.
 pub fn print_compared(rt: &HostRuntime, taker: Taker, rows: &[Row]) -> io::Result<()> {
     let kept = taker.close()?;
     let same = are_same(kept.as_slice(), rows);
     println!(rt; "  closed with {} rows, the same {same}", kept.len())
 }
 
-/// Takes a payload, and prints what the taker then tells.
+/// Takes a payload, and prints the state of the taker.
 fn take_one(rt: &HostRuntime, taker: &mut Taker, payload: &[u8]) -> io::Result<()> {
     let taken = taker.take(payload);
     let (counts, open) = (taker.counts(), taker.is_open());
@@ -53,7 +53,7 @@ fn take_one(rt: &HostRuntime, taker: &mut Taker, payload: &[u8]) -> io::Result<(
     println!(rt)
 }
 
-/// Takes the rows away, and prints them, what the taker then tells, and the rows with which it closes.
+/// Takes the rows away, and prints them, the state of the taker, and the rows of the closed file.
 fn take_away(rt: &HostRuntime, mut taker: Taker) -> io::Result<()> {
     print_rows(rt, &taker.take_rows())?;
     print!(rt; "  then counts {:?}, ", taker.counts())?;
@@ -62,7 +62,7 @@ fn take_away(rt: &HostRuntime, mut taker: Taker) -> io::Result<()> {
     print_rows(rt, rows.as_slice())
 }
 
-/// Takes payloads, and prints what the taker tells after each.
+/// Takes payloads, and prints the state of the taker after each.
 pub fn take(rt: &HostRuntime, line: &mut Line) -> io::Result<()> {
     let (format, longest) = (line.format(), line.number());
     let kept_rows = u64::from(line.number()).min(MOST_ROWS as u64);

@@ -21,7 +21,7 @@ fn digits(rt: &HostRuntime, octets: &[u8]) -> io::Result<()> {
     }
 }
 
-/// Prints a text as an operator reads it.
+/// Prints a text as it is displayed.
 fn text(rt: &HostRuntime, octets: &[u8]) -> io::Result<()> {
     match std::str::from_utf8(octets)
         .ok()
@@ -32,7 +32,7 @@ fn text(rt: &HostRuntime, octets: &[u8]) -> io::Result<()> {
     }
 }
 
-/// Prints each character that a name may have.
+/// Prints each character that a name may contain.
 fn characters(rt: &HostRuntime) -> io::Result<()> {
     print!(rt; "  ")?;
     for octet in 0..=255u8 {
@@ -43,7 +43,7 @@ fn characters(rt: &HostRuntime) -> io::Result<()> {
     println!(rt)
 }
 
-/// Prints the value that a field of octets makes.
+/// Prints the value of a field with these octets.
 pub fn answer(rt: &HostRuntime, line: &mut Line) -> io::Result<()> {
     let kind = line.word();
     let octets = line.octets(rt.alloc())?;

@@ -1,10 +1,10 @@
-//! Reasons and faults, by number and in words.
+//! Reasons and faults, by number and as text.
 
 use oftp_vfile::{LocalFault, TakeFault};
 use oftp_wire::{Count, EndReason, FrameFault, SessionReason, StartReason, WireFault};
 use std::io;
 
-/// Prints the reasons of SFNA that are listed.
+/// Prints the reasons of SFNA.
 fn start_reasons(rt: &HostRuntime) -> io::Result<()> {
     for number in 0..100 {
         if let Some(reason) = StartReason::from_number(Count::new(number)) {
@@ -14,7 +14,7 @@ fn start_reasons(rt: &HostRuntime) -> io::Result<()> {
     Ok(())
 }
 
-/// Prints the reasons of EFNA that are listed.
+/// Prints the reasons of EFNA.
 fn end_reasons(rt: &HostRuntime) -> io::Result<()> {
     for number in 0..100 {
         if let Some(reason) = EndReason::from_number(Count::new(number)) {
@@ -24,7 +24,7 @@ fn end_reasons(rt: &HostRuntime) -> io::Result<()> {
     Ok(())
 }
 
-/// Prints the reasons of ESID that are listed.
+/// Prints the reasons of ESID.
 fn session_reasons(rt: &HostRuntime) -> io::Result<()> {
     for number in 0..100 {
         if let Some(reason) = SessionReason::from_number(Count::new(number)) {
@@ -34,7 +34,7 @@ fn session_reasons(rt: &HostRuntime) -> io::Result<()> {
     Ok(())
 }
 
-/// Prints the faults of a command, with the reason that a station gives for each.
+/// Prints the faults of a command, with the reason in ESID for each.
 fn wire_faults(rt: &HostRuntime) -> io::Result<()> {
     for fault in [
         WireFault::UnknownCommand,
@@ -83,7 +83,7 @@ fn local_faults(rt: &HostRuntime) -> io::Result<()> {
     Ok(())
 }
 
-/// Prints a list in words; of another call, such as a remark, nothing.
+/// Prints a list as text. Nothing for another call, such as a remark.
 pub fn answer(rt: &HostRuntime, list: &str) -> io::Result<()> {
     match list {
         "start-reasons" => start_reasons(rt),
