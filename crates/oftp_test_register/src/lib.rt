@@ -1,4 +1,5 @@
-//! What has to be a test: allocations that are refused, memory that is taken, streams in a million pieces, and what stands on registers. The rest is data of oftp_test_codec.
+//! Tests that can't be data of oftp_test_codec: refused allocations, memory use, streams in a million pieces, and verdicts and changes of
+//! registers.
 #![tactic(auto)]
 
 #[cfg(test)]

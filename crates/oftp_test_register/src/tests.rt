@@ -1,4 +1,4 @@
-//! The examples, by what they are of.
+//! The tests, by topic.
 
 mod files;
 mod registers;

@@ -1,4 +1,4 @@
-//! The memory that a taker takes, growths that are refused to it, and rows that are empty.
+//! The memory of a taker, its refused allocations, and empty rows.
 
 use oftp_vfile::{Format, Limits, Rows, TakeFault, Taker};
 use std::alloc::Global;
@@ -13,7 +13,7 @@ fn taker(alloc: Global, format: Format, longest: u32) -> Taker {
     Taker::new(alloc, format, longest, 0, 0, LIMITS)
 }
 
-// A short record that came in two subrecords keeps little more memory than its octets need.
+// A short record from two subrecords uses little more memory than its octets need.
 #[test]
 fn short_record_in_two(rt: HostRuntime) -> Result<(), Fail> {
     let mut taker = taker(rt.alloc(), Format::Variable, 16_384);
@@ -38,9 +38,8 @@ fn empty_rows(rt: HostRuntime) -> Result<(), Fail> {
     Ok(())
 }
 
-// Where an allocation within `take` is refused, the taker is as it was, and then takes the same
-// payload. This wants `rt try --test --fail-alloc N`, which refuses the Nth allocation (from 2 on:
-// the first is the test's own); without it no payload is refused.
+// If an allocation in `take` is refused, the taker is unchanged and then takes the same payload. This needs `rt try --test --fail-alloc N`,
+// which refuses the Nth allocation (from 2 on: the first is the test's own). Without it no allocation is refused.
 #[test]
 fn refused_and_taken_again(rt: HostRuntime) -> Result<(), Fail> {
     let mut payload = Vec::with_capacity(rt.alloc(), 2048)?;

@@ -1,4 +1,4 @@
-//! What stands on registers written by hand: verdicts, and which changes are fit.
+//! Verdicts and changes over registers that are written by hand.
 
 use oftp_register::{
     Cause, Change, DigitString, EndVerdict, Identity, IncomingEntry, Name, Office, OfficeFault,
@@ -20,7 +20,7 @@ const LIMITS: Limits = Limits {
     octets: 67_108_864,
 };
 
-/// A change in short. Files go by a letter, in V with a longest record of 3, from O1 to O2.
+/// A change in short. Files are named by a letter. They are of format V with a longest record of 3, and go from O1 to O2.
 #[derive(Clone, Copy)]
 enum Act {
     Submit(&'static [u8], &'static [&'static [u8]]),
@@ -38,7 +38,7 @@ enum Act {
     Send(u64),
 }
 
-// What is wrong with a fixture, unless memory ran out.
+// The error of a wrong fixture. Out of memory is another one.
 const BAD: OfficeFault = OfficeFault::Store;
 
 fn text(words: &'static str) -> Result<Text<'static>, OfficeFault> {
@@ -87,7 +87,7 @@ fn start(dataset: &'static [u8], count: u64) -> Result<Change<'static>, OfficeFa
     })
 }
 
-// The reason of a response, who gave it, and in which words: a negative one has each.
+// The reason, creator and text of a response. Only a negative one has them.
 fn words(kind: ResponseKind) -> (Count<2>, &'static [u8], &'static str) {
     match kind {
         ResponseKind::EndResponse => (Count::new(0), b"", ""),
@@ -146,7 +146,7 @@ fn change(alloc: Global, act: Act) -> Result<Change<'static>, OfficeFault> {
     }
 }
 
-// CarriesOut a change that has to be fit: another is a fault of the fixture.
+// Carries out a change that has to be fit. Another one is an error of the fixture.
 fn commit(office: &mut PlainOffice, change: Change<'_>) -> Result<(), OfficeFault> {
     if !office.is_fit(&change) {
         return Err(BAD);
@@ -227,7 +227,7 @@ fn add_received(all: &mut String, office: &mut PlainOffice) -> Result<(), Office
     Ok(())
 }
 
-// All that an office keeps.
+// The whole register as text.
 fn shown(alloc: Global, office: &mut PlainOffice) -> Result<String, OfficeFault> {
     let mut all = String::new(alloc);
     add_incoming(&mut all, office)?;

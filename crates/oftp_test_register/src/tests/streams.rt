@@ -1,4 +1,4 @@
-//! The memory that a deframer takes, a stream in a million pieces, and one that is cut in one call.
+//! The memory of a deframer, a stream in a million pieces, and one that is cut in one call.
 
 use oftp_wire::{Deframer, FrameFault, cut};
 use std::process::Abort;
@@ -12,8 +12,7 @@ const STREAM: [u8; 17] = [
     0x10, 0, 0, 5, 0x50, 0x10, 0, 0, 5, 0x52, 0x10, 0, 0, 7, 0x43, 0x20, 0x20,
 ];
 
-/// Feeds a piece, and compares the commands that are whole then with those of `STREAM`, of which `count` came before. Answers how
-/// many came so far.
+/// Feeds a piece, and compares the whole commands with those of `STREAM`, of which `count` came before. Returns the count after it.
 fn take_piece(
     rt: &impl Abort,
     deframer: &mut Deframer,
@@ -50,8 +49,8 @@ fn take_cuts(rt: &impl Abort, deframer: &mut Deframer) -> Result<(), FrameFault>
     Ok(())
 }
 
-/// It is also run with every allocation refused from some number on: either the reservation is refused, or the test passes, since
-/// behind `with_room` no allocation is left that could be. With a deframer of `new` it fails, since the first growth is refused then.
+/// This is also run with each allocation refused from some number on. Either the reservation is refused, or the test passes, since nothing
+/// is allocated after `with_room`. With a deframer of `new` it fails, since the first allocation is refused.
 #[test]
 fn no_memory_within_room(rt: HostRuntime) -> Result<(), Fail> {
     let Ok(mut deframer) = Deframer::with_room(rt.alloc(), LIMIT, 17) else {

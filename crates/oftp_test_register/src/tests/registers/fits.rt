@@ -1,8 +1,8 @@
-//! Which changes and files are fit, and changes in turn.
+//! Which changes and files are fit, and several changes in a row.
 
 use super::*;
 
-// The changes of a file that is sent, in turn.
+// The changes of a file that is sent, in a row.
 #[tactic(auto, unfolding(oftp_register::specs::Soundness::IsFit, oftp_register::specs::Soundness::AreFit))]
 fn hand_over(alloc: Global, office: &mut PlainOffice) -> Result<(), OfficeFault> {
     let mut changes = Vec::new(alloc);
@@ -27,7 +27,7 @@ fn changes_in_turn_end_at_the_first_refusal(rt: HostRuntime) -> Result<(), Fail>
     Ok(())
 }
 
-// Which changes are fit where one file is open, with a row, and another whole.
+// Which changes are fit, if one file is open with a row, and another is whole.
 #[test]
 fn changes_are_fit_or_not(rt: HostRuntime) -> Result<(), Fail> {
     let alloc = rt.alloc();
@@ -44,7 +44,7 @@ fn changes_are_fit_or_not(rt: HostRuntime) -> Result<(), Fail> {
         (Act::Keep(1, &[b"abc"]), true),
         (Act::Keep(1, &[b"abcd"]), false),
         (Act::Close(1, &[b"a", b"abcd"]), false),
-        // These are refused, so they leave no file.
+        // These are refused, so they can't make the register unsound.
         (Act::Keep(2, &[b"abcd"]), true),
         (Act::Close(3, &[b"abcd"]), true),
     ]
@@ -57,7 +57,7 @@ fn changes_are_fit_or_not(rt: HostRuntime) -> Result<(), Fail> {
     Ok(())
 }
 
-// A file goes on in another format only with rows that fit it.
+// A file may continue in another format only if its rows fit it.
 #[test]
 fn starts_are_fit_or_not(rt: HostRuntime) -> Result<(), Fail> {
     let acts = [Act::Start(b"D", 0), Act::Keep(1, &[b"abc", b"de"])];
@@ -70,7 +70,7 @@ fn starts_are_fit_or_not(rt: HostRuntime) -> Result<(), Fail> {
         (Format::Fixed, 0, 0, false),
         (Format::Text, 0, 0, true),
         (Format::Text, 0, 1, false),
-        // It is refused, so it leaves no file.
+        // It is refused, so it can't make the register unsound.
         (Format::Fixed, 3, 3, true),
     ] {
         let start = Change::Start {

@@ -1,4 +1,4 @@
-//! Refused growths: with each allocation refused in turn, `rt try --test --fail-alloc N` passes too.
+//! Refused allocations: these tests also pass with each allocation refused in turn, by `rt try --test --fail-alloc N`.
 
 use super::*;
 
@@ -21,7 +21,7 @@ const ACTS: [Act; 15] = [
     Act::Send(1),
 ];
 
-// A second try, since one allocation alone is refused.
+// Tries again once, since only one allocation is refused.
 fn change_again(alloc: Global, act: Act) -> Result<Change<'static>, OfficeFault> {
     match change(alloc, act) {
         Ok(change) => Ok(change),

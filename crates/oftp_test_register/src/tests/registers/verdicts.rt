@@ -1,9 +1,9 @@
-//! Each row of both verdicts.
+//! Each row of both tables of verdicts.
 
 use super::*;
 use oftp_wire::{Efid, EndReason, Layout, Sfid, StartReason};
 
-// A V file of at most 3 octets a record, from O1 to O2, offered at row 5.
+// An offer of a file in format V with records of up to 3 octets, from O1 to O2, at row 5.
 fn offer() -> Result<Sfid<'static>, OfficeFault> {
     Ok(Sfid {
         dataset: X::new(b"D").ok_or(BAD)?,
@@ -47,7 +47,7 @@ const FULL: StartVerdict = StartVerdict::Refuse {
     retry: true,
 };
 
-// The verdict where every row from this one on fits.
+// The verdict if each row of the table from this one on applies.
 fn verdict_from(row: u32) -> Result<StartVerdict, OfficeFault> {
     let mut sfid = offer()?;
     let mut terms = terms()?;
@@ -89,7 +89,7 @@ fn the_first_test_decides(rt: HostRuntime) -> Result<(), Fail> {
     Ok(())
 }
 
-// What is answered to a new file of this layout.
+// The verdict on a new file with this layout.
 fn verdict_of(layout: Layout) -> Result<StartVerdict, OfficeFault> {
     let mut sfid = offer()?;
     sfid.layout = layout;
@@ -134,7 +134,7 @@ fn protected_offers_are_refused(rt: HostRuntime) -> Result<(), Fail> {
     Ok(())
 }
 
-// The octets of the rows of the first file, each row ended by a bar.
+// The rows of the first file, each ended by a bar.
 fn rows_kept(alloc: Global, office: &mut PlainOffice) -> Result<String, OfficeFault> {
     let mut all = String::new(alloc);
     for row in office.rows_of(Side::Incoming, 1, 0, 9)?.as_slice() {
@@ -146,7 +146,7 @@ fn rows_kept(alloc: Global, office: &mut PlainOffice) -> Result<String, OfficeFa
     Ok(all)
 }
 
-// What is answered where three rows are kept, and the rows that stay.
+// The verdict if three rows are stored, and the rows that are kept.
 fn goes_on(
     restart: Count<17>,
     layout: Layout,
@@ -225,7 +225,7 @@ fn table_full(rt: HostRuntime) -> Result<(), Fail> {
 
 #[test]
 fn ends_are_counted(rt: HostRuntime) -> Result<(), Fail> {
-    // Two records of three octets, and a file of U or T, which counts none.
+    // Two records of three octets, and a file in format U or T, which counts none.
     for (counted, records, units, verdict) in [
         (2, 2, 3, EndVerdict::Accept),
         (2, 3, 3, EndVerdict::Refuse(EndReason::InvalidRecordCount)),
