@@ -1,4 +1,4 @@
-//! What any office tells and does: one table of changes and answers, over the office in memory and over those over a database.
+//! Tests of each office: the same changes and look-ups with the same results, in memory and over databases.
 #![tactic(auto)]
 
 #[cfg(test)]

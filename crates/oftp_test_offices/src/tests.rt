@@ -1,4 +1,4 @@
-//! One list of changes in each office: each makes or refuses the same, and tells the same afterwards.
+//! The same list of changes for each office. Each accepts or refuses the same changes, and then returns the same from its look-ups.
 
 mod act;
 mod answers;

@@ -5,11 +5,11 @@ use oftp_vfile::{Format, Row, Rows};
 use oftp_wire::{Count, Digits, Text, X};
 use std::alloc::{AllocError, Global};
 
-/// A change in short. Files go by a letter, A to M from O1 to O2 and N to Z back. In F and V the longest record is 3.
+/// A change in short. Files are named by a letter: A to M go from O1 to O2, and N to Z back. In F and V the longest record is 3.
 #[derive(Clone, Copy, Drop)]
 pub(super) enum Act {
     Submit(&'static [u8], Format, &'static [&'static [u8]]),
-    /// So many records of one octet, in V.
+    /// This many records of one octet, in V.
     SubmitLong(&'static [u8], u64),
     Start(&'static [u8], Format, u64),
     Keep(u64, &'static [&'static [u8]]),
@@ -25,10 +25,10 @@ pub(super) enum Act {
     Send(u64),
 }
 
-/// A change that was made of its short form.
+/// The change of a short form.
 pub(super) type Made = Result<Change<'static>, OfficeFault>;
 
-// What is wrong with a fixture, unless memory ran out.
+// The error of a wrong fixture. Out of memory is another one.
 const BAD: OfficeFault = OfficeFault::Store;
 
 /// The code of a station.
@@ -47,7 +47,7 @@ fn way_of(dataset: &[u8]) -> (&'static [u8], &'static [u8]) {
     }
 }
 
-/// The identity of a letter's file.
+/// The identity of the file with this letter.
 pub(super) fn identity(dataset: &'static [u8]) -> Result<Identity, OfficeFault> {
     let (originator, destination) = way_of(dataset);
     Ok(Identity {
@@ -63,7 +63,7 @@ fn longest_of(format: Format) -> u32 {
     if format.is_stream() { 0 } else { 3 }
 }
 
-// What a file of a format is, in words.
+// The description of a file in this format.
 fn about(format: Format) -> Result<Text<'static>, OfficeFault> {
     text(match format {
         Format::Fixed => "Maße",
@@ -109,7 +109,7 @@ fn start(dataset: &'static [u8], format: Format, count: u64) -> Made {
     })
 }
 
-// The reason of a response and who gave it: a negative one has each.
+// The reason and creator of a response. Only a negative one has them.
 fn reason_of(kind: ResponseKind) -> (Count<2>, &'static [u8]) {
     match kind {
         ResponseKind::EndResponse => (Count::new(0), b""),

@@ -1,4 +1,4 @@
-//! What the look-ups answer, by hand.
+//! The results of look-ups, worked out by hand.
 
 use super::act::Act;
 use super::asking::Ask;
@@ -16,7 +16,7 @@ use std::test::Fail;
 
 const ANSWERS: &[(Ask, &str)] = &[
     (Full, "0 0"),
-    // Three files from O1, each answered, the second response sent.
+    // Three files from O1, each with a response. The second response was sent.
     (Change(Act::Start(b"D", Variable, 0)), "made"),
     (Change(Act::Keep(1, &[b"abc"])), "made"),
     (Change(Act::Close(1, &[b"", b"de"])), "made"),
@@ -34,7 +34,7 @@ const ANSWERS: &[(Ask, &str)] = &[
         Change(Act::Issue(3, NegativeEndResponse, "NO ROOM")),
         "made",
     ),
-    // Three that go, the second closing, two of them to O1.
+    // Three outgoing files, the second closing. Two of them go to O1.
     (Change(Act::Submit(b"N", Variable, &[b"x"])), "made"),
     (Change(Act::Submit(b"P", Variable, &[])), "made"),
     (Change(Act::BeginClosing(2)), "made"),
@@ -46,7 +46,7 @@ const ANSWERS: &[(Ask, &str)] = &[
     (Change(Act::File(b"Z", EndResponse, "")), "made"),
     (Full, "1 1"),
     (Limits, "3 67108864"),
-    // A response goes to its file's originator, a file to its destination; responses go first.
+    // A response goes to its file's originator, and a file to its destination. Responses go first.
     (Next(b"O1", 0, 0, true), "response 1"),
     (Next(b"O1", 0, 0, false), "response 1"),
     (Next(b"O1", 0, 2, true), "response 1"),
@@ -60,7 +60,7 @@ const ANSWERS: &[(Ask, &str)] = &[
     (Next(b"O2", 0, 0, false), "nothing"),
     (Next(b"O2", 0, 3, true), "nothing"),
     (Next(b"O3", 0, 0, true), "nothing"),
-    // The rows come in parts.
+    // The rows are read in parts.
     (Rows(0, 64), "abc||de|"),
     (Rows(1, 1), "|"),
     (Rows(2, 9), "de|"),
@@ -83,14 +83,14 @@ const ANSWERS: &[(Ask, &str)] = &[
     (Received(EndResponse, b"N"), "0"),
     (Received(NegativeEndResponse, b"Z"), "1"),
     (Received(NegativeEndResponse, b"N"), "0"),
-    // What was sent isn't next.
+    // What was sent isn't next any more.
     (Change(Act::Send(1)), "made"),
     (Change(Act::HandOver(2)), "made"),
     (Next(b"O1", 0, 1, true), "response 3"),
     (Next(b"O1", 3, 1, true), "nothing"),
 ];
 
-// The files of the database at a path.
+// The database's files.
 const FILES: [&str; 2] = ["offices_test.db", "offices_test.db-wal"];
 
 fn remove_files(rt: &HostRuntime) {
@@ -99,7 +99,7 @@ fn remove_files(rt: &HostRuntime) {
     }
 }
 
-// What is asked: each row, and then all that the office tells.
+// The look-ups: each row of the table, and then all look-ups.
 fn asks(rt: &HostRuntime) -> Result<Vec<Ask>, Fail> {
     let mut asks = Vec::new(rt.alloc());
     for (ask, _) in ANSWERS {
@@ -119,7 +119,7 @@ fn compare(rt: &impl Abort, rows: &[(Ask, &str)], lines: &[String]) {
     }
 }
 
-/// Over an office in memory, over a database in memory, and over files, which have it when they are opened again.
+/// The look-ups over an office in memory, over a database in memory, and over files that are opened again.
 #[test]
 fn look_ups_answer(rt: HostRuntime) -> Result<(), Fail> {
     let asks = asks(&rt)?;

@@ -1,47 +1,47 @@
-//! What an office is asked, and its answer as a line.
+//! The look-ups of an office, each with its result as a line.
 
 use super::act::{Act, code, identity};
 use super::telling::{add_rows, kept, told};
 use oftp_register::{Cause, Cursor, Item, Office, OfficeFault, ResponseKind, Side};
 use std::alloc::{AllocError, Global};
 
-/// A question to an office, or a change.
+/// A look-up or a change.
 #[derive(Clone, Copy, Drop)]
 pub(super) enum Ask {
-    /// Makes a change: how it is answered.
+    /// Makes a change. The line is its result.
     Change(Act),
-    /// What it keeps.
+    /// The register as text.
     Kept,
-    /// All that it tells.
+    /// The results of all look-ups.
     Told,
-    /// What is next for a partner, behind a response and a file, where it asks for files or not.
+    /// The next item for a partner, after a response and a file, with files or without.
     Next(&'static [u8], u64, u64, bool),
-    /// Some rows of the first incoming file: from which on, and how many.
+    /// Some rows of the first incoming file: the first row, and how many.
     Rows(u64, u64),
-    /// How many units a file has.
+    /// The units of a file.
     Units(Side, u64),
-    /// The number of a letter's incoming file.
+    /// The number of the incoming file with a letter.
     LookIn(&'static [u8]),
-    /// The number of a letter's outgoing file.
+    /// The number of the outgoing file with a letter.
     LookOut(&'static [u8]),
-    /// Whether there is an incoming file of a number, and an outgoing one.
+    /// Whether the incoming and the outgoing file with a number exist.
     ByNo(u64),
-    /// Whether a response to a letter's file came.
+    /// Whether a response to the file with a letter was received.
     Received(ResponseKind, &'static [u8]),
-    /// How many responses were issued, and how many came.
+    /// How many responses were issued, and how many were received.
     Responses,
-    /// Whether there is no room for incoming files, and for outgoing ones.
+    /// Whether the tables of incoming and of outgoing files are full.
     Full,
-    /// The limits: of files, and of octets.
+    /// The limits of files and of octets.
     Limits,
 }
 
-/// A line of words.
+/// A line with these words.
 pub(super) fn line(alloc: Global, words: &str) -> Result<String, AllocError> {
     String::from_str(alloc, words)
 }
 
-/// The line of an answer to a change.
+/// The line for the result of a change.
 pub(super) fn words_of(refused: Option<Cause>) -> &'static str {
     match refused {
         None => "made",
@@ -111,7 +111,7 @@ fn units<O: Office>(
     Ok(number_line(alloc, units)?)
 }
 
-// The number of a letter's file, if it is there.
+// The number of the file with a letter, if it exists.
 fn look<O: Office>(
     alloc: Global,
     office: &mut O,
@@ -157,7 +157,7 @@ fn full<O: Office>(alloc: Global, office: &mut O) -> Result<String, OfficeFault>
     Ok(two(alloc, u64::from(coming), u64::from(going))?)
 }
 
-/// What an office answers.
+/// The result of a look-up or a change.
 pub(super) fn answer<O: Office>(
     alloc: Global,
     office: &mut O,

@@ -1,4 +1,4 @@
-//! A store of schema 2 made twice, and one of schema 1 migrated: stores that are neither. The numbers are counted by hand.
+//! Opening stores: one of schema 2 twice, one of schema 1 that is migrated, and stores that are neither. The numbers are counted by hand.
 
 use super::playing::{FEW, Image, NO_STOP, Step, play};
 use Step::{Batch, Migrate, Number, Open};
@@ -6,7 +6,7 @@ use std::alloc::{AllocError, Global};
 use std::process::Abort;
 use std::test::Fail;
 
-// The tables of schema 1, with an end response and two negative ones.
+// The tables of schema 1, with an End-to-End Response and two negative ones.
 const FIRST: &str =
     "CREATE TABLE about (id INTEGER NOT NULL PRIMARY KEY, schema INTEGER NOT NULL) STRICT;
         CREATE TABLE in_file (no INTEGER NOT NULL PRIMARY KEY, dataset TEXT NOT NULL, date TEXT NOT NULL, time TEXT NOT NULL,
@@ -28,10 +28,10 @@ const OBJECTS: &str = "SELECT count(*) FROM sqlite_schema";
 
 const SCHEMA: &str = "SELECT schema FROM about WHERE id = 1";
 
-// What is done with an empty store, and what is said.
+// The steps with an empty store, and the lines that they give.
 type Tale = (&'static [Step<'static>], &'static [&'static str]);
 
-// An office is made twice, with the same objects.
+// An office is created twice, with the same objects.
 const TWICE: Tale = (
     &[
         Open(&[]),
@@ -88,7 +88,7 @@ fn opened_twice_and_migrated(rt: HostRuntime) -> Result<(), Fail> {
     Ok(())
 }
 
-// What is made in a store, with or without an office's tables before, and how many objects and rows of `about` it then has.
+// A statement for a store, and how many objects and rows of `about` it then has.
 type Wrong = (&'static str, &'static str, &'static str);
 
 const EDITS: &[Wrong] = &[
@@ -123,14 +123,14 @@ const EDITS: &[Wrong] = &[
     ),
 ];
 
-// What makes a store that is neither empty nor an office's.
+// Statements that make a store that is neither empty nor an office's.
 const FOREIGN: [&str; 3] = [
     "CREATE TABLE t (a)",
     "CREATE TABLE about (id INTEGER NOT NULL PRIMARY KEY, schema INTEGER NOT NULL) STRICT",
     "CREATE VIEW v AS SELECT 1",
 ];
 
-// What is done behind an edit: neither opening has the store.
+// The steps after such a statement. Neither way of opening accepts the store.
 const OPENINGS: [Step<'static>; 4] = [
     Open(&[]),
     Migrate(&[]),
@@ -150,7 +150,7 @@ fn steps_of(
     Ok(steps)
 }
 
-/// A store that is neither empty nor an office's is refused, and keeps what it has.
+/// A store that is neither empty nor an office's is refused, and unchanged.
 #[test]
 fn wrong_schema(rt: HostRuntime) -> Result<(), Fail> {
     for row in EDITS {

@@ -1,4 +1,4 @@
-//! Steps that are played over an office in memory, and over one that stands on a database. Only here its type is named.
+//! Runs steps with an office in memory, and with one over a database. Only this file names the type of the office.
 
 use super::asking::{Ask, answer, line};
 use oftp_register::{Office, OfficeFault, PlainOffice, are_limits};
@@ -12,22 +12,22 @@ use std::io;
 use std::process::Abort;
 use std::test::Fail;
 
-/// Limits under which few files fill a table.
+/// Limits with few files in a table.
 pub(super) const FEW: Limits = Limits {
     files: 3,
     octets: 67_108_864,
 };
 
-/// What is done with a database, or with an office.
+/// A step with a database, or with an office.
 #[derive(Clone, Copy, Drop)]
 pub(super) enum Step<'a> {
-    /// Opens the office: a line that it is open, and a line for each question.
+    /// Opens the office. Gives a line that it is open, and a line for each look-up.
     Open(&'a [Ask]),
-    /// The same, where the database is brought to schema 2 before.
+    /// The same, after a migration of the database to schema 2.
     Migrate(&'a [Ask]),
-    /// Carries out statements: no line.
+    /// Executes statements, without a line.
     Batch(&'static str),
-    /// A line of the number that a statement selects.
+    /// Gives a line with the number that a statement selects.
     Number(&'static str),
 }
 
@@ -39,7 +39,7 @@ pub(super) struct Image {
 }
 
 impl Image {
-    /// Two files of no octet.
+    /// Two empty files.
     pub(super) fn empty(alloc: Global) -> Image {
         Image {
             log: Vec::new(alloc),
@@ -48,7 +48,7 @@ impl Image {
     }
 }
 
-/// Which file fails, from which call on, and whether what was written without a sync stays.
+/// A simulated crash: which file fails, from which call on, and whether writes without a sync are kept.
 #[derive(Clone, Copy, Drop)]
 pub(super) struct Stop {
     pub(super) in_log: bool,
@@ -62,7 +62,7 @@ pub(super) const NO_STOP: Stop = Stop {
     stays: true,
 };
 
-// Says a line. One for which there is no memory is missing, and so is noticed.
+// Adds a line. If there is no memory for it, it is missing, which fails the test.
 fn say(alloc: Global, said: &mut Vec<String>, words: &str) {
     if let Ok(words) = line(alloc, words) {
         let _ = said.push(words);
@@ -84,7 +84,7 @@ fn refusal_words(fault: StoreFault) -> &'static str {
     }
 }
 
-// Asks up to the first fault.
+// Does look-ups up to the first error.
 fn ask_all<O: Office>(alloc: Global, office: &mut O, asks: &[Ask], said: &mut Vec<String>) {
     say(alloc, said, "open");
     for ask in asks {
@@ -97,7 +97,7 @@ fn ask_all<O: Office>(alloc: Global, office: &mut O, asks: &[Ask], said: &mut Ve
     }
 }
 
-/// Plays steps over an office in memory, which has no database.
+/// Runs steps with an office in memory, which has no database.
 pub(super) fn play_plain(alloc: Global, limits: Limits, steps: &[Step<'_>]) -> Vec<String> {
     let mut said = Vec::new(alloc);
     if !are_limits(limits) {
@@ -113,7 +113,7 @@ pub(super) fn play_plain(alloc: Global, limits: Limits, steps: &[Step<'_>]) -> V
     said
 }
 
-// Asks an office that was opened, and gives its connection back.
+// Does look-ups with an opened office, and returns its connection.
 fn use_office<S: Alter>(
     alloc: Global,
     opened: Result<SqlOffice<S>, OpenRefused<S>>,
@@ -133,7 +133,7 @@ fn use_office<S: Alter>(
     }
 }
 
-// These have no clause, so that the proof of a step doesn't carry the state of each call.
+// These have no clauses, so that the proof of a step doesn't carry the state of each call.
 fn batch<S: Alter>(conn: &mut Connection<S>, sql: &str) -> Result<(), Error> {
     conn.execute_batch(sql)
 }
@@ -150,7 +150,7 @@ fn say_number(alloc: Global, said: &mut Vec<String>, number: Result<i64, Error>)
     }
 }
 
-// Plays a step on a connection.
+// Runs a step on a connection.
 fn take<S: Alter>(
     alloc: Global,
     limits: Limits,
@@ -196,7 +196,7 @@ fn take_all<S: Alter>(
     conn
 }
 
-// A file that passes so many calls on.
+// A file that fails after this many calls.
 fn file_of(alloc: Global, octets: &[u8], calls: u64) -> io::Result<Fuse<Memory>> {
     let mut file = Memory::new(alloc);
     file.write_at(0, octets)?;
@@ -216,7 +216,7 @@ fn files_of(alloc: Global, image: &Image, stop: Stop) -> io::Result<Files<Fuse<M
     })
 }
 
-// What a stop leaves of a file.
+// The octets of a file after a crash.
 fn octets_of(alloc: Global, file: Fuse<Memory>, stop: Stop) -> Result<Vec<u8>, Fail> {
     let mut file = file;
     if !stop.stays {
@@ -233,7 +233,7 @@ fn image_of(alloc: Global, files: Files<Fuse<Memory>>, stop: Stop) -> Result<Ima
     })
 }
 
-// A connection whose log is copied into the database often.
+// A connection that copies its log into the database often.
 fn connect<D: Disk + Drop>(
     alloc: Global,
     files: Files<D>,
@@ -249,7 +249,7 @@ fn connect<D: Disk + Drop>(
     }
 }
 
-// Plays steps on files, and gives them back, with no call on them behind the last step.
+// Runs steps on files, and returns them. The files aren't used after the last step.
 fn play_on<D: Disk + Drop>(
     alloc: Global,
     limits: Limits,
@@ -268,14 +268,14 @@ fn play_on<D: Disk + Drop>(
     }
 }
 
-/// What was said over a database, and the files that it left.
+/// The lines of a run over a database, and the files after it.
 #[derive(Drop)]
 pub(super) struct Played {
     pub(super) said: Vec<String>,
     pub(super) left: Image,
 }
 
-/// Plays steps over a database in memory, up to a stop.
+/// Runs steps over a database in memory, up to a crash.
 pub(super) fn play(
     alloc: Global,
     limits: Limits,
@@ -290,7 +290,7 @@ pub(super) fn play(
     Ok(Played { said, left })
 }
 
-/// Whether a line stands at a place.
+/// Whether the line at an index is this one.
 pub(super) fn is_at(lines: &[String], at: usize, wanted: &str) -> bool {
     match lines.get(at) {
         Some(line) => line.as_str() == wanted,
@@ -298,7 +298,7 @@ pub(super) fn is_at(lines: &[String], at: usize, wanted: &str) -> bool {
     }
 }
 
-/// Lines are those that are wanted.
+/// Asserts that the lines are these.
 pub(super) fn same(rt: &impl Abort, found: &[String], wanted: &[String]) {
     for (at, line) in wanted.iter().enumerate() {
         let line = line.as_str();
@@ -307,7 +307,7 @@ pub(super) fn same(rt: &impl Abort, found: &[String], wanted: &[String]) {
     assert_eq!(rt; found.len(), wanted.len());
 }
 
-/// Plays steps over an office in memory and over one on an empty database, which say the same.
+/// Runs steps with an office in memory and with one over an empty database, and asserts that the lines are the same.
 pub(super) fn play_both(
     alloc: Global,
     rt: &impl Abort,
@@ -320,7 +320,7 @@ pub(super) fn play_both(
     Ok(wanted)
 }
 
-// Asks an office, and drops it.
+// Does look-ups with an office, and drops it.
 fn use_once<S: Alter + Drop>(
     alloc: Global,
     office: SqlOffice<S>,
@@ -330,7 +330,7 @@ fn use_once<S: Alter + Drop>(
     let _ = use_office(alloc, Ok(office), asks, said);
 }
 
-/// Opens the office of the files at a path, or brings them to schema 2, and asks it.
+/// Opens the office of the files at a path, after a migration if `is_migrated`, and does look-ups.
 pub(super) fn play_at(
     rt: &HostRuntime,
     path: &str,

@@ -1,4 +1,4 @@
-//! A stop at each call on a database's files: what is found then is the register before a change, or after it.
+//! A crash at each call on a database's files. It leaves the register before a change, or after it.
 
 use super::act::Act;
 use super::asking::Ask;
@@ -15,7 +15,7 @@ use std::alloc::{AllocError, Global};
 use std::process::Abort;
 use std::test::Fail;
 
-// A change of each kind, and after each another register.
+// A change of each kind. Each leaves another register.
 const CHANGES: &[Act] = &[
     Submit(b"A", Variable, &[b"abc", b""]),
     Mark(1, 1),
@@ -37,8 +37,7 @@ const CHANGES: &[Act] = &[
     Send(1),
 ];
 
-// The changes of a store that is then brought back to schema 1, and what is kept of it there: a negative response without its creator
-// and its text.
+// The changes of a store that is then turned into schema 1, where a negative response has no creator and no text.
 const FIRST: &[Act] = &[
     Submit(b"A", Variable, &[b"abc", b""]),
     BeginClosing(1),
@@ -47,7 +46,7 @@ const FIRST: &[Act] = &[
 
 const MIGRATED: &str = "out 1 A V3 plan Returned mark 0 2/3 abc||; got 1 A NERP 9  ; ";
 
-// What is asked: each of some changes.
+// The look-ups for some changes: each change.
 fn asks_of(alloc: Global, changes: &[Act]) -> Result<Vec<Ask>, AllocError> {
     let mut asks = Vec::new(alloc);
     for act in changes {
@@ -56,7 +55,7 @@ fn asks_of(alloc: Global, changes: &[Act]) -> Result<Vec<Ask>, AllocError> {
     Ok(asks)
 }
 
-// The same, between two questions what is kept.
+// The same, with the register as text before and after them.
 fn asks_to_go_on(alloc: Global, changes: &[Act]) -> Result<Vec<Ask>, AllocError> {
     let mut asks = Vec::new(alloc);
     asks.push(Ask::Kept)?;
@@ -67,7 +66,7 @@ fn asks_to_go_on(alloc: Global, changes: &[Act]) -> Result<Vec<Ask>, AllocError>
     Ok(asks)
 }
 
-// What is kept before the first change, and after each.
+// The register as text before the first change, and after each.
 fn registers(alloc: Global) -> Result<Vec<String>, AllocError> {
     let mut asks = Vec::new(alloc);
     asks.push(Ask::Kept)?;
@@ -90,7 +89,7 @@ fn made(said: &[String]) -> usize {
     said.iter().filter(|line| line.as_str() == "made").count()
 }
 
-// Whether what a stop left is the register of a place: then an office makes the changes behind it, and comes to the last.
+// Whether a crash left the register at an index. If so, an office makes the remaining changes and has the last register.
 fn goes_on_at(alloc: Global, registers: &[String], at: usize, left: &Image) -> Result<bool, Fail> {
     let rest = CHANGES.get(at..).unwrap_or(&[]);
     let asks = asks_to_go_on(alloc, rest)?;
@@ -110,7 +109,7 @@ fn is_at(register: Option<&String>, found: Option<&String>) -> bool {
     }
 }
 
-// What a stop left is the register before the change that came to a fault, or after it.
+// Whether a crash left the register before the change that returned an error, or after it.
 fn goes_on(alloc: Global, registers: &[String], stopped: &Played) -> Result<bool, Fail> {
     let first = made(stopped.said.as_slice());
     let has_begun = stopped.said.len().saturating_sub(first) == 2;
@@ -126,7 +125,7 @@ fn goes_on(alloc: Global, registers: &[String], stopped: &Played) -> Result<bool
 // More calls than a run makes.
 const MOST_CALLS: u64 = 100_000;
 
-// Stops runs at each call on one file in turn, until one ends without.
+// Crashes runs at each call on one file in turn, until one ends without a crash.
 fn stop_at_each(
     alloc: Global,
     rt: &impl Abort,
@@ -147,7 +146,7 @@ fn stop_at_each(
     Err("no run ended".into())
 }
 
-// Either file, and both that a stop may leave.
+// Either file, with both states that a crash may leave.
 const STOPS: [Stop; 4] = [
     Stop {
         in_log: true,
@@ -207,7 +206,7 @@ fn first_image(alloc: Global, rt: &impl Abort) -> Result<Image, Fail> {
     Ok(left)
 }
 
-// It was opened, and keeps what is migrated.
+// Whether the office was opened and has the migrated register.
 fn is_migrated(said: &[String]) -> bool {
     match said {
         [open, kept] => open.as_str() == "open" && kept.as_str() == MIGRATED,
@@ -222,7 +221,7 @@ fn is_of_schema_1(said: &[String]) -> bool {
     }
 }
 
-// Migrates, up to a stop, and answers whether it came to its end. What is left is of schema 1 or migrated, and is migrated then.
+// Migrates, up to a crash. Returns whether the migration was finished. The files are of schema 1 or migrated, and can then be migrated.
 fn migrate_once(alloc: Global, rt: &impl Abort, first: &Image, stop: Stop) -> Result<bool, Fail> {
     let Played { said, left } = play(alloc, FEW, &[Step::Migrate(&[])], first, stop)?;
     let ended = said.iter().any(|line| line.as_str() == "open");
@@ -238,7 +237,7 @@ fn migrate_once(alloc: Global, rt: &impl Abort, first: &Image, stop: Stop) -> Re
     Ok(ended)
 }
 
-// Stops migrations at each call on one file in turn, until one ends without.
+// Crashes migrations at each call on one file in turn, until one ends without a crash.
 fn stop_in_each(alloc: Global, rt: &impl Abort, first: &Image, stop: Stop) -> Result<u64, Fail> {
     for calls in 0..MOST_CALLS {
         if migrate_once(alloc, rt, first, Stop { calls, ..stop })? {

@@ -1,4 +1,5 @@
-//! Each change and each refusal, the register after it as the table of changes gives it by hand, and what both offices tell of it.
+//! Each change and each refusal, with the register after it, worked out by hand from the table of changes, and the look-ups of both
+//! offices.
 
 use super::act::Act;
 use super::asking::{Ask, words_of};
@@ -16,7 +17,7 @@ use std::alloc::{AllocError, Global};
 use std::process::Abort;
 use std::test::Fail;
 
-// A change, why it is refused if it is, and the register after it.
+// A change, the cause if it is refused, and the register after it.
 type Row = (Act, Option<Cause>, &'static str);
 
 const BEYOND: u64 = 1 << 63;
@@ -29,7 +30,7 @@ const AB: &str =
 const ABN: &str =
     "out 1 A V3 plan Waiting mark 0 2/3 abc||; out 2 B F3 Maße Waiting mark 0 2/6 abc|def|; out 3 N T0 a note Waiting mark 0 1/4 text|; ";
 
-// A file is submitted whole, and once.
+// A file is submitted whole, and only once.
 const SUBMITTED: &[Row] = &[
     (Mark(1, 0), Some(Unknown), ""),
     (Submit(b"A", Variable, &[b"abc", b""]), None, A),
@@ -37,7 +38,7 @@ const SUBMITTED: &[Row] = &[
     (Submit(b"B", Fixed, &[b"abc", b"def"]), None, AB),
     (Submit(b"N", Text, &[b"text"]), None, ABN),
     (Submit(b"P", Unstructured, &[]), Some(Full), ABN),
-    // Both causes fit: the one that stands first is told.
+    // Both causes apply: the first of the table is returned.
     (Submit(b"B", Fixed, &[]), Some(Duplicate), ABN),
     (Mark(0, 0), Some(Unknown), ABN),
     (Mark(4, 0), Some(Unknown), ABN),
@@ -94,7 +95,7 @@ const EMPTY_CLOSING: &str = "out 1 N V3 plan Closing mark 0 0/0 ; ";
 
 const EMPTY_REFUSED: &str = "out 1 N V3 plan Refused 13 mark 0 0/0 ; ";
 
-// A file whose end was sent may be refused yet, and stays so.
+// A file whose EFID was sent can still be refused, and then stays refused.
 const REFUSED_AT_THE_END: &[Row] = &[
     (Submit(b"N", Variable, &[]), None, EMPTY),
     (BeginClosing(1), None, EMPTY_CLOSING),
@@ -117,7 +118,7 @@ const RETURNED: &str =
 
 const ANSWERED: &[Row] = &[
     (Submit(b"N", Variable, &[]), None, EMPTY),
-    // It answers no file, or one that waits: these stay as they are.
+    // It answers no file, or one that waits. These are unchanged.
     (
         File(b"Z", EndResponse, ""),
         None,
@@ -131,7 +132,7 @@ const ANSWERED: &[Row] = &[
         "out 1 N V3 plan Closing mark 0 0/0 ; got 1 Z EERP 0  ; got 2 N EERP 0  ; ",
     ),
     (File(b"N", NegativeEndResponse, "NO PLANT"), None, RETURNED),
-    // The first text stays.
+    // The first text is kept.
     (
         File(b"N", NegativeEndResponse, "LATER"),
         Some(Duplicate),
@@ -156,7 +157,7 @@ const ANSWERED_WHEN_HANDED: &[Row] = &[
     (HandOver(1), Some(State), DELIVERED),
     (Refuse(1), Some(State), DELIVERED),
     (Reopen(1), Some(State), DELIVERED),
-    // The first response of a file decides.
+    // The first response to a file decides.
     (
         File(b"N", NegativeEndResponse, "LATE"),
         None,
@@ -164,7 +165,7 @@ const ANSWERED_WHEN_HANDED: &[Row] = &[
     ),
 ];
 
-// An end response may come before the answer to the end of the file.
+// An End-to-End Response may arrive before the answer to EFID.
 const ANSWERED_WHEN_CLOSING: &[Row] = &[
     (Submit(b"N", Variable, &[]), None, EMPTY),
     (BeginClosing(1), None, EMPTY_CLOSING),
@@ -232,9 +233,9 @@ const COMING: &[Row] = &[
     (Keep(2, &[b"x"]), None, TWO),
     (Start(b"F", Unstructured, 0), None, THREE),
     (Start(b"A", Variable, 0), Some(Full), THREE),
-    // Both causes fit: the one that stands first is told.
+    // Both causes apply: the first of the table is returned.
     (Start(b"A", Variable, 1), Some(State), THREE),
-    // The rows of another file stay.
+    // The rows of another file are kept.
     (
         GiveUp(2),
         None,
@@ -279,7 +280,7 @@ const STORIES: [&[Row]; 9] = [
     ISSUED,
 ];
 
-// What is asked of an office in a story: each change, and what is then kept and told.
+// The steps of a story: each change, then the register as text and the results of all look-ups.
 fn asks_of(alloc: Global, story: &[Row]) -> Result<Vec<Ask>, AllocError> {
     let mut asks = Vec::new(alloc);
     for (act, ..) in story {
@@ -290,7 +291,7 @@ fn asks_of(alloc: Global, story: &[Row]) -> Result<Vec<Ask>, AllocError> {
     Ok(asks)
 }
 
-// An office is opened, makes a change, and keeps and tells something then.
+// Whether an office was opened, made or refused the change, and has the register of a row.
 fn is_row(lines: &[String], row: &Row) -> bool {
     let (_, cause, register) = row;
     match lines {
@@ -303,7 +304,7 @@ fn is_row(lines: &[String], row: &Row) -> bool {
     }
 }
 
-// The one over a database is opened again after each change.
+// The office over a database is opened again after each change.
 fn tell(alloc: Global, rt: &impl Abort, story: &[Row]) -> Result<(), Fail> {
     let asks = asks_of(alloc, story)?;
     let mut steps = Vec::new(alloc);

@@ -1,4 +1,4 @@
-//! What an office tells, as a text.
+//! The results of an office's look-ups, as text.
 
 use super::act::{code, identity};
 use oftp_register::{
@@ -11,7 +11,7 @@ use std::alloc::{AllocError, Global};
 // More rows than a file has.
 const ALL: u64 = 1 << 40;
 
-// A number that a database hasn't.
+// A number that a database can't have.
 const BEYOND: u64 = 1 << 63;
 
 const KINDS: [ResponseKind; 2] = [ResponseKind::EndResponse, ResponseKind::NegativeEndResponse];
@@ -47,7 +47,7 @@ fn add_octets(all: &mut String, octets: &[u8]) -> Result<(), AllocError> {
     Ok(())
 }
 
-/// The octets of some rows, each row ended by a bar.
+/// Adds the octets of some rows, each ended by a bar.
 pub(super) fn add_rows(all: &mut String, rows: &Rows) -> Result<(), AllocError> {
     for row in rows.as_slice() {
         add_octets(all, row.octets())?;
@@ -62,7 +62,7 @@ fn add_response(all: &mut String, response: &IssuedResponse) -> Result<(), Alloc
     write!(all, " {kind} {reason} {note} {dispatch:?}")
 }
 
-// What a file is, whichever way it goes.
+// Adds the header of a file of either direction.
 fn add_header(
     all: &mut String,
     identity: &Identity,
@@ -137,7 +137,7 @@ fn add_received(all: &mut String, entry: &ReceivedEntry) -> Result<(), AllocErro
     write!(all, " {note}; ")
 }
 
-// The octets of a file.
+// Adds the octets of a file.
 fn add_content<O: Office>(
     all: &mut String,
     office: &mut O,
@@ -174,7 +174,7 @@ fn add_all_received<O: Office>(all: &mut String, office: &mut O) -> Result<(), O
     Ok(())
 }
 
-/// What an office keeps: the files with their rows, and the responses that came.
+/// The register as text: the files with their rows, and the received responses.
 pub(super) fn kept<O: Office>(alloc: Global, office: &mut O) -> Result<String, OfficeFault> {
     let mut all = String::new(alloc);
     add_all_in(&mut all, office)?;
@@ -183,7 +183,7 @@ pub(super) fn kept<O: Office>(alloc: Global, office: &mut O) -> Result<String, O
     Ok(all)
 }
 
-// Some rows of a file.
+// Adds some rows of a file.
 fn add_part<O: Office>(
     all: &mut String,
     office: &mut O,
@@ -195,7 +195,7 @@ fn add_part<O: Office>(
     Ok(add_rows(all, &rows)?)
 }
 
-// What is told of the content of a number's files.
+// Adds the contents of the files with a number.
 fn add_contents<O: Office>(all: &mut String, office: &mut O, no: u64) -> Result<(), OfficeFault> {
     for side in SIDES {
         add_content(all, office, side, no)?;
@@ -206,7 +206,7 @@ fn add_contents<O: Office>(all: &mut String, office: &mut O, no: u64) -> Result<
     Ok(())
 }
 
-// What is told of a number.
+// Adds the look-ups by a number.
 fn add_number<O: Office>(all: &mut String, office: &mut O, no: u64) -> Result<(), OfficeFault> {
     if let Some(entry) = office.in_by_no(no)? {
         add_incoming(all, &entry)?;
@@ -221,7 +221,7 @@ fn add_truth(all: &mut String, is_so: bool) -> Result<(), AllocError> {
     all.push_str(if is_so { "true " } else { "false " })
 }
 
-// The file of an identity, if it is there.
+// Adds the file with an identity, if it exists.
 fn add_look<O: Office>(
     all: &mut String,
     office: &mut O,
@@ -245,7 +245,7 @@ fn add_look<O: Office>(
     Ok(())
 }
 
-// What is told of a file.
+// Adds the look-ups of a file.
 fn add_file<O: Office>(
     all: &mut String,
     office: &mut O,
@@ -267,7 +267,7 @@ fn add_item(all: &mut String, item: Option<Item>) -> Result<(), AllocError> {
     }
 }
 
-// What is next for a partner.
+// Adds the next items for a partner.
 fn add_next<O: Office>(
     all: &mut String,
     office: &mut O,
@@ -324,7 +324,7 @@ fn add_limits<O: Office>(all: &mut String, office: &mut O) -> Result<(), OfficeF
     Ok(())
 }
 
-/// All that an office tells, by each of its look-ups.
+/// The results of all look-ups.
 pub(super) fn told<O: Office>(alloc: Global, office: &mut O) -> Result<String, OfficeFault> {
     let mut all = kept(alloc, office)?;
     add_all_issued(&mut all, office)?;

@@ -1,4 +1,4 @@
-//! Two thousand changes in turn.
+//! Two thousand changes in a row.
 
 ghost use Rattle.std.specs.Prelude.{◌<◌};
 
@@ -19,7 +19,7 @@ const LETTERS: &[u8] = b"ABCDEFGHIJKLMNOPQRSTUVWXYZ";
 
 const CONTENTS: [&[&[u8]]; 4] = [&[], &[b"abc"], &[b"ab", b""], &[b"a", b"bc", b"def"]];
 
-// Draws the same numbers in each run: a linear congruential generator.
+// A linear congruential generator. It gives the same numbers in each run.
 #[derive(Drop)]
 struct Draw(u64);
 
@@ -85,7 +85,7 @@ const KINDS: usize = 13;
 
 const CAUSES: [Cause; 4] = [Cause::Duplicate, Cause::Unknown, Cause::State, Cause::Full];
 
-// Which kinds of change were made, and for which causes changes were refused.
+// The kinds of changes that were made, and the causes of those that were refused.
 #[derive(Drop)]
 struct Tally {
     made: [bool; KINDS],
@@ -109,8 +109,7 @@ impl Tally {
     }
 }
 
-// A file of two thousand rows and then changes as they are drawn. After each two hundred it is asked what is told, and once more at the
-// end.
+// A file of two thousand rows, and then random changes. All look-ups are done after each two hundred changes, and at the end.
 fn draw_asks(asks: &mut Vec<Ask>, kinds: &mut Vec<usize>) -> Result<(), AllocError> {
     let mut draw = Draw(0);
     asks.push(Ask::Change(Act::SubmitLong(b"L", 2_000)))?;
@@ -127,7 +126,7 @@ fn draw_asks(asks: &mut Vec<Ask>, kinds: &mut Vec<usize>) -> Result<(), AllocErr
     Ok(())
 }
 
-// What the changes between an opening and what is told came to.
+// Tallies the results of the changes.
 fn tally_of(kinds: &[usize], said: &[String]) -> Tally {
     let mut tally = Tally {
         made: [false; KINDS],
@@ -141,7 +140,7 @@ fn tally_of(kinds: &[usize], said: &[String]) -> Tally {
     tally
 }
 
-/// The office over a database is opened again after each two hundred, and before it tells in the end.
+/// The office over a database is opened again after each two hundred changes, and before the last look-ups.
 #[test]
 fn two_thousand_changes(rt: HostRuntime) -> Result<(), Fail> {
     let alloc = rt.alloc();
