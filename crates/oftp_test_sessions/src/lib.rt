@@ -1,4 +1,4 @@
-//! Stations in memory and over a database: one by itself, two against each other, operators, and lists of jobs.
+//! Tests of stations in memory and over a database: one alone, two with each other, operators, and lists of jobs.
 #![tactic(auto)]
 
 #[cfg(test)]

@@ -1,4 +1,4 @@
-//! Sessions over an office that fails, and over a port with a limit. The expected octets are spelled by hand from RFC 5024.
+//! Sessions over an office that fails, and over a port with a limit. The expected octets are written by hand from RFC 5024.
 
 use hearing::{Line, hear};
 use noting::Noting;
@@ -22,11 +22,11 @@ mod stations;
 const BOOK: &str =
     "[station]\ncode = 'O0013SUPPLIER'\nbuffer = 128\ncredit = 2\nrestart = true\n[[partner]]\ncode = 'O0177CARMAKER'\nexpects = 'CARPW'\nsends = 'SUPPW'\nmode = 'B'\naddress = '127.0.0.1:3305'\n";
 
-/// The partner's SSID and an end response.
+/// The partner's SSID and an EERP.
 const INPUT: &[u8] = b"\x10\0\0\x41X5O0177CARMAKER            CARPW   00128BNYN002N            \r\
       \x10\0\0\x72EINV.7                        202402010800000001        O0013SUPPLIER            O0177CARMAKER            \0\0\0\0";
 
-/// The station's ready message, its SSID and ESID 08.
+/// The station's SSRM, its SSID and ESID 08.
 const OUTPUT: &[u8] =
     b"\x10\0\0\x17IODETTE FTP READY \r\x10\0\0\x41X5O0013SUPPLIER            SUPPW   00128BNYN002N            \r\x10\0\0\x0bF08000\r";
 
@@ -53,7 +53,7 @@ fn office_fails(rt: HostRuntime) -> Result<(), Fail> {
     Ok(())
 }
 
-/// The port's limit is the end of the input, within a frame too.
+/// The port's limit ends the input, even within a frame.
 #[test]
 fn limit_ends_the_input(rt: HostRuntime) -> Result<(), Fail> {
     let book = read(rt.alloc(), BOOK)?;

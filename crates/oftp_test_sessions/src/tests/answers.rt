@@ -1,5 +1,5 @@
-//! What a partner answers to a file that is offered, over an office in memory, in one piece and octet by octet. Both sides' octets
-//! are spelled by hand from RFC 5024.
+//! A partner's answers to SFID, over an office in memory, in one piece and octet by octet. The octets of both sides are written by hand
+//! from RFC 5024.
 
 use super::BOOK;
 use super::hearing::{Line, call, caller, hear};
@@ -19,7 +19,7 @@ pub(crate) const THREE_OCTETS: Submission<'static> = Submission {
     ..FILE
 };
 
-/// The partner's ready message and its SSID.
+/// The partner's SSRM and its SSID.
 pub(crate) const GREETING: &[u8] =
     b"\x10\0\0\x17IODETTE FTP READY \r\x10\0\0\x41X5O0177CARMAKER            CARPW   00128BNYN002N            \r";
 
@@ -38,7 +38,7 @@ pub(crate) const TAKES: &[u8] = b"\x10\0\0\x16200000000000000000\x10\0\0\x064N\x
 pub(crate) const SENT: &[u8] =
     b"\x10\0\0\x09D\x83ABC\x10\0\0\x27T0000000000000000000000000000000003\x10\0\0\x05R";
 
-/// What the partner answers, what the station says behind its offer, how the session ends and how far the file has come.
+/// The partner's octets after the offer, the station's octets after it, the end of the session, and the state of the file.
 #[derive(Clone, Copy, Drop)]
 struct Answer<'a> {
     heard: &'a [u8],
@@ -47,7 +47,7 @@ struct Answer<'a> {
     state: OutgoingState,
 }
 
-/// Submits the file, calls the partner, who says this, so many octets at a time, and compares what goes out and what is left.
+/// Submits the file and calls the partner, whose octets arrive in pieces of `at_once`. Compares the station's octets and what is left.
 fn answers(
     alloc: Global,
     rt: &impl Abort,
@@ -83,7 +83,7 @@ pub(crate) fn joined(alloc: Global, first: &[u8], second: &[u8]) -> Result<Vec<u
 
 fn table() -> [Answer<'static>; 3] {
     [
-        // The file goes out, and is handed over.
+        // The file is sent and handed over.
         Answer {
             heard: TAKES,
             said: SENT,

@@ -1,4 +1,5 @@
-//! Files over an office that notes what it is asked for, and may lose a row. The partner's octets are spelled by hand from RFC 5024.
+//! Files over an office that notes the requests for rows and items, and may lose a row. The partner's octets are written by hand from RFC
+//! 5024.
 
 use super::BOOK;
 use super::hearing::{Line, call, caller, hear};
@@ -12,11 +13,11 @@ use std::alloc::{AllocError, Global};
 use std::process::Abort;
 use std::test::Fail;
 
-/// The partner's ready message, its SSID, SFPA from row 0 on, CDT, EFPA and ESID 00.
+/// The partner's SSRM, its SSID, SFPA from row 0 on, CDT, EFPA and ESID 00.
 const PARTNER: &[u8] =
     b"\x10\0\0\x17IODETTE FTP READY \r\x10\0\0\x41X5O0177CARMAKER            CARPW   00128BNYN002N            \r\x10\0\0\x16200000000000000000\x10\0\0\x07C  \x10\0\0\x064N\x10\0\0\x0bF00000\r";
 
-/// 300 records of no octet, in their local form.
+/// 300 empty records, in their local form.
 const RECORDS: Submission<'static> = Submission {
     format: Format::Variable,
     longest: 1,
@@ -24,7 +25,7 @@ const RECORDS: Submission<'static> = Submission {
     ..FILE
 };
 
-/// Submits a file, calls the partner and answers how the session ends. It has so many octets out.
+/// Submits a file, and calls the partner. Asserts how many octets were sent. Returns the end of the session.
 fn send(
     alloc: Global,
     rt: &impl Abort,
@@ -42,7 +43,7 @@ fn send(
     Ok(heard.end)
 }
 
-/// The speaker asks for 64 rows and, as there is room for more, for twice as many, but never for more than a DATA can carry.
+/// The speaker requests 64 rows and, while there is room for more, twice as many, but never more than fit into a DATA.
 #[test]
 fn rows_asked_for(rt: HostRuntime) -> Result<(), Fail> {
     let mut office = Noting::new(rt.alloc(), None);
@@ -54,7 +55,7 @@ fn rows_asked_for(rt: HostRuntime) -> Result<(), Fail> {
     Ok(())
 }
 
-/// A store that loses a row ends the session by ESID 08, before a payload of the other rows goes out.
+/// If the store loses a row, the session ends with ESID 08, before a payload with the other rows is sent.
 #[test]
 fn row_lost_by_the_store(rt: HostRuntime) -> Result<(), Fail> {
     let mut office = Noting::new(rt.alloc(), None);
@@ -81,16 +82,16 @@ const CONTENT: &[u8] = b"\x10\0\0\x09D\x83ABC\x10\0\0\x27T0000000000000000000000
 /// ESID 00.
 const OVER: &[u8] = b"\x10\0\0\x0bF00000\r";
 
-/// The station's ready message and its SSID.
+/// The station's SSRM and its SSID.
 const GREETED: &[u8] =
     b"\x10\0\0\x17IODETTE FTP READY \r\x10\0\0\x41X5O0013SUPPLIER            SUPPW   00128BNYN002N            \r";
 
-/// SFPA from row 0 on and EFPA, without a wish to speak and with one.
+/// SFPA from row 0 on and EFPA, without a request for CD and with one.
 const TAKEN: &[u8] = b"\x10\0\0\x16200000000000000000\x10\0\0\x064N";
 
 const TAKEN_AND_ASKED: &[u8] = b"\x10\0\0\x16200000000000000000\x10\0\0\x064Y";
 
-/// What a partner says who calls and sends three files, told apart by these digits.
+/// The octets of a partner that calls and sends three files, with these digits in their times.
 fn three_files(alloc: Global, digits: &[u8; 3]) -> Result<Vec<u8>, AllocError> {
     let mut octets = CALLER.to_vec(alloc)?;
     for digit in digits {
@@ -103,7 +104,7 @@ fn three_files(alloc: Global, digits: &[u8; 3]) -> Result<Vec<u8>, AllocError> {
     Ok(octets)
 }
 
-/// Hears three files, each of which is answered so.
+/// Receives three files, with this answer to each.
 fn take(
     alloc: Global,
     rt: &impl Abort,
@@ -124,7 +125,7 @@ fn take(
     Ok(())
 }
 
-/// However many files come in a session, what is next is looked up once: where no response is due, and where one is.
+/// However many files a session receives, the next item is looked up once, both if no response is due and if one is.
 #[test]
 fn next_looked_up_once(rt: HostRuntime) -> Result<(), Fail> {
     let mut office = Noting::new(rt.alloc(), None);

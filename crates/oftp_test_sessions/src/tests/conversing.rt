@@ -1,5 +1,4 @@
-//! A session over a database that hears its partner in three pieces, while others look at the register. The octets are spelled by hand from
-//! RFC 5024.
+//! A session over a database whose input arrives in three pieces, with look-ups between them. The octets are written by hand from RFC 5024.
 
 ghost use Rattle.std.specs.Prelude.{◌≢◌, OnOk};
 ghost use Rattle.oftp_session.specs.Standings.{Broken};
@@ -18,8 +17,8 @@ use std::alloc::Global;
 use std::process::Abort;
 use std::test::Fail;
 
-/// The partner's SSID, SFID of a file in V, DATA of two records, of which the second has no octet, DATA of a third one, EFID and ESID 00. It
-/// is cut within the password, and within the header of the last DATA.
+/// The partner's SSID, SFID of a file in V, DATA with two records, of which the second is empty, DATA with a third one, EFID and ESID 00.
+/// They are cut within the password, and within the header of the last DATA.
 const PIECES: [&[u8]; 3] = [
     b"\x10\0\0\x41X5O0177CARMAKER            CAR",
     b"PW   00128BNYN002N            \r\
@@ -31,29 +30,29 @@ const PIECES: [&[u8]; 3] = [
     b"\x08D\x82DE\x10\0\0\x27T0000000000000000300000000000000005\x10\0\0\x0bF00000\r",
 ];
 
-/// The station's ready message and its SSID, SFPA from row 0 on, CDT for two DATA, and EFPA.
+/// The station's SSRM and its SSID, SFPA from row 0 on, CDT for two DATA, and EFPA.
 const SAID: &[u8] =
     b"\x10\0\0\x17IODETTE FTP READY \r\x10\0\0\x41X5O0013SUPPLIER            SUPPW   00128BNYN002N            \r\
       \x10\0\0\x16200000000000000000\x10\0\0\x07C  \x10\0\0\x064N";
 
-/// Behind CDT the two records are kept.
+/// The two records are stored after CDT.
 const MEANWHILE: &str =
     "in 1 Open 2 ABC 20240131 1015300001 O0177CARMAKER O0013SUPPLIER Variable 3 |ABC|\n";
 
 const WHOLE: &str =
     "in 1 Whole 3 ABC 20240131 1015300001 O0177CARMAKER O0013SUPPLIER Variable 3 |ABC||DE\n";
 
-/// What a conversation came to.
+/// The result of a conversation.
 #[derive(Drop)]
 struct Talk {
-    /// How it ended, behind each piece.
+    /// The end, if it has one, after each piece.
     ends: [Option<Ending>; 3],
-    /// What the office kept before the last piece.
+    /// The register before the last piece.
     meanwhile: String,
     said: Vec<u8>,
 }
 
-// Hears a piece, and goes on.
+// Gives it a piece, and continues.
 fn take(
     conversation: &mut Conversation<'_>,
     office: &mut AtFiles,
@@ -67,7 +66,7 @@ fn take(
     go_on_durable(conversation, office, writer)
 }
 
-// Hears the pieces, with a look at the register behind the second.
+// Gives it the pieces, and reads the register after the second.
 fn converse(alloc: Global, office: AtFiles, book: &Book) -> Result<Talk, Fail> {
     let mut office = office;
     let mut conversation = Conversation::new(alloc, book, Role::Responder);
@@ -84,14 +83,14 @@ fn converse(alloc: Global, office: AtFiles, book: &Book) -> Result<Talk, Fail> {
     })
 }
 
-// It waited behind two pieces, and the partner ended it without a fault.
+// The conversation waits after two pieces, and then the partner ends it without an error.
 fn is_heard(talk: &Talk) -> bool {
     talk.ends == [None, None, Some(Ending::Partner(Count::new(0)))]
         && talk.meanwhile.as_str() == MEANWHILE
         && talk.said.as_slice() == SAID
 }
 
-// What is left where a session in memory hears all pieces at once. It says the same.
+// The register after a session in memory with all pieces at once. Its output is the same.
 fn left_at_once(alloc: Global, rt: &impl Abort, book: &Book) -> Result<String, Fail> {
     let mut octets = Vec::new(alloc);
     for piece in PIECES {
@@ -104,17 +103,17 @@ fn left_at_once(alloc: Global, rt: &impl Abort, book: &Book) -> Result<String, F
     Ok(kept(alloc, &mut office)?)
 }
 
-// The files of the database at a path.
+// The database's files.
 const FILES: [&str; 2] = ["conversation_test.db", "conversation_test.db-wal"];
 
-// What is found where the files are opened again.
+// The register when the files are opened again.
 fn found_again(rt: &HostRuntime) -> Result<String, Fail> {
     let mut office = open(rt, &FILES)?;
     Ok(kept(rt.alloc(), &mut office)?)
 }
 
-/// Behind the second piece it waits, and the register is looked at. At its end the database has what a session leaves that hears all at
-/// once.
+/// The conversation waits after the second piece, and the register can be read. At its end the database has the same register as after a
+/// session with all pieces at once.
 #[test]
 fn conversation_over_a_database(rt: HostRuntime) -> Result<(), Fail> {
     let alloc = rt.alloc();

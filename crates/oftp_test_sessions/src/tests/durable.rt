@@ -1,4 +1,4 @@
-//! Sessions, calls and lists over a database. The expected octets are spelled by hand from RFC 5024.
+//! Sessions, calls and lists over a database. The expected octets are written by hand from RFC 5024.
 
 use super::BOOK;
 use super::operators::{FILE, LIMITS};
@@ -13,17 +13,17 @@ use std::fs;
 use std::process::Abort;
 use std::test::Fail;
 
-/// The station's ready message.
+/// The station's SSRM.
 const READY: &[u8] = b"\x10\0\0\x17IODETTE FTP READY \r";
 
 type AnyJob<'a> = Job<'a, &'static [u8], Vec<u8>>;
 
-// A call of an operator.
+// An operator's call.
 fn call<'a>(alloc: Global, operator: Operator<'a>) -> AnyJob<'a> {
     Job::call(operator, Port::new(Vec::new(alloc), 0))
 }
 
-// What a call came to.
+// The result of a call.
 fn answer(job: &AnyJob<'_>) -> Option<Result<Told, RunFault>> {
     match job {
         Job::Session(_) => None,
@@ -31,7 +31,7 @@ fn answer(job: &AnyJob<'_>) -> Option<Result<Told, RunFault>> {
     }
 }
 
-// Opens an office again over its connection, and counts the files that it sends.
+// Opens an office again over its connection, and counts the outgoing files.
 fn files_again<S: Alter + Drop>(alloc: Global, office: SqlOffice<S>) -> Result<usize, Fail> {
     let conn = office.into_conn();
     if !conn.is_autocommit() {
@@ -43,7 +43,7 @@ fn files_again<S: Alter + Drop>(alloc: Global, office: SqlOffice<S>) -> Result<u
     Ok(office.list_out()?.len())
 }
 
-// A session in which the partner says nothing.
+// A session in which the partner sends nothing.
 fn silence<S: Alter>(
     alloc: Global,
     office: &mut SqlOffice<S>,
@@ -72,7 +72,7 @@ fn submit<S: Alter>(
     told
 }
 
-// A call, a session and a list are done by one office, and the file is there when it is opened again.
+// One office does a call, a session and a list. The file exists when the office is opened again.
 fn works<S: Alter + Drop>(
     alloc: Global,
     rt: &impl Abort,
@@ -99,7 +99,7 @@ fn works<S: Alter + Drop>(
     Ok(())
 }
 
-// The files of the database at a path.
+// The database's files.
 const FILES: [&str; 2] = ["stations_test.db", "stations_test.db-wal"];
 
 /// Removes the files of a database.
@@ -124,7 +124,7 @@ pub(crate) fn open(rt: &HostRuntime, files: &[&str; 2]) -> Result<AtFiles, Fail>
     open_durable(rt, files[0], LIMITS, Unknown).map_err(|_| "not opened".into())
 }
 
-/// A list is done over the files at a path, and its file is there when they are opened again. Over new files an office works.
+/// A list is done over the files at a path, and its file exists when they are opened again. An office works over new files.
 #[test]
 fn over_files(rt: HostRuntime) -> Result<(), Fail> {
     let alloc = rt.alloc();

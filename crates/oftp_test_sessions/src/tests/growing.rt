@@ -1,4 +1,4 @@
-//! A list of jobs that grows: each is done as it comes. The octets are spelled by hand from RFC 5024.
+//! A growing list of jobs: each is done as it is added. The octets are written by hand from RFC 5024.
 
 use super::BOOK;
 use super::answers::{GREETING, OFFER, SENT, TAKES, THREE_OCTETS, joined};
@@ -18,7 +18,7 @@ fn submission<'a>(alloc: Global) -> AnyJob<'a> {
     Job::call(Operator::Submit(THREE_OCTETS), writer)
 }
 
-// A session in which the partner's octets come in pieces of seven.
+// A session in which the partner's octets arrive in pieces of seven.
 fn session<'a>(alloc: Global, role: Role<'a>, octets: &'a [u8]) -> AnyJob<'a> {
     let line = Line {
         octets,
@@ -32,7 +32,7 @@ fn session<'a>(alloc: Global, role: Role<'a>, octets: &'a [u8]) -> AnyJob<'a> {
     )
 }
 
-// Does a job. The proof of a test then doesn't carry what the job did.
+// Does a job in a function of its own, so that the proof of a test doesn't carry its effects.
 fn work(
     alloc: Global,
     office: &mut Noting,
@@ -42,7 +42,7 @@ fn work(
     do_next(alloc, office, book, job)
 }
 
-// Whether a job is a call that was done and has said this.
+// Whether a job is a call that was done and wrote this.
 fn is_done(job: &AnyJob<'_>, line: &[u8]) -> bool {
     match job {
         Job::Call(call) => {
@@ -52,7 +52,7 @@ fn is_done(job: &AnyJob<'_>, line: &[u8]) -> bool {
     }
 }
 
-// Whether a job is a session that the partner ended without a fault, and has said this.
+// Whether a job is a session that the partner ended without an error, with this output.
 fn is_ended(job: &AnyJob<'_>, said: &[u8]) -> bool {
     match job {
         Job::Session(session) => {
@@ -67,7 +67,7 @@ fn is_ended(job: &AnyJob<'_>, said: &[u8]) -> bool {
 const HANDED: &str =
     "out 1 Handed 0 of 1 ABC 20240131 1015300001 O0013SUPPLIER O0177CARMAKER Unstructured 0 |ABC\n";
 
-/// A file is submitted, and then the partner is called, who takes it.
+/// A file is submitted, and then the partner is called, which takes it.
 #[test]
 fn jobs_as_they_come(rt: HostRuntime) -> Result<(), Fail> {
     let alloc = rt.alloc();

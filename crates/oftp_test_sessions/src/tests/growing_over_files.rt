@@ -1,4 +1,4 @@
-//! A list of jobs over a database that grows by one job at a time. The expected octets are spelled by hand from RFC 5024.
+//! A growing list of jobs over a database. The expected octets are written by hand from RFC 5024.
 
 use super::BOOK;
 use super::operators::{FILE, LIMITS};
@@ -13,12 +13,12 @@ use std::fs;
 use std::process::Abort;
 use std::test::Fail;
 
-/// The station's ready message.
+/// The station's SSRM.
 const READY: &[u8] = b"\x10\0\0\x17IODETTE FTP READY \r";
 
 type AnyJob<'a> = Job<'a, &'static [u8], Vec<u8>>;
 
-// What the next job comes to, once it is done: a session's end or a call's, and what it has out.
+// The result of a job that was done: the end of a session or the result of a call, and its output.
 #[derive(Drop)]
 enum Done {
     Session(Option<Result<End, RunFault>>, Vec<u8>),
@@ -39,12 +39,12 @@ fn carried_out<S: Alter>(
     })
 }
 
-// A call of an operator.
+// An operator's call.
 fn call<'a>(alloc: Global, operator: Operator<'a>) -> AnyJob<'a> {
     Job::call(operator, Port::new(Vec::new(alloc), 0))
 }
 
-// A session in which the partner says nothing.
+// A session in which the partner sends nothing.
 fn silence<'a>(alloc: Global) -> AnyJob<'a> {
     let nothing: &[u8] = b"";
     Job::session(
@@ -54,7 +54,7 @@ fn silence<'a>(alloc: Global) -> AnyJob<'a> {
     )
 }
 
-// A call, a session and a call that is refused are done one by one, and each has its answer.
+// A call, a session and a call that is refused are done one by one, and each has its result.
 fn grows<S: Alter>(alloc: Global, rt: &impl Abort, office: &mut SqlOffice<S>) -> Result<(), Fail> {
     let book = read(alloc, BOOK)?;
     let submit = call(alloc, Operator::Submit(FILE));
@@ -76,7 +76,7 @@ fn grows<S: Alter>(alloc: Global, rt: &impl Abort, office: &mut SqlOffice<S>) ->
     Ok(())
 }
 
-// The files of the database at a path.
+// The database's files.
 const FILES: [&str; 2] = ["growing_test.db", "growing_test.db-wal"];
 
 fn remove_files(rt: &HostRuntime) {
@@ -85,7 +85,7 @@ fn remove_files(rt: &HostRuntime) {
     }
 }
 
-/// Jobs are done as they come, over a database's files.
+/// Jobs are done as they are added, over a database's files.
 #[test]
 fn jobs_as_they_come(rt: HostRuntime) -> Result<(), Fail> {
     let alloc = rt.alloc();

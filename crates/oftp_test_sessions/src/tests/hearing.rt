@@ -1,4 +1,4 @@
-//! A session that a station serves over what it hears, and a call of its operator. Only here the engine is called for one office.
+//! Runs a session with an office, or an operator's call. Only this file calls the engine for one office.
 
 use super::noting::Noting;
 use oftp_engine::{End, Operator, Port, Role, RunFault, Told, operate, serve};
@@ -7,17 +7,17 @@ use std::alloc::Global;
 use std::io::{self, ErrorKind, Read};
 use std::test::Fail;
 
-/// A reader that gives some octets at a call, and at the end tells it or fails.
+/// A reader that returns some octets per call, and then ends or fails.
 #[derive(Drop)]
 pub(crate) struct Line<'a> {
     pub(crate) octets: &'a [u8],
-    /// How many octets it gives at a call, at most.
+    /// How many octets it returns per call, at most.
     pub(crate) at_once: usize,
     pub(crate) breaks: bool,
 }
 
 impl<'a> Line<'a> {
-    /// A line that gives all at once, and ends.
+    /// A reader that returns all octets at once, and ends.
     pub(crate) fn of(octets: &'a [u8]) -> Line<'a> {
         Line {
             octets,
@@ -39,7 +39,7 @@ impl Read for Line<'_> {
     }
 }
 
-/// What a session came to.
+/// The result of a session.
 #[derive(Drop)]
 pub(crate) struct Heard {
     pub(crate) end: Result<End, RunFault>,
@@ -47,15 +47,15 @@ pub(crate) struct Heard {
     pub(crate) octets: u64,
     /// Whether the input has ended.
     pub(crate) has_ended: bool,
-    /// What the station said.
+    /// The station's output.
     pub(crate) said: Vec<u8>,
-    /// How many octets the port counts of that.
+    /// How many octets of the output the port counts.
     pub(crate) moved: u64,
-    /// How many faults of the writer the port counts.
+    /// How many errors of the writer the port counts.
     pub(crate) faults: u64,
 }
 
-/// Serves a session in which so many octets of a line are heard at most.
+/// Serves a session in which at most this many octets are read.
 pub(crate) fn hear(
     alloc: Global,
     office: &mut Noting,
@@ -77,7 +77,7 @@ pub(crate) fn hear(
     }
 }
 
-/// Carries out an operator's call, and adds its line.
+/// Does an operator's call, and adds its line.
 pub(crate) fn call(
     alloc: Global,
     office: &mut Noting,
@@ -91,7 +91,7 @@ pub(crate) fn call(
     told
 }
 
-/// The part of the station that calls a partner.
+/// The role of a station that calls a partner.
 pub(crate) fn caller<'a>(book: &'a Book, partner: &[u8]) -> Result<Role<'a>, Fail> {
     match book.partner(partner) {
         Some(partner) => Ok(Role::Initiator(partner)),

@@ -1,4 +1,4 @@
-//! What any office keeps, as a text: the files with their rows, and the responses. Each file and each response that came is a line.
+//! The register of an office as text: the files with their rows, and the responses. Each file and each received response is a line.
 
 use oftp_register::{
     Identity, IncomingEntry, IssuedResponse, Note, Office, OfficeFault, OutgoingEntry,
@@ -31,7 +31,7 @@ fn add_identity(all: &mut String, identity: &Identity) -> Result<(), AllocError>
     Ok(())
 }
 
-// What a file is, whichever way it goes.
+// Adds the header of a file of either direction.
 fn add_header(
     all: &mut String,
     identity: &Identity,
@@ -50,7 +50,7 @@ fn add_response(all: &mut String, response: &IssuedResponse) -> Result<(), Alloc
     write!(all, " {kind:?} {reason} {note} {dispatch:?}")
 }
 
-// The rows of a file, each behind a bar, and the end of its line.
+// Adds the rows of a file, each after a bar, and the end of its line.
 fn add_rows<O: Office>(
     all: &mut String,
     office: &mut O,
@@ -120,7 +120,7 @@ fn add_all_out<O: Office>(all: &mut String, office: &mut O) -> Result<(), Office
     Ok(())
 }
 
-/// What an office keeps: the files that come, those that go, and the responses that came.
+/// The register as text: the incoming files, the outgoing files, and the received responses.
 pub(crate) fn kept<O: Office>(alloc: Global, office: &mut O) -> Result<String, OfficeFault> {
     let mut all = String::new(alloc);
     add_all_in(&mut all, office)?;

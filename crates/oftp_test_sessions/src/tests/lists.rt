@@ -12,7 +12,7 @@ use std::test::Fail;
 
 type AnyJob<'a> = Job<'a, Line<'a>, Vec<u8>>;
 
-// A session in which the partner calls and sends an end response.
+// A session in which the partner calls and sends an EERP.
 fn session<'a>(alloc: Global, breaks: bool) -> AnyJob<'a> {
     let line = Line {
         octets: INPUT,
@@ -31,7 +31,7 @@ fn submission<'a>(alloc: Global) -> AnyJob<'a> {
     Job::call(Operator::Submit(FILE), Port::new(Vec::new(alloc), 0))
 }
 
-/// What a job came to: a session with so many octets out, or a call with its line.
+/// The result of a job: a session with this many octets of output, or a call with its line.
 #[derive(Drop)]
 enum Wanted {
     Session(Option<Result<End, RunFault>>, u64),
@@ -50,7 +50,7 @@ fn is_so(job: &AnyJob<'_>, wanted: &Wanted) -> bool {
     }
 }
 
-/// Does a session whose reader breaks or not, a submission and another session, and compares what each came to.
+/// Does a session, whose reader fails if `breaks`, a submission and another session, and compares their results.
 fn list(
     alloc: Global,
     rt: &impl Abort,
@@ -72,7 +72,7 @@ fn list(
     Ok(())
 }
 
-/// The reader of the first job fails, and the others are done. Each session has its messages and the receipt of the response out.
+/// The reader of the first job fails, and the other jobs are done. Each session sent its SSRM, its SSID and the RTR.
 #[test]
 fn a_list_goes_on(rt: HostRuntime) -> Result<(), Fail> {
     let wanted = [
@@ -84,7 +84,7 @@ fn a_list_goes_on(rt: HostRuntime) -> Result<(), Fail> {
     list(rt.alloc(), &rt, &mut office, true, Ok(()), &wanted)
 }
 
-/// The office fails in the first job, and the list ends there: the others are as they were.
+/// The office fails in the first job, and the list ends there: the other jobs are unchanged.
 #[test]
 fn a_list_ends(rt: HostRuntime) -> Result<(), Fail> {
     let wanted = [

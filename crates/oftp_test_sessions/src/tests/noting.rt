@@ -1,4 +1,4 @@
-//! An office in memory that notes what it is asked for, and may lose a row or stop.
+//! An office in memory that notes the requests for rows and items, and may lose a row or fail.
 
 ghost use Rattle.std.specs.Prelude.{◌≡◌, IfErr};
 ghost use Rattle.oftp_register.specs.Offices.{Counts, IsFailure};
@@ -16,43 +16,43 @@ const ONE_OCTET: Limits = Limits {
     octets: 1,
 };
 
-/// An office in memory. To contracts it reads nothing that was written, so nothing more is to be proved of it than its faults.
+/// An office in memory. For contracts it reads nothing that was written, so that only its errors have to be proved.
 #[derive(Drop)]
 pub(crate) struct Noting {
-    /// What it keeps, and what is found when it is opened again.
+    /// The register, which is still there when the office is opened again.
     pub(crate) office: PlainOffice,
-    /// How many rows it was asked for at most.
+    /// The most rows that were requested at once.
     pub(crate) most: u64,
-    /// How often it was asked what is sent next.
+    /// How often the next item was looked up.
     pub(crate) next: u64,
-    /// Whether it loses the last of the rows that it is asked for.
+    /// Whether it loses the last of the requested rows.
     pub(crate) loses: bool,
-    /// Whether it has stopped: then each call tells a fault.
+    /// Whether it has failed: then each call returns an error.
     pub(crate) is_stopped: bool,
     stop: Option<Stop>,
-    /// Whether it looks up responses although it has stopped, and finds none.
+    /// Whether the look-up of responses works even after it has failed, and finds none.
     looks: bool,
     faults: u64,
 }
 
-/// Where an office stops.
+/// When an office fails.
 #[derive(Clone, Copy, Drop)]
 pub(crate) struct Stop {
-    /// How many commits it still carries out.
+    /// How many commits it makes before.
     pub(crate) commits: u64,
-    /// Whether it stops behind the change of the commit that fails then, and not before it.
+    /// Whether it fails after the change of the next commit, and not before it.
     pub(crate) is_made: bool,
 }
 
 impl Noting {
-    /// An office with an empty register, that may stop.
+    /// An office with an empty register, which may fail.
     pub(crate) fn new(alloc: Global, stop: Option<Stop>) -> Noting {
         let mut office = Noting::over(PlainOffice::new(alloc, LIMITS));
         office.stop = stop;
         office
     }
 
-    /// An office that does what one in memory does.
+    /// An office over one in memory.
     pub(crate) fn over(office: PlainOffice) -> Noting {
         Noting {
             office,
@@ -66,7 +66,7 @@ impl Noting {
         }
     }
 
-    /// An office for a file of one octet that has stopped, but for the look-up of a response where `looks` is true.
+    /// An office with room for one octet that has failed, except for the look-up of responses if `looks`.
     pub(crate) fn failing(alloc: Global, looks: bool) -> Noting {
         let mut office = Noting::over(PlainOffice::new(alloc, ONE_OCTET));
         office.is_stopped = true;
@@ -74,18 +74,18 @@ impl Noting {
         office
     }
 
-    /// How many faults it told.
+    /// How many errors it returned.
     pub(crate) fn faults(&self) -> u64 {
         self.faults
     }
 
-    /// Opens it again, for good.
+    /// Opens it again. It doesn't fail any more.
     pub(crate) fn open_again(&mut self) {
         self.is_stopped = false;
         self.stop = None;
     }
 
-    // A fault of each call once it has stopped.
+    // Returns an error if it has failed.
     fn opened(&mut self) -> Result<(), OfficeFault>
         ensures fault { IfErr result IsFailure }
         ensures counts { Counts self.old.faults self.new.faults result }
@@ -96,7 +96,7 @@ impl Noting {
         Ok(())
     }
 
-    // Stops in a commit, before the change is made or behind it.
+    // Fails in a commit, before the change or after it.
     fn stop_at(&mut self, change: Change<'_>, is_made: bool) -> Result<(), OfficeFault>
         ensures counts { Counts self.old.faults self.new.faults result }
     {
@@ -107,7 +107,7 @@ impl Noting {
         self.counted(Err(OfficeFault::Store))
     }
 
-    // What a call found, its fault counted.
+    // Counts the error of a call.
     fn counted<T>(&mut self, found: Result<T, OfficeFault>) -> Result<T, OfficeFault>
         ensures found { result ≡ found }
         ensures counts { Counts self.old.faults self.new.faults result }

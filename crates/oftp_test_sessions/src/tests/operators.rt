@@ -41,7 +41,7 @@ const LIMIT: &str = "refused: 4 limit\n";
 
 const FIELD: &str = "refused: 5 field\n";
 
-/// A call, the line that it writes and what it answers.
+/// A call, its line and its result.
 type Row<'a> = (Operator<'a>, &'a str, Told);
 
 fn tells(
@@ -110,7 +110,7 @@ const THIRD: Submission<'static> = Submission {
     ..FILE
 };
 
-/// The limits are of octets without the digits of V, of rows and of files. A duplicate is told before each.
+/// The limits of octets, not counting the digits of V, of rows and of files. A duplicate is found before each.
 #[test]
 fn limits_of_files(rt: HostRuntime) -> Result<(), Fail> {
     let digits = String::from_str(rt.alloc(), "00000")?.repeat(rt.alloc(), 1_000_001)?;
@@ -138,7 +138,7 @@ fn limits_of_files(rt: HostRuntime) -> Result<(), Fail> {
     )
 }
 
-/// The store fails in the commit of a response or of a file, or in the look-up of a file that is too big: nothing is told.
+/// The store fails in the commit of a response or of a file, or in the look-up of a file that is too large. No line is written.
 #[test]
 fn operator_at_a_failing_office(rt: HostRuntime) -> Result<(), Fail> {
     let book = read(rt.alloc(), BOOK)?;

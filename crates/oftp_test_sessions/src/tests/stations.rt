@@ -1,6 +1,6 @@
-//! Two stations in memory that hear only each other, while their connection breaks or one of them stops. A round is two sessions: the
-//! sender begins one, and the receiver, whose operator releases the file before, begins the other. In a first round something breaks.
-//! After a second one, which is whole, the file is delivered, whole and answered once.
+//! Two stations in memory that are connected to each other, while the connection breaks or one of them crashes. A round is two sessions:
+//! the sender begins one, and the receiver, whose operator releases the file before, begins the other. In the first round something breaks.
+//! After the second one, in which nothing breaks, the file is delivered, whole and answered once.
 
 use super::BOOK;
 use super::hearing::{Line, call, caller, hear};
@@ -17,13 +17,13 @@ use std::test::Fail;
 const OTHER_BOOK: &str =
     "[station]\ncode = 'O0177CARMAKER'\nbuffer = 128\ncredit = 2\nrestart = true\n[[partner]]\ncode = 'O0013SUPPLIER'\nexpects = 'SUPPW'\nsends = 'CARPW'\nmode = 'B'\naddress = '127.0.0.1:3305'\n";
 
-/// The file is delivered, and one response for it came. Its mark counts the two whole blocks of 1,024 octets that CDTs covered.
+/// The file is delivered, and one response to it was received. Its mark counts the two whole blocks of 1,024 octets that CDT covered.
 const AT_THE_SENDER: &str = "out Delivered 2\nreceived EndResponse\n";
 
-/// The file is whole, its three rows are those that were sent, and one response for it was sent.
+/// The file is whole, with its three rows as they were sent, and one response to it was sent.
 const AT_THE_RECEIVER: &str = "in Whole 3 3\nissued EndResponse Sent\n";
 
-/// What is given: both books, and the file's octets.
+/// The fixture: both books, and the file's octets.
 #[derive(Drop)]
 struct Given {
     book: Book,
@@ -74,7 +74,7 @@ impl Given {
     }
 }
 
-/// A station. All that it has comes from what it heard.
+/// A station. Its register follows from the octets that it received.
 #[derive(Drop)]
 struct Station<'a> {
     book: &'a Book,
@@ -82,19 +82,19 @@ struct Station<'a> {
     partner: &'static [u8],
     /// Whether it begins the first session of a round, and not the second.
     is_first: bool,
-    /// What its operator wants before each session that it begins.
+    /// The operator's call before each session that it begins.
     call: Operator<'a>,
-    /// Where its office stops in the first round.
+    /// When its office fails in the first round.
     stop: Option<Stop>,
-    /// What it heard in each session so far.
+    /// The octets that it received in each session so far.
     heard: Vec<Vec<u8>>,
     /// The octets of the file.
     content: &'a [u8],
-    /// What it is to have in the end.
+    /// Its register at the end.
     wanted: &'static str,
 }
 
-/// A station's part in a session: what it says, and what it has behind it.
+/// A station's part in a session: its output, and its register afterwards.
 #[derive(Drop)]
 struct Part {
     said: Vec<u8>,
@@ -111,8 +111,8 @@ impl Station<'_> {
         Ok(office)
     }
 
-    /// Serves a session in which it hears this, and answers what it says. Its office is opened again before the second round. That
-    /// its operator is refused, or the session breaks off, is no fault of the test.
+    /// Serves a session with this input. Returns its output. The office is opened again before the second round. A refused operator's call
+    /// or a broken session doesn't fail the test.
     fn serve(
         &self,
         alloc: Global,
@@ -132,7 +132,7 @@ impl Station<'_> {
         Ok(heard.said)
     }
 
-    /// Its part in its next session, where it hears this.
+    /// Its part in its next session, with this input.
     fn play(&self, alloc: Global, heard: &[u8]) -> Result<Part, Fail> {
         let mut office = self.office(alloc)?;
         let said = self.serve(alloc, &mut office, self.heard.len(), heard)?;
@@ -141,8 +141,8 @@ impl Station<'_> {
     }
 }
 
-/// What a register has, in words: of each outgoing file the state and the mark, of each incoming one the state, how many rows it has
-/// and how many are those of the file's octets.
+/// A register as text: for each outgoing file the state and the mark, for each incoming one the state, the number of rows, and how many of
+/// them are the file's.
 fn told(alloc: Global, office: &mut PlainOffice, content: &[u8]) -> Result<String, Fail> {
     let mut text = String::new(alloc);
     for file in office.list_out()? {
@@ -166,7 +166,7 @@ fn told(alloc: Global, office: &mut PlainOffice, content: &[u8]) -> Result<Strin
     Ok(text)
 }
 
-/// A session that doesn't break: each hears all that the other says. They say it anew until neither says more.
+/// A session that doesn't break: each station receives the whole output of the other. It is repeated until neither sends more.
 fn converse(alloc: Global, one: &mut Station<'_>, other: &mut Station<'_>) -> Result<(), Fail> {
     let mut heard = Vec::new(alloc);
     for _ in 0..99 {
@@ -182,7 +182,7 @@ fn converse(alloc: Global, one: &mut Station<'_>, other: &mut Station<'_>) -> Re
     Err("they have more to say")?
 }
 
-/// A station has what it is to have in the end.
+/// Asserts that a station has its register of the end.
 fn ends(alloc: Global, rt: &impl Abort, station: &Station<'_>) -> Result<(), Fail> {
     let mut office = station.office(alloc)?.office;
     let text = told(alloc, &mut office, station.content)?;
@@ -190,7 +190,7 @@ fn ends(alloc: Global, rt: &impl Abort, station: &Station<'_>) -> Result<(), Fai
     Ok(())
 }
 
-/// Goes on to the end of the second round. Both then have what they are to have.
+/// Continues to the end of the second round, and asserts that both have their registers of the end.
 fn finish(
     alloc: Global,
     rt: &impl Abort,
@@ -204,8 +204,9 @@ fn finish(
     ends(alloc, rt, other)
 }
 
-/// Breaks the next session after each octet that one station hears in it. The other hears all that is said to that, and its part is
-/// the same as long as no more is said. What follows depends on what both have then, so it is played where that has changed.
+/// Breaks the next session after each octet that one station receives in it. The other station receives the whole output of the first. It
+/// is played again only when that output is longer. The following sessions depend on both registers, so they are only played when one has
+/// changed.
 fn break_each(
     alloc: Global,
     rt: &impl Abort,
@@ -267,8 +268,8 @@ fn break_after_each_octet(rt: HostRuntime) -> Result<(), Fail> {
     finish(alloc, &rt, &mut sender, &mut receiver)
 }
 
-/// The receiver's office stops in the first round, in each of its commits in turn, before the change is made and behind it: in those
-/// that begin the file, keep its first row and its second, close it, release it and send the response.
+/// The receiver's office fails in the first round, in each of its commits in turn, before the change and after it: in those that begin the
+/// file, store its first row and its second, close it, release it and send the response.
 #[test]
 fn stop_at_each_write(rt: HostRuntime) -> Result<(), Fail> {
     let alloc = rt.alloc();
