@@ -42,13 +42,13 @@ pub enum Line<'a> {
     Submit(Submit<'a>),
     /// Submits the files of a folder to be sent to a partner.
     Offer(Offer<'a>),
-    /// Marks an incoming file as delivered.
+    /// Issues the End-to-End Response of an incoming file.
     Release(Release<'a>),
-    /// Marks an incoming file as not delivered.
+    /// Issues the Negative End Response of an incoming file.
     Refuse(Refuse<'a>),
     /// Writes an incoming file to a file.
     Fetch(Fetch<'a>),
-    /// Writes the incoming files without a response to a folder.
+    /// Writes the incoming files that are whole and have no response to a folder.
     Collect(Collect<'a>),
     /// Prints a report of the database.
     Report(Report<'a>),

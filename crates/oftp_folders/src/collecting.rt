@@ -11,11 +11,12 @@ use std::io::Write;
 const ANSWERED: &str = "refused: 3 state";
 
 /// Writes each incoming file that is whole and has no response to a folder, unless it is there already. If the command line asks for it,
-/// its End-to-End Response is issued once the file is synced. Each gets a line in `out`. Returns whether none was refused.
+/// its End-to-End Response is issued once the file is synced. Each gets a line in `out`, except one that is there already and isn't
+/// released. Returns whether none was refused.
 ///
 /// # Errors
-/// Those of the clerk, that a file can't be created, or that `out` returned an error. What was written and released so far stays, and the
-/// next call continues there.
+/// Those of the clerk, that a file can't be created or the folder synced, or that `out` returned an error. What was written and released so
+/// far stays, and the next call continues there.
 pub fn collect<D: Clerk + Drop>(
     rt: &HostRuntime,
     line: &Collect<'_>,

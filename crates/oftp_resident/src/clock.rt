@@ -62,7 +62,8 @@ impl<'a> Clock<'a> {
         true
     }
 
-    /// Whether something is to be sent to the partner at an index of the list. `None` if there is no such index.
+    /// Whether something is to be sent to the partner at an index of the list. A partner with mode `Receive` never counts. `None` if there
+    /// is no such index.
     ///
     /// # Errors
     /// The office failed.

@@ -76,8 +76,8 @@ fn shared_database<'a>(line: &Line<'a>) -> Option<&'a str> {
     }
 }
 
-/// Carries out a command: by the station that runs over its database, or else with the database itself. If the database stays locked, a
-/// station that has started meanwhile is asked.
+/// Carries out a command: by the station that runs over its database, or else with the database itself. After an error of the store, such
+/// as a locked database, a station that has started meanwhile is asked.
 fn carry_out(
     rt: &HostRuntime,
     words: &[String],
@@ -136,7 +136,8 @@ fn ask(
     }
 }
 
-/// Carries out a command and writes its line. Returns the exit status. Operator's calls, reports and services write their lines themselves.
+/// Carries out a command and writes its line. Returns the exit status. Operator's calls, reports, services and commands over a folder write
+/// their lines themselves.
 fn carry_out_alone(
     rt: &HostRuntime,
     line: &Line<'_>,

@@ -101,7 +101,7 @@ pub(super) fn submit_read<'a>(
     })
 }
 
-/// The command `release`, which marks an incoming file as delivered.
+/// The command `release`, which issues the End-to-End Response of an incoming file.
 #[derive(Clone, Copy)]
 pub struct Release<'a> {
     /// The database and the book.
@@ -128,7 +128,7 @@ pub(super) fn release_read<'a>(matches: &ArgMatches<'a>) -> Release<'a>
     }
 }
 
-/// The command `refuse`, which marks an incoming file as not delivered.
+/// The command `refuse`, which issues the Negative End Response of an incoming file.
 #[derive(Clone, Copy)]
 pub struct Refuse<'a> {
     /// The database and the book.
