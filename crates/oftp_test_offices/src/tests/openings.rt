@@ -88,7 +88,7 @@ fn opened_twice_and_migrated(rt: HostRuntime) -> Result<(), Fail> {
     Ok(())
 }
 
-// A statement for a store, and how many objects and rows of `about` it then has.
+// A statement for the store of an office, and how many objects and rows of `about` it then has.
 type Wrong = (&'static str, &'static str, &'static str);
 
 const EDITS: &[Wrong] = &[
