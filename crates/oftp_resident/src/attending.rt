@@ -18,13 +18,11 @@ const PIECE: usize = 4_096;
 
 /// What a session of the resident station is served over: its office, and those who ask meanwhile.
 #[derive(Drop)]
-pub(super) struct Attending<'r, 'a, O, P> {
+pub(super) struct Attending<'r, 'a, O> {
     /// The station.
     pub(super) resident: &'r mut Resident<'a>,
     /// Its office.
     pub(super) office: &'r mut O,
-    /// Where the lines of callers go who can't be greeted.
-    pub(super) out: &'r mut P,
     /// When the session gives way to a caller, if it is a call.
     pub(super) yielding: Option<Yielding>,
 }
@@ -37,7 +35,7 @@ struct Wait<'a> {
     term: Term<'a>,
 }
 
-impl<O: HeldOffice, P: Write> Desk for Attending<'_, '_, O, P> {
+impl<O: HeldOffice> Desk for Attending<'_, '_, O> {
     fn converse<R: Read + Drop, W: Write + Drop>(
         &mut self,
         rt: &HostRuntime,
@@ -61,7 +59,7 @@ impl<O: HeldOffice, P: Write> Desk for Attending<'_, '_, O, P> {
     }
 }
 
-impl<O: HeldOffice, P: Write> Attending<'_, '_, O, P> {
+impl<O: HeldOffice> Attending<'_, '_, O> {
     /// Goes through a session to its end.
     fn talk<R: Read, W: Write>(
         &mut self,
@@ -160,7 +158,7 @@ impl<O: HeldOffice, P: Write> Attending<'_, '_, O, P> {
         let Some(yielding) = &mut self.yielding else {
             return Ok(false);
         };
-        self.resident.welcome_callers(self.out)?;
+        self.resident.welcome_callers_within()?;
         let is_awaited = self.resident.has_guest()?;
         Ok(yielding.gives_way(self.resident.rt, is_awaited))
     }

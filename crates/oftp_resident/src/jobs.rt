@@ -44,7 +44,6 @@ impl Resident<'_> {
         let mut desk = Attending {
             resident: self,
             office,
-            out,
             yielding: None,
         };
         let served = serve_caller(rt, &caller, &station, &mut desk);
@@ -95,7 +94,7 @@ impl Resident<'_> {
         } = called;
         let begun = Instant::now(rt);
         let trace = Trace::kept(rt);
-        let ended = self.converse(stream, &wanted, &trace, office, out);
+        let ended = self.converse(stream, &wanted, &trace, office);
         if let Ok(begun) = begun {
             self.waiting.stand_still(begun);
         }
@@ -130,7 +129,6 @@ impl Resident<'_> {
         wanted: &Wanted,
         trace: &Trace<'_>,
         office: &mut impl HeldOffice,
-        out: &mut impl Write,
     ) -> Result<Option<End>, Fault> {
         let stream = stream?;
         let book = book_of_call(wanted, self.station.book);
@@ -154,7 +152,6 @@ impl Resident<'_> {
         let mut desk = Attending {
             resident: self,
             office,
-            out,
             yielding: Some(Yielding::of(book, partner)),
         };
         let served = serve_called(rt, &connection, partner, &station, &mut desk);
