@@ -40,14 +40,9 @@ impl Resident<'_> {
             None => None,
         };
         let begun = Instant::now(rt);
-        let station = self.station;
-        let mut desk = Attending {
-            resident: self,
-            office,
-            yielding: None,
-        };
-        let served = serve_caller(rt, &caller, &station, &mut desk);
+        let served = self.attend_caller(&caller, office);
         let Caller { connection, .. } = caller;
+        let station = self.station;
         self.part_from(connection, &station, &served);
         if let Ok(begun) = begun {
             self.waiting.stand_still(begun);
@@ -55,6 +50,27 @@ impl Resident<'_> {
         self.count_job();
         tell_caller(out, code, served)?;
         Ok(true)
+    }
+
+    /// One session with a caller.
+    fn attend_caller(
+        &mut self,
+        caller: &Caller,
+        office: &mut impl HeldOffice,
+    ) -> Result<End, Trouble> {
+        let rt = self.rt;
+        let station = Station {
+            book: self.station.book,
+            patience: self.station.patience,
+            longest: self.station.longest,
+            trace: self.station.trace,
+        };
+        let mut desk = Attending {
+            resident: self,
+            office,
+            yielding: None,
+        };
+        serve_caller(rt, caller, &station, &mut desk)
     }
 
     /// Appends how a session ended to its trace. Where the station had the last word, the partner is left the time to read it, beside all
