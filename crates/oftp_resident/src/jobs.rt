@@ -40,7 +40,7 @@ impl Resident<'_> {
             None => None,
         };
         let begun = Instant::now(rt);
-        let served = self.attend_caller(&caller, office);
+        let served = attend_caller(self, &caller, office);
         let Caller { connection, .. } = caller;
         let station = self.station;
         self.part_from(connection, &station, &served);
@@ -50,27 +50,6 @@ impl Resident<'_> {
         self.count_job();
         tell_caller(out, code, served)?;
         Ok(true)
-    }
-
-    /// One session with a caller.
-    fn attend_caller(
-        &mut self,
-        caller: &Caller,
-        office: &mut impl HeldOffice,
-    ) -> Result<End, Trouble> {
-        let rt = self.rt;
-        let station = Station {
-            book: self.station.book,
-            patience: self.station.patience,
-            longest: self.station.longest,
-            trace: self.station.trace,
-        };
-        let mut desk = Attending {
-            resident: self,
-            office,
-            yielding: None,
-        };
-        serve_caller(rt, caller, &station, &mut desk)
     }
 
     /// Appends how a session ended to its trace. Where the station had the last word, the partner is left the time to read it, beside all
@@ -178,4 +157,20 @@ impl Resident<'_> {
         }
         served.map(Some).map_err(Trouble::fault)
     }
+}
+
+/// One session with a caller.
+fn attend_caller<'r, 'a, O: HeldOffice>(
+    resident: &'r mut Resident<'a>,
+    caller: &Caller,
+    office: &'r mut O,
+) -> Result<End, Trouble> {
+    let rt = resident.rt;
+    let station = resident.station;
+    let mut desk = Attending {
+        resident,
+        office,
+        yielding: None,
+    };
+    serve_caller(rt, caller, &station, &mut desk)
 }
