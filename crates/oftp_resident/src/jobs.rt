@@ -40,9 +40,9 @@ impl Resident<'_> {
             None => None,
         };
         let begun = Instant::now(rt);
-        let served = attend_caller(self, &caller, office);
-        let Caller { connection, .. } = caller;
         let station = self.station;
+        let served = attend_caller(self, &caller, &station, office);
+        let Caller { connection, .. } = caller;
         self.part_from(connection, &station, &served);
         if let Ok(begun) = begun {
             self.waiting.stand_still(begun);
@@ -163,14 +163,14 @@ impl Resident<'_> {
 fn attend_caller<'r, 'a, O: HeldOffice>(
     resident: &'r mut Resident<'a>,
     caller: &Caller,
+    station: &Station<'_>,
     office: &'r mut O,
 ) -> Result<End, Trouble> {
     let rt = resident.rt;
-    let station = resident.station;
     let mut desk = Attending {
         resident,
         office,
         yielding: None,
     };
-    serve_caller(rt, caller, &station, &mut desk)
+    serve_caller(rt, caller, station, &mut desk)
 }
