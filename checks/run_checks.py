@@ -62,6 +62,7 @@ CHECKS = [
     Check("two stations", "python3 checks/faults/two_stations.py", "two stations, whose connection breaks at one octet after another"),
     Check("stops of residents", "python3 checks/faults/two_stations.py --residents --stops --every 1", "two that hold their databases, one stopped", wants_cc=True),
     Check("broken residents", "python3 checks/faults/two_stations.py --residents", "two that hold their databases, whose connection breaks"),
+    Check("two residents", "python3 checks/faults/two_residents.py", "two that hold their databases, with operators, cut off and killed at random"),
     Check("two services", "python3 checks/faults/two_services.py", "two stations as processes, cut off and killed at random moments"),
     Check("kills", "python3 checks/faults/kill_at_random.py", "the program, killed at random moments"),
     Check("backups", "python3 checks/faults/backups.py", "backups while files are handed in, and either program is killed"),

@@ -853,27 +853,44 @@ def callers_who_stop_no_call(room):
         expect(told(program), (0, session.end[1].encode(), b""), "the call")
 
 
-def partner_who_calls_while_it_is_called(room):
-    """A call whose partner doesn't answer, since it calls itself, gives way to that, and is made again."""
+def calls_while_it_is_called(room, own, least):
+    """A call whose partner doesn't answer, since it calls itself, gives way to that after so many seconds, and is made again."""
     session = session_of("calling/initiator_alone")
-    with socket.create_server(("127.0.0.1", 0)) as partner, Resident(room) as service:
+    of_station = lambda octets: octets.replace(b"O0013SUPPLIER", own)
+    answer = of_station(NOTHING_WAITING.joined("out"))
+    with socket.create_server(("127.0.0.1", 0)) as partner:
         partner.settimeout(LONG)
         book = book_with(room, f"127.0.0.1:{partner.getsockname()[1]}")
-        with call(service, book) as program, partner.accept()[0] as called, service.caller() as caller:
+        book.write_bytes(of_station(book.read_bytes()))
+        with Resident(room, book=book) as service, call(service, book) as program, partner.accept()[0] as called, service.caller() as caller:
             begin = time.monotonic()
             caller.sendall(SSID)
-            answer = NOTHING_WAITING.joined("out")
             heard(caller, answer[: len(GREETING) + len(SSID)])
-            within(begin, 4, "the answer")
+            within(begin, least, "the answer")
+            if time.monotonic() - begin < least - 0.1:
+                raise Wrong(f"it gave way after {time.monotonic() - begin:.1f} s")
             called.settimeout(LONG)
             expect(called.recv(100), b"", "the call said")
             caller.sendall(NOTHING_WAITING.joined("in")[len(SSID) :])
             caller.shutdown(socket.SHUT_WR)
             expect(rest_of(caller), answer[len(GREETING) + len(SSID) :], "the station sent")
             expect(service.line() + "\n", f"session {CARMAKER} in: {NOTHING_WAITING.end[1]}", "the line")
-            converse(partner.accept()[0], session)
+            with partner.accept()[0] as again:
+                again.sendall(session.joined("in"))
+                again.shutdown(socket.SHUT_WR)
+                expect(rest_of(again), of_station(session.joined("out")), "the station sent")
             expect(told(program), (0, session.end[1].encode(), b""), "the call")
             expect(service.line() + "\n", f"session {CARMAKER} out: {session.end[1]}", "the line")
+
+
+def partner_who_calls_while_it_is_called(room):
+    """The station's code is the lesser one."""
+    calls_while_it_is_called(room, b"O0013SUPPLIER", 1)
+
+
+def partner_of_a_lesser_code_who_calls(room):
+    """The station's code is the greater one, and the partner doesn't give way."""
+    calls_while_it_is_called(room, b"O0913SUPPLIER", 4)
 
 
 def clock(room):
@@ -1216,6 +1233,7 @@ CASES = [
     two_whose_clocks_meet,
     callers_who_stop_no_call,
     partner_who_calls_while_it_is_called,
+    partner_of_a_lesser_code_who_calls,
     clock,
     requests,
     slow_requests,

@@ -92,8 +92,9 @@ fn take<D: Clerk>(
 fn answer<D: Clerk>(folder: &Folder, clerk: &mut D, no: u64) -> Result<Option<String>, Fault> {
     folder.keep()?;
     match clerk.release(no)? {
-        Completion::Refused(why) if why.as_str() != ANSWERED => Ok(Some(why)),
-        _ => Ok(None),
+        Completion::Refused(why) if why.as_str() == ANSWERED => Ok(None),
+        Completion::Refused(why) => Ok(Some(why)),
+        Completion::Done(_line) => Ok(None),
     }
 }
 

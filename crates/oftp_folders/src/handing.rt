@@ -2,7 +2,7 @@
 
 use crate::clerk::{Clerk, Completion};
 use crate::entries::ListedFile;
-use crate::folders::{Stamps, claim_name, name_of, numbered, path_in, stamps_in};
+use crate::folders::{Stamps, claim_name, has_file, name_of, numbered, path_in, stamps_in};
 use crate::stamps::Moment;
 use oftp_command_line::{Carried, Fault, Offer, Submit, write_line};
 use oftp_engine::RunFault;
@@ -260,7 +260,7 @@ impl<'a, D: Clerk> Handing<'a, D> {
             description: "",
             file: path.as_str(),
         };
-        match read_content(self.rt, &submit) {
+        match self.content_of(&submit) {
             Ok(content) => match self.clerk.submit(&submit, content.as_slice())? {
                 Completion::Done(line) => number_in(line.as_str()),
                 Completion::Refused(why) => self.refused(claim, why),
@@ -270,6 +270,15 @@ impl<'a, D: Clerk> Handing<'a, D> {
                 Err(_) => Err(Fault::MEMORY),
             },
             Err(fault) => Err(fault),
+        }
+    }
+
+    /// The content of a file that is taken. The target of a link isn't handed in, even if the link was put there after the folder was read.
+    fn content_of(&self, submit: &Submit<'_>) -> Result<Vec<u8>, Fault> {
+        if has_file(self.rt, submit.file)? {
+            read_content(self.rt, submit)
+        } else {
+            Err(Fault::File)
         }
     }
 

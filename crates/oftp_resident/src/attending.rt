@@ -18,13 +18,11 @@ const PIECE: usize = 4_096;
 
 /// The service that runs a session in the resident station: its office, and the clients during the session.
 #[derive(Drop)]
-pub(super) struct Attending<'r, 'a, O, P> {
+pub(super) struct Attending<'r, 'a, O> {
     /// The station.
     pub(super) resident: &'r mut Resident<'a>,
     /// Its office.
     pub(super) office: &'r mut O,
-    /// The output for the lines of callers that can't be greeted.
-    pub(super) out: &'r mut P,
     /// When the session gives way to a caller, if it is a call.
     pub(super) yielding: Option<Yielding>,
 }
@@ -37,7 +35,7 @@ struct Wait<'a> {
     term: Term<'a>,
 }
 
-impl<O: HeldOffice, P: Write> Desk for Attending<'_, '_, O, P> {
+impl<O: HeldOffice> Desk for Attending<'_, '_, O> {
     fn converse<R: Read + Drop, W: Write + Drop>(
         &mut self,
         rt: &HostRuntime,
@@ -61,7 +59,7 @@ impl<O: HeldOffice, P: Write> Desk for Attending<'_, '_, O, P> {
     }
 }
 
-impl<O: HeldOffice, P: Write> Attending<'_, '_, O, P> {
+impl<O: HeldOffice> Attending<'_, '_, O> {
     /// Runs a session to its end.
     fn talk<R: Read, W: Write>(
         &mut self,
@@ -160,7 +158,7 @@ impl<O: HeldOffice, P: Write> Attending<'_, '_, O, P> {
         let Some(yielding) = &mut self.yielding else {
             return Ok(false);
         };
-        self.resident.welcome_callers(self.out)?;
+        self.resident.welcome_callers_within()?;
         let is_awaited = self.resident.has_guest()?;
         Ok(yielding.gives_way(self.resident.rt, is_awaited))
     }

@@ -41,13 +41,7 @@ impl Resident<'_> {
         };
         let begun = Instant::now(rt);
         let station = self.station;
-        let mut desk = Attending {
-            resident: self,
-            office,
-            out,
-            yielding: None,
-        };
-        let served = serve_caller(rt, &caller, &station, &mut desk);
+        let served = attend_caller(self, &caller, &station, office);
         let Caller { connection, .. } = caller;
         self.part_from(connection, &station, &served);
         if let Ok(begun) = begun {
@@ -95,7 +89,7 @@ impl Resident<'_> {
         } = called;
         let begun = Instant::now(rt);
         let trace = Trace::kept(rt);
-        let ended = self.converse(stream, &wanted, &trace, office, out);
+        let ended = self.converse(stream, &wanted, &trace, office);
         if let Ok(begun) = begun {
             self.waiting.stand_still(begun);
         }
@@ -130,7 +124,6 @@ impl Resident<'_> {
         wanted: &Wanted,
         trace: &Trace<'_>,
         office: &mut impl HeldOffice,
-        out: &mut impl Write,
     ) -> Result<Option<End>, Fault> {
         let stream = stream?;
         let book = book_of_call(wanted, self.station.book);
@@ -154,7 +147,6 @@ impl Resident<'_> {
         let mut desk = Attending {
             resident: self,
             office,
-            out,
             yielding: Some(Yielding::of(book, partner)),
         };
         let served = serve_called(rt, &connection, partner, &station, &mut desk);
@@ -165,4 +157,20 @@ impl Resident<'_> {
         }
         served.map(Some).map_err(Trouble::fault)
     }
+}
+
+/// One session with a caller.
+fn attend_caller<'r, 'a, O: HeldOffice>(
+    resident: &'r mut Resident<'a>,
+    caller: &Caller,
+    station: &Station<'_>,
+    office: &'r mut O,
+) -> Result<End, Trouble> {
+    let rt = resident.rt;
+    let mut desk = Attending {
+        resident,
+        office,
+        yielding: None,
+    };
+    serve_caller(rt, caller, station, &mut desk)
 }

@@ -10,8 +10,9 @@ use crate::visitors::Visitors;
 use crate::watch::Watch;
 use crate::yielding::Yielded;
 use oftp_command_line::{Fault, write_line};
-use oftp_sockets::{Arrival, Leaving, Station, Waiting};
+use oftp_sockets::{Arrival, Leaving, Station, Trouble, Waiting};
 use std::io::{self, Write};
+use std::mem;
 use std::net::TcpListener;
 use std::os::unix::net::UnixListener;
 use std::time::{Duration, Instant};
@@ -88,6 +89,8 @@ pub(super) struct Resident<'a> {
     pub(super) calls: Calls<'a>,
     // The call that gave way to a caller, until that was served.
     pub(super) yielded: Option<Yielded>,
+    // The errors of callers that could not be greeted during a session. Their lines are written after it.
+    untold: Vec<Trouble>,
     pub(super) clock: Option<Clock<'a>>,
     pub(super) watch: Watch,
     // The connections whose session the station has ended.
@@ -125,6 +128,7 @@ pub fn reside(
         visitors: Visitors::new(rt),
         calls: Calls::new(rt),
         yielded: None,
+        untold: Vec::new(rt.alloc()),
         clock: Clock::new(rt, station.book, bench.codes, bench.interval)?,
         watch,
         leaving: Leaving::new(rt),
@@ -234,7 +238,8 @@ impl Resident<'_> {
     }
 
     /// Accepts callers.
-    pub(super) fn welcome_callers(&mut self, out: &mut impl Write) -> Result<Again, Fault> {
+    fn welcome_callers(&mut self, out: &mut impl Write) -> Result<Again, Fault> {
+        self.tell_untold(out)?;
         for _ in 0..MOST_AT_ONCE {
             match self.waiting.take_in(&self.station) {
                 Ok(Arrival::Somebody) => self.watch_newest(),
@@ -244,6 +249,32 @@ impl Resident<'_> {
             }
         }
         Ok(Again::AtOnce)
+    }
+
+    /// Accepts callers during a session. The line of a caller that can't be greeted is written after it.
+    ///
+    /// # Errors
+    /// Out of memory.
+    pub(super) fn welcome_callers_within(&mut self) -> Result<(), Fault> {
+        for _ in 0..MOST_AT_ONCE {
+            if self.untold.len() as u64 >= u64::from(MOST_AT_ONCE) {
+                return Ok(());
+            }
+            match self.waiting.take_in(&self.station) {
+                Ok(Arrival::Somebody) => self.watch_newest(),
+                Ok(_) => return Ok(()),
+                Err(trouble) => self.untold.push(trouble).map_err(|_| Fault::MEMORY)?,
+            }
+        }
+        Ok(())
+    }
+
+    /// Writes the lines of callers that couldn't be greeted during a session.
+    fn tell_untold(&mut self, out: &mut impl Write) -> Result<(), Fault> {
+        for trouble in mem::replace(&mut self.untold, Vec::new(self.rt.alloc())) {
+            tell_caller(out, None, Err(trouble))?;
+        }
+        Ok(())
     }
 
     /// Whether a caller is to be admitted.
