@@ -2,7 +2,7 @@
 
 use crate::database::DatabaseOffice;
 use crate::perform::asking::{Asking, reached};
-use crate::perform::fetching::{Fetching, make_file_of};
+use crate::perform::fetching::{fetch_over, make_file_of};
 use oftp_command_line::{Fault, Fetch, Submit};
 use oftp_engine::{Operator, Port, RunFault, Submission, Told};
 use oftp_folders::{Clerk, Completion};
@@ -58,6 +58,16 @@ impl OwnClerk<'_> {
             .map_err(Fault::Run)?;
         completion_of(alloc, matches!(told, Told::Done), port.into_inner())
     }
+
+    /// Writes an incoming file to a path, and the line that reports it to `told`. It returns the exit status.
+    fn fetch_and_tell(&mut self, no: u64, path: &str, told: &mut Vec<u8>) -> Result<u8, Fault> {
+        let line = Fetch {
+            database: self.database,
+            no,
+            file: path,
+        };
+        tell(fetch_over(self.rt, &mut self.office, &line)?, told)
+    }
 }
 
 impl Clerk for OwnClerk<'_> {
@@ -70,17 +80,8 @@ impl Clerk for OwnClerk<'_> {
 
     fn fetch(&mut self, no: u64, path: &str) -> Result<Completion, Fault> {
         let alloc = self.rt.alloc();
-        let line = Fetch {
-            database: self.database,
-            no,
-            file: path,
-        };
-        let outcome = self.office.run(Fetching {
-            rt: self.rt,
-            line: &line,
-        })?;
         let mut told = Vec::new(alloc);
-        let status = tell(outcome, &mut told)?;
+        let status = self.fetch_and_tell(no, path, &mut told)?;
         completion_of(alloc, status == DONE, told)
     }
 

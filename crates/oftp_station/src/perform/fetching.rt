@@ -1,6 +1,6 @@
 //! The command `fetch`, which writes an incoming file in its local form.
 
-use crate::database;
+use crate::database::{self, DatabaseOffice};
 use oftp_command_line::{Fault, Fetch, Outcome};
 use oftp_engine::{Port, RunFault, write_content};
 use oftp_files::{Place, draft_of, file_fault, place_of, settle};
@@ -13,13 +13,22 @@ use std::io::Write;
 /// Writes a whole incoming file of a database to a file.
 pub(super) fn fetch(rt: &HostRuntime, line: &Fetch<'_>) -> Result<Outcome, Fault> {
     let mut office = database::open_shared(rt, line.database)?;
+    fetch_over(rt, &mut office, line)
+}
+
+/// Writes a whole incoming file of the office over a database to a file.
+pub(super) fn fetch_over(
+    rt: &HostRuntime,
+    office: &mut DatabaseOffice,
+    line: &Fetch<'_>,
+) -> Result<Outcome, Fault> {
     office.run(Fetching { rt, line })
 }
 
 /// The operation that fetches a file.
-pub(super) struct Fetching<'a> {
-    pub(super) rt: &'a HostRuntime,
-    pub(super) line: &'a Fetch<'a>,
+struct Fetching<'a> {
+    rt: &'a HostRuntime,
+    line: &'a Fetch<'a>,
 }
 
 impl Errand for Fetching<'_> {
