@@ -2,13 +2,13 @@
 
 use crate::database::DatabaseOffice;
 use crate::perform::asking::{Asking, reached};
-use crate::perform::fetching::{fetch_over, make_file_of};
+use crate::perform::fetching::{fetch_and_tell, make_file_of};
 use oftp_command_line::{Fault, Fetch, Submit};
 use oftp_engine::{Operator, Port, RunFault, Submission, Told};
 use oftp_folders::{Clerk, Completion};
 use oftp_listing::ReportKind;
 use oftp_partners::Book;
-use oftp_resident::{DONE, HeldOffice, report_to, tell};
+use oftp_resident::{DONE, HeldOffice, report_to};
 use oftp_vfile::Format;
 use std::alloc::{AllocError, Global};
 use std::io::{self, Write};
@@ -58,16 +58,6 @@ impl OwnClerk<'_> {
             .map_err(Fault::Run)?;
         completion_of(alloc, matches!(told, Told::Done), port.into_inner())
     }
-
-    /// Writes an incoming file to a path, and the line that reports it to `told`. It returns the exit status.
-    fn fetch_and_tell(&mut self, no: u64, path: &str, told: &mut Vec<u8>) -> Result<u8, Fault> {
-        let line = Fetch {
-            database: self.database,
-            no,
-            file: path,
-        };
-        tell(fetch_over(self.rt, &mut self.office, &line)?, told)
-    }
 }
 
 impl Clerk for OwnClerk<'_> {
@@ -80,8 +70,13 @@ impl Clerk for OwnClerk<'_> {
 
     fn fetch(&mut self, no: u64, path: &str) -> Result<Completion, Fault> {
         let alloc = self.rt.alloc();
+        let line = Fetch {
+            database: self.database,
+            no,
+            file: path,
+        };
         let mut told = Vec::new(alloc);
-        let status = self.fetch_and_tell(no, path, &mut told)?;
+        let status = fetch_and_tell(self.rt, &mut self.office, &line, &mut told)?;
         completion_of(alloc, status == DONE, told)
     }
 

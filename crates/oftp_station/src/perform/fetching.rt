@@ -5,7 +5,7 @@ use oftp_command_line::{Fault, Fetch, Outcome};
 use oftp_engine::{Port, RunFault, write_content};
 use oftp_files::{Place, draft_of, file_fault, place_of, settle};
 use oftp_register::{IncomingEntry, Office};
-use oftp_resident::{Errand, HeldOffice, entry_to_fetch};
+use oftp_resident::{Errand, HeldOffice, entry_to_fetch, tell};
 use std::alloc::Global;
 use std::fs::File;
 use std::io::Write;
@@ -16,8 +16,18 @@ pub(super) fn fetch(rt: &HostRuntime, line: &Fetch<'_>) -> Result<Outcome, Fault
     fetch_over(rt, &mut office, line)
 }
 
+/// Writes a whole incoming file of the office over a database to a file, and the line that reports it to `told`. It returns the exit status.
+pub(super) fn fetch_and_tell(
+    rt: &HostRuntime,
+    office: &mut DatabaseOffice,
+    line: &Fetch<'_>,
+    told: &mut impl Write,
+) -> Result<u8, Fault> {
+    tell(fetch_over(rt, office, line)?, told)
+}
+
 /// Writes a whole incoming file of the office over a database to a file.
-pub(super) fn fetch_over(
+fn fetch_over(
     rt: &HostRuntime,
     office: &mut DatabaseOffice,
     line: &Fetch<'_>,
