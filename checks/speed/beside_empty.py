@@ -137,8 +137,8 @@ PACES = [
     Pace("submit of 10 KB", submit, 40, 2, 30),
     Pace("GET /in/NO", ask_for_one, 40, 2),
     Pace("SSRM after connect", be_greeted, 40, 2, 20),
-    Pace("8 MiB come in", come_in, 5, 1.2, is_by_processor=True),
-    Pace("8 MiB go out", go_out, 5, 1.2, is_by_processor=True),
+    Pace("8 MiB come in", come_in, 9, 1.2, is_by_processor=True),
+    Pace("8 MiB go out", go_out, 9, 1.2, is_by_processor=True),
 ]
 
 
