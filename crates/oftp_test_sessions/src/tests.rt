@@ -1,5 +1,6 @@
 //! Sessions over an office that fails, and over a port with a limit. The expected octets are written by hand from RFC 5024.
 
+use crate::given::BOOK;
 use hearing::{Line, hear};
 use noting::Noting;
 use oftp_engine::{End, Role, RunFault};
@@ -8,19 +9,12 @@ use std::test::Fail;
 
 mod answers;
 mod asking;
-mod conversing;
-mod durable;
 mod growing;
-mod growing_over_files;
 mod hearing;
-mod keeping;
 mod lists;
 mod noting;
 mod operators;
 mod stations;
-
-const BOOK: &str =
-    "[station]\ncode = 'O0013SUPPLIER'\nbuffer = 128\ncredit = 2\nrestart = true\n[[partner]]\ncode = 'O0177CARMAKER'\nexpects = 'CARPW'\nsends = 'SUPPW'\nmode = 'B'\naddress = '127.0.0.1:3305'\n";
 
 /// The partner's SSID and an EERP.
 const INPUT: &[u8] = b"\x10\0\0\x41X5O0177CARMAKER            CARPW   00128BNYN002N            \r\

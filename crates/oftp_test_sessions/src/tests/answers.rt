@@ -1,10 +1,9 @@
 //! A partner's answers to SFID, over an office in memory, in one piece and octet by octet. The octets of both sides are written by hand
 //! from RFC 5024.
 
-use super::BOOK;
 use super::hearing::{Line, call, caller, hear};
 use super::noting::Noting;
-use super::operators::FILE;
+use crate::given::{BOOK, FILE};
 use oftp_engine::{End, Operator, Submission, Told};
 use oftp_partners::read;
 use oftp_register::{Office, OutgoingState};

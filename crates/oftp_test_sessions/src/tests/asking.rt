@@ -1,10 +1,9 @@
 //! Files over an office that notes the requests for rows and items, and may lose a row. The partner's octets are written by hand from RFC
 //! 5024.
 
-use super::BOOK;
 use super::hearing::{Line, call, caller, hear};
 use super::noting::Noting;
-use super::operators::FILE;
+use crate::given::{BOOK, FILE};
 use oftp_engine::{End, Operator, Role, RunFault, Submission, Told};
 use oftp_partners::read;
 use oftp_vfile::Format;

@@ -1,10 +1,10 @@
 //! A growing list of jobs: each is done as it is added. The octets are written by hand from RFC 5024.
 
-use super::BOOK;
 use super::answers::{GREETING, OFFER, SENT, TAKES, THREE_OCTETS, joined};
 use super::hearing::{Line, caller};
-use super::keeping::kept;
 use super::noting::Noting;
+use crate::given::BOOK;
+use crate::snapshot::snapshot;
 use oftp_engine::{End, Job, Operator, Port, Role, RunFault, Told, do_next};
 use oftp_partners::{Book, read};
 use oftp_wire::Count;
@@ -82,7 +82,7 @@ fn jobs_as_they_come(rt: HostRuntime) -> Result<(), Fail> {
     work(alloc, &mut office, &book, &mut job)?;
     let said = joined(alloc, OFFER, SENT)?;
     assert!(rt; is_ended(&job, said.as_slice()));
-    let left = kept(alloc, &mut office)?;
+    let left = snapshot(alloc, &mut office)?;
     assert_eq!(rt; left.as_str(), HANDED);
     Ok(())
 }

@@ -2,8 +2,8 @@
 
 use super::hearing::Line;
 use super::noting::Noting;
-use super::operators::FILE;
-use super::{BOOK, INPUT, OUTPUT};
+use super::{INPUT, OUTPUT};
+use crate::given::{BOOK, FILE};
 use oftp_engine::{End, Job, Operator, Port, Role, RunFault, Told, run};
 use oftp_partners::read;
 use std::alloc::Global;

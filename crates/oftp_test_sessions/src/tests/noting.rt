@@ -3,7 +3,7 @@
 ghost use Rattle.std.specs.Prelude.{◌≡◌, IfErr};
 ghost use Rattle.oftp_register.specs.Offices.{Counts, IsFailure};
 
-use super::operators::LIMITS;
+use crate::given::LIMITS;
 use oftp_register::{
     Change, Cursor, Identity, IncomingEntry, IssuedEntry, Item, Name, Office, OfficeFault,
     OutgoingEntry, PlainOffice, ReceivedEntry, ResponseKind, Side,

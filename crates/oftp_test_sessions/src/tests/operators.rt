@@ -1,8 +1,8 @@
 //! Operator's calls over an office in memory and over one that fails. The lines are written by hand.
 
-use super::BOOK;
 use super::hearing::call;
 use super::noting::Noting;
+use crate::given::{BOOK, FILE};
 use oftp_engine::{Operator, Refusal, RunFault, Submission, Told};
 use oftp_partners::read;
 use oftp_register::PlainOffice;
@@ -11,11 +11,6 @@ use std::alloc::Global;
 use std::process::Abort;
 use std::test::Fail;
 
-pub(crate) const LIMITS: Limits = Limits {
-    files: 9,
-    octets: 9_999,
-};
-
 /// Two files of five octets each.
 const NARROW: Limits = Limits {
     files: 2,
@@ -23,17 +18,6 @@ const NARROW: Limits = Limits {
 };
 
 const RELEASE: Operator<'static> = Operator::Release { no: 1 };
-
-pub(crate) const FILE: Submission<'static> = Submission {
-    dataset: "ABC",
-    date: "20240131",
-    time: "1015300001",
-    to: "O0177CARMAKER",
-    format: Format::Unstructured,
-    longest: 0,
-    description: "a drawing",
-    content: b"abc",
-};
 
 const DUPLICATE: &str = "refused: 1 duplicate\n";
 

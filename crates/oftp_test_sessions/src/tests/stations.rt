@@ -2,10 +2,9 @@
 //! the sender begins one, and the receiver, whose operator releases the file before, begins the other. In the first round something breaks.
 //! After the second one, in which nothing breaks, the file is delivered, whole and answered once.
 
-use super::BOOK;
 use super::hearing::{Line, call, caller, hear};
 use super::noting::{Noting, Stop};
-use super::operators::FILE;
+use crate::given::{BOOK, FILE};
 use oftp_engine::{Operator, Role, Submission};
 use oftp_partners::{Book, read};
 use oftp_register::{Office, PlainOffice, Side};

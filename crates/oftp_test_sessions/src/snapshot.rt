@@ -121,7 +121,10 @@ fn add_all_out<O: Office>(all: &mut String, office: &mut O) -> Result<(), Office
 }
 
 /// The register as text: the incoming files, the outgoing files, and the received responses.
-pub(crate) fn kept<O: Office>(alloc: Global, office: &mut O) -> Result<String, OfficeFault> {
+///
+/// # Errors
+/// [`OfficeFault`]: a look-up failed, or memory ran out. The office is as it was.
+pub fn snapshot<O: Office>(alloc: Global, office: &mut O) -> Result<String, OfficeFault> {
     let mut all = String::new(alloc);
     add_all_in(&mut all, office)?;
     add_all_out(&mut all, office)?;

@@ -1,22 +1,17 @@
 //! A growing list of jobs over a database. The expected octets are written by hand from RFC 5024.
 
-use super::BOOK;
-use super::operators::{FILE, LIMITS};
-use oftp_durable::{do_next_durable, open_durable};
+use super::files::{open, remove_files};
+use super::{AnyJob, READY, call};
+use oftp_durable::do_next_durable;
 use oftp_engine::{End, Job, Operator, Port, Refusal, Role, RunFault, Told};
 use oftp_partners::{Book, read};
 use oftp_register::Office;
 use oftp_store::SqlOffice;
-use sqlite::{Alter, Unknown};
+use oftp_test_sessions::given::{BOOK, FILE};
+use sqlite::Alter;
 use std::alloc::Global;
-use std::fs;
 use std::process::Abort;
 use std::test::Fail;
-
-/// The station's SSRM.
-const READY: &[u8] = b"\x10\0\0\x17IODETTE FTP READY \r";
-
-type AnyJob<'a> = Job<'a, &'static [u8], Vec<u8>>;
 
 // The result of a job that was done: the end of a session or the result of a call, and its output.
 #[derive(Drop)]
@@ -37,11 +32,6 @@ fn carried_out<S: Alter>(
         Job::Session(session) => Done::Session(session.result, session.writer.into_inner()),
         Job::Call(call) => Done::Call(call.result, call.writer.into_inner()),
     })
-}
-
-// An operator's call.
-fn call<'a>(alloc: Global, operator: Operator<'a>) -> AnyJob<'a> {
-    Job::call(operator, Port::new(Vec::new(alloc), 0))
 }
 
 // A session in which the partner sends nothing.
@@ -79,22 +69,14 @@ fn grows<S: Alter>(alloc: Global, rt: &impl Abort, office: &mut SqlOffice<S>) ->
 // The database's files.
 const FILES: [&str; 2] = ["growing_test.db", "growing_test.db-wal"];
 
-fn remove_files(rt: &HostRuntime) {
-    for name in FILES {
-        let _ = fs::remove_file(rt, name);
-    }
-}
-
 /// Jobs are done as they are added, over a database's files.
 #[test]
 fn jobs_as_they_come(rt: HostRuntime) -> Result<(), Fail> {
     let alloc = rt.alloc();
-    remove_files(&rt);
-    let Ok(mut office) = open_durable(&rt, FILES[0], LIMITS, Unknown) else {
-        return Err("not opened".into());
-    };
+    remove_files(&rt, &FILES);
+    let mut office = open(&rt, &FILES)?;
     grows(alloc, &rt, &mut office)?;
     assert_eq!(rt; office.list_out()?.len(), 1);
-    remove_files(&rt);
+    remove_files(&rt, &FILES);
     Ok(())
 }

@@ -3,15 +3,14 @@
 ghost use Rattle.std.specs.Prelude.{◌≢◌, OnOk};
 ghost use Rattle.oftp_session.specs.Standings.{Broken};
 
-use super::BOOK;
-use super::durable::{AtFiles, open, remove_files};
-use super::hearing::{Line, hear};
-use super::keeping::kept;
-use super::noting::Noting;
+use super::files::{AtFiles, open, remove_files};
 use oftp_durable::go_on_durable;
-use oftp_engine::{Conversation, Port, Role, RunFault};
+use oftp_engine::{Conversation, End, Port, Role, RunFault, serve};
 use oftp_partners::{Book, read};
+use oftp_register::PlainOffice;
 use oftp_session::Ending;
+use oftp_test_sessions::given::{BOOK, LIMITS};
+use oftp_test_sessions::snapshot::snapshot;
 use oftp_wire::Count;
 use std::alloc::Global;
 use std::process::Abort;
@@ -74,7 +73,7 @@ fn converse(alloc: Global, office: AtFiles, book: &Book) -> Result<Talk, Fail> {
     let [first, second, third] = PIECES;
     let one = take(&mut conversation, &mut office, &mut writer, first)?;
     let two = take(&mut conversation, &mut office, &mut writer, second)?;
-    let meanwhile = kept(alloc, &mut office)?;
+    let meanwhile = snapshot(alloc, &mut office)?;
     let three = take(&mut conversation, &mut office, &mut writer, third)?;
     Ok(Talk {
         ends: [one, two, three],
@@ -96,11 +95,14 @@ fn left_at_once(alloc: Global, rt: &impl Abort, book: &Book) -> Result<String, F
     for piece in PIECES {
         octets.extend_from_slice(piece)?;
     }
-    let mut office = Noting::new(alloc, None);
-    let line = Line::of(octets.as_slice());
-    let heard = hear(alloc, &mut office, book, Role::Responder, line, 1_000_000);
-    assert!(rt; heard.said.as_slice() == SAID);
-    Ok(kept(alloc, &mut office)?)
+    let mut office = PlainOffice::new(alloc, LIMITS);
+    let mut reader = Port::new(octets.as_slice(), 1_000_000);
+    let mut writer = Port::new(Vec::new(alloc), 0);
+    let role = Role::Responder;
+    let end = serve(alloc, &mut office, book, role, &mut reader, &mut writer);
+    assert_eq!(rt; end, Ok(End::Partner(Count::new(0))));
+    assert!(rt; writer.inner().as_slice() == SAID);
+    Ok(snapshot(alloc, &mut office)?)
 }
 
 // The database's files.
@@ -109,7 +111,7 @@ const FILES: [&str; 2] = ["conversation_test.db", "conversation_test.db-wal"];
 // The register when the files are opened again.
 fn found_again(rt: &HostRuntime) -> Result<String, Fail> {
     let mut office = open(rt, &FILES)?;
-    Ok(kept(rt.alloc(), &mut office)?)
+    Ok(snapshot(rt.alloc(), &mut office)?)
 }
 
 /// The conversation waits after the second piece, and the register can be read. At its end the database has the same register as after a

@@ -1,27 +1,17 @@
 //! Sessions, calls and lists over a database. The expected octets are written by hand from RFC 5024.
 
-use super::BOOK;
-use super::operators::{FILE, LIMITS};
-use oftp_durable::{open_durable, operate_durable, run_at, run_durable, serve_durable};
+use super::files::{open, remove_files};
+use super::{AnyJob, READY, call};
+use oftp_durable::{operate_durable, run_at, run_durable, serve_durable};
 use oftp_engine::{End, Job, Operator, Port, Refusal, Role, RunFault, Told};
 use oftp_partners::{Book, read};
 use oftp_register::Office;
 use oftp_store::SqlOffice;
-use sqlite::{Alter, FileFrom, FileStore, Unknown};
+use oftp_test_sessions::given::{BOOK, FILE, LIMITS};
+use sqlite::{Alter, Unknown};
 use std::alloc::Global;
-use std::fs;
 use std::process::Abort;
 use std::test::Fail;
-
-/// The station's SSRM.
-const READY: &[u8] = b"\x10\0\0\x17IODETTE FTP READY \r";
-
-type AnyJob<'a> = Job<'a, &'static [u8], Vec<u8>>;
-
-// An operator's call.
-fn call<'a>(alloc: Global, operator: Operator<'a>) -> AnyJob<'a> {
-    Job::call(operator, Port::new(Vec::new(alloc), 0))
-}
 
 // The result of a call.
 fn answer(job: &AnyJob<'_>) -> Option<Result<Told, RunFault>> {
@@ -102,26 +92,12 @@ fn works<S: Alter + Drop>(
 // The database's files.
 const FILES: [&str; 2] = ["stations_test.db", "stations_test.db-wal"];
 
-/// Removes the files of a database.
-pub(crate) fn remove_files(rt: &HostRuntime, files: &[&str; 2]) {
-    for name in files {
-        let _ = fs::remove_file(rt, name);
-    }
-}
-
 // Does a list over the files.
 fn list(rt: &HostRuntime, book: &Book, jobs: &mut [AnyJob<'_>]) -> Option<Result<(), RunFault>> {
     match run_at(rt, FILES[0], LIMITS, Unknown, book, jobs) {
         Ok(ran) => Some(ran.result),
         Err(_) => None,
     }
-}
-
-pub(crate) type AtFiles = SqlOffice<FileStore<FileFrom<Unknown>>>;
-
-/// Opens the office of a database's files.
-pub(crate) fn open(rt: &HostRuntime, files: &[&str; 2]) -> Result<AtFiles, Fail> {
-    open_durable(rt, files[0], LIMITS, Unknown).map_err(|_| "not opened".into())
 }
 
 /// A list is done over the files at a path, and its file exists when they are opened again. An office works over new files.
