@@ -65,17 +65,17 @@ def copy_of(text):
     )
 
 
-def reasons_told():
-    """The reasons of SFNA that the station knows, with their words."""
+def reasons_told(phrase):
+    """The reasons that the definition with this name lists, with their words."""
     text = REASONS.read_text(encoding="utf-8")
-    numbers = dict(re.findall(r"^(?:start|end)_number (\w+) = (\d+)$", text, re.M))
-    return [(f"{int(numbers[name]):02}", words) for name, words in re.findall(r'^(?:start|end)_phrase (\w+) = codes " (.*)"$', text, re.M)]
+    table = re.search(rf"^{phrase} n =\n(.*?)^    else \[\]$", text, re.S | re.M)
+    return [(f"{int(number):02}", words) for number, words in re.findall(r'if n == (\d+) then codes "(.*)"$', table.group(1), re.M)]
 
 
-def reasons_shown(text):
-    """The reasons of SFNA that the page knows."""
-    found = re.search(r"const START_REASONS = \{(.*?)\};", text, re.S)
-    return dict(re.findall(r'"(\d\d)": "([^"]*)"', found.group(1))) if found else {}
+def reasons_shown(text, name):
+    """The reasons in this table of the page."""
+    found = re.search(rf"const {name} = \{{(.*?)\}};", text, re.S)
+    return re.findall(r'"(\d\d)": "([^"]*)"', found.group(1)) if found else []
 
 
 def states_told():
@@ -101,8 +101,11 @@ def judged(text):
     yield "its policy says nothing else", len(policy) == len(POLICY) + 2
     for word in FORBIDDEN:
         yield f"it has no {word.strip()}", word not in text
-    for number, words in reasons_told():
-        yield f"it has the reason {number} {words}", reasons_shown(text).get(number) == words
+    for name, phrase in (("START_REASONS", "refusal_phrase"), ("NEGATIVE_REASONS", "negative_phrase")):
+        told, shown = reasons_told(phrase), reasons_shown(text, name)
+        for number, words in told:
+            yield f"{name} has the reason {number} {words}", (number, words) in shown
+        yield f"{name} has no other reason", set(shown) == set(told)
     for side, name in states_told():
         yield f"it knows the {side} state {name}", name in states_shown(text).get({"incoming": "in", "outgoing": "out"}[side], ())
     yield "it has a browser ask for no icon", '<link rel="icon" href="data:,">' in text

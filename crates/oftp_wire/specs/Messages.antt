@@ -3,7 +3,6 @@ use Rattle.std.specs.Prelude.{ℕ, List, [], ◌∷◌, ◌++◌, length, codes,
 use Rattle.std.specs.List.{flat_map}
 use Rattle.std.specs.Char.{is_control}
 use Rattle.std.specs.Str.{chars}
-use Rattle.std.specs.Option.{option_map_or}
 use Rattle.std.specs.Fmt.{decimal}
 use Rattle.oftp_wire.specs.declared.fault.WireFault.{WireFault}
 use Rattle.oftp_wire.specs.declared.fault.WireFault.TheVariants.{UnknownCommand, WrongLength, BadField, BadText, NoRoom}
@@ -13,7 +12,7 @@ use Rattle.oftp_wire.specs.declared.command.Eerp.{Eerp}
 use Rattle.oftp_wire.specs.declared.command.Nerp.{Nerp}
 use Rattle.oftp_wire.specs.declared.command.Command.{Command}
 use Rattle.oftp_wire.specs.declared.command.Command.TheVariants as commands
-use Rattle.oftp_wire.specs.Reasons.{two_digits, start_reason, start_text, end_reason, end_text, session_reason, session_text}
+use Rattle.oftp_wire.specs.Reasons.{refusal_text, session_text, negative_text}
 
 -- the text of a fault
 abbrev pub fault_text : WireFault → List ℕ
@@ -36,18 +35,6 @@ abbrev pub text_after_colon : List ℕ → List ℕ
 text_after_colon [] = []
 text_after_colon (b ∷ bs) = codes ": " ++ shown_text (b ∷ bs)
 
--- a number of SFNA, with its words where it is listed
-abbrev pub start_words : ℕ → List ℕ
-start_words n = option_map_or start_text (start_reason n) (two_digits n)
-
--- a number of EFNA, with its words where it is listed
-abbrev pub end_words : ℕ → List ℕ
-end_words n = option_map_or end_text (end_reason n) (two_digits n)
-
--- a number of ESID, with its words where it is listed
-abbrev pub session_words : ℕ → List ℕ
-session_words n = option_map_or session_text (session_reason n) (two_digits n)
-
 -- a virtual file by its dataset name, date and time
 abbrev pub file_text : List ℕ → List ℕ → List ℕ → List ℕ
 file_text dataset date time = dataset ++ (codes " " ++ (date ++ (codes " " ++ time)))
@@ -58,7 +45,7 @@ sfid_text s = codes "SFID " ++ (file_text s.dataset s.date s.time ++ (codes " fr
 
 -- SFNA: the reason, whether the file may be offered again, and the text
 abbrev pub sfna_text : Sfna → List ℕ
-sfna_text s = codes "SFNA " ++ (start_words s.reason ++ ((if s.retry then codes ", retry" else []) ++ text_after_colon s.text))
+sfna_text s = codes "SFNA " ++ (refusal_text s.reason ++ ((if s.retry then codes ", retry" else []) ++ text_after_colon s.text))
 
 -- EERP: the file, and the station that the response is for
 abbrev pub eerp_text : Eerp → List ℕ
@@ -66,7 +53,7 @@ eerp_text s = codes "EERP " ++ (file_text s.dataset s.date s.time ++ (codes " to
 
 -- NERP: the file, the station that the response is for, the reason and the text
 abbrev pub nerp_text : Nerp → List ℕ
-nerp_text s = codes "NERP " ++ (file_text s.dataset s.date s.time ++ (codes " to " ++ (s.destination ++ (codes ", reason " ++ (two_digits s.reason ++ text_after_colon s.text)))))
+nerp_text s = codes "NERP " ++ (file_text s.dataset s.date s.time ++ (codes " to " ++ (s.destination ++ (codes ", " ++ (negative_text s.reason ++ text_after_colon s.text)))))
 
 -- a command: its kind, and the fields that distinguish it from others of the kind, but never the password
 abbrev pub command_text : Command → List ℕ
@@ -79,8 +66,8 @@ command_text (commands.Data s) = codes "DATA of " ++ (decimal (length s) ++ code
 command_text commands.Cdt = codes "CDT"
 command_text (commands.Efid s) = codes "EFID of " ++ (decimal s.records ++ (codes " records and " ++ (decimal s.units ++ codes " octets")))
 command_text (commands.Efpa s) = if s.change_direction then codes "EFPA, change of direction" else codes "EFPA"
-command_text (commands.Efna s) = codes "EFNA " ++ (end_words s.reason ++ text_after_colon s.text)
-command_text (commands.Esid s) = codes "ESID " ++ (session_words s.reason ++ text_after_colon s.text)
+command_text (commands.Efna s) = codes "EFNA " ++ (refusal_text s.reason ++ text_after_colon s.text)
+command_text (commands.Esid s) = codes "ESID " ++ (session_text s.reason ++ text_after_colon s.text)
 command_text commands.Cd = codes "CD"
 command_text (commands.Eerp s) = eerp_text s
 command_text (commands.Nerp s) = nerp_text s

@@ -1,5 +1,5 @@
--- The numbers of the reasons, and the words that an operator reads.
-use Rattle.std.specs.Prelude.{ℕ, ◌/◌, ◌%◌, ◌==◌, List, [], ◌∷◌, ◌++◌, find, codes, Option, Some, None}
+-- The numbers of the reasons, and the words that RFC 5024 has for them.
+use Rattle.std.specs.Prelude.{ℕ, ◌/◌, ◌%◌, ◌==◌, List, [], ◌∷◌, ◌++◌, find, codes, if◌then◌else◌, Option, Some, None}
 use Rattle.std.specs.Fmt.{decimal}
 use Rattle.oftp_wire.specs.declared.fault.WireFault.{WireFault}
 use Rattle.oftp_wire.specs.declared.fault.WireFault.TheVariants.{UnknownCommand, WrongLength, BadField, BadText, NoRoom}
@@ -65,43 +65,95 @@ reason_of NoRoom = None
 abbrev pub two_digits : ℕ → List ℕ
 two_digits n = decimal (n / 10) ++ decimal (n % 10)
 
--- the words after the number of a reason of SFNA
-abbrev pub start_phrase : StartReason → List ℕ
-start_phrase InvalidFilename = codes " invalid filename"
-start_phrase InvalidDestination = codes " invalid destination"
-start_phrase InvalidOrigin = codes " invalid origin"
-start_phrase MaximumRecordLengthNotSupported = codes " maximum record length not supported"
-start_phrase FileSizeTooBig = codes " file size too big"
-start_phrase DuplicateFile = codes " duplicate file"
-start_phrase FileDirectionRefused = codes " file direction refused"
-start_phrase Unspecified = codes " unspecified"
+-- what RFC 5024 calls a reason of SFNA or EFNA with this number, or nothing where it lists none (sections 5.3.5 and 5.3.10)
+unfoldable pub refusal_phrase : ℕ → List ℕ
+refusal_phrase n =
+    if n == 1 then codes "invalid filename"
+    else if n == 2 then codes "invalid destination"
+    else if n == 3 then codes "invalid origin"
+    else if n == 4 then codes "storage record format not supported"
+    else if n == 5 then codes "maximum record length not supported"
+    else if n == 6 then codes "file size too big"
+    else if n == 10 then codes "invalid record count"
+    else if n == 11 then codes "invalid byte count"
+    else if n == 12 then codes "access method failure"
+    else if n == 13 then codes "duplicate file"
+    else if n == 14 then codes "file direction refused"
+    else if n == 15 then codes "cipher suite not supported"
+    else if n == 16 then codes "encrypted file not allowed"
+    else if n == 17 then codes "unencrypted file not allowed"
+    else if n == 18 then codes "compression not allowed"
+    else if n == 19 then codes "signed file not allowed"
+    else if n == 20 then codes "unsigned file not allowed"
+    else if n == 99 then codes "unspecified"
+    else []
 
--- a reason of SFNA, for the operator
-unfoldable pub start_text : StartReason → List ℕ
-start_text r = two_digits (start_number r) ++ start_phrase r
+-- what it calls a reason of ESID (section 5.3.11)
+unfoldable pub session_phrase : ℕ → List ℕ
+session_phrase n =
+    if n == 0 then codes "normal"
+    else if n == 1 then codes "command not recognised"
+    else if n == 2 then codes "protocol violation"
+    else if n == 3 then codes "user code not known"
+    else if n == 4 then codes "invalid password"
+    else if n == 5 then codes "local site emergency close down"
+    else if n == 6 then codes "invalid data"
+    else if n == 7 then codes "buffer size error"
+    else if n == 8 then codes "resources not available"
+    else if n == 9 then codes "time out"
+    else if n == 10 then codes "mode or capabilities incompatible"
+    else if n == 11 then codes "invalid challenge response"
+    else if n == 12 then codes "secure authentication requirements incompatible"
+    else if n == 99 then codes "unspecified"
+    else []
 
--- the words after the number of a reason of EFNA
-abbrev pub end_phrase : EndReason → List ℕ
-end_phrase InvalidRecordCount = codes " invalid record count"
-end_phrase InvalidByteCount = codes " invalid byte count"
+-- what it calls a reason of NERP (section 5.3.14)
+unfoldable pub negative_phrase : ℕ → List ℕ
+negative_phrase n =
+    if n == 3 then codes "user code not known"
+    else if n == 4 then codes "invalid password"
+    else if n == 9 then codes "unspecified"
+    else if n == 11 then codes "invalid filename"
+    else if n == 12 then codes "invalid destination"
+    else if n == 13 then codes "invalid origin"
+    else if n == 14 then codes "invalid storage record format"
+    else if n == 15 then codes "maximum record length not supported"
+    else if n == 16 then codes "file size too big"
+    else if n == 20 then codes "invalid record count"
+    else if n == 21 then codes "invalid byte count"
+    else if n == 22 then codes "access method failure"
+    else if n == 23 then codes "duplicate file"
+    else if n == 24 then codes "file direction refused"
+    else if n == 25 then codes "cipher suite not supported"
+    else if n == 26 then codes "encrypted file not allowed"
+    else if n == 27 then codes "unencrypted file not allowed"
+    else if n == 28 then codes "compression not allowed"
+    else if n == 29 then codes "signed file not allowed"
+    else if n == 30 then codes "unsigned file not allowed"
+    else if n == 31 then codes "file signature not valid"
+    else if n == 32 then codes "file decompression failed"
+    else if n == 33 then codes "file decryption failed"
+    else if n == 34 then codes "file processing failed"
+    else if n == 35 then codes "not delivered to recipient"
+    else if n == 36 then codes "not acknowledged by recipient"
+    else if n == 50 then codes "transmission stopped by the operator"
+    else if n == 90 then codes "file size incompatible with recipient's protocol version"
+    else if n == 99 then codes "unspecified"
+    else []
 
--- a reason of EFNA, for the operator
-unfoldable pub end_text : EndReason → List ℕ
-end_text r = two_digits (end_number r) ++ end_phrase r
+-- a number and what it is called, for an operator
+abbrev pub told_as : ℕ → List ℕ → List ℕ
+told_as n [] = codes "unknown reason " ++ two_digits n
+told_as n (b ∷ bs) = two_digits n ++ (codes " " ++ (b ∷ bs))
 
--- the words after the number of a reason of ESID
-abbrev pub session_phrase : SessionReason → List ℕ
-session_phrase Normal = codes " normal"
-session_phrase CommandNotRecognised = codes " command not recognised"
-session_phrase ProtocolViolation = codes " protocol violation"
-session_phrase UserCodeNotKnown = codes " user code not known"
-session_phrase InvalidPassword = codes " invalid password"
-session_phrase InvalidData = codes " invalid data"
-session_phrase BufferSizeError = codes " buffer size error"
-session_phrase ResourcesNotAvailable = codes " resources not available"
-session_phrase ModeIncompatible = codes " mode or capabilities incompatible"
-session_phrase AuthenticationIncompatible = codes " secure authentication requirements incompatible"
+-- a reason of SFNA or EFNA, for an operator
+unfoldable pub refusal_text : ℕ → List ℕ
+refusal_text n = told_as n (refusal_phrase n)
 
--- a reason of ESID, for the operator
-unfoldable pub session_text : SessionReason → List ℕ
-session_text r = two_digits (session_number r) ++ session_phrase r
+-- a reason of ESID
+unfoldable pub session_text : ℕ → List ℕ
+session_text n = told_as n (session_phrase n)
+
+-- a reason of NERP
+unfoldable pub negative_text : ℕ → List ℕ
+negative_text n = told_as n (negative_phrase n)

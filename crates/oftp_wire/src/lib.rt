@@ -25,6 +25,7 @@ mod piece;
 mod read;
 mod reason;
 mod scan;
+mod words;
 
 pub use command::{
     Command, Eerp, Efid, Efna, Efpa, Esid, Layout, Mode, Nerp, Sfid, Sfna, Sfpa, Ssid,

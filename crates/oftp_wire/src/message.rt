@@ -2,11 +2,11 @@
 
 ghost use Rattle.std.specs.Prelude.{◌≡◌, Some};
 ghost use Rattle.std.specs.Fmt.{DisplaysOnOk, decimal};
-ghost use Rattle.oftp_wire.specs.Messages.{printable, shown_text, text_after_colon, start_words, end_words, session_words, sfid_text, sfna_text, eerp_text, nerp_text, command_text};
+ghost use Rattle.oftp_wire.specs.Messages.{printable, shown_text, text_after_colon, sfid_text, sfna_text, eerp_text, nerp_text, command_text};
 
 use crate::command::{Command, Eerp, Nerp, Sfid, Sfna, Ssid};
 use crate::field::{Count, Digits, Octets, Text, X};
-use crate::reason::{EndReason, SessionReason, StartReason, write_two_digits};
+use crate::words::{write_negative_reason, write_refusal, write_session_reason};
 use std::fmt;
 
 impl<const N: usize> fmt::Display for X<'_, N> {
@@ -62,36 +62,6 @@ fn write_text<W: fmt::Write>(f: &mut fmt::Formatter<W>, text: &Text) -> fmt::Res
     write!(f, ": {text}")
 }
 
-/// Writes a reason of SFNA.
-fn write_start_reason<W: fmt::Write>(f: &mut fmt::Formatter<W>, number: Count<2>) -> fmt::Result
-    ensures { DisplaysOnOk W.write_str_gives f.old result (Some (start_words number)) f.new }
-{
-    match StartReason::from_number(number) {
-        Some(reason) => write!(f, "{reason}"),
-        None => write_two_digits(f, number),
-    }
-}
-
-/// Writes a reason of EFNA.
-fn write_end_reason<W: fmt::Write>(f: &mut fmt::Formatter<W>, number: Count<2>) -> fmt::Result
-    ensures { DisplaysOnOk W.write_str_gives f.old result (Some (end_words number)) f.new }
-{
-    match EndReason::from_number(number) {
-        Some(reason) => write!(f, "{reason}"),
-        None => write_two_digits(f, number),
-    }
-}
-
-/// Writes a reason of ESID.
-fn write_session_reason<W: fmt::Write>(f: &mut fmt::Formatter<W>, number: Count<2>) -> fmt::Result
-    ensures { DisplaysOnOk W.write_str_gives f.old result (Some (session_words number)) f.new }
-{
-    match SessionReason::from_number(number) {
-        Some(reason) => write!(f, "{reason}"),
-        None => write_two_digits(f, number),
-    }
-}
-
 /// The kind, and the fields that distinguish the command from others of its kind, but never the password.
 impl fmt::Display for Command<'_> {
     ghost output = { λ c. Some (command_text c) };
@@ -113,7 +83,7 @@ impl fmt::Display for Command<'_> {
             }),
             Command::Efna(s) => {
                 f.write_str("EFNA ")?;
-                write_end_reason(f, s.reason)?;
+                write_refusal(f, s.reason)?;
                 write_text(f, &s.text)
             }
             Command::Esid(s) => {
@@ -142,7 +112,7 @@ fn write_sfna<W: fmt::Write>(f: &mut fmt::Formatter<W>, s: &Sfna) -> fmt::Result
     ensures { DisplaysOnOk W.write_str_gives f.old result (Some (sfna_text s.now)) f.new }
 {
     f.write_str("SFNA ")?;
-    write_start_reason(f, s.reason)?;
+    write_refusal(f, s.reason)?;
     f.write_str(if s.retry { ", retry" } else { "" })?;
     write_text(f, &s.text)
 }
@@ -160,8 +130,8 @@ fn write_nerp<W: fmt::Write>(f: &mut fmt::Formatter<W>, s: &Nerp) -> fmt::Result
     ensures { DisplaysOnOk W.write_str_gives f.old result (Some (nerp_text s.now)) f.new }
 {
     write!(f, "NERP {} {} {}", s.dataset, s.date, s.time)?;
-    write!(f, " to {}, reason ", s.destination)?;
-    write_two_digits(f, s.reason)?;
+    write!(f, " to {}, ", s.destination)?;
+    write_negative_reason(f, s.reason)?;
     write_text(f, &s.text)
 }
 

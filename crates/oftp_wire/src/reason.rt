@@ -1,11 +1,11 @@
 //! The reasons of SFNA, EFNA and ESID.
 
-ghost use Rattle.std.specs.Prelude.{◌≡◌, ◌≢◌, IfSome, IfNone, Some};
-ghost use Rattle.std.specs.Fmt.{DisplaysOnOk};
-ghost use Rattle.oftp_wire.specs.Reasons.{two_digits, start_number, start_reason, start_phrase, end_number, end_reason, end_phrase, session_number, session_reason, session_phrase, reason_of};
+ghost use Rattle.std.specs.Prelude.{◌≡◌, ◌≢◌, IfSome, IfNone};
+ghost use Rattle.oftp_wire.specs.Reasons.{start_number, start_reason, end_number, end_reason, session_number, session_reason, reason_of};
 
 use crate::fault::WireFault;
 use crate::field::Count;
+use crate::words::{write_refusal, write_session_reason};
 use std::fmt;
 
 /// Why a station refuses a virtual file: the reasons of SFNA (RFC 5024, section 5.3.5).
@@ -98,24 +98,6 @@ impl StartReason {
             _ => None,
         }
     }
-
-    /// The words that an operator reads after the number.
-    fn phrase(self) -> &'static str
-        ensures { result.now ≡ start_phrase self }
-    {
-        match self {
-            StartReason::InvalidFilename => " invalid filename",
-            StartReason::InvalidDestination => " invalid destination",
-            StartReason::InvalidOrigin => " invalid origin",
-            StartReason::MaximumRecordLengthNotSupported => {
-                " maximum record length not supported"
-            }
-            StartReason::FileSizeTooBig => " file size too big",
-            StartReason::DuplicateFile => " duplicate file",
-            StartReason::FileDirectionRefused => " file direction refused",
-            StartReason::Unspecified => " unspecified",
-        }
-    }
 }
 
 impl EndReason {
@@ -139,16 +121,6 @@ impl EndReason {
             10 => Some(EndReason::InvalidRecordCount),
             11 => Some(EndReason::InvalidByteCount),
             _ => None,
-        }
-    }
-
-    /// The words that an operator reads after the number.
-    fn phrase(self) -> &'static str
-        ensures { result.now ≡ end_phrase self }
-    {
-        match self {
-            EndReason::InvalidRecordCount => " invalid record count",
-            EndReason::InvalidByteCount => " invalid byte count",
         }
     }
 }
@@ -192,26 +164,6 @@ impl SessionReason {
             _ => None,
         }
     }
-
-    /// The words that an operator reads after the number.
-    fn phrase(self) -> &'static str
-        ensures { result.now ≡ session_phrase self }
-    {
-        match self {
-            SessionReason::Normal => " normal",
-            SessionReason::CommandNotRecognised => " command not recognised",
-            SessionReason::ProtocolViolation => " protocol violation",
-            SessionReason::UserCodeNotKnown => " user code not known",
-            SessionReason::InvalidPassword => " invalid password",
-            SessionReason::InvalidData => " invalid data",
-            SessionReason::BufferSizeError => " buffer size error",
-            SessionReason::ResourcesNotAvailable => " resources not available",
-            SessionReason::ModeIncompatible => " mode or capabilities incompatible",
-            SessionReason::AuthenticationIncompatible => {
-                " secure authentication requirements incompatible"
-            }
-        }
-    }
 }
 
 impl WireFault {
@@ -228,52 +180,35 @@ impl WireFault {
     }
 }
 
-/// Writes a number in two digits.
-pub(crate) fn write_two_digits<W: fmt::Write>(
-    f: &mut fmt::Formatter<W>,
-    number: Count<2>,
-) -> fmt::Result
-    ensures { DisplaysOnOk W.write_str_gives f.old result (Some (two_digits number)) f.new }
-{
-    let number = number.get();
-    write!(f, "{}{}", number / 10, number % 10)
-}
-
 impl fmt::Display for StartReason {
     ghost use Rattle.std.specs.Prelude.{Some};
-    ghost use Rattle.oftp_wire.specs.Reasons.{start_text};
+    ghost use Rattle.oftp_wire.specs.Reasons.{start_number, refusal_text};
 
-    ghost output = { λ r. Some (start_text r) };
+    ghost output = { λ r. Some (refusal_text (start_number r)) };
 
-    #[tactic(auto, unfolding(crate::specs::Reasons::start_text))]
     fn fmt<W: fmt::Write>(&self, f: &mut fmt::Formatter<W>) -> fmt::Result {
-        write_two_digits(f, self.number())?;
-        f.write_str(self.phrase())
+        write_refusal(f, self.number())
     }
 }
 
 impl fmt::Display for EndReason {
     ghost use Rattle.std.specs.Prelude.{Some};
-    ghost use Rattle.oftp_wire.specs.Reasons.{end_text};
+    ghost use Rattle.oftp_wire.specs.Reasons.{end_number, refusal_text};
 
-    ghost output = { λ r. Some (end_text r) };
+    ghost output = { λ r. Some (refusal_text (end_number r)) };
 
-    #[tactic(auto, unfolding(crate::specs::Reasons::end_text))]
     fn fmt<W: fmt::Write>(&self, f: &mut fmt::Formatter<W>) -> fmt::Result {
-        write_two_digits(f, self.number())?;
-        f.write_str(self.phrase())
+        write_refusal(f, self.number())
     }
 }
 
 impl fmt::Display for SessionReason {
     ghost use Rattle.std.specs.Prelude.{Some};
-    ghost use Rattle.oftp_wire.specs.Reasons.{session_text};
+    ghost use Rattle.oftp_wire.specs.Reasons.{session_number, session_text};
 
-    ghost output = { λ r. Some (session_text r) };
+    ghost output = { λ r. Some (session_text (session_number r)) };
 
-    #[tactic(auto, unfolding(crate::specs::Reasons::session_text))]
     fn fmt<W: fmt::Write>(&self, f: &mut fmt::Formatter<W>) -> fmt::Result {
-        write_two_digits(f, self.number())?;
-        f.write_str(self.phrase())
+        write_session_reason(f, self.number())
     }
 }
