@@ -6,7 +6,6 @@ pub mod Files
 pub mod FolderLines
 pub mod Line
 pub mod OperatorLines
-pub mod Printed
 pub mod RegisterLines
 pub mod ServiceLines
 pub mod Terms

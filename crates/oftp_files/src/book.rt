@@ -1,7 +1,7 @@
 //! The partner book that a command line names.
 
 use crate::files::file_fault;
-use oftp_command_line::Fault;
+use oftp_outcomes::Fault;
 use oftp_partners::{self as partners, Book, BookFault};
 use std::alloc::Global;
 use std::fs::{self, OpenFile};

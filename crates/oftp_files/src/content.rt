@@ -2,7 +2,8 @@
 
 use crate::files::{file_fault, open_input};
 use crate::limits::LIMITS;
-use oftp_command_line::{Fault, Submit};
+use oftp_command_line::Submit;
+use oftp_outcomes::Fault;
 use oftp_vfile::{Format, MOST_ROWS};
 use std::fs::{File, Metadata};
 use std::io::Read;

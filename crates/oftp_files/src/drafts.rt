@@ -2,7 +2,7 @@
 
 use crate::access::make_private;
 use crate::files::{are_of_one_file, file_fault};
-use oftp_command_line::Fault;
+use oftp_outcomes::Fault;
 use std::fs::{self, File, OpenOptions, TryLockError};
 use std::hash::{BuildHasher, RandomState};
 use std::io;

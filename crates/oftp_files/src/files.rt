@@ -1,7 +1,7 @@
 //! The files that a command line names.
 
 use crate::drafts::folder_of;
-use oftp_command_line::Fault;
+use oftp_outcomes::Fault;
 use std::fs::{self, Metadata, OpenFile};
 use std::io::{self, ErrorKind};
 use std::os::unix::fs::MetadataExt;

@@ -3,7 +3,7 @@
 use crate::access::Access;
 use crate::drafts::{Draft, folder_of, new_draft, usual_mode};
 use crate::files::{file_fault, is_beside_database, is_of_database};
-use oftp_command_line::Fault;
+use oftp_outcomes::Fault;
 use std::fs::{self, File, OpenOptions};
 use std::io::{self, ErrorKind};
 use std::path::PathBuf;

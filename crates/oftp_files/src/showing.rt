@@ -2,8 +2,8 @@
 
 use crate::files::{file_fault, open_input};
 use crate::transcript::Transcript;
-use oftp_command_line::Fault;
 use oftp_engine::RunFault;
+use oftp_outcomes::Fault;
 use std::alloc::AllocError;
 use std::io::{Read, Write};
 

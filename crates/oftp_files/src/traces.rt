@@ -2,7 +2,7 @@
 
 use crate::files::{file_fault, is_at, is_of_database};
 use crate::tracing::Trace;
-use oftp_command_line::Fault;
+use oftp_outcomes::Fault;
 use std::fs::{self, Metadata};
 use std::io::ErrorKind;
 

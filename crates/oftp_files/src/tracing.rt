@@ -3,8 +3,8 @@
 use crate::access::make_private;
 use crate::transcript::Transcript;
 use jiff::Timestamp;
-use oftp_command_line::{Fault, Outcome};
 use oftp_engine::End;
+use oftp_outcomes::{Fault, Outcome};
 use std::alloc::Global;
 use std::cell::RefCell;
 use std::fmt;

@@ -1,7 +1,8 @@
 //! The interface to a register for the commands over a folder.
 
-use oftp_command_line::{Fault, Submit};
+use oftp_command_line::Submit;
 use oftp_listing::ReportKind;
+use oftp_outcomes::Fault;
 
 /// The result of an operation, with its printed line, without the line's end.
 #[derive(Drop)]

@@ -3,8 +3,9 @@
 use crate::clerk::{Clerk, Completion};
 use crate::entries::ListedFile;
 use crate::folders::{Folder, has_file, name_of, numbered, path_in};
-use oftp_command_line::{Carried, Collect, Fault, write_line};
+use oftp_command_line::Collect;
 use oftp_listing::ReportKind;
+use oftp_outcomes::{Carried, Fault, write_line};
 use std::io::Write;
 
 /// The line for a release if the file has a response already.

@@ -1,7 +1,7 @@
 //! The folders that commands work on, and the names of the files in them.
 
-use oftp_command_line::Fault;
 use oftp_files::file_fault;
+use oftp_outcomes::Fault;
 use std::alloc::{AllocError, Global};
 use std::fs::{self, File, TryLockError};
 use std::io::{self, ErrorKind};

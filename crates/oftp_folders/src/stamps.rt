@@ -1,7 +1,7 @@
 //! The date and time that a file is given when it is offered: those of its last change, in UTC.
 
 use jiff::Timestamp;
-use oftp_command_line::Fault;
+use oftp_outcomes::Fault;
 use std::alloc::{AllocError, Global};
 use std::fs::Metadata;
 use std::os::unix::fs::MetadataExt;

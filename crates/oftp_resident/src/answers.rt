@@ -2,8 +2,8 @@
 
 use crate::statuses::{DONE, FAILED};
 use oftp_channel::{LONGEST_PIECE, Outlet, write_end, write_piece};
-use oftp_command_line::{Fault, Outcome, write_line};
 use oftp_engine::{End, Port};
+use oftp_outcomes::{Fault, Outcome, write_line};
 use std::alloc::Global;
 
 /// The octets of an answer.

@@ -2,13 +2,14 @@
 
 use crate::answers::Answer;
 use crate::calls::Wanted;
-use crate::office::{Errand, HeldOffice, report_to};
 use crate::statuses::{DONE, status_of, tell};
 use oftp_channel::Outlet;
-use oftp_command_line::{Call, Fault, Line, Outcome, Submit, line_of};
+use oftp_command_line::{Call, Line, Submit, line_of};
 use oftp_engine::{CallJob, Job, Operator, Port, RunFault, Submission, write_content};
 use oftp_files::book_of;
+use oftp_held::{Errand, HeldOffice, report_to};
 use oftp_listing::ReportKind;
+use oftp_outcomes::{Fault, Outcome};
 use oftp_register::{IncomingEntry, IncomingState, Office};
 use oftp_sockets::patience_of;
 use std::alloc::Global;

@@ -4,11 +4,11 @@
 ghost use Rattle.std.specs.Prelude.{◌≢◌, OnOk};
 ghost use Rattle.oftp_session.specs.Standings.{Broken};
 
-use crate::office::HeldOffice;
 use crate::turns::{Again, Resident};
 use crate::yielding::{GREETING, Yielding};
-use oftp_command_line::Fault;
 use oftp_engine::{Conversation, End, Port, Role, RunFault};
+use oftp_held::HeldOffice;
+use oftp_outcomes::Fault;
 use oftp_sockets::{Desk, Station, Term, Trouble, Wire, ports_of};
 use std::io::{Read, Write};
 use std::time::Instant;

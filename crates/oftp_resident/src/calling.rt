@@ -2,9 +2,9 @@
 
 use crate::answers::answer_of_call;
 use crate::calls::Wanted;
-use crate::office::HeldOffice;
 use crate::turns::Resident;
-use oftp_command_line::Fault;
+use oftp_held::HeldOffice;
+use oftp_outcomes::Fault;
 use oftp_partners::Book;
 
 impl Resident<'_> {

@@ -2,7 +2,7 @@
 
 use crate::watch::Watch;
 use mio::net::TcpStream;
-use oftp_command_line::Fault;
+use oftp_outcomes::Fault;
 use oftp_partners::Book;
 use oftp_sockets::socket_fault;
 use std::io;

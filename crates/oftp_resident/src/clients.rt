@@ -2,8 +2,8 @@
 
 use crate::watch::Watch;
 use oftp_channel::{LONGEST_PIECE, Outlet, lacking, read_request, write_piece, write_ready};
-use oftp_command_line::Fault;
 use oftp_engine::Port;
+use oftp_outcomes::Fault;
 use oftp_sockets::passes;
 use std::alloc::Global;
 use std::io::{self, ErrorKind, Read, Write};

@@ -1,8 +1,8 @@
 //! The schedule of the station's own calls.
 
-use crate::office::{Errand, HeldOffice};
-use oftp_command_line::Fault;
 use oftp_engine::RunFault;
+use oftp_held::{Errand, HeldOffice};
+use oftp_outcomes::Fault;
 use oftp_partners::{Book, Partner};
 use oftp_register::{Cursor, Name, Office};
 use oftp_wire::Mode;

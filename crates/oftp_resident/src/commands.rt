@@ -1,10 +1,10 @@
 //! The requests of commands. They are carried out in turn, and during a session only those that look something up.
 
 use crate::asked::{Asked, Task};
-use crate::office::HeldOffice;
 use crate::turns::{MOST_AT_ONCE, Resident};
-use oftp_command_line::Fault;
 use oftp_engine::RunFault;
+use oftp_held::HeldOffice;
+use oftp_outcomes::Fault;
 
 /// A request that arrived during a session and waits for its end.
 #[derive(Drop)]

@@ -3,7 +3,7 @@
 use crate::answers::Answer;
 use crate::statuses::DONE;
 use crate::turns::Resident;
-use oftp_command_line::Fault;
+use oftp_outcomes::Fault;
 use std::time::{Duration, Instant};
 
 /// For how many seconds a command may copy, at most.

@@ -4,13 +4,13 @@ use crate::answers::answer_of_call;
 use crate::attending::Attending;
 use crate::calling::book_of_call;
 use crate::calls::{Called, Wanted};
-use crate::office::HeldOffice;
 use crate::session_lines::{Way, settle, tell_caller};
 use crate::turns::Resident;
 use crate::yielding::{Yielded, Yielding};
-use oftp_command_line::Fault;
 use oftp_engine::{End, RunFault};
 use oftp_files::Trace;
+use oftp_held::HeldOffice;
+use oftp_outcomes::Fault;
 use oftp_sockets::{
     Caller, Connection, Station, Trouble, part, serve_called, serve_caller, tell_end,
 };

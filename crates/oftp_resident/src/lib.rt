@@ -12,9 +12,7 @@ mod commands;
 mod copying;
 mod jobs;
 mod listing;
-mod office;
 mod page;
-mod place;
 mod replies;
 mod session_lines;
 mod statuses;
@@ -25,7 +23,5 @@ mod yielding;
 
 pub use asked::entry_to_fetch;
 pub use clock::codes_of;
-pub use office::{Errand, HeldOffice, answer_from, report_to};
-pub use place::SocketPlace;
 pub use statuses::{DONE, FAILED, status_of, status_where, tell};
 pub use turns::{Bench, reside};

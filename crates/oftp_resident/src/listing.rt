@@ -1,12 +1,12 @@
 //! HTTP requests, which are answered between the jobs, and during a session while it waits.
 
-use crate::office::HeldOffice;
 use crate::replies::{Hosts, reply_to};
 use crate::turns::{Again, MOST_AT_ONCE, Resident};
 use crate::visitors::Request;
-use oftp_command_line::Fault;
 use oftp_engine::RunFault;
+use oftp_held::HeldOffice;
 use oftp_listing::ListFault;
+use oftp_outcomes::Fault;
 use oftp_sockets::Arrival;
 use std::net::TcpListener;
 

@@ -1,9 +1,9 @@
 //! The replies to HTTP requests: the page, the content of the register, or an error if the request is for another host.
 
-use crate::office::{HeldOffice, answer_from};
 use crate::page::PAGE;
 use httparse::Status;
 use httparse::spans::{EMPTY_HEADER_SPAN, HeaderSpan, Span, parse_request};
+use oftp_held::{HeldOffice, answer_from};
 use oftp_listing::ListFault;
 use std::alloc::{AllocError, Global};
 use std::net::IpAddr;

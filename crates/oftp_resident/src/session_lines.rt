@@ -1,7 +1,7 @@
 //! The lines that the resident station prints for its sessions.
 
-use oftp_command_line::{Fault, Outcome, write_line};
 use oftp_engine::{End, RunFault};
+use oftp_outcomes::{Fault, Outcome, write_line};
 use oftp_sockets::Trouble;
 use std::fmt;
 use std::io::Write;

@@ -1,7 +1,7 @@
 //! HTTP clients, all at once. One that sends half a head, or reads slowly, delays nothing.
 
 use crate::watch::Watch;
-use oftp_command_line::Fault;
+use oftp_outcomes::Fault;
 use oftp_sockets::{Arrival, MOST_REQUEST_OCTETS, REQUEST_SECONDS, is_whole, passes};
 use std::io::{self, ErrorKind, Read, Write};
 use std::net::{IpAddr, Shutdown, TcpListener, TcpStream};

@@ -2,9 +2,9 @@
 //! moment, each would wait for the other's answer.
 
 use crate::calls::Wanted;
-use crate::office::HeldOffice;
 use crate::turns::Resident;
-use oftp_command_line::Fault;
+use oftp_held::HeldOffice;
+use oftp_outcomes::Fault;
 use oftp_partners::{Book, Partner};
 use std::io::Write;
 use std::time::{Duration, Instant};

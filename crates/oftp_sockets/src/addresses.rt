@@ -1,6 +1,6 @@
 //! Sockets by address.
 
-use oftp_command_line::Fault;
+use oftp_outcomes::Fault;
 use std::io::{self, ErrorKind};
 use std::net::{TcpListener, TcpStream, ToSocketAddrs};
 use std::time::{Clock, Duration};

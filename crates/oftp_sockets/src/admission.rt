@@ -1,9 +1,9 @@
 //! The admission of a caller: a session up to the station's SSID, which admits the caller. It opens no database.
 
 use crate::ports::ports_of;
-use oftp_command_line::Fault;
 use oftp_engine::{End, Role, RunFault, serve_in_memory};
 use oftp_files::LIMITS;
+use oftp_outcomes::Fault;
 use oftp_partners::Book;
 use oftp_register::PlainOffice;
 use std::alloc::Global;

@@ -1,7 +1,7 @@
 //! Errors of one caller, and errors that end the service.
 
-use oftp_command_line::{Fault, write_line};
 use oftp_engine::RunFault;
+use oftp_outcomes::{Fault, write_line};
 use std::io::Write;
 
 /// Why a caller wasn't served to the end.

@@ -8,6 +8,7 @@ mod callers;
 mod connection;
 mod leaving;
 mod moments;
+mod place;
 mod ports;
 mod requests;
 mod sessions;
@@ -18,6 +19,7 @@ pub use callers::Trouble;
 pub use connection::Connection;
 pub use leaving::Leaving;
 pub use moments::{Term, patience_of};
+pub use place::SocketPlace;
 pub use ports::ports_of;
 pub use requests::{MOST_REQUEST_OCTETS, REQUEST_SECONDS, Replies, http_on, is_whole};
 pub use sessions::{

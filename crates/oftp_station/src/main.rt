@@ -1,7 +1,6 @@
 //! A station of the ODETTE File Transfer Protocol 2 (RFC 5024).
 #![tactic(auto)]
 
-mod database;
 mod perform;
 
 use perform::{perform, tell_unread};

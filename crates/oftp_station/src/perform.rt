@@ -12,8 +12,9 @@ mod services;
 mod sessions;
 
 use asking::{Asking, reached};
-use oftp_command_line::{Fault, Line, LineFault, Outcome, line_of, write_line};
+use oftp_command_line::{Line, LineFault, line_of};
 use oftp_files::{read_book, show};
+use oftp_outcomes::{Fault, Outcome, write_line};
 use oftp_resident::{DONE, FAILED, status_of, tell};
 use oftp_store::StoreFault;
 use std::io::{self, ErrorKind, Write};

@@ -1,11 +1,12 @@
 //! The command `backup`, which copies a database to one file.
 
-use crate::database;
-use oftp_command_line::{Backup, Fault, Outcome};
+use oftp_command_line::Backup;
+use oftp_database as database;
 use oftp_files::{
     Access, Draft, Name, Place, draft_of, file_fault, log_of, make_private, open_input, place_of,
     remove_log, settle,
 };
+use oftp_outcomes::{Fault, Outcome};
 use std::fs::{self, File};
 use std::io::{ErrorKind, Read, Write};
 

@@ -1,14 +1,16 @@
 //! Access to a register for the commands over a folder: over the database that they open, or by the station that has it locked.
 
-use crate::database::DatabaseOffice;
 use crate::perform::asking::{Asking, reached};
 use crate::perform::fetching::{fetch_and_tell, make_file_of};
-use oftp_command_line::{Fault, Fetch, Submit};
+use oftp_command_line::{Fetch, Submit};
+use oftp_database::DatabaseOffice;
 use oftp_engine::{Operator, Port, RunFault, Submission, Told};
 use oftp_folders::{Clerk, Completion};
+use oftp_held::{HeldOffice, report_to};
 use oftp_listing::ReportKind;
+use oftp_outcomes::Fault;
 use oftp_partners::Book;
-use oftp_resident::{DONE, HeldOffice, report_to};
+use oftp_resident::DONE;
 use oftp_vfile::Format;
 use std::alloc::{AllocError, Global};
 use std::io::{self, Write};

@@ -1,10 +1,11 @@
 //! The command `collect`, which writes the incoming files that are whole and have no response to a folder.
 
-use crate::database;
 use crate::perform::clerks::{OwnClerk, StationClerk};
-use oftp_command_line::{Collect, Fault};
+use oftp_command_line::Collect;
+use oftp_database as database;
 use oftp_files::{read_book, read_book_octets};
 use oftp_folders::{self as folders, Folder};
+use oftp_outcomes::Fault;
 use oftp_resident::status_where;
 use std::io::Write;
 

@@ -1,11 +1,13 @@
 //! The command `fetch`, which writes an incoming file in its local form.
 
-use crate::database::{self, DatabaseOffice};
-use oftp_command_line::{Fault, Fetch, Outcome};
+use oftp_command_line::Fetch;
+use oftp_database::{self as database, DatabaseOffice};
 use oftp_engine::{Port, RunFault, write_content};
 use oftp_files::{Place, draft_of, file_fault, place_of, settle};
+use oftp_held::{Errand, HeldOffice};
+use oftp_outcomes::{Fault, Outcome};
 use oftp_register::{IncomingEntry, Office};
-use oftp_resident::{Errand, HeldOffice, entry_to_fetch, tell};
+use oftp_resident::{entry_to_fetch, tell};
 use std::alloc::Global;
 use std::fs::File;
 use std::io::Write;

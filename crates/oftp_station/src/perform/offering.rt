@@ -1,10 +1,11 @@
 //! The command `offer`, which submits the files of a folder, to be sent to a partner.
 
-use crate::database;
 use crate::perform::clerks::{OwnClerk, StationClerk};
-use oftp_command_line::{Fault, Offer, Outcome, write_line};
+use oftp_command_line::Offer;
+use oftp_database as database;
 use oftp_files::{read_book, read_book_octets};
 use oftp_folders::{self as folders, Folder};
+use oftp_outcomes::{Fault, Outcome, write_line};
 use oftp_partners::Book;
 use oftp_resident::{FAILED, status_where, tell};
 use std::io::Write;

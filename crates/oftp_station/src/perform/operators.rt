@@ -1,9 +1,10 @@
 //! The commands `submit`, `release` and `refuse`, which are operator's calls.
 
-use crate::database::{self, DatabaseOffice};
-use oftp_command_line::{Fault, Files, Refuse, Release, Submit};
+use oftp_command_line::{Files, Refuse, Release, Submit};
+use oftp_database::{self as database, DatabaseOffice};
 use oftp_engine::{Operator, Port, Submission, Told};
 use oftp_files::{read_book, read_content};
+use oftp_outcomes::Fault;
 use oftp_partners::Book;
 use std::io::Write;
 

@@ -1,9 +1,10 @@
 //! The commands `init`, `migrate` and `report`, which only need a database.
 
-use crate::database::{self, PATIENCE};
-use oftp_command_line::{Fault, Outcome, Report};
+use oftp_command_line::Report;
+use oftp_database::{self as database, PATIENCE};
 use oftp_engine::Port;
-use oftp_resident::report_to;
+use oftp_held::report_to;
+use oftp_outcomes::{Fault, Outcome};
 use std::io::Write;
 
 /// Opens a database and creates its tables, unless it has them.

@@ -1,12 +1,14 @@
 //! The commands `run`, `listen`, `call` and `http`, over sockets.
 
-use crate::database::{self, DatabaseOffice, Opened, PATIENCE};
-use oftp_command_line::{Call, Entrance, Fault, Files, Http, Listen, Outcome, Run, SessionTerms};
+use oftp_command_line::{Call, Entrance, Files, Http, Listen, Run, SessionTerms};
+use oftp_database::{self as database, DatabaseOffice, Opened, PATIENCE};
 use oftp_files::{Trace, open_trace, read_book, read_book_octets};
+use oftp_outcomes::{Fault, Outcome};
 use oftp_partners::Book;
-use oftp_resident::{Bench, SocketPlace, codes_of, reside};
+use oftp_resident::{Bench, codes_of, reside};
 use oftp_sockets::{
-    Reception, Station, bound, connected, dial, http_on, listen_on, patience_of, socket_fault,
+    Reception, SocketPlace, Station, bound, connected, dial, http_on, listen_on, patience_of,
+    socket_fault,
 };
 use std::alloc::Global;
 use std::io::Write;

@@ -1,12 +1,13 @@
 //! The command `feed`, which runs one session from file to file.
 
-use crate::database::{self, DatabaseOffice, PATIENCE};
-use oftp_command_line::{Fault, Feed, Outcome, Side};
+use oftp_command_line::{Feed, Side};
+use oftp_database::{self as database, DatabaseOffice, PATIENCE};
 use oftp_engine::{End, Port, Role, RunFault, serve_in_memory};
 use oftp_files::{
     LIMITS, Trace, Traced, are_of_one_file, file_fault, is_at, is_of_database, open_input,
     open_trace, read_book,
 };
+use oftp_outcomes::{Fault, Outcome};
 use oftp_partners::{Book, Partner};
 use oftp_register::PlainOffice;
 use oftp_sockets::ports_of;

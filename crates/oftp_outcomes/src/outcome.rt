@@ -1,7 +1,7 @@
 //! The results of commands, as they are printed.
 
 ghost use Rattle.std.specs.Prelude.{◌≡◌, IfErr, Some};
-ghost use Rattle.oftp_command_line.specs.Printed.{carried_line, fault_line, fault_of_report, is_refusal, outcome_line, write_fault};
+ghost use Rattle.oftp_outcomes.specs.Printed.{carried_line, fault_line, fault_of_report, is_refusal, outcome_line, write_fault};
 
 use oftp_engine::{End, RunFault};
 use oftp_listing::ListFault;

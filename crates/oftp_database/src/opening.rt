@@ -1,17 +1,12 @@
 //! Opens the database that a command line names.
 
-mod file;
-mod office;
-mod serving;
-
-use file::make_file;
-pub use office::DatabaseOffice;
-use oftp_command_line::Fault;
+use crate::file::make_file;
+use crate::office::DatabaseOffice;
 use oftp_durable::open_durable;
 use oftp_files::LIMITS;
-use oftp_resident::SocketPlace;
+use oftp_outcomes::Fault;
+use oftp_sockets::SocketPlace;
 use oftp_store::{PathFault, StoreFault, migrate_at};
-pub use serving::Opened;
 use sqlite::Unknown;
 use std::fs;
 use std::io::ErrorKind;

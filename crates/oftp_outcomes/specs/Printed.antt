@@ -8,12 +8,12 @@ use Rattle.oftp_engine.specs.declared.serving.End.TheVariants.{Own, Partner, Inp
 use Rattle.oftp_engine.specs.declared.serving.RunFault.TheVariants.{Read, Write, Office, Memory}
 use Rattle.oftp_listing.specs.declared.fault.ListFault.{ListFault}
 use Rattle.oftp_listing.specs.declared.fault.ListFault.TheVariants as list
-use Rattle.oftp_command_line.specs.declared.outcome.Carried.{Carried}
-use Rattle.oftp_command_line.specs.declared.outcome.Carried.TheVariants.{Collected, Offered, Refused}
-use Rattle.oftp_command_line.specs.declared.outcome.Fault.{Fault}
-use Rattle.oftp_command_line.specs.declared.outcome.Fault.TheVariants.{Run, Book, Store, File, Socket}
-use Rattle.oftp_command_line.specs.declared.outcome.Outcome.{Outcome}
-use Rattle.oftp_command_line.specs.declared.outcome.Outcome.TheVariants.{Initiated, Migrated, Checked, Ended, Fetched, BackedUp, Unknown, WrongState}
+use Rattle.oftp_outcomes.specs.declared.outcome.Carried.{Carried}
+use Rattle.oftp_outcomes.specs.declared.outcome.Carried.TheVariants.{Collected, Offered, Refused}
+use Rattle.oftp_outcomes.specs.declared.outcome.Fault.{Fault}
+use Rattle.oftp_outcomes.specs.declared.outcome.Fault.TheVariants.{Run, Book, Store, File, Socket}
+use Rattle.oftp_outcomes.specs.declared.outcome.Outcome.{Outcome}
+use Rattle.oftp_outcomes.specs.declared.outcome.Outcome.TheVariants.{Initiated, Migrated, Checked, Ended, Fetched, BackedUp, Unknown, WrongState}
 
 -- the line on standard error
 abbrev pub fault_line : Fault → List ℕ

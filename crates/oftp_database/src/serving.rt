@@ -1,10 +1,11 @@
 //! The offices for the sessions and requests of a service.
 
-use crate::database::{DatabaseOffice, PATIENCE, open_if_free};
-use oftp_command_line::Fault;
+use crate::office::DatabaseOffice;
+use crate::opening::{PATIENCE, open_if_free};
 use oftp_engine::{End, Role};
+use oftp_held::answer_from;
 use oftp_listing::Reply;
-use oftp_resident::answer_from;
+use oftp_outcomes::Fault;
 use oftp_sockets::{Desk, Replies, Station, Trouble, Wire, ports_of};
 use oftp_store::{PathFault, StoreFault};
 use std::io::{Read, Write};

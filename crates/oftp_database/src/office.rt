@@ -3,11 +3,11 @@
 ghost use Rattle.std.specs.Prelude.{◌≢◌, OnOk};
 ghost use Rattle.oftp_session.specs.Standings.{Broken};
 
-use oftp_command_line::Fault;
 use oftp_durable::{do_next_durable, go_on_durable, operate_durable, serve_durable};
 use oftp_engine::{Conversation, End, Job, Operator, Port, Role, RunFault, Told};
+use oftp_held::{Errand, HeldOffice};
+use oftp_outcomes::Fault;
 use oftp_partners::Book;
-use oftp_resident::{Errand, HeldOffice};
 use oftp_session::Ending;
 use oftp_store::SqlOffice;
 use sqlite::{Alter, FileFrom, FileStore, Unknown};
@@ -15,7 +15,7 @@ use std::alloc::Global;
 use std::io::{Read, Write};
 
 /// The office over files. A torn write is assumed to leave each octet old or new.
-pub(super) type FileOffice = SqlOffice<FileStore<FileFrom<Unknown>>>;
+pub(crate) type FileOffice = SqlOffice<FileStore<FileFrom<Unknown>>>;
 
 /// The office over a database's files, which are closed when it is dropped.
 ///
@@ -43,7 +43,7 @@ trait StoreErrand {
 
 impl DatabaseOffice {
     /// The office over these files.
-    pub(super) fn new(office: FileOffice) -> DatabaseOffice {
+    pub(crate) fn new(office: FileOffice) -> DatabaseOffice {
         DatabaseOffice { office }
     }
 

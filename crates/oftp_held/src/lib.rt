@@ -1,0 +1,6 @@
+//! An office that stays open while one job after another is done with it, and the operations on it.
+#![tactic(auto)]
+
+mod office;
+
+pub use office::{Errand, HeldOffice, answer_from, report_to};
