@@ -178,7 +178,7 @@ def first_day_goes_as_shown():
     with Typist() as typist:
         for block in blocks_below(OPERATING, "The first day"):
             if block[0].startswith("openssl ") and not has_tunnel:
-                print("NOT TRIED for want of stunnel: the first day through TLS")
+                print("NOT TRIED without stunnel: the first day through TLS")
                 return
             for command, wanted in typed(block):
                 typist.type(command, wanted)
@@ -187,7 +187,7 @@ def first_day_goes_as_shown():
 def kit_is_told():
     """The documents name the logic that `rt` has."""
     if not shutil.which("rt"):
-        print("NOT TRIED for want of rt: the toolchain that the documents name")
+        print("NOT TRIED without rt: the toolchain that the documents name")
         return
     version = subprocess.run(["rt", "version"], capture_output=True, text=True, check=True).stdout.split()
     logic = version[version.index("logic") + 1]
