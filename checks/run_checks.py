@@ -104,7 +104,7 @@ WANTED = {
     "a browser": (["chromium"], ["chromium", "fonts-dejavu-core"]),
 }
 # How a check begins the line of what it couldn't try.
-NOT_TRIED = "NOT TRIED for want of "
+NOT_TRIED = "NOT TRIED without "
 
 
 def is_there(name):

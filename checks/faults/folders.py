@@ -128,7 +128,7 @@ class Trials:
         return told
 
     def tables(self):
-        """The tables that are left. A station stands still meanwhile, so that what is read is what a kill would leave."""
+        """The tables that are left. A station is suspended meanwhile, so that what is read is what a kill would leave."""
         if not self.station:
             return read(self.database)
         process = self.station.program

@@ -1,5 +1,5 @@
 #!/usr/bin/env python3
-"""Compares the bounds that the documents tell with the constants and the defaults of the code.
+"""Compares the bounds and the numbers of things that the documents state with the code.
 
     checks/lint/bounds.py
 
@@ -15,7 +15,7 @@ sys.path.insert(0, str(Path(__file__).resolve().parents[1] / "lib"))
 
 from program import ROOT
 
-WORDS = {"one": 1, "four": 4, "five": 5, "ten": 10, "a million": 1_000_000, "a day": 86_400}
+WORDS = {"one": 1, "four": 4, "five": 5, "seven": 7, "eight": 8, "ten": 10, "thirteen": 13, "fifteen": 15, "a million": 1_000_000, "a day": 86_400}
 MIB = 1_048_576
 
 
@@ -35,6 +35,24 @@ def default(name):
     if not found:
         raise LookupError(f"crates/{path} has no default of {name}")
     return int(found[1])
+
+
+def count(pattern, *paths):
+    """How often a pattern is found in files."""
+    files = sorted(it for path in paths for it in (ROOT / "crates").glob(path))
+    return sum(len(re.findall(pattern, it.read_text(encoding="utf-8"), re.M)) for it in files)
+
+
+def variants(path, name):
+    """How many variants an enum has."""
+    body = re.search(rf"^pub enum {name}\b[^{{]*{{\n(.*?)^}}", (ROOT / "crates" / path).read_text(encoding="utf-8"), re.M | re.S)[1]
+    return len(re.findall(r"^    [A-Z]\w*", body, re.M))
+
+
+def clauses(path, head):
+    """How many clauses the function with this head has."""
+    text = (ROOT / "crates" / path).read_text(encoding="utf-8").partition(head)[2]
+    return len(re.findall(r"\bensures\b", re.split(r"\bfn ", text)[0]))
 
 
 OCTETS = constant("oftp_files/src/limits.rt", "octets")
@@ -57,7 +75,13 @@ PATIENCE = constant(LINE, "MOST_PATIENCE")
 CALLERS = constant(LINE, "MOST_CALLERS")
 INTERVAL = constant(LINE, "MOST_INTERVAL")
 
-N = r"([\d,]+|one|four|five|ten|a million|a day)"
+COMMANDS = variants("oftp_wire/src/command.rt", "Command")
+CHANGES = variants("oftp_register/src/change.rt", "Change")
+TABLES = count("CREATE TABLE", "oftp_tables/src/make.rt")
+DURABLE = count(r"^pub fn", "oftp_durable/src/**/*.rt") - count(r"^pub fn", "oftp_durable/src/laws.rt")
+TAKE = clauses("oftp_vfile/src/taking.rt", "pub fn take(")
+
+N = rf"([\d,]+|{'|'.join(WORDS)})"
 BOUNDS = [
     ("README.md", rf"up to {N} MiB and {N} records", (OCTETS // MIB, RECORDS)),
     ("docs/COMMANDS.md", rf"more than {N} octets or {N} records, or {N} files are here", (OCTETS, RECORDS, FILES)),
@@ -81,6 +105,20 @@ BOUNDS = [
     ("docs/PARTNER.md", rf"Records of F and V have up to {N} octets", (RECORD,)),
     ("docs/ARCHITECTURE.md", rf"a piece of at most {N} octets", (PIECE,)),
     ("docs/ARCHITECTURE.md", rf"asks the office for {N} records of the file", (FIRST_ROWS,)),
+    ("README.md", rf"{N} of RFC 5024's eighteen commands are here", (COMMANDS,)),
+    ("CHANGELOG.md", rf"{N} of the eighteen commands", (COMMANDS,)),
+    ("docs/ARCHITECTURE.md", rf"the {N} commands as octets", (COMMANDS,)),
+    ("docs/GLOSSARY.md", rf"one of the {N} messages", (COMMANDS,)),
+    ("docs/PROMISES.md", rf"each of the {N} commands, as data", (COMMANDS,)),
+    ("docs/PROOF-MAP.md", rf"The {N}\s+commands are there", (COMMANDS,)),
+    ("docs/GLOSSARY.md", rf"one of the {N} ways in which the register changes", (CHANGES,)),
+    ("docs/PROMISES.md", rf"each of the {N} changes makes of it", (CHANGES,)),
+    ("docs/PROOF-MAP.md", rf"each of the {N} changes in one transaction", (CHANGES,)),
+    ("docs/OPERATING.md", rf"The station's own are {N} tables", (TABLES,)),
+    ("docs/PROMISES.md", rf"the rows of the {N} tables", (TABLES,)),
+    ("docs/PROOF-MAP.md", rf"the {N} tables are made in one transaction", (TABLES,)),
+    ("docs/PROMISES.md", rf"the contracts of {N} calls of crates/oftp_durable", (DURABLE,)),
+    ("docs/CONTRIBUTING.md", rf"three of its {N} clauses", (TAKE,)),
 ]
 
 

@@ -343,7 +343,7 @@ def tried(case):
         try:
             case(Path(room))
         except NotTried as why:
-            return f"NOT TRIED for want of {why}", False
+            return f"NOT TRIED without {why}", False
         except (Wrong, OSError, subprocess.SubprocessError) as why:
             return f"{case.__name__.replace('_', ' ')}: {type(why).__name__}: {why}", True
     return f"{case.__name__.replace('_', ' ')}: as it must be", False

@@ -138,7 +138,7 @@ def several_beside_a_station(room):
 
 
 def partner_in(service):
-    """A partner who is let in, and then keeps still."""
+    """A partner who is let in, and is then silent."""
     caller = service.caller()
     caller.sendall(SSID)
     begun = b""

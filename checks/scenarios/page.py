@@ -595,7 +595,7 @@ def main():
     Server.page = taken.page
     cases = [at_base(taken.base)] if taken.base else [it for it in CASES if not taken.names or it.__name__ in taken.names]
     if not chromium():
-        print("NOT TRIED for want of a browser: the page")
+        print("NOT TRIED without a browser: the page")
         return 0
     if taken.pictures:
         taken.pictures.mkdir(parents=True, exist_ok=True)

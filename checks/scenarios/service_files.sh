@@ -38,7 +38,7 @@ if command -v systemd-analyze > /dev/null; then
         count verify "$unit"
     done
 else
-    echo 'NOT TRIED for want of systemd: the units of examples/service'
+    echo 'NOT TRIED without systemd: the units of examples/service'
 fi
 if command -v stunnel > /dev/null && command -v openssl > /dev/null; then
     openssl req -x509 -newkey rsa:2048 -nodes -days 1 -subj /CN=station -keyout "$room/key" -out "$room/cert" 2> /dev/null
@@ -47,7 +47,7 @@ if command -v stunnel > /dev/null && command -v openssl > /dev/null; then
     sed -i '1i foreground = yes' "$room/conf"
     count starts
 else
-    echo 'NOT TRIED for want of stunnel: examples/service/stunnel.conf'
+    echo 'NOT TRIED without stunnel: examples/service/stunnel.conf'
 fi
 echo "$passed passed, $failed failed"
 [ "$failed" = 0 ]

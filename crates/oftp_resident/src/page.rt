@@ -6,7 +6,7 @@ pub(crate) const PAGE: &str = r###"<!doctype html>
 <head>
 <meta charset="utf-8">
 <meta http-equiv="Content-Security-Policy" content="default-src 'none'; connect-src 'self'; img-src data:;
-  script-src 'sha256-VckjJRV1Av754pC0/hhiAXBbnQWJSiDUn8wvSc7w9jg='; style-src 'sha256-6ydgNxWktbe59SKh5qqWlZcNM+Tbv6Qp5vhS0GHFr78=';
+  script-src 'sha256-aCOUqI2dIutLDaoC26iD7sWDHZFzKGe4Q0Jyp5Vc7Pk='; style-src 'sha256-6ydgNxWktbe59SKh5qqWlZcNM+Tbv6Qp5vhS0GHFr78=';
   base-uri 'none'; form-action 'none'; require-trusted-types-for 'script'; trusted-types 'none'">
 <meta name="viewport" content="width=device-width, initial-scale=1">
 <meta name="color-scheme" content="light dark">
@@ -169,21 +169,21 @@ details[open] .start { display: none; }
 <script>
 "use strict";
 
-// How often the page renews itself, and how long it waits for an answer, in milliseconds. A station that takes long is asked less often:
-// the pause is at least so many times what the last renewal took.
+// The pause between two renewals, and the timeout of a request, in milliseconds. A slow station is asked less often: the pause is at least
+// TIMES as long as the last renewal took.
 const PAUSE = 10_000;
 const PATIENCE = 30_000;
 const TIMES = 10;
-// How many rows are drawn at once: no more than somebody looks at.
+// How many rows are drawn at once, which is as many as a person looks at.
 const ROWS = 100;
-// A text of more characters is shown by its beginning, and whole where somebody asks for it.
+// A text with more characters is shortened. A click shows all of it.
 const LONGEST = 120;
-// From when on a file that is closing does so for long: once it was seen so for ten minutes, which is twice what a session waits for an
-// answer, or once it is an hour old.
+// When a file counts as not confirmed for long: the page has seen it closing for ten minutes, which is twice the timeout of a session, or it
+// is an hour old. In milliseconds.
 const CLOSING_SEEN = 10 * 60_000;
 const CLOSING_AGE = 60 * 60_000;
 
-// ---- words
+// ---- texts
 
 const numbers = new Intl.NumberFormat("en");
 
@@ -208,8 +208,8 @@ const NEGATIVE_REASONS = {
 };
 const FORMATS = { F: "fixed", V: "variable", U: "unstructured", T: "text" };
 
-// The states of each list: the words for it, how it looks (act and bad wait for somebody), what the summary says of such files, and what
-// is to be expected or done.
+// The states of each list: the text, the style (act and bad need a person), the text in the summary, and a hint on what comes next or what to
+// do.
 const STATES = {
   in: {
     open: { words: "Incomplete", look: "wait", hint: "The rest comes with a later session." },
@@ -250,7 +250,7 @@ const STATES = {
   },
 };
 
-// The lists: what each is called, its columns with their heads, and what is said where it has nothing.
+// The lists: the title, the columns with their headings, and the text of an empty list.
 const VIEWS = {
   in: {
     title: "Incoming", noun: "file", caption: "Incoming files, newest first", none: "No file has come in yet.",
@@ -272,13 +272,13 @@ const VIEWS = {
   },
 };
 
-// ---- what the station holds, as items: a row each
+// ---- the items of the lists, each of which becomes a row
 
-// Each item has its view, number, partner and state, the object that has the file's name, date and time, the response if there is one, and
-// the text in which a name is sought.
+// Each item has its view, number, partner and state, the object with the file's name, date and time, the response if there is one, and the
+// text that the name filter searches.
 const lists = { in: [], out: [], received: [], issued: [] };
 let partners = [];
-// When each outgoing file that is closing was first seen so, by its number.
+// When the page first saw each outgoing file as closing, by the file's number.
 const closingSince = new Map();
 
 function itemOf(view, no, partner, state, file, response) {
@@ -317,7 +317,7 @@ function isStuck(file) {
   return now - since >= CLOSING_SEEN || stamp !== null && now - stamp >= CLOSING_AGE;
 }
 
-// The moment of a file's date and time in this machine's time zone, or null where they are none: a partner may put any digits there.
+// A file's date and time in this machine's time zone, or null if they are no valid date and time: a partner may send any digits.
 function momentOf(date, time) {
   const digits = date + time.slice(0, 6);
   const parts = /^(\d{4})(\d\d)(\d\d)(\d\d)(\d\d)(\d\d)$/.exec(digits);
@@ -338,7 +338,7 @@ function issuedItem(response, file) {
   return itemOf("issued", response.no, named.originator, responseState(response.kind, response.sent), named, response);
 }
 
-// Makes the items of what was answered, newest first.
+// Makes the items of the station's replies, newest first.
 function takeLists(incoming, outgoing, responses) {
   const files = new Map(incoming.map((file) => [file.no, file]));
   const issued = new Map(responses.issued.map((response) => [response.no, response]));
@@ -364,7 +364,7 @@ function stateOf(item) {
   return Object.hasOwn(states, item.state) ? states[item.state] : { words: item.state, look: "rest" };
 }
 
-// ---- what is chosen: the list and the filter, which the address keeps behind its #
+// ---- the chosen list and filter, which are also in the fragment of the address
 
 const choice = { view: "in", partner: "", name: "", state: "" };
 let mostRows = ROWS;
@@ -393,7 +393,7 @@ function keepChoice() {
   mostRows = ROWS;
 }
 
-// Which items are of the partner and have the name that are chosen, whatever their state is.
+// The items with the chosen partner and name, in any state.
 function namedAsChosen() {
   const name = choice.name.trim().toLowerCase();
   const isOfPartner = (item) => !choice.partner || item.partner === choice.partner;
@@ -404,7 +404,7 @@ function namedAsChosen() {
 
 const printed = new WeakMap();
 
-// An element with a class and what stands in it, a text or other elements. Texts become text nodes.
+// An element with a class and its children, which are texts or other elements. Texts become text nodes.
 function make(kind, className, ...parts) {
   const element = document.createElement(kind);
   if (className) {
@@ -414,14 +414,14 @@ function make(kind, className, ...parts) {
   return element;
 }
 
-// A partner's text in one line. Controls, and what turns the direction of writing, would have it read as another text; so would a heap of
-// marks that no script has.
+// A partner's text in one line. Control characters, changes of the writing direction and long runs of combining marks are replaced, because
+// they could make it look like another text.
 function plain(text) {
   const line = text.replace(/\r\n?|[\n\u2028\u2029]/g, " ⏎ ").replace(/\t/g, " ");
   return line.replace(/[\p{Cc}\p{Bidi_Control}]|\p{M}{9,}/gu, "\ufffd");
 }
 
-// A partner's text, apart from the direction of what stands around it. Of a long one there is the beginning, and all where it is asked for.
+// A partner's text, isolated from the writing direction around it. A long one shows its beginning, and all of it after a click.
 function textOf(text, className) {
   const characters = [...plain(text)];
   if (characters.length <= LONGEST) {
@@ -448,7 +448,7 @@ function counted(count, one) {
   return `${numbers.format(count)} ${one}${count === 1 ? "" : "s"}`;
 }
 
-// How many rows a file has, in the words of its format: unstructured files and texts are kept in blocks of 1,024 octets.
+// How many records a file has, or how many blocks of 1,024 octets if it is unstructured or a text.
 function rowsOf(file) {
   return counted(file.rows, file.format === "F" || file.format === "V" ? "record" : "block");
 }
@@ -486,7 +486,7 @@ function stateParts(item) {
   ];
 }
 
-// What stands in a column of an item's row.
+// The content of each column in an item's row.
 const CELLS = {
   no: ({ no }) => [String(no)],
   partner: ({ partner }) => [textOf(partner, "text")],
@@ -514,7 +514,7 @@ function fillRow(row, item) {
   }
 }
 
-// Makes the rows those of the items. A row that says the same stays as it is, so nothing flickers, and what is open stays open.
+// Draws the rows of the items. A row whose content is unchanged is kept, so nothing flickers, and what is open stays open.
 function drawRows(body, items) {
   const old = new Map([...body.rows].map((row) => [row.dataset.no, row]));
   let place = body.firstElementChild;
@@ -562,7 +562,7 @@ function drawHead(table) {
   table.tBodies[0].replaceChildren();
 }
 
-// What waits for somebody: for each such state how many files there are, as a way to them.
+// The files that need a person: for each such state their number, as a link to them.
 function drawTodo() {
   const parts = [];
   let all = 0;
@@ -594,7 +594,7 @@ function drawViews(isNamed) {
   }));
 }
 
-// Gives an element other parts where they differ, so that whoever has reached one of them by the keyboard stays there.
+// Replaces the children of an element only if they differ, so that the keyboard focus isn't lost.
 function replaceIfOther(element, parts) {
   const other = make(element.localName, "", ...parts);
   if (element.isEqualNode(Object.assign(other, { id: element.id }))) {
@@ -641,14 +641,14 @@ function draw() {
   byId("more").hidden = found.length <= mostRows;
 }
 
-// A text that stays the same isn't set, so that nobody is told of it once more.
+// Sets a text only if it differs, so that a screen reader doesn't read it again.
 function setText(element, text) {
   if (element.textContent !== text) {
     element.textContent = text;
   }
 }
 
-// Draws, and has the row that stands at the top of the window stay there.
+// Draws, and keeps the row at the top of the window in its place.
 function keepPlace(body, change) {
   const top = body.getBoundingClientRect().top < 0 ? [...body.rows].find((row) => row.getBoundingClientRect().bottom > 0) : null;
   const before = top?.getBoundingClientRect().top;
@@ -665,7 +665,7 @@ let renewedAt = null;
 let timer = null;
 let isRenewing = false;
 
-// What the station answers for a list. An answer that is the last one again isn't read once more.
+// The station's reply for a list. A reply equal to the last one isn't parsed again.
 async function ask(path) {
   const text = await textAt(path);
   if (answers.get(path)?.text !== text) {
@@ -687,10 +687,10 @@ async function textAt(path) {
   throw new Trouble(`it answered with error ${reply.status}`);
 }
 
-// What the station did in the place of an answer.
+// Why the station gave no reply.
 class Trouble extends Error {}
 
-// The responses come last, so that each one that a file's state speaks of is among them. What is shown changes only where all came.
+// The responses are asked for last, so that they include the response of each file that has one. The page changes only if all replies came.
 async function renew() {
   if (isRenewing) {
     return;
@@ -724,7 +724,7 @@ function tellTrouble(why) {
   byId("renewed").textContent = renewedAt ? `Last renewed at ${clockOf(renewedAt)}` : "";
 }
 
-// ---- what somebody does
+// ---- what a person does
 
 for (const key of ["partner", "name", "state"]) {
   byId(key).addEventListener("input", (event) => {
