@@ -20,7 +20,7 @@ sys.path.insert(0, str(Path(__file__).resolve().parents[1] / "lib"))
 
 from program import PROGRAM
 from row_files import ROWS, Row
-from services import BOOK, CARMAKER, LONG, Service, Wrong, expect, rest_of
+from services import BOOK, CARMAKER, LONG, Resident, Service, Wrong, expect, free_port, rest_of
 from shims import compile_library
 
 MEMORY, SOCKET, FILE = "fault: 4 memory\n", "fault: 8 socket\n", "fault: 7 file\n"
@@ -35,6 +35,13 @@ def run(room, environment, *words):
     environment = {**os.environ, **environment}
     done = subprocess.run([PROGRAM, *words], cwd=room, env=environment, capture_output=True, timeout=LONG, check=False)
     return done.returncode, done.stdout.decode(), done.stderr.decode()
+
+
+def ask(service, port=None):
+    """The reply to a request for a list."""
+    with service.caller() if port is None else socket.create_connection(("127.0.0.1", port), timeout=LONG) as client:
+        client.sendall(b"GET /in HTTP/1.1\r\n\r\n")
+        return rest_of(client)
 
 
 def sockets_without_memory(room, library):
@@ -84,6 +91,35 @@ def callers_that_pass(room, library):
         service.ends(1, SOCKET.encode())
 
 
+def requests_that_pass(room, library):
+    """Nor does one end `http`."""
+    for name in ("EMFILE", "ECONNABORTED", "ENOMEM"):
+        folder = room / name
+        folder.mkdir()
+        with Service(folder, "http", "--requests", "1", environment=failing(library, "accept4", getattr(errno, name), 3)) as service:
+            expect(ask(service)[:12], b"HTTP/1.1 200", f"{name}: the reply")
+            service.ends()
+
+
+def callers_of_a_station_that_pass(room, library):
+    """Nor do they end a station that keeps its database open, at whichever of its three sockets."""
+    greeting = Row(ROWS / "opening/wrong_password.row").sessions()[0].steps[0][1]
+    for name in ("EMFILE", "ECONNABORTED", "ENOMEM"):
+        folder = room / name
+        folder.mkdir()
+        port = free_port()
+        with Resident(
+            folder, "--jobs", "2", "--http-port", str(port), environment=failing(library, "accept4", getattr(errno, name), 9)
+        ) as service:
+            expect(service.give("report", "in").returncode, 0, f"{name}: an operator's command")
+            expect(ask(service, port)[:12], b"HTTP/1.1 200", f"{name}: the reply")
+            with service.caller() as caller:
+                caller.shutdown(socket.SHUT_WR)
+                expect(rest_of(caller), greeting, f"{name}: the station sent")
+            expect(service.line(), "session - in: end: input", f"{name}: the line")
+            service.ends()
+
+
 def name_is_kept(room, library):
     given = room / "given"
     given.write_bytes(Row(ROWS / "receiving/one_octet.row").sessions()[0].joined("in"))
@@ -98,7 +134,14 @@ def name_is_kept(room, library):
         calls.unlink()
 
 
-CASES = [sockets_without_memory, trace_without_memory, callers_that_pass, name_is_kept]
+CASES = [
+    sockets_without_memory,
+    trace_without_memory,
+    callers_that_pass,
+    requests_that_pass,
+    callers_of_a_station_that_pass,
+    name_is_kept,
+]
 
 
 def main():

@@ -14,9 +14,10 @@ Four pairs of stations run in parallel. In every other pair the services of one 
 which is never killed, and its `http`, which gets a request between two rounds; strangers call, too. Their memory and descriptors at the end
 are compared with those at the beginning (checks/lib/staying.py).
 
-The check goes on beyond its time until programs and commands were killed, connections broken and transfers continued, and fails if another
-five minutes don't bring them. The seed is printed. It repeats the choices, but not how far a program is when it is killed. After a failure
-the history of the pair is printed too, and its files are kept. The last line is `N passed, M failed`.
+The check goes on beyond its time until programs and commands were killed, connections broken and transfers continued, and until all that may
+happen to a session has happened to one (checks/lib/passage.py). It fails if another five minutes don't bring that. The seed is printed. It
+repeats the choices, but not how far a program is when it is killed. After a failure the history of the pair is printed too, and its files are
+kept. The last line is `N passed, M failed`.
 """
 
 import argparse
@@ -38,7 +39,7 @@ import killed
 import tables
 from killed import Wrong
 from pairs import STAMP, answered, book_of, local_form, promised, settings_of, taken_back
-from passage import Passage, Trouble, Usual
+from passage import TROUBLES, Passage, Trouble, Usual
 from staying import Services, held_port
 
 PAIRS = 4
@@ -48,7 +49,7 @@ LONG = 60
 # What has to occur. If some of it hasn't when the time is up, lives of this many seconds follow, for at most this many in all.
 SECONDS_MORE = 10
 LONGEST = 300
-WANTED = ["commands killed", "programs killed", "connections broken", "transfers that went on"]
+WANTED = ["commands killed", "programs killed", "connections broken", "transfers that went on", *TROUBLES]
 # How a session may end: between two stations none violates the protocol.
 ENDS = ["end: own 00", "end: partner 00", "end: input", "fault: 1 read", "fault: 2 write"]
 # The end of a call whose connection was reset before the program saw it established.
@@ -265,6 +266,7 @@ class Pair:
         if session.sides:
             self.usual.learn(time.monotonic() - session.begin, session.sides)
         self.count["programs killed"] += len(session.killed)
+        self.count += session.befell
         self.count["transfers that went on"] += sum(": SFPA" in line and "'0'" not in line for line in said)
         self.count["files told as whole already"] += sum(": SFNA reason='13'" in line for line in said)
         self.count["connections broken"] += session.is_broken and not session.killed

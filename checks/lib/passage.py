@@ -90,11 +90,15 @@ class Said:
         return [line if isinstance(line, str) else f"    {line['DATA']} DATA, {line['CDT']} CDT" for line in self.lines] + cut
 
 
+# What may happen to a session.
+TROUBLES = ["closes", "resets", "silences", "kills the caller", "kills the listener", "kills both"]
+
+
 class Trouble:
     """What happens to a session, and when: after a number of seconds, or at a place in the octets of one side."""
 
     def __init__(self, chance, usual):
-        self.what = chance.choice(["closes", "resets", "silences", "kills the caller", "kills the listener", "kills both"])
+        self.what = chance.choice(TROUBLES)
         self.side = chance.randrange(2)
         self.seconds = self.octets = None
         self.frame = chance.choice([chance.randint(0, 6), chance.randint(0, usual.frames)])
@@ -136,6 +140,8 @@ class Passage:
         self.said = said or Said()
         self.is_open = True
         self.is_broken = False
+        # What has happened, and how often.
+        self.befell = Counter()
 
     def join(self, *ends):
         """Joins the caller's connection with the one to the listener."""
@@ -201,6 +207,7 @@ class Passage:
             return
         self.troubles.remove(trouble)
         self.is_broken = True
+        self.befell[trouble.what] += 1
         if trouble.what in ("closes", "resets"):
             self.hang_up(is_reset=trouble.what == "resets")
         elif trouble.what == "silences" and self.sides:
