@@ -47,13 +47,13 @@ class Service:
     # The time limit in seconds for anything.
     patience = LONG
 
-    def __init__(self, room, command, *words, book=BOOK, port=None, output=subprocess.PIPE, faults=subprocess.PIPE, environment=None):
+    def __init__(self, room, command, *words, book=BOOK, port=None, output=subprocess.PIPE, faults=subprocess.PIPE, environment=None, **how):
         self.port = port or free_port()
         self.database = room / "database"
         of_book = ["--book", book] if command in ("listen", "run") else []
         words = [PROGRAM, command, "--db", self.database, *of_book, "--port", str(self.port), *words]
         environment = {**os.environ, **(environment or {})}
-        self.program = subprocess.Popen(words, stdout=output, stderr=faults, env=environment)
+        self.program = subprocess.Popen(words, stdout=output, stderr=faults, env=environment, **how)
         # The octets of each output that aren't a requested line yet.
         self.texts = {stream: b"" for stream in (self.program.stdout, self.program.stderr) if stream}
 

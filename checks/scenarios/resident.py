@@ -8,6 +8,7 @@ Each case has a port and a database of its own, and all run at once, so it takes
 
 import contextlib
 import os
+import resource
 import select
 import signal
 import socket
@@ -430,6 +431,27 @@ def look_ups_within_a_session(room):
         expect(service.line(), f"session {CARMAKER} in: end: input", "the line")
 
 
+def callers_in_their_order(room):
+    """Callers who come during a session and are ready to be let in are served in the order in which they came, and one who isn't keeps none of
+    those behind him waiting."""
+    octets = ONE_OCTET.joined("in")
+    names = [b"ASN.%04d" % number for number in range(1, 9)]
+    with Resident(room) as service, contextlib.ExitStack() as stack, service.caller() as first:
+        first.sendall(SSID)
+        heard(first, NOTHING_WAITING.joined("out")[: len(GREETING) + len(SSID)])
+        stack.enter_context(service.caller()).sendall(SSID[:10])
+        callers = [stack.enter_context(service.caller()) for _ in names]
+        # The last one says all first.
+        for caller, name in reversed([*zip(callers, names)]):
+            caller.sendall(octets.replace(b"ASN.0001", name))
+            caller.shutdown(socket.SHUT_WR)
+        first.sendall(NOTHING_WAITING.joined("in")[len(SSID) :])
+        for line in [NOTHING_WAITING.end[1], *[ONE_OCTET.end[1]] * len(names)]:
+            expect(service.line() + "\n", f"session {CARMAKER} in: {line}", "the line")
+    files = sorted((entry["no"], entry["dataset"].encode()) for entry in tables.read(service.database)["in_file"])
+    expect([name for _, name in files], names, "the files in their order")
+
+
 def partners_who_keep_open(room):
     """Partners who don't close behind the station's last word keep nobody waiting, and can read it."""
     with Resident(room) as service, contextlib.ExitStack() as stack:
@@ -665,6 +687,21 @@ def calls(room):
         words = [PROGRAM, "call", "--db", service.database, "--book", BOOK, "--partner", "O0099OTHER"]
         done = subprocess.run(words, capture_output=True, timeout=LONG, check=False)
         expect((done.returncode, done.stdout, done.stderr), (1, b"refused: 2 unknown\n", b""), "the call of a stranger")
+
+
+def call_that_is_a_job(room):
+    """A session with a partner who is called is a job, as one with a caller is."""
+    session = session_of("calling/initiator_alone")
+    with socket.create_server(("127.0.0.1", 0)) as partner, Resident(room, "--jobs", "2") as service:
+        partner.settimeout(LONG)
+        book = book_with(room, f"127.0.0.1:{partner.getsockname()[1]}")
+        for number in range(2):
+            expect(service.program.poll(), None, f"whether it ended after {number} jobs")
+            with call(service, book) as program:
+                converse(partner.accept()[0], session)
+                expect(told(program), (0, session.end[1].encode(), b""), "the call")
+            expect(service.line() + "\n", f"session {CARMAKER} out: {session.end[1]}", "the line")
+        service.ends()
 
 
 def partner_who_does_not_answer(room):
@@ -919,6 +956,30 @@ def clock(room):
                 raise Wrong("it called twice within a second")
 
 
+def clock_of_who_only_calls(room):
+    """By its clock the station never calls a partner from whom it only receives, though a response is due to him, and calls him once his mode is
+    another one."""
+    with socket.create_server(("127.0.0.1", 0)) as partner:
+        book = book_with(room, f"127.0.0.1:{partner.getsockname()[1]}")
+        both_ways = book.read_text()
+        book.write_text(both_ways.replace("mode = 'B'", "mode = 'R'"))
+        with Resident(room, "--call-every", "1", book=book) as service:
+            with service.caller() as caller:
+                caller.sendall(ONE_OCTET.joined("in"))
+                caller.shutdown(socket.SHUT_WR)
+                rest_of(caller)
+            expect(service.line() + "\n", f"session {CARMAKER} in: {ONE_OCTET.end[1]}", "the line")
+            expect(given(service, "release", "1"), (0, b"done: release 1\n", b""), "a release")
+            partner.settimeout(4)
+            with contextlib.suppress(TimeoutError):
+                partner.accept()
+                raise Wrong("it called who only calls")
+        book.write_text(both_ways)
+        partner.settimeout(LONG)
+        with Resident(room, "--call-every", "1", book=book):
+            partner.accept()[0].close()
+
+
 # ---- HTTP
 
 
@@ -992,6 +1053,61 @@ def request_that_is_not_read(room):
         expect(given(service, "report", "in")[0], 0, "a report")
         expect(get(port, "/")[0], 200, "the page")
         within(begin, 0, "what is read")
+
+
+def session_without_memory(room):
+    """A session for which there is no memory ends with that line, and the station goes on: the next session brings the same file."""
+    book = room / "book"
+    book.write_text(one_file.BOOK.format(buffer=16384, credit=99))
+    octets = one_file.session(one_file.MEBI, 16384, 99)
+    with Resident(room, book=book) as service:
+        play(service, NOTHING_WAITING)
+        process = service.program.pid
+        before = resource.prlimit(process, resource.RLIMIT_DATA)
+        resource.prlimit(process, resource.RLIMIT_DATA, (1024 * staying.memory_of(process, "VmData"), before[1]))
+        with service.caller() as caller, contextlib.suppress(OSError):
+            caller.sendall(octets)
+            rest_of(caller)
+        expect(service.line(), f"session {CARMAKER} in: fault: 4 memory", "the line")
+        resource.prlimit(process, resource.RLIMIT_DATA, before)
+        with service.caller() as caller:
+            caller.sendall(octets)
+            rest_of(caller)
+        expect(service.line(), f"session {CARMAKER} in: end: partner 00", "the line of the next one")
+        expect(given(service, "fetch", "1", room / "fetched"), (0, b"done: fetch 1\n", b""), "fetch")
+        expect((room / "fetched").read_bytes(), b"A" * one_file.MEBI, "the file")
+
+
+def let_no_file_be_written(service):
+    """From now on each write of the station to a file fails, as on a disk that is full."""
+    resource.prlimit(service.program.pid, resource.RLIMIT_FSIZE, (0, 0))
+
+
+def office_that_fails(room):
+    """A station whose database can't be written ends with `fault: 3 office`, within a session as within a command. The next one finds what was
+    answered, and goes on."""
+    file = room / "file"
+    file.write_bytes(bytes(300_000))
+    # So a file that gets too long is an error of its write, and kills nobody.
+    with Resident(room, restore_signals=False) as service:
+        play(service, ONE_OCTET)
+        let_no_file_be_written(service)
+        expect(given(service, "submit", *IDENTITY, file), (1, b"", b"fault: 3 office\n"), "submit")
+        service.ends(1, b"fault: 3 office\n")
+    with Resident(room, restore_signals=False) as service:
+        expect(given(service, "release", "1"), (0, b"done: release 1\n", b""), "a release")
+        let_no_file_be_written(service)
+        with service.caller() as caller:
+            caller.sendall(ONE_OCTET.joined("in").replace(b"ASN.0001", b"ASN.0002"))
+            caller.shutdown(socket.SHUT_WR)
+            said = rest_of(caller)
+        expect(said[-7:-4], b"F08", "the end that the station sent")
+        expect(service.line(), f"session {CARMAKER} in: fault: 3 office", "the line")
+        service.ends(1, b"fault: 3 office\n")
+    with Resident(room) as service:
+        expect(given(service, "release", "1"), (1, b"refused: 3 state\n", b""), "the release again")
+        expect(given(service, "submit", *IDENTITY, file), (0, b"done: submit 1\n", b""), "submit")
+    expect(tables.unfit(tables.read(service.database)), None, "the tables")
 
 
 def killed_within_a_command(room):
@@ -1221,12 +1337,14 @@ CASES = [
     strangers,
     silent_partner,
     look_ups_within_a_session,
+    callers_in_their_order,
     partners_who_keep_open,
     backups,
     backup_holds_still,
     backup_of_who_is_gone,
     backup_that_takes_too_long,
     calls,
+    call_that_is_a_job,
     partner_who_does_not_answer,
     two_that_call_each_other,
     three_that_call_in_a_circle,
@@ -1235,6 +1353,7 @@ CASES = [
     partner_who_calls_while_it_is_called,
     partner_of_a_lesser_code_who_calls,
     clock,
+    clock_of_who_only_calls,
     requests,
     slow_requests,
     request_that_is_not_read,
@@ -1242,6 +1361,8 @@ CASES = [
     slow_callers_at_each_socket,
     silent_callers_at_each_socket,
     partner_who_reads_nothing,
+    session_without_memory,
+    office_that_fails,
     killed_within_a_command,
     killed_before_it_hears_a_command,
     answers_that_are_cut,

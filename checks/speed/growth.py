@@ -1,13 +1,14 @@
 #!/usr/bin/env python3
 """What a station that keeps its database open takes for each command, request and session, as its register grows.
 
-    checks/speed/growth.py [--assert] [--whole] [--only size|count]
+    checks/speed/growth.py [--assert] [--large] [--whole] [--only size|count]
 
-Stock sqlite3 fills registers of 10 and 100 MiB in two files, and of 1,000 and 10,000 received and sent files; `--whole` adds one of 1 GiB
-and one of 100,000 files. Over each, `run` does what operators and partners ask for, each act several times, and a line has the average: the
+Stock sqlite3 fills registers of 10 and 100 MiB in two files, and of 1,000 and 10,000 received and sent files; `--large` and `--whole` add one of
+1 GiB and one of 100,000 files. Over each, `run` does what operators and partners ask for, each act several times, and a line has the average: the
 processor seconds of the station, and those of the command that asked it. An act with the same result however large the register is may take
 at most MOST times what it takes over the smallest one; a list may take MOST times the ratio of its numbers of entries. Sending a file may
-take LOOK longer for each file that is there: each look-up of what is next goes past all that is answered, which is more than is wanted.
+take LOOK longer for each file that is there, and so may a session in which one comes: each look-up of what is next goes past all that is
+answered, which is more than is wanted.
 With `--whole` a line also has what the same act takes as a program of its own, with its opening, how much memory that has, and what plain C
 over libsqlite3 (`plain_store.c`, `plain_register.c`) takes for it over the same database without opening it. With `--assert` it fails if
 one takes longer. The last line is `N passed, M failed`.
@@ -71,9 +72,9 @@ class Act(NamedTuple):
 class Room:
     """A folder with what the runs need: a book, content, programs and the registers."""
 
-    def __init__(self, path, is_whole):
+    def __init__(self, path, is_large, is_whole):
         self.path = path
-        self.is_whole = is_whole
+        self.is_large, self.is_whole = is_large, is_whole
         self.empty = path / "empty"
         run_quietly([PROGRAM, "init", "--db", self.empty])
         settle(self.empty)
@@ -86,12 +87,12 @@ class Room:
                 run_quietly(["cc", "-O2", "-o", path / name, ROOT / f"checks/speed/{name}.c", "-lsqlite3"])
 
     def by_size(self):
-        for mebis in (10, 100, 1024) if self.is_whole else (10, 100):
+        for mebis in (10, 100, 1024) if self.is_large else (10, 100):
             database = fill_large(self.empty, self.path / "register", mebis)
             yield with_small(Register(f"{mebis:,} MiB", database, 2, 0, 1))
 
     def by_count(self):
-        for count in (1_000, 10_000, 100_000) if self.is_whole else (1_000, 10_000):
+        for count in (1_000, 10_000, 100_000) if self.is_large else (1_000, 10_000):
             database = fill_many(self.empty, self.path / "register", count)
             yield with_small(Register(f"{count:,} files", database, count, count, count // 1000))
 
@@ -226,7 +227,7 @@ ACTS = [
     ),
     Act("GET /in/NO", lambda it, at: it.request(f"/in/{released(it, at)}"), lambda it: ["plain_register", "show", "in", released(it, 0)]),
     Act("GET /out/NO", lambda it, at: it.request(f"/out/{it.register.went + 1}"), lambda it: ["plain_register", "show", "out", it.register.went + 1]),
-    Act("10 KB come in", lambda it, at: it.session(*file_of(f"CAME.{at}", SMALL)), lambda it: it.receive(*file_of("CAME", SMALL))),
+    Act("10 KB come in", lambda it, at: it.session(*file_of(f"CAME.{at}", SMALL)), lambda it: it.receive(*file_of("CAME", SMALL)), looks_each_time=True),
     Act("report in", lambda it, at: it.command("report", "in"), listed("in"), 3, True),
     Act("report out", lambda it, at: it.command("report", "out"), listed("out"), 3, True),
     Act("report issued", lambda it, at: it.command("report", "issued"), listed("issued"), 3, True),
@@ -290,11 +291,12 @@ def measure(room, registers):
 def main():
     parser = argparse.ArgumentParser(description=__doc__.splitlines()[0])
     parser.add_argument("--assert", action="store_true", dest="is_asserted")
+    parser.add_argument("--large", action="store_true")
     parser.add_argument("--whole", action="store_true")
     parser.add_argument("--only", choices=["size", "count"])
     taken = parser.parse_args()
     with tempfile.TemporaryDirectory() as path:
-        room = Room(Path(path), taken.whole)
+        room = Room(Path(path), taken.large or taken.whole, taken.whole)
         kinds = {"size": room.by_size, "count": room.by_count}
         counts = [measure(room, registers()) for kind, registers in kinds.items() if taken.only in (None, kind)]
     passed, failed = (sum(column) for column in zip(*counts))
