@@ -101,7 +101,7 @@ class Trials:
         raise Wrong("no call comes to an end")
 
     def call(self, words, is_last):
-        """Gives the command, and kills it, or the station, or lets it end. It answers what it told, where it came to an end by itself."""
+        """Gives the command, and kills it, or the station, or lets it end. It returns what it printed, where it came to an end by itself."""
         name = f"{words[1]}{' beside a station' if self.station else ''}"
         usual = self.usual.setdefault(name, 0.1)
         kinds = ["nobody"] if is_last else ["the command"] * 4 + (["the station"] if self.station else []) + ["nobody"] * (self.chance.random() < 0.2)

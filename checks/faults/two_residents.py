@@ -70,7 +70,7 @@ CUT_OFF = (1, b"", b"fault: 3 office\n")
 
 
 class Given(NamedTuple):
-    """A file that was handed in: as the operator had it, its rows, and its number once a command has told that."""
+    """A file that was handed in: as the operator had it, its rows, and its number once a command has printed that."""
 
     octets: bytes
     rows: list
@@ -78,7 +78,7 @@ class Given(NamedTuple):
 
 
 class Issued(NamedTuple):
-    """A response that was asked for: its kind, reason and text, and whether a command has told that it is done."""
+    """A response that was asked for: its kind, reason and text, and whether a command has printed that it is done."""
 
     kind: str
     reason: str
@@ -220,7 +220,7 @@ class Station(killed.Station):
             holder.close()
 
     def heed(self, has_died=False):
-        """Looks at what it told since: that it is ready, or a line of a session that may be. Where it died, a line that was begun is passed over."""
+        """Looks at what it has printed since: that it is ready, or a line of a session that may be. Where it died, a line that was begun is passed over."""
         with self.heeding:
             with open(self.lines, "rb") as file:
                 file.seek(self.read_to)
@@ -353,7 +353,7 @@ class Operator:
         return (done[1] + done[2]).decode()
 
     def expect(self, told, *wanted):
-        """A command told one of these lines, or nothing where that isn't known."""
+        """A command printed one of these lines, or nothing where that isn't known."""
         if told is not None and told not in [f"{line}\n" for line in wanted]:
             raise Wrong(f"{self.station.name}: told {told!r}, not one of {wanted}")
 
@@ -419,7 +419,7 @@ class Clerk(Operator):
             self.ask_first(number, asked, state)
 
     def ask_for(self, number, asked, *wanted):
-        """Has a response issued. It answers what the command told, which is one of these lines."""
+        """Has a response issued. It returns what the command printed, which is one of these lines."""
         words = ["release", str(number)] if asked.kind == "EERP" else ["refuse", str(number), asked.reason, asked.note]
         told = self.give(*words)
         self.expect(told, *(line.format(command=words[0]) for line in wanted))
@@ -470,7 +470,7 @@ class Looker(Operator):
             raise Wrong(f"{self.station.name}: {told!r}, and there is no file")
 
     def told_files(self):
-        """The files of which a command has told that they are handed in."""
+        """The files of which a command has printed that they are submitted."""
         return [dataset for dataset, given in self.station.given.items() if given.number]
 
     def expect_all(self, files, text, what):

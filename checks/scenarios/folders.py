@@ -95,7 +95,7 @@ def issued(database):
 
 
 def expect_each_once(programs, line):
-    """Each has ended well, and all that they have told is this line for each number, once."""
+    """Each has ended well, and all that they have printed is this line for each number, once."""
     out = []
     for status, lines, err in programs:
         expect((status, err), (0, ""), f"the command, which told {lines!r}")

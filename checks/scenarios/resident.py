@@ -358,7 +358,7 @@ def strangers(room):
 
 
 def silent_partner(room):
-    """A partner who is let in and then says nothing has its patience, and the service goes on."""
+    """A partner who is let in and then sends nothing is waited for until its timeout (`--patience`), and the service goes on."""
     with Resident(room, "--patience", "2") as service:
         with service.caller() as caller:
             caller.sendall(SSID)
@@ -625,7 +625,7 @@ def backup_of_who_is_gone(room):
 
 
 def backup_that_takes_too_long(room):
-    """A command that copies for longer than half a minute is told so, and keeps nobody waiting any longer."""
+    """A command that copies for longer than half a minute is ended with an error, and keeps nobody waiting any longer."""
     with Resident(room) as service, service.client() as client:
         begin_backup(client)
         begin = time.monotonic()
@@ -1225,7 +1225,7 @@ def answers_that_are_cut(room):
 
 
 def killed_while_files_are_answered(room):
-    """Of files that are fetched, released and refused while the station is killed, each response that was told is there, once, and none that
+    """Of files that are fetched, released and refused while the station is killed, each response that a command confirmed is there, once, and none that
     nobody asked for; what was fetched is whole."""
     files = 60
     with_files(room, files)

@@ -132,7 +132,7 @@ def many_connections(room):
 
 
 def octet_each_two_seconds(room):
-    """A slow partner isn't silent, although all its octets together take longer than the patience."""
+    """A slow partner isn't silent, although all its octets together take longer than the timeout (`--patience`)."""
     steps, end = steps_of("opening/wrong_password")
     with Service(room, "listen", "--patience", PATIENT) as service:
         caller = service.caller()

@@ -246,7 +246,7 @@ def longest_frame_now_and_then(room):
 
 
 def patience_within_the_admission(room):
-    """The patience bounds each wait of an admission."""
+    """The timeout (`--patience`) bounds each wait of an admission."""
     with listen(room, 2, "--admission", "600", "--patience", "2") as service:
         begin = time.monotonic()
         send_away(service.caller())
