@@ -173,6 +173,18 @@ def day_goes_as_shown():
                 typist.type(command, wanted)
 
 
+def example_prints_what_is_shown():
+    """What README shows of examples/two_stations.sh is printed by it: its heads and commands, and the form of a report. Where the station was
+    killed differs from run to run, and so does the call's end."""
+    environment = {**os.environ, "OFTP_STATION": str(PROGRAM)}
+    words = [ROOT / "examples/two_stations.sh"]
+    printed = subprocess.run(words, env=environment, capture_output=True, text=True, timeout=300, check=True).stdout.splitlines()
+    shown = [line for line in [*blocks_below(README, "Setting up")][1] if not line.startswith("fault:")]
+    forms = [re.sub(r"\d+", "N", line) for line in printed]
+    lost = [line for line in shown if re.sub(r"\d+", "N", line) not in forms]
+    expect(lost, [], "what README shows and the example doesn't print")
+
+
 def service_is_installed_as_shown():
     """README's lines for a service, without systemd: each unit that is enabled was copied."""
     with Typist() as typist:
@@ -213,7 +225,7 @@ def kit_is_told():
 
 CASES = [
     *(commands_are_told, options_are_told, crates_are_told, reasons_are_told, day_goes_as_shown, first_day_goes_as_shown),
-    *(service_is_installed_as_shown, kit_is_told),
+    *(example_prints_what_is_shown, service_is_installed_as_shown, kit_is_told),
 ]
 
 
