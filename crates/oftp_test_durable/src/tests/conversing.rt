@@ -3,15 +3,17 @@
 ghost use Rattle.std.specs.Prelude.{◌≢◌, OnOk};
 ghost use Rattle.oftp_session.specs.Standings.{Broken};
 
-use super::files::{AtFiles, open, remove_files};
+use super::files::{open, remove_files};
 use oftp_durable::go_on_durable;
 use oftp_engine::{Conversation, End, Port, Role, RunFault, serve};
 use oftp_partners::{Book, read};
 use oftp_register::PlainOffice;
 use oftp_session::Ending;
+use oftp_store::SqlOffice;
 use oftp_test_sessions::given::{BOOK, LIMITS};
 use oftp_test_sessions::snapshot::snapshot;
 use oftp_wire::Count;
+use sqlite::Alter;
 use std::alloc::Global;
 use std::process::Abort;
 use std::test::Fail;
@@ -52,9 +54,9 @@ struct Talk {
 }
 
 // Gives it a piece, and continues.
-fn take(
+fn take<S: Alter>(
     conversation: &mut Conversation<'_>,
-    office: &mut AtFiles,
+    office: &mut SqlOffice<S>,
     writer: &mut Port<Vec<u8>>,
     piece: &[u8],
 ) -> Result<Option<Ending>, RunFault>
@@ -66,7 +68,11 @@ fn take(
 }
 
 // Gives it the pieces, and reads the register after the second.
-fn converse(alloc: Global, office: AtFiles, book: &Book) -> Result<Talk, Fail> {
+fn converse<S: Alter + Drop>(
+    alloc: Global,
+    office: SqlOffice<S>,
+    book: &Book,
+) -> Result<Talk, Fail> {
     let mut office = office;
     let mut conversation = Conversation::new(alloc, book, Role::Responder);
     let mut writer = Port::new(Vec::new(alloc), 0);
@@ -108,10 +114,10 @@ fn left_at_once(alloc: Global, rt: &impl Abort, book: &Book) -> Result<String, F
 // The database's files.
 const FILES: [&str; 2] = ["conversation_test.db", "conversation_test.db-wal"];
 
-// The register when the files are opened again.
-fn found_again(rt: &HostRuntime) -> Result<String, Fail> {
-    let mut office = open(rt, &FILES)?;
-    Ok(snapshot(rt.alloc(), &mut office)?)
+// The register of an office, which is closed then.
+fn found<S: Alter + Drop>(alloc: Global, office: SqlOffice<S>) -> Result<String, Fail> {
+    let mut office = office;
+    Ok(snapshot(alloc, &mut office)?)
 }
 
 /// The conversation waits after the second piece, and the register can be read. At its end the database has the same register as after a
@@ -123,7 +129,7 @@ fn conversation_over_a_database(rt: HostRuntime) -> Result<(), Fail> {
     remove_files(&rt, &FILES);
     let talk = converse(alloc, open(&rt, &FILES)?, &book)?;
     assert!(rt; is_heard(&talk));
-    let found = found_again(&rt)?;
+    let found = found(alloc, open(&rt, &FILES)?)?;
     assert_eq!(rt; found.as_str(), WHOLE);
     let at_once = left_at_once(alloc, &rt, &book)?;
     assert_eq!(rt; found.as_str(), at_once.as_str());

@@ -44,26 +44,31 @@ fn silence<'a>(alloc: Global) -> AnyJob<'a> {
     )
 }
 
-// A call, a session and a call that is refused are done one by one, and each has its result.
-fn grows<S: Alter>(alloc: Global, rt: &impl Abort, office: &mut SqlOffice<S>) -> Result<(), Fail> {
+// A call, a session and a call that is refused are done one by one, and each has its result. It returns how many files there are to send.
+fn grows<S: Alter + Drop>(
+    alloc: Global,
+    rt: &impl Abort,
+    office: SqlOffice<S>,
+) -> Result<usize, Fail> {
+    let mut office = office;
     let book = read(alloc, BOOK)?;
     let submit = call(alloc, Operator::Submit(FILE));
-    let Ok(Done::Call(told, line)) = carried_out(alloc, office, &book, submit) else {
+    let Ok(Done::Call(told, line)) = carried_out(alloc, &mut office, &book, submit) else {
         return Err("not submitted".into());
     };
     assert_eq!(rt; told, Some(Ok(Told::Done)));
     assert!(rt; line.as_slice() == "done: submit 1\n".as_bytes());
-    let Ok(Done::Session(end, said)) = carried_out(alloc, office, &book, silence(alloc)) else {
+    let Ok(Done::Session(end, said)) = carried_out(alloc, &mut office, &book, silence(alloc)) else {
         return Err("not served".into());
     };
     assert_eq!(rt; end, Some(Ok(End::Input)));
     assert!(rt; said.as_slice() == READY);
     let release = call(alloc, Operator::Release { no: 1 });
-    let Ok(Done::Call(told, _)) = carried_out(alloc, office, &book, release) else {
+    let Ok(Done::Call(told, _)) = carried_out(alloc, &mut office, &book, release) else {
         return Err("not carried out".into());
     };
     assert_eq!(rt; told, Some(Ok(Told::Refused(Refusal::Unknown))));
-    Ok(())
+    Ok(office.list_out()?.len())
 }
 
 // The database's files.
@@ -74,9 +79,8 @@ const FILES: [&str; 2] = ["growing_test.db", "growing_test.db-wal"];
 fn jobs_as_they_come(rt: HostRuntime) -> Result<(), Fail> {
     let alloc = rt.alloc();
     remove_files(&rt, &FILES);
-    let mut office = open(&rt, &FILES)?;
-    grows(alloc, &rt, &mut office)?;
-    assert_eq!(rt; office.list_out()?.len(), 1);
+    let files = grows(alloc, &rt, open(&rt, &FILES)?)?;
+    assert_eq!(rt; files, 1);
     remove_files(&rt, &FILES);
     Ok(())
 }
