@@ -1,7 +1,7 @@
 //! The look-ups of an office, each with its result as a line.
 
 use super::act::{Act, code, identity};
-use super::telling::{add_rows, kept, told};
+use super::telling::{add_rows, files_of_number, kept, told, told_of_file};
 use oftp_register::{Cause, Cursor, Item, Office, OfficeFault, ResponseKind, Side};
 use std::alloc::{AllocError, Global};
 
@@ -14,6 +14,10 @@ pub(super) enum Ask {
     Kept,
     /// The results of all look-ups.
     Told,
+    /// The incoming and the outgoing file with a number.
+    OfNumber(u64),
+    /// The results of all look-ups of the files with a letter, of both sides.
+    OfFile(&'static [u8]),
     /// The next item for a partner, after a response and a file, with files or without.
     Next(&'static [u8], u64, u64, bool),
     /// Some rows of the first incoming file: the first row, and how many.
@@ -167,6 +171,8 @@ pub(super) fn answer<O: Office>(
         Ask::Change(act) => change(alloc, office, act),
         Ask::Kept => kept(alloc, office),
         Ask::Told => told(alloc, office),
+        Ask::OfNumber(no) => files_of_number(alloc, office, no),
+        Ask::OfFile(dataset) => told_of_file(alloc, office, dataset),
         Ask::Next(partner, response, file, files) => {
             next(alloc, office, partner, Cursor { response, file }, files)
         }
