@@ -1,6 +1,7 @@
 //! The look-ups of an office, each with its result as a line.
 
 use super::act::{Act, code, identity};
+use super::serving::session_line;
 use super::telling::{add_rows, files_of_number, kept, told, told_of_file};
 use oftp_register::{Cause, Cursor, Item, Office, OfficeFault, ResponseKind, Side};
 use std::alloc::{AllocError, Global};
@@ -10,6 +11,8 @@ use std::alloc::{AllocError, Global};
 pub(super) enum Ask {
     /// Makes a change. The line is its result.
     Change(Act),
+    /// A session in which a partner calls and says this, in parts. The line is how it ends, and the octets that go out.
+    Serve(&'static [&'static [u8]]),
     /// The register as text.
     Kept,
     /// The results of all look-ups.
@@ -169,6 +172,7 @@ pub(super) fn answer<O: Office>(
 ) -> Result<String, OfficeFault> {
     match ask {
         Ask::Change(act) => change(alloc, office, act),
+        Ask::Serve(heard) => session_line(alloc, office, heard),
         Ask::Kept => kept(alloc, office),
         Ask::Told => told(alloc, office),
         Ask::OfNumber(no) => files_of_number(alloc, office, no),
