@@ -5,6 +5,7 @@ mod answers;
 mod asking;
 mod openings;
 mod playing;
+mod serving;
 mod stops;
 mod stories;
 mod telling;

@@ -1,7 +1,8 @@
 //! The look-ups of an office, each with its result as a line.
 
 use super::act::{Act, code, identity};
-use super::telling::{add_rows, kept, told};
+use super::serving::session_line;
+use super::telling::{add_rows, files_of_number, kept, told, told_of_file};
 use oftp_register::{Cause, Cursor, Item, Office, OfficeFault, ResponseKind, Side};
 use std::alloc::{AllocError, Global};
 
@@ -10,10 +11,16 @@ use std::alloc::{AllocError, Global};
 pub(super) enum Ask {
     /// Makes a change. The line is its result.
     Change(Act),
+    /// A session in which a partner calls and says this, in parts. The line is how it ends, and the octets that go out.
+    Serve(&'static [&'static [u8]]),
     /// The register as text.
     Kept,
     /// The results of all look-ups.
     Told,
+    /// The incoming and the outgoing file with a number.
+    OfNumber(u64),
+    /// The results of all look-ups of the files with a letter, of both sides.
+    OfFile(&'static [u8]),
     /// The next item for a partner, after a response and a file, with files or without.
     Next(&'static [u8], u64, u64, bool),
     /// Some rows of the first incoming file: the first row, and how many.
@@ -165,8 +172,11 @@ pub(super) fn answer<O: Office>(
 ) -> Result<String, OfficeFault> {
     match ask {
         Ask::Change(act) => change(alloc, office, act),
+        Ask::Serve(heard) => session_line(alloc, office, heard),
         Ask::Kept => kept(alloc, office),
         Ask::Told => told(alloc, office),
+        Ask::OfNumber(no) => files_of_number(alloc, office, no),
+        Ask::OfFile(dataset) => told_of_file(alloc, office, dataset),
         Ask::Next(partner, response, file, files) => {
             next(alloc, office, partner, Cursor { response, file }, files)
         }

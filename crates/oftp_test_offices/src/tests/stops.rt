@@ -122,8 +122,8 @@ fn goes_on(alloc: Global, registers: &[String], stopped: &Played) -> Result<bool
     Ok(false)
 }
 
-// More calls than a run makes.
-const MOST_CALLS: u64 = 100_000;
+/// More calls than a run makes.
+pub(super) const MOST_CALLS: u64 = 100_000;
 
 // Crashes runs at each call on one file in turn, until one ends without a crash.
 fn stop_at_each(
@@ -146,8 +146,8 @@ fn stop_at_each(
     Err("no run ended".into())
 }
 
-// Either file, with both states that a crash may leave.
-const STOPS: [Stop; 4] = [
+/// Either file, with both states that a crash may leave.
+pub(super) const STOPS: [Stop; 4] = [
     Stop {
         in_log: true,
         calls: 0,

@@ -206,14 +206,20 @@ fn add_contents<O: Office>(all: &mut String, office: &mut O, no: u64) -> Result<
     Ok(())
 }
 
-// Adds the look-ups by a number.
-fn add_number<O: Office>(all: &mut String, office: &mut O, no: u64) -> Result<(), OfficeFault> {
+// Adds the files with a number.
+fn add_entries<O: Office>(all: &mut String, office: &mut O, no: u64) -> Result<(), OfficeFault> {
     if let Some(entry) = office.in_by_no(no)? {
         add_incoming(all, &entry)?;
     }
     if let Some(entry) = office.out_by_no(no)? {
         add_outgoing(all, &entry)?;
     }
+    Ok(())
+}
+
+// What is told of a number.
+fn add_number<O: Office>(all: &mut String, office: &mut O, no: u64) -> Result<(), OfficeFault> {
+    add_entries(all, office, no)?;
     add_contents(all, office, no)
 }
 
@@ -257,6 +263,28 @@ fn add_file<O: Office>(
         add_truth(all, office.has_received(kind, identity)?)?;
     }
     Ok(())
+}
+
+/// The files of a number, without their content.
+pub(super) fn files_of_number<O: Office>(
+    alloc: Global,
+    office: &mut O,
+    no: u64,
+) -> Result<String, OfficeFault> {
+    let mut all = String::new(alloc);
+    add_entries(&mut all, office, no)?;
+    Ok(all)
+}
+
+/// All that is told of a letter's file.
+pub(super) fn told_of_file<O: Office>(
+    alloc: Global,
+    office: &mut O,
+    dataset: &'static [u8],
+) -> Result<String, OfficeFault> {
+    let mut all = String::new(alloc);
+    add_file(&mut all, office, &identity(dataset)?)?;
+    Ok(all)
 }
 
 fn add_item(all: &mut String, item: Option<Item>) -> Result<(), AllocError> {

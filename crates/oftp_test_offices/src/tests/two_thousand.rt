@@ -83,40 +83,80 @@ impl Draw {
 
 const KINDS: usize = 13;
 
-const CAUSES: [Cause; 4] = [Cause::Duplicate, Cause::Unknown, Cause::State, Cause::Full];
+// How a change may be answered.
+const ANSWERS: [Option<Cause>; 5] = [
+    None,
+    Some(Cause::Duplicate),
+    Some(Cause::Unknown),
+    Some(Cause::State),
+    Some(Cause::Full),
+];
 
-// The kinds of changes that were made, and the causes of those that were refused.
+// Which of these answers a submission can have, a start, a response that is filed, and each change of a file by its number.
+const SUBMITTED: [bool; 5] = [true, true, false, false, true];
+
+const STARTED: [bool; 5] = [true, false, false, true, true];
+
+const FILED: [bool; 5] = [true, true, false, false, false];
+
+const NUMBERED: [bool; 5] = [true, false, true, true, false];
+
+// The same for each kind.
+const WANTED: [[bool; 5]; KINDS] = [
+    SUBMITTED, STARTED, NUMBERED, NUMBERED, NUMBERED, FILED, NUMBERED, NUMBERED, NUMBERED,
+    NUMBERED, NUMBERED, NUMBERED, NUMBERED,
+];
+
+// Which answers each kind of change had.
 #[derive(Drop)]
-struct Tally {
-    made: [bool; KINDS],
-    refused: [bool; 4],
-}
+struct Tally([[bool; 5]; KINDS]);
 
 impl Tally {
     fn note(&mut self, kind: usize, answer: &str) {
-        if answer == "made"
-            && let Some(made) = self.made.get_mut(kind)
-        {
-            *made = true;
+        if let Some(row) = self.0.get_mut(kind) {
+            for (cause, came) in ANSWERS.into_iter().zip(row) {
+                *came = *came || answer == words_of(cause);
+            }
         }
-        for (cause, refused) in CAUSES.into_iter().zip(&mut self.refused) {
-            *refused = *refused || answer == words_of(Some(cause));
-        }
-    }
-
-    fn is_full(&self) -> bool {
-        self.made.iter().all(|made| *made) && self.refused.iter().all(|refused| *refused)
     }
 }
 
-// A file of two thousand rows, and then random changes. All look-ups are done after each two hundred changes, and at the end.
+// The look-up for a change: of its number, or of its letter.
+fn look_up(act: Act) -> Ask {
+    match act {
+        Act::Submit(dataset, ..)
+        | Act::SubmitLong(dataset, _)
+        | Act::Start(dataset, ..)
+        | Act::File(dataset, ..) => Ask::OfFile(dataset),
+        Act::Keep(no, _)
+        | Act::Close(no, _)
+        | Act::GiveUp(no)
+        | Act::Issue(no, ..)
+        | Act::Mark(no, _)
+        | Act::BeginClosing(no)
+        | Act::HandOver(no)
+        | Act::Refuse(no)
+        | Act::Reopen(no)
+        | Act::Send(no) => Ask::OfNumber(no),
+    }
+}
+
+// A change, and a look-up after it.
+fn add_change(asks: &mut Vec<Ask>, act: Act) -> Result<(), AllocError> {
+    asks.push(Ask::Change(act))?;
+    asks.push(look_up(act))?;
+    Ok(())
+}
+
+// A file of two thousand rows, and then random changes, with a look-up after each. All look-ups are done after each two hundred changes, and at
+// the end.
 fn draw_asks(asks: &mut Vec<Ask>, kinds: &mut Vec<usize>) -> Result<(), AllocError> {
     let mut draw = Draw(0);
-    asks.push(Ask::Change(Act::SubmitLong(b"L", 2_000)))?;
+    add_change(asks, Act::SubmitLong(b"L", 2_000))?;
     kinds.push(KINDS)?;
     for turn in 1..2_000 {
         let kind = draw.below(KINDS);
-        asks.push(Ask::Change(draw.act(kind)))?;
+        add_change(asks, draw.act(kind))?;
         kinds.push(kind)?;
         if turn % 200 == 199 {
             asks.push(Ask::Told)?;
@@ -126,21 +166,22 @@ fn draw_asks(asks: &mut Vec<Ask>, kinds: &mut Vec<usize>) -> Result<(), AllocErr
     Ok(())
 }
 
-// Tallies the results of the changes.
+// Tallies the results of the changes. After an opening each result is a line, and the look-up after it another.
 fn tally_of(kinds: &[usize], said: &[String]) -> Tally {
-    let mut tally = Tally {
-        made: [false; KINDS],
-        refused: [false; 4],
-    };
-    for (kinds, lines) in kinds.chunks(200).zip(said.chunks(202)) {
-        for (kind, line) in kinds.iter().zip(lines.iter().skip(1)) {
-            tally.note(*kind, line.as_str());
+    let mut tally = Tally([[false; 5]; KINDS]);
+    for (kinds, lines) in kinds.chunks(200).zip(said.chunks(402)) {
+        let lines = lines.get(1..).unwrap_or(&[]);
+        for (kind, pair) in kinds.iter().zip(lines.chunks(2)) {
+            if let Some(answer) = pair.first() {
+                tally.note(*kind, answer.as_str());
+            }
         }
     }
     tally
 }
 
-/// The office over a database is opened again after each two hundred changes, and before the last look-ups.
+/// Each kind of change is made, and refused for each cause that it can have. The office over a database is opened again after each two hundred
+/// changes, and before the last look-ups.
 #[test]
 fn two_thousand_changes(rt: HostRuntime) -> Result<(), Fail> {
     let alloc = rt.alloc();
@@ -148,13 +189,16 @@ fn two_thousand_changes(rt: HostRuntime) -> Result<(), Fail> {
     let mut kinds = Vec::new(alloc);
     draw_asks(&mut asks, &mut kinds)?;
     let mut steps = Vec::new(alloc);
-    for asks in asks.as_slice().chunks(201) {
+    for asks in asks.as_slice().chunks(401) {
         steps.push(Step::Open(asks))?;
     }
     let said = play_both(alloc, &rt, MANY, steps.as_slice())?;
-    assert_eq!(rt; said.len(), 2_022);
+    assert_eq!(rt; said.len(), 4_022);
     assert!(rt; said.get(1).is_some_and(|line| line.as_str() == "made"));
     let tally = tally_of(kinds.as_slice(), said.as_slice());
-    assert!(rt; tally.is_full(), "a kind or a cause never came");
+    assert!(rt;
+        tally.0 == WANTED,
+        "an answer to a kind never came, or one that it can't have"
+    );
     Ok(())
 }
