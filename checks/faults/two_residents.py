@@ -471,7 +471,8 @@ class Looker(Operator):
 
     def told_files(self):
         """The files of which a command has printed that they are submitted."""
-        return [dataset for dataset, given in self.station.given.items() if given.number]
+        # The other operator may submit one meanwhile.
+        return [dataset for dataset, given in [*self.station.given.items()] if given.number]
 
     def expect_all(self, files, text, what):
         lost = {*files} - {*re.findall(r"FILE\.\d+", text)}
