@@ -7,8 +7,7 @@ Stock sqlite3 fills registers of 10 and 100 MiB in two files, and of 1,000 and 1
 1 GiB and one of 100,000 files. Over each, `run` does what operators and partners ask for, each act several times, and a line has the average: the
 processor seconds of the station, and those of the command that asked it. An act with the same result however large the register is may take
 at most MOST times what it takes over the smallest one; a list may take MOST times the ratio of its numbers of entries. Sending a file may
-take LOOK longer for each file that is there, and so may a session in which one comes: each look-up of what is next goes past all that is
-answered, which is more than is wanted.
+take LOOK longer for each file that is there: each look-up of what is next goes past all that is answered, which is more than is wanted.
 With `--whole` a line also has what the same act takes as a program of its own, with its opening, how much memory that has, and what plain C
 over libsqlite3 (`plain_store.c`, `plain_register.c`) takes for it over the same database without opening it. With `--assert` it fails if
 one takes longer. The last line is `N passed, M failed`.
@@ -227,7 +226,7 @@ ACTS = [
     ),
     Act("GET /in/NO", lambda it, at: it.request(f"/in/{released(it, at)}"), lambda it: ["plain_register", "show", "in", released(it, 0)]),
     Act("GET /out/NO", lambda it, at: it.request(f"/out/{it.register.went + 1}"), lambda it: ["plain_register", "show", "out", it.register.went + 1]),
-    Act("10 KB come in", lambda it, at: it.session(*file_of(f"CAME.{at}", SMALL)), lambda it: it.receive(*file_of("CAME", SMALL)), looks_each_time=True),
+    Act("10 KB come in", lambda it, at: it.session(*file_of(f"CAME.{at}", SMALL)), lambda it: it.receive(*file_of("CAME", SMALL))),
     Act("report in", lambda it, at: it.command("report", "in"), listed("in"), 3, True),
     Act("report out", lambda it, at: it.command("report", "out"), listed("out"), 3, True),
     Act("report issued", lambda it, at: it.command("report", "issued"), listed("issued"), 3, True),
